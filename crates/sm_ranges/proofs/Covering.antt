@@ -1,0 +1,96 @@
+-- The one range that covers a key.
+use Rattle.std.proofs.Common.{◌≡◌, ℕ, ◌+◌, ◌-◌, ◌<◌, ◌≤◌, true, false, List, [], length, get_or, refl, sym, ap, ◌∙◌, arith, inl, inr}
+use Rattle.std.specs.Prelude.{not}
+use Rattle.std.specs.List.Sorted.{IsPartitionedBy, IsPartitionPoint, IsSortedBy}
+use Rattle.std.specs.declared.cmp.Ordering.{Ordering}
+use Rattle.std.specs.declared.cmp.Ordering.TheVariants.{Less, Equal, Greater}
+use Rattle.std.specs.Ordering.{nat_cmp, is_lt, is_le, ordering_index}
+use Rattle.std.specs.Cmp.Lexicographic.{slice_cmp}
+use Rattle.std.proofs.lemmas.Bool.{cases_lt, true≢false}
+use Rattle.std.proofs.lemmas.Cmp.{nat_list_cmp_total}
+use Rattle.std.proofs.lemmas.List.Sorted.{searchable_from_sorted}
+use Rattle.std.proofs.lemmas.Option.{slice_get-get_or, slice_get_past, get_or_from_slice_get}
+use Rattle.sm_ranges.specs.Ranges.{is_below, is_at_most, Covers, IsLayout, shard_of}
+use Rattle.sm_ranges.proofs.Comparisons.{is_below-flip, at_most_empty, below_back}
+use Rattle.sm_ranges.proofs.Places.{count_by-prefix}
+
+index_of_le : (o : Ordering) → is_le o ≡ true → ordering_index o ≤ 1
+index_of_le Less h = omega arith
+index_of_le Equal h = omega arith
+index_of_le Greater h = cc
+
+le_from_index : (o : Ordering) → ordering_index o ≤ 1 → is_le o ≡ true
+le_from_index Less h = refl
+le_from_index Equal h = refl
+le_from_index Greater h = absurd (omega arith)
+
+-- no bound that is at most the key comes after one that is above it
+pub parted : (bounds : List (List ℕ)) (key : List ℕ) → IsLayout bounds → IsPartitionedBy (λ bound. is_at_most bound key) bounds
+parted bounds key layout i j d le lt h =
+    let sorted : IsSortedBy (λ a b. is_lt (slice_cmp nat_cmp a b)) bounds = λ k e low high. below_back (get_or bounds k e) (get_or bounds (k + 1) e) (layout.rising k e high) in
+    let rise = searchable_from_sorted nat_list_cmp_total (λ bound. bound) bounds key sorted i j d le lt in
+    let last = index_of_le (slice_cmp nat_cmp (get_or bounds j d) key) h in
+    le_from_index (slice_cmp nat_cmp (get_or bounds i d) key) (omega arith)
+
+-- what Covers says, by the bounds themselves
+record IsBetween (bounds : List (List ℕ)) (k : ℕ) (key : List ℕ) : Type 0 where
+  within : k < length bounds
+  low : is_at_most (get_or bounds k []) key ≡ true
+  high : k + 1 < length bounds → is_below key (get_or bounds (k + 1) []) ≡ true
+
+covers_between : (bounds : List (List ℕ)) (k : ℕ) (key : List ℕ) → IsBetween bounds k key → Covers bounds k key
+covers_between bounds k key between = (
+  rw (slice_get-get_or bounds k [] between.within) between.low,
+  elim (cases_lt (k + 1) (length bounds)) [
+    | inl lt ↦ rw (slice_get-get_or bounds (k + 1) [] lt) (between.high lt)
+    | inr past ↦ rw (slice_get_past bounds (k + 1) past) tt
+  ],
+)
+
+between_covers : (bounds : List (List ℕ)) (k : ℕ) (key : List ℕ) → Covers bounds k key → IsBetween bounds k key
+between_covers bounds k key covers =
+    let within : k < length bounds = elim (cases_lt k (length bounds)) [
+      | inl lt ↦ lt
+      | inr past ↦ absurd (rw (slice_get_past bounds k past) at covers.0)
+    ] in
+    record {
+      within = within;
+      low = rw (slice_get-get_or bounds k [] within) at covers.0;
+      high = λ lt. rw (slice_get-get_or bounds (k + 1) [] lt) at covers.1;
+    }
+
+-- a search that stopped after all bounds that are at most the key
+module _ (bounds : List (List ℕ)) (key : List ℕ) (layout : IsLayout bounds) (reached : ℕ) (within : reached ≤ length bounds)
+    (point : IsPartitionPoint (λ bound. is_at_most bound key ≡ true) (λ bound. is_at_most bound key ≡ false) bounds reached) where
+  pub some_reached : 1 ≤ reached
+  some_reached = elim (cases_lt 0 reached) [
+    | inl lt ↦ omega arith
+    | inr none ↦
+        let first : get_or bounds 0 [] ≡ [] = get_or_from_slice_get bounds 0 [] [] layout.first_empty in
+        let above = point.1 0 [] (omega arith) (omega (arith, layout.some)) in
+        absurd (true≢false (sym (at_most_empty key) ∙ (ap (λ bound. is_at_most bound key) (sym first) ∙ above)))
+  ]
+
+  pub counted : reached - 1 ≡ shard_of bounds key
+  counted = ap (λ n. n - 1) (sym (count_by-prefix (λ bound. is_at_most bound key) bounds reached within point.0 point.1))
+
+  pub covering : Covers bounds (reached - 1) key
+  covering = covers_between bounds (reached - 1) key (record {
+    within = omega (arith, some_reached);
+    low = point.0 (reached - 1) [] (omega arith) (omega (arith, some_reached));
+    high = λ lt. is_below-flip (get_or bounds (reached - 1 + 1) []) key ∙ ap not (point.1 (reached - 1 + 1) [] (omega (arith, some_reached)) lt);
+  })
+
+  pub only : (k : ℕ) → Covers bounds k key → k ≡ reached - 1
+  only k covers =
+      let between = between_covers bounds k key covers in
+      elim (cases_lt (k + 1) reached) [
+        | inl before ↦
+            let reaches = point.0 (k + 1) [] (omega arith) before in
+            let above = between.high (omega arith) in
+            absurd (true≢false (sym above ∙ (is_below-flip (get_or bounds (k + 1) []) key ∙ ap not reaches)))
+        | inr after ↦ elim (cases_lt k reached) [
+          | inl here ↦ omega arith
+          | inr past ↦ absurd (true≢false (sym between.low ∙ point.1 k [] past between.within))
+        ]
+      ]

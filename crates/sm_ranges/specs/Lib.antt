@@ -1,0 +1,5 @@
+pub mod Key
+pub mod LayoutFault
+pub mod Ranges
+pub mod ServerId
+pub mod ShardId

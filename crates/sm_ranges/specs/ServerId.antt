@@ -1,0 +1,6 @@
+-- Numbers of servers.
+use Rattle.std.specs.Prelude.{ℕ, ◌≤◌}
+
+-- the number names a server: 1 to 4,095, so that 0 can stand for no server
+abbrev pub IsServer : ℕ → Type 0
+IsServer number = (1 ≤ number) × (number ≤ 4095)

@@ -1,0 +1,113 @@
+ghost use Rattle.std.specs.Prelude.{◌≡◌, ◌↔◌, IfOk, IfErr, OnOk};
+ghost use Rattle.sm_ranges.specs.declared.key.KeyFault.TheVariants.{Empty, TooLong};
+
+use std::alloc::{AllocError, Global};
+use std::marker::Model;
+use thiserror::Error;
+
+/// A key of the application's key space: 1 to 255 bytes.
+#[derive(Debug, Drop)]
+pub struct Key {
+    bytes: Vec<u8>,
+}
+
+impl Model for Key {
+    ghost use Rattle.std.specs.Prelude.{List, ℕ};
+    ghost use Rattle.sm_ranges.specs.Key.{IsKey};
+
+    ghost Value = { List ℕ };
+
+    ghost view = { λ key. key.bytes.items };
+
+    ghost invariant = { λ key. IsKey key.bytes.items };
+}
+
+/// Why bytes are not a key.
+#[derive(Clone, Copy, Debug, PartialEq, Eq, Drop, Error)]
+pub enum KeyFault {
+    /// There are no bytes.
+    #[error("a key has at least one byte")]
+    Empty,
+    /// There are more than 255 bytes.
+    #[error("a key has at most 255 bytes")]
+    TooLong,
+    /// The bytes are a key, and memory for it was refused.
+    #[error("out of memory")]
+    NoMemory,
+}
+
+impl From<AllocError> for KeyFault {
+    ghost use Rattle.sm_ranges.specs.declared.key.KeyFault.TheVariants.{NoMemory};
+
+    ghost from_gives = { λ _ fault. fault ≡ NoMemory };
+
+    fn from(_: AllocError) -> Self {
+        KeyFault::NoMemory
+    }
+}
+
+impl Key {
+    ghost use Rattle.std.specs.Prelude.{length, ◌<◌};
+    ghost use Rattle.sm_ranges.specs.Key.{IsKey};
+
+    /// The key with these bytes.
+    pub fn new(alloc: Global, bytes: &[u8]) -> Result<Key, KeyFault>
+        ensures ok { IfOk result (λ key. key ≡ bytes.now) }
+        ensures is_key { OnOk result (IsKey bytes.now) }
+        ensures empty { (result ≡ Err KeyFault.Empty) ↔ (length bytes.now ≡ 0) }
+        ensures too_long { (result ≡ Err KeyFault.TooLong) ↔ (255 < length bytes.now) }
+    {
+        if bytes.is_empty() {
+            return Err(KeyFault::Empty);
+        }
+        if bytes.len() > 255 {
+            return Err(KeyFault::TooLong);
+        }
+        Ok(Key {
+            bytes: Vec::from_slice(alloc, bytes)?,
+        })
+    }
+
+    /// The bytes of the key.
+    pub fn as_bytes(&self) -> &[u8]
+        ensures bytes { result.now ≡ self.now }
+        ensures is_key { IsKey self.now }
+    {
+        &self.bytes
+    }
+
+    /// The same key again.
+    pub fn try_clone(&self, alloc: Global) -> Result<Key, AllocError>
+        ensures { IfOk result (λ key. key ≡ self.now) }
+    {
+        Ok(Key {
+            bytes: Vec::from_slice(alloc, self.as_bytes())?,
+        })
+    }
+}
+
+#[cfg(test)]
+mod tests {
+    use super::*;
+    use std::test::Fail;
+
+    #[test]
+    fn holds_its_bytes(rt: HostRuntime) -> Result<(), Fail> {
+        let key = Key::new(rt.alloc(), b"m\x00")?;
+        assert_eq!(rt; key.as_bytes(), b"m\x00".as_slice());
+        assert_eq!(rt; key.try_clone(rt.alloc())?.as_bytes(), b"m\x00".as_slice());
+        assert_eq!(rt; Key::new(rt.alloc(), &[0xFF; 255])?.as_bytes().len(), 255);
+        Ok(())
+    }
+
+    #[test]
+    fn refuses_other_lengths(rt: HostRuntime) {
+        let cases: [(&[u8], KeyFault); 2] = [
+            (b"", KeyFault::Empty),
+            (&[0; 256], KeyFault::TooLong),
+        ];
+        for (bytes, fault) in &cases {
+            assert_eq!(rt; Key::new(rt.alloc(), bytes).err(), Some(*fault));
+        }
+    }
+}

@@ -1,0 +1,305 @@
+ghost use Rattle.std.specs.Prelude.{◌≡◌, ◌+◌, ◌<◌, ℕ, Some, length, slice_get, option_copied, IfOk, OnOk, IfSome, IfNone, IsOkUnless};
+ghost use Rattle.sm_ranges.specs.Ranges.{Covers, IsLayout, shard_of};
+ghost use Rattle.sm_ranges.specs.LayoutFault.{texts_of, first_not_rising, first_too_long, first_layout_fault};
+
+use crate::shard_id::ShardId;
+use std::alloc::{AllocError, Global};
+use std::marker::Model;
+use thiserror::Error;
+
+/// How the key space is cut into shards: shard k has the keys from bound k on, up to the next bound.
+/// There are 1 to 4,096 bounds of at most 255 bytes; the first is empty, and each is above the one before it.
+#[derive(Debug, Drop)]
+pub struct Layout {
+    bounds: Vec<Bound>,
+}
+
+impl Model for Layout {
+    ghost use Rattle.std.specs.Prelude.{List, ℕ};
+    ghost use Rattle.sm_ranges.specs.Ranges.{IsLayout};
+
+    ghost Value = { List (List ℕ) };
+
+    ghost view = { λ layout. layout.bounds.items };
+
+    ghost invariant = { λ layout. IsLayout layout.bounds.items };
+}
+
+// Where a shard begins. Unlike a key, it may be empty.
+#[derive(Debug, Drop)]
+struct Bound {
+    bytes: Vec<u8>,
+}
+
+impl Model for Bound {
+    ghost use Rattle.std.specs.Prelude.{List, ℕ};
+
+    ghost Value = { List ℕ };
+
+    ghost view = { λ bound. bound.bytes.items };
+}
+
+impl Bound {
+    fn as_bytes(&self) -> &[u8]
+        ensures { result.now ≡ self.now }
+    {
+        &self.bytes
+    }
+
+    fn try_clone(&self, alloc: Global) -> Result<Bound, AllocError>
+        ensures { IfOk result (λ bound. bound ≡ self.now) }
+    {
+        Ok(Bound {
+            bytes: Vec::from_slice(alloc, &self.bytes)?,
+        })
+    }
+}
+
+/// Why bounds are not a layout; `at` is the place of a bound, from 0.
+#[derive(Clone, Copy, Debug, PartialEq, Eq, Drop, Error)]
+pub enum LayoutFault {
+    /// There are no bounds.
+    #[error("a layout has at least one bound")]
+    Empty,
+    /// The first bound has a byte.
+    #[error("the first bound is not empty")]
+    FirstNotEmpty,
+    /// The bound is the first that is not above the one before it.
+    #[error("bound {at} is not above the one before it")]
+    NotRising { at: usize },
+    /// The bound is the first of more than 255 bytes.
+    #[error("bound {at} has more than 255 bytes")]
+    KeyTooLong { at: usize },
+    /// There are more than 4,096 bounds.
+    #[error("a layout has at most 4096 bounds")]
+    TooMany,
+    /// The bounds are a layout, and memory for it was refused.
+    #[error("out of memory")]
+    NoMemory,
+}
+
+impl From<AllocError> for LayoutFault {
+    ghost use Rattle.sm_ranges.specs.declared.layout.LayoutFault.TheVariants.{NoMemory};
+
+    ghost from_gives = { λ _ fault. fault ≡ NoMemory };
+
+    fn from(_: AllocError) -> Self {
+        LayoutFault::NoMemory
+    }
+}
+
+impl Layout {
+    /// The layout with these bounds, or else the first fault that applies, in the order of the faults.
+    pub fn new(alloc: Global, bounds: &[&[u8]]) -> Result<Layout, LayoutFault>
+        ensures ok { IfOk result (λ layout. layout ≡ texts_of bounds.now) }
+        ensures is_layout { OnOk result (IsLayout (texts_of bounds.now)) }
+
+        // Only want of memory refuses the bounds of a layout.
+        ensures accepts { IsLayout (texts_of bounds.now) → IsOkUnless result LayoutFault.NoMemory }
+        ensures fault { IfSome (first_layout_fault (texts_of bounds.now)) (λ fault. result ≡ Err fault) }
+        ensures no_fault { IfNone (first_layout_fault (texts_of bounds.now)) (IsOkUnless result LayoutFault.NoMemory) }
+    {
+        if let Some(fault) = first_fault(bounds) {
+            return Err(fault);
+        }
+        Ok(Layout {
+            bounds: copied(alloc, bounds)?,
+        })
+    }
+
+    /// The shard of these bytes, which may be any: the last shard whose bound is at most them.
+    /// The search halves: it compares at most 13 bounds.
+    pub fn shard_of(&self, key: &[u8]) -> ShardId
+        ensures within { result < length self.now }
+        ensures covers { Covers self.now result key.now }
+        ensures only { (k : ℕ) → Covers self.now k key.now → k ≡ result }
+        ensures value { result ≡ shard_of self.now key.now }
+    {
+        ShardId::new(last_reached(&self.bounds, key) as u16).unwrap()
+    }
+
+    /// The bound at which a shard begins, and the one at which the next shard begins, if there is one.
+    pub fn range(&self, k: ShardId) -> (&[u8], Option<&[u8]>)
+        requires { k < length self.now }
+        ensures low { slice_get self.now k ≡ Some result.0.now }
+        ensures high { slice_get self.now (k + 1) ≡ option_copied result.1 }
+    {
+        let low = self.bounds[k.index()].as_bytes();
+        let high = self.bounds.get(k.index() + 1);
+        (low, high.map(Bound::as_bytes))
+    }
+
+    /// The number of shards.
+    pub fn count(&self) -> usize
+        ensures value { result ≡ length self.now }
+        ensures is_layout { IsLayout self.now }
+    {
+        self.bounds.len()
+    }
+
+    /// The same layout again.
+    pub fn try_clone(&self, alloc: Global) -> Result<Layout, AllocError>
+        ensures { IfOk result (λ layout. layout ≡ self.now) }
+    {
+        Ok(Layout {
+            bounds: cloned(alloc, &self.bounds)?,
+        })
+    }
+}
+
+// The place of the last bound that is at most the key.
+fn last_reached(bounds: &[Bound], key: &[u8]) -> usize
+    requires { IsLayout bounds.now }
+    ensures within { result < length bounds.now }
+    ensures covers { Covers bounds.now result key.now }
+    ensures only { (k : ℕ) → Covers bounds.now k key.now → k ≡ result }
+    ensures value { result ≡ shard_of bounds.now key.now }
+{
+    bounds.partition_point(|bound| bound.as_bytes() <= key) - 1
+}
+
+// What is wrong with the bounds, memory aside.
+fn first_fault(bounds: &[&[u8]]) -> Option<LayoutFault>
+    ensures { result ≡ first_layout_fault (texts_of bounds.now) }
+{
+    let Some(first) = bounds.first() else {
+        return Some(LayoutFault::Empty);
+    };
+    if !first.is_empty() {
+        return Some(LayoutFault::FirstNotEmpty);
+    }
+    if let Some(at) = first_not_rising(bounds) {
+        return Some(LayoutFault::NotRising { at });
+    }
+    if let Some(at) = first_too_long(bounds) {
+        return Some(LayoutFault::KeyTooLong { at });
+    }
+    if bounds.len() > 4096 {
+        return Some(LayoutFault::TooMany);
+    }
+    None
+}
+
+fn first_not_rising(bounds: &[&[u8]]) -> Option<usize>
+    ensures { result ≡ first_not_rising (texts_of bounds.now) }
+{
+    bounds
+        .iter()
+        .zip(bounds.iter().skip(1))
+        .position(|(low, high)| low >= high)
+        .map(|low| low + 1)
+}
+
+fn first_too_long(bounds: &[&[u8]]) -> Option<usize>
+    ensures { result ≡ first_too_long (texts_of bounds.now) }
+{
+    bounds.iter().position(|bound| bound.len() > 255)
+}
+
+fn copied(alloc: Global, bounds: &[&[u8]]) -> Result<Vec<Bound>, AllocError>
+    ensures { IfOk result (λ copies. copies.items ≡ texts_of bounds.now) }
+{
+    let mut copies = Vec::with_capacity(alloc, bounds.len())?;
+    for bound in bounds {
+        copies.push(Bound {
+            bytes: Vec::from_slice(alloc, bound)?,
+        })?;
+    }
+    Ok(copies)
+}
+
+fn cloned(alloc: Global, bounds: &[Bound]) -> Result<Vec<Bound>, AllocError>
+    ensures { IfOk result (λ clones. clones.items ≡ bounds.now) }
+{
+    let mut clones = Vec::with_capacity(alloc, bounds.len())?;
+    for bound in bounds {
+        clones.push(bound.try_clone(alloc)?)?;
+    }
+    Ok(clones)
+}
+
+#[cfg(test)]
+mod tests {
+    use super::*;
+    use std::test::Fail;
+
+    #[test]
+    fn gives_each_key_its_shard(rt: HostRuntime) -> Result<(), Fail> {
+        let layout = Layout::new(rt.alloc(), &[b"", b"m"])?;
+        let mut before_m = [0xFF; 255];
+        before_m[0] = b'l';
+        assert_eq!(rt; layout.shard_of(b"m").number(), 1);
+        assert_eq!(rt; layout.shard_of(b"m\x00").number(), 1);
+        assert_eq!(rt; layout.shard_of(&before_m).number(), 0);
+        assert_eq!(rt; layout.shard_of(&[0xFF; 255]).number(), 1);
+        assert_eq!(rt; layout.shard_of(b"").number(), 0);
+        assert_eq!(rt; layout.shard_of(&[b'l'; 300]).number(), 0);
+        Ok(())
+    }
+
+    #[test]
+    fn has_a_range_for_each_shard(rt: HostRuntime) -> Result<(), Fail> {
+        let layout = Layout::new(rt.alloc(), &[b"", b"m"])?;
+        assert_eq!(rt; layout.count(), 2);
+        let layout = layout.try_clone(rt.alloc())?;
+        let first = layout.range(layout.shard_of(b"a"));
+        assert_eq!(rt; first.0, b"".as_slice());
+        assert_eq!(rt; first.1.ok_or("a next shard")?, b"m".as_slice());
+        let last = layout.range(layout.shard_of(b"z"));
+        assert_eq!(rt; last.0, b"m".as_slice());
+        assert!(rt; last.1.is_none());
+        Ok(())
+    }
+
+    #[test]
+    fn names_the_first_fault(rt: HostRuntime) {
+        let long: &[u8] = &[b'm'; 256];
+        let cases: [(&[&[u8]], LayoutFault); 6] = [
+            (&[], LayoutFault::Empty),
+            (&[b"m"], LayoutFault::FirstNotEmpty),
+            (&[b"", b"m", b"m"], LayoutFault::NotRising { at: 2 }),
+            (&[b"", b"bb", b"b"], LayoutFault::NotRising { at: 2 }),
+            (&[b"", b"a", long, b"z"], LayoutFault::KeyTooLong { at: 2 }),
+            (&[b"", long, b"a"], LayoutFault::NotRising { at: 2 }),
+        ];
+        for (bounds, fault) in &cases {
+            assert_eq!(rt; Layout::new(rt.alloc(), bounds).err(), Some(*fault));
+        }
+    }
+
+    #[test]
+    fn has_at_most_4096_bounds(rt: HostRuntime) -> Result<(), Fail> {
+        let texts: Vec<[u8; 2]> = (0..4096u16).map(|n| n.to_be_bytes()).collect(rt.alloc())?;
+        let mut bounds: Vec<&[u8]> = Vec::new(rt.alloc());
+        bounds.push(b"")?;
+        for text in &texts {
+            bounds.push(text)?;
+        }
+        let fault = Layout::new(rt.alloc(), &bounds).err();
+        assert_eq!(rt; fault, Some(LayoutFault::TooMany));
+
+        let _ = bounds.pop();
+        let layout = Layout::new(rt.alloc(), &bounds)?;
+        assert_eq!(rt; layout.count(), 4096);
+        for (at, bound) in bounds.iter().enumerate() {
+            assert_eq!(rt; layout.shard_of(bound).index(), at);
+        }
+
+        // `shard_of` looks for a key by this search.
+        let mut compared = 0u32;
+        let _ = bounds.partition_point(|bound| {
+            compared = compared.wrapping_add(1);
+            *bound <= b"m".as_slice()
+        });
+        assert_eq!(rt; compared, 13);
+        Ok(())
+    }
+
+    #[test]
+    fn prints_the_place(rt: HostRuntime) -> Result<(), Fail> {
+        let fault = LayoutFault::NotRising { at: 2 };
+        let text = format!(in rt.alloc(); "{fault}")?;
+        assert_eq!(rt; text.as_str(), "bound 2 is not above the one before it");
+        Ok(())
+    }
+}

@@ -1,0 +1,72 @@
+ghost use Rattle.std.specs.Prelude.{◌≡◌, ◌≤◌, ◌↔◌, IsSome, IfSome};
+
+use std::fmt;
+use std::marker::Model;
+
+/// The number of a server, 1 to 4,095.
+#[derive(Clone, Copy, Debug, PartialEq, Eq, PartialOrd, Ord, Drop)]
+pub struct ServerId {
+    number: u16,
+}
+
+impl Model for ServerId {
+    ghost use Rattle.std.specs.Prelude.{ℕ};
+    ghost use Rattle.sm_ranges.specs.ServerId.{IsServer};
+
+    ghost Value = { ℕ };
+
+    ghost view = { λ server. server.number };
+
+    ghost invariant = { λ server. IsServer server.number };
+
+    ghost inverse = { λ number. record { number = number } };
+}
+
+impl ServerId {
+    ghost use Rattle.sm_ranges.specs.ServerId.{IsServer};
+
+    /// The server with this number, or none where it is not 1 to 4,095.
+    pub fn new(number: u16) -> Option<ServerId>
+        ensures known { IsSome result ↔ IsServer number }
+        ensures value { IfSome result (λ server. server ≡ number) }
+    {
+        if number >= 1 && number <= 4095 {
+            Some(ServerId { number })
+        } else {
+            None
+        }
+    }
+
+    /// The number of the server.
+    pub fn number(self) -> u16
+        ensures value { result ≡ self }
+        ensures in_range { IsServer self }
+    {
+        self.number
+    }
+}
+
+impl fmt::Display for ServerId {
+    fn fmt<W: fmt::Write>(&self, f: &mut fmt::Formatter<W>) -> fmt::Result {
+        write!(f, "{}", self.number)
+    }
+}
+
+#[cfg(test)]
+mod tests {
+    use super::*;
+    use std::test::Fail;
+
+    #[test]
+    fn goes_from_1_to_4095(rt: HostRuntime) -> Result<(), Fail> {
+        let first = ServerId::new(1).ok_or("server 1")?;
+        let last = ServerId::new(4095).ok_or("server 4095")?;
+        assert_eq!(rt; first.number(), 1);
+        assert_eq!(rt; last.number(), 4095);
+        assert_eq!(rt; ServerId::new(0), None);
+        assert_eq!(rt; ServerId::new(4096), None);
+        assert!(rt; first < last);
+        assert_eq!(rt; format!(in rt.alloc(); "{last}")?.as_str(), "4095");
+        Ok(())
+    }
+}

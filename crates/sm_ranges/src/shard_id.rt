@@ -1,0 +1,79 @@
+ghost use Rattle.std.specs.Prelude.{◌≡◌, ◌≤◌, ◌↔◌, IsSome, IfSome};
+
+use std::fmt;
+use std::marker::Model;
+
+/// The number of a shard, 0 to 4,095.
+#[derive(Clone, Copy, Debug, PartialEq, Eq, PartialOrd, Ord, Drop)]
+pub struct ShardId {
+    number: u16,
+}
+
+impl Model for ShardId {
+    ghost use Rattle.std.specs.Prelude.{ℕ};
+    ghost use Rattle.sm_ranges.specs.ShardId.{IsShard};
+
+    ghost Value = { ℕ };
+
+    ghost view = { λ shard. shard.number };
+
+    ghost invariant = { λ shard. IsShard shard.number };
+
+    ghost inverse = { λ number. record { number = number } };
+}
+
+impl ShardId {
+    ghost use Rattle.sm_ranges.specs.ShardId.{IsShard};
+
+    /// The shard with this number, or none where it is above 4,095.
+    pub fn new(number: u16) -> Option<ShardId>
+        ensures known { IsSome result ↔ IsShard number }
+        ensures value { IfSome result (λ shard. shard ≡ number) }
+    {
+        if number <= 4095 {
+            Some(ShardId { number })
+        } else {
+            None
+        }
+    }
+
+    /// The number of the shard.
+    pub fn number(self) -> u16
+        ensures value { result ≡ self }
+        ensures in_range { IsShard self }
+    {
+        self.number
+    }
+
+    /// The shard's place in a list with an element for each shard.
+    pub fn index(self) -> usize
+        ensures value { result ≡ self }
+        ensures in_range { IsShard self }
+    {
+        usize::from(self.number)
+    }
+}
+
+impl fmt::Display for ShardId {
+    fn fmt<W: fmt::Write>(&self, f: &mut fmt::Formatter<W>) -> fmt::Result {
+        write!(f, "{}", self.number)
+    }
+}
+
+#[cfg(test)]
+mod tests {
+    use super::*;
+    use std::test::Fail;
+
+    #[test]
+    fn goes_from_0_to_4095(rt: HostRuntime) -> Result<(), Fail> {
+        let first = ShardId::new(0).ok_or("shard 0")?;
+        let last = ShardId::new(4095).ok_or("shard 4095")?;
+        assert_eq!(rt; first.index(), 0);
+        assert_eq!(rt; last.number(), 4095);
+        assert_eq!(rt; ShardId::new(4096), None);
+        assert!(rt; first < last);
+        assert_eq!(rt; format!(in rt.alloc(); "{last}")?.as_str(), "4095");
+        Ok(())
+    }
+}

@@ -1,0 +1,81 @@
+-- Key maps: pairs of a key and what it holds, and what each request replies and changes there.
+use Rattle.std.specs.Prelude.{◌≡◌, ℕ, ◌<◌, ◌≤◌, Bool, List, ◌∷◌, ◌++◌, Option, Some, None, AllPairs, filter, find, length, nat_le, if◌then◌else◌}
+use Rattle.std.specs.List.{HoldsAt}
+use Rattle.std.specs.List.Sorted.{IsPartitionPoint}
+use Rattle.std.specs.Option.{option_map}
+use Rattle.std.specs.Ordering.{nat_cmp, is_lt, is_gt, is_eq}
+use Rattle.std.specs.declared.cmp.Ordering.{Ordering}
+use Rattle.std.specs.declared.cmp.Ordering.TheVariants.{Less, Equal, Greater}
+use Rattle.std.specs.Cmp.Lexicographic.{slice_cmp}
+use Rattle.sm_service.specs.declared.held.TheConstants.{MAX_TEXT}
+use Rattle.sm_service.specs.declared.held.Held.{Held}
+use Rattle.sm_service.specs.declared.held.Held.TheVariants.{Text, Count}
+use Rattle.sm_service.specs.declared.pair.Pair.{Pair}
+use Rattle.sm_service.specs.declared.reply.Reply.{Reply}
+use Rattle.sm_service.specs.declared.reply.Reply.TheVariants.{Nothing, Done, WrongKind, TooLong}
+use Rattle.sm_service.specs.declared.reply.Reply.TheVariants.{Text as ReplyText, Count as ReplyCount}
+use Rattle.sm_service.specs.declared.request.Request.{Request}
+use Rattle.sm_service.specs.declared.request.Request.TheVariants.{Get, Put}
+
+-- the order of two keys: their bytes are compared as numbers, and a proper prefix comes first
+abbrev pub key_cmp : List ℕ → List ℕ → Ordering
+key_cmp = slice_cmp nat_cmp
+
+-- the pairs are in the order of their keys, and no key comes twice
+abbrev pub IsKeyMap : List Pair → Type 0
+IsKeyMap m = AllPairs (λ pair later. key_cmp pair.key later.key ≡ Less) m
+
+-- the pair's key is below, the same as, or above this one
+abbrev pub is_below : List ℕ → Pair → Bool
+is_below key pair = is_lt (key_cmp pair.key key)
+
+abbrev pub is_at : List ℕ → Pair → Bool
+is_at key pair = is_eq (key_cmp pair.key key)
+
+abbrev pub is_above : List ℕ → Pair → Bool
+is_above key pair = is_gt (key_cmp pair.key key)
+
+-- what the map holds at the key
+abbrev pub held_at : List Pair → List ℕ → Option Held
+held_at m key = option_map (λ pair. pair.value) (find (is_at key) m)
+
+-- the map that holds the value at the key, and else what m holds
+abbrev pub holding : List Pair → List ℕ → Held → List Pair
+holding m key value = filter (is_below key) m ++ record { key = key; value = value } ∷ filter (is_above key) m
+
+-- the pair with the key stands at this place
+pub record IsPlaceOf (m : List Pair) (key : List ℕ) (at : ℕ) : Type 0 where
+  pub within : at < length m
+  pub same : HoldsAt (λ pair. key_cmp pair.key key ≡ Equal) m at
+
+-- no pair has the key, and a pair with it would go to this place
+pub record IsGapFor (m : List Pair) (key : List ℕ) (at : ℕ) : Type 0 where
+  pub within : at ≤ length m
+  pub apart : IsPartitionPoint (λ pair. key_cmp pair.key key ≡ Less) (λ pair. key_cmp pair.key key ≡ Greater) m at
+
+-- the reply to a Get, by what the key holds
+abbrev pub get_reply : Option Held → Reply
+get_reply None = Nothing
+get_reply (Some (Text text)) = ReplyText text
+get_reply (Some (Count count)) = ReplyCount count
+
+-- the reply to a request for a new text, by what the key holds
+abbrev pub text_reply : Option Held → List ℕ → Reply
+text_reply None text = if nat_le (length text) MAX_TEXT then Done else TooLong
+text_reply (Some (Text before)) text = if nat_le (length text) MAX_TEXT then Done else TooLong
+text_reply (Some (Count count)) text = WrongKind
+
+-- the map after a request for a new text, by its reply
+abbrev pub text_after : List Pair → List ℕ → List ℕ → Reply → List Pair
+text_after m key text Done = holding m key (Text text)
+text_after m key text _ = m
+
+-- the reply to a request on the map m
+abbrev pub reply : List Pair → Request → Reply
+reply m (Get key) = get_reply (held_at m key)
+reply m (Put key text) = text_reply (held_at m key) text
+
+-- the map after a request on the map m
+abbrev pub after : List Pair → Request → List Pair
+after m (Get key) = m
+after m (Put key text) = text_after m key text (reply m (Put key text))

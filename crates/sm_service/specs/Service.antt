@@ -1,0 +1,25 @@
+-- The meaning of the sample service, by the list of its requests.
+use Rattle.std.specs.Prelude.{ℕ, List, [], fold}
+use Rattle.sm_service.specs.declared.pair.Pair.{Pair}
+use Rattle.sm_service.specs.declared.reply.Reply.{Reply}
+use Rattle.sm_service.specs.declared.request.Request.{Request}
+use Rattle.sm_service.specs.declared.request.Request.TheVariants.{Get, Put}
+use Rattle.sm_service.specs.KeyMap.{reply, after}
+
+-- the requests that a body keeps, and how many it keeps at most
+pub record Kept (Q : Type 0) : Type 0 where
+  pub requests : List Q
+  pub limit : ℕ
+
+-- the key map that the requests make, from the empty one
+abbrev pub map_of : List Request → List Pair
+map_of requests = fold after [] requests
+
+-- the reply to a request after the requests of a list
+abbrev pub reply_after : List Request → Request → Reply
+reply_after requests request = reply (map_of requests) request
+
+-- the key whose shard executes the request
+abbrev pub key_of_request : Request → List ℕ
+key_of_request (Get key) = key
+key_of_request (Put key text) = key

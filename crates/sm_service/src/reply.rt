@@ -1,0 +1,18 @@
+use crate::bytes::Bytes;
+
+/// What the sample service replies.
+#[derive(Debug, Drop)]
+pub enum Reply {
+    /// The key holds nothing.
+    Nothing,
+    /// The key holds the new text.
+    Done,
+    /// The text that the key holds.
+    Text(Bytes),
+    /// The count that the key holds.
+    Count(i64),
+    /// The key holds a count where the request is for a text, and nothing has changed.
+    WrongKind,
+    /// The new text would be longer than `MAX_TEXT` bytes, and nothing has changed.
+    TooLong,
+}

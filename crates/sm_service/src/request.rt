@@ -1,0 +1,11 @@
+use crate::bytes::Bytes;
+use sm_ranges::key::Key;
+
+/// What a client asks of the sample service.
+#[derive(Debug, Drop)]
+pub enum Request {
+    /// What does the key hold?
+    Get(Key),
+    /// The key is to hold the text, in place of the text that it held.
+    Put(Key, Bytes),
+}
