@@ -1,0 +1,60 @@
+use Rattle.std.proofs.Common.{◌≡◌, sym, ◌∙◌, ap}
+use Rattle.std.proofs.lemmas.Bool.{false≢true}
+use Rattle.sm_lines.proofs.LineLemmas.{took_line, took_long_line, so_far_next, took_last_line, took_last_long_line}
+use Rattle.sm_lines.proofs.line_reader.LineReader.next_line.Goals as goal
+
+pub returns-in-Some-clause-line : goal.returns-in-Some-clause-line
+returns-in-Some-clause-line g c = λ is.
+    let feed = c.in-Some.ensures.some in
+    let ended = c.in_ok-end_line-in-Some.ensures in
+    took_line c.pieces.self c.end_line.new.self (g.R.Read.remaining c.pieces.reader.inner) c.in-Some.n c.pieces.invariant.so_far
+    feed.0 feed.1 feed.2 ended.ok (ended.line is)
+
+pub returns-in-Some-clause-long_line : goal.returns-in-Some-clause-long_line
+returns-in-Some-clause-long_line g c = λ is.
+    let feed = c.in-Some.ensures.some in
+    let ended = c.in_ok-end_line-in-Some.ensures in
+    took_long_line c.pieces.self c.end_line.new.self (g.R.Read.remaining c.pieces.reader.inner) c.in-Some.n c.pieces.invariant.so_far
+    feed.0 feed.1 feed.2 ended.ok (ended.long_line is)
+
+pub returns-in-Ok-false-clause-line : goal.returns-in-Ok-false-clause-line
+returns-in-Ok-false-clause-line g c = λ is.
+    let took = c.in_ok-is_long-in-None.ensures in
+    let read = c.in-Ok-false.ensures in
+    let at_end = read.end c.in-Ok-false.field-0-test in
+    let last = c.last_line.ensures.line is in
+    let so_far = so_far_next c.pieces.self c.take_held.new.self c.fill.new.self (g.R.Read.remaining c.pieces.reader.inner) (g.R.Read.remaining c.fill.new.reader.inner)
+    c.pieces.invariant.so_far c.in-None.ensures.none took.ok c.in_ok-is_long-in-None.is_long took.long took.short read.line read.bytes in
+    took_last_line c.fill.new.self.held (g.R.Read.remaining c.fill.new.reader.inner) so_far at_end.0 at_end.1 last.0 last.1
+
+pub returns-in-Ok-false-clause-long_line : goal.returns-in-Ok-false-clause-long_line
+returns-in-Ok-false-clause-long_line g c = λ is.
+    let took = c.in_ok-is_long-in-None.ensures in
+    let read = c.in-Ok-false.ensures in
+    let at_end = read.end c.in-Ok-false.field-0-test in
+    let so_far = so_far_next c.pieces.self c.take_held.new.self c.fill.new.self (g.R.Read.remaining c.pieces.reader.inner) (g.R.Read.remaining c.fill.new.reader.inner)
+    c.pieces.invariant.so_far c.in-None.ensures.none took.ok c.in_ok-is_long-in-None.is_long took.long took.short read.line read.bytes in
+    took_last_long_line c.fill.new.self.held (g.R.Read.remaining c.fill.new.reader.inner) so_far at_end.0 at_end.1 (c.last_line.ensures.long is)
+
+pub returns-in-Err-clause-err : goal.returns-in-Err-clause-err
+returns-in-Err-clause-err g c =
+    let took = c.in_ok-is_long-in-None.ensures in
+    let read = c.in-Err.ensures in
+    let so_far = so_far_next c.pieces.self c.take_held.new.self c.fill.new.self (g.R.Read.remaining c.pieces.reader.inner) (g.R.Read.remaining c.fill.new.reader.inner)
+    c.pieces.invariant.so_far c.in-None.ensures.none took.ok c.in_ok-is_long-in-None.is_long took.long took.short read.line read.bytes in
+    record { part = so_far.full; plain = so_far.plain; lost = so_far.lost }
+
+pub pieces-preserved : goal.pieces-preserved
+pieces-preserved g c =
+    let took = c.in_ok-is_long-in-None.ensures in
+    let read = c.in-Ok-true.ensures in
+    let more = read.more c.in-Ok-true.field-0-test in
+    let same_end : c.take_held.new.self.ended ≡ c.args.self.now.ended = ap (λ r. r.ended) took.ok ∙ c.pieces.invariant.same_end in
+    record {
+      so_far = so_far_next c.pieces.self c.take_held.new.self c.fill.new.self (g.R.Read.remaining c.pieces.reader.inner) (g.R.Read.remaining c.fill.new.reader.inner)
+          c.pieces.invariant.so_far c.in-None.ensures.none took.ok c.in_ok-is_long-in-None.is_long took.long took.short read.line read.bytes;
+      end_stands = λ is. absurd (false≢true (sym more.3 ∙ is));
+      same_end = more.3 ∙ sym more.4 ∙ same_end;
+      unfailed = more.2 ∙ c.pieces.invariant.unfailed;
+      not_read = λ is. absurd (false≢true (sym more.4 ∙ same_end ∙ is));
+    }

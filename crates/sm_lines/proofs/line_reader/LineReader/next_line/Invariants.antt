@@ -1,0 +1,17 @@
+use Rattle.std.proofs.Common.{◌≡◌, ◌-◌, true}
+use Rattle.sm_lines.specs.Reading.{unread, EndStands}
+use Rattle.sm_lines.specs.declared.watch.TheConstants.{COUNT_LIMIT}
+use Rattle.sm_lines.proofs.LineLemmas.{SoFar}
+use Rattle.sm_lines.proofs.line_reader.LineReader.next_line.Given as goal
+
+abbrev pub invariant-pieces : goal.invariant-pieces
+invariant-pieces g l = record {
+  so_far : SoFar (unread l.fn.self (g.R.Read.remaining l.fn.reader.inner)) (unread l.self (g.R.Read.remaining l.reader.inner)) l.self.line l.is_long l.limit;
+  end_stands : EndStands l.self (g.R.Read.remaining l.reader.inner);
+  same_end : l.self.ended ≡ l.fn.self.ended;
+  unfailed : l.reader.failed ≡ l.fn.reader.failed;
+  not_read : l.fn.self.ended ≡ true → l.reader ≡ l.fn.reader;
+}
+
+abbrev pub decreases-pieces : goal.decreases-pieces
+decreases-pieces g l = COUNT_LIMIT - l.reader.calls

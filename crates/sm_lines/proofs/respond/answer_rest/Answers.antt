@@ -1,0 +1,52 @@
+use Rattle.std.proofs.Common.{Err, ◌≡◌, inl, refl, ap, ◌∙◌}
+use Rattle.sm_lines.specs.declared.respond.AnswerFault.TheVariants.{Read}
+use Rattle.sm_lines.proofs.AnswerLemmas.{has_lines, so_far_none, so_far_sent, so_far_line, so_far_short, so_far_short_line}
+use Rattle.sm_lines.proofs.respond.answer_rest.Goals as goal
+
+pub lines-init : goal.lines-init
+lines-init g c = record {
+  so_far = so_far_none _ _ _ _ _ c.requires.empty;
+  end_stands = c.requires.end_stands;
+  read_unfailed = refl;
+  write_unfailed = refl;
+}
+
+pub returns-in-Err-clause-write : goal.returns-in-Err-clause-write
+returns-in-Err-clause-write g c = λ _. (c.in-Err.ensures.failed, so_far_short c.lines.invariant.so_far c.in-Err.ensures.err)
+
+pub returns-in-Ok-false-clause-ran : goal.returns-in-Ok-false-clause-ran
+returns-in-Ok-false-clause-ran g c =
+    let so_far = so_far_sent c.lines.invariant.so_far c.in-Ok.ensures.ok in
+    let end = c.in-Ok-false.ensures.end c.in-Ok-false.field-0-test in
+    (so_far.done, has_lines _ _ so_far.done so_far.lost end.0, rw end.2 so_far.answered)
+
+pub returns-in-Err-answer_next-clause-read : goal.returns-in-Err-answer_next-clause-read
+returns-in-Err-answer_next-clause-read g c = λ is.
+    let so_far = so_far_sent c.lines.invariant.so_far c.in-Ok.ensures.ok in
+    let fault : c.in-Err-answer_next.fault ≡ Read = cc in
+    let stop = c.in-Err-answer_next.ensures.read (ap Err fault) in
+    (so_far.done, record { next = _; lost = so_far.lost; part = stop.0 }, rw stop.1 so_far.answered, inl (stop.2, stop.3))
+
+pub returns-in-Err-answer_next-clause-no_memory : goal.returns-in-Err-answer_next-clause-no_memory
+returns-in-Err-answer_next-clause-no_memory g c = λ _.
+    let so_far = so_far_sent c.lines.invariant.so_far c.in-Ok.ensures.ok in
+    (so_far.done, c.lines.responder, record { next = _; lost = so_far.lost; touched = c.in-Err-answer_next.ensures.err }, so_far.answered)
+
+pub returns-in-Err-write-clause-write : goal.returns-in-Err-write-clause-write
+returns-in-Err-write-clause-write g c = λ _.
+    let so_far = so_far_sent c.lines.invariant.so_far c.in-Ok.ensures.ok in
+    let line = c.in-Ok-true.ensures.line c.in-Ok-true.field-0-test in
+    let wrote = rw c.as_slice.ensures.value at c.in-Err-write.ensures.err in
+    (c.in-Err-write.ensures.failed, so_far_short_line so_far line wrote)
+
+pub lines-preserved : goal.lines-preserved
+lines-preserved g c =
+    let so_far = so_far_sent c.lines.invariant.so_far c.in-Ok.ensures.ok in
+    let line = c.in-Ok-true.ensures.line c.in-Ok-true.field-0-test in
+    let wrote = rw c.as_slice.ensures.value at c.in-Ok-write.ensures.ok in
+    record {
+      so_far = so_far_line so_far line wrote;
+      end_stands = c.in-Ok-true.ensures.end_stands;
+      read_unfailed = c.in-Ok-true.ensures.unfailed ∙ c.lines.invariant.read_unfailed;
+      write_unfailed = c.in-Ok-write.ensures.unfailed ∙ (c.in-Ok.ensures.unfailed ∙ c.lines.invariant.write_unfailed);
+    }

@@ -1,0 +1,15 @@
+use Rattle.std.proofs.Common.{◌≡◌}
+use Rattle.sm_lines.specs.Reading.{unread, EndStands}
+use Rattle.sm_lines.specs.Answers.{Answers}
+use Rattle.sm_lines.proofs.AnswerLemmas.{SoFar}
+use Rattle.sm_lines.proofs.respond.answer_rest.Given as goal
+
+abbrev pub invariant-lines : goal.invariant-lines
+invariant-lines g l = record {
+  so_far : SoFar (Answers g.E.Responder.gives g.E.Responder.gives_long l.limit)
+      (unread l.fn.lines (g.R.Read.remaining l.fn.reader.inner)) (unread l.lines (g.R.Read.remaining l.reader.inner))
+      (g.W.Write.contents l.fn.writer.inner) (g.W.Write.contents l.writer.inner) l.pieces l.fn.responder l.responder l._count;
+  end_stands : EndStands l.lines (g.R.Read.remaining l.reader.inner);
+  read_unfailed : l.reader.failed ≡ l.fn.reader.failed;
+  write_unfailed : l.writer.failed ≡ l.fn.writer.failed;
+}

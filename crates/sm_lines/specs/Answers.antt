@@ -1,0 +1,98 @@
+-- What is written in answer to lines.
+use Rattle.std.specs.Prelude.{◌≡◌, ◌⊎◌, Bool, true, ℕ, ◌≤◌, ◌<◌, List, [], ◌∷◌, ◌++◌, length, take, ⊤, Option, None, Some}
+use Rattle.std.specs.Io.KnownBytes.{Appends}
+use Rattle.sm_lines.specs.Lines.{lines_of, LosesLine, TookPart}
+use Rattle.sm_lines.specs.declared.line_reader.ReadFault.{ReadFault}
+use Rattle.sm_lines.specs.declared.line_reader.ReadFault.TheVariants.{Read, NoMemory}
+use Rattle.sm_lines.specs.declared.respond.AnswerFault.{AnswerFault}
+use Rattle.sm_lines.specs.declared.respond.AnswerFault.TheVariants as stopped
+use Rattle.sm_lines.specs.Reading.{Reading}
+use Rattle.sm_lines.specs.declared.watch.TheConstants.{COUNT_LIMIT}
+use Rattle.sm_lines.specs.Sending.{WroteFront}
+
+-- a responder's answer to one line: `gives` speaks of a line within the limit, and `gives_long` of the first bytes
+-- of a longer one, which changes nothing
+pub record Answers {E : Type 0} (gives : E → List ℕ → List ℕ → E → Type 0) (gives_long : E → List ℕ → List ℕ → Type 0)
+    (limit : ℕ) (before : E) (line text : List ℕ) (after : E) : Type 0 where
+  pub whole : length line ≤ limit → gives before line text after
+  pub long : limit < length line → gives_long before (take limit line) text × (after ≡ before)
+
+-- lines are answered in turn, and the text is their answers one after another
+abbrev pub AnswersAll : {E : Type 0} → (E → List ℕ → List ℕ → E → Type 0) → E → List (List ℕ) → List ℕ → E → Type 0
+AnswersAll answers before [] text after = (text ≡ []) × (after ≡ before)
+AnswersAll {E} answers before (line ∷ lines) text after = (first : List ℕ) × (rest : List ℕ) × (between : E)
+    × (text ≡ first ++ rest) × answers before line first between × AnswersAll answers between lines rest after
+
+-- known bytes are these lines, and no more
+abbrev pub HasLines : Option (List ℕ) → List (List ℕ) → Type 0
+HasLines None lines = ⊤
+HasLines (Some bytes) lines = lines_of bytes ≡ lines
+
+-- known bytes lost these lines
+abbrev pub LosesLines : Option (List ℕ) → Option (List ℕ) → List (List ℕ) → Type 0
+LosesLines None left lines = ⊤
+LosesLines (Some bytes) None lines = ⊥
+LosesLines (Some bytes) (Some left) lines = lines_of bytes ≡ lines ++ lines_of left
+
+-- all lines of the input were answered, and exactly these answers were written
+pub record RanAll {E : Type 0} (answers : E → List ℕ → List ℕ → E → Type 0)
+    (input old new : Option (List ℕ)) (before after : E) : Type 0 where
+  pub lines : List (List ℕ)
+  pub text : List ℕ
+  pub are : HasLines input lines
+  pub answered : AnswersAll answers before lines text after
+  pub wrote : Appends old new text
+
+-- exactly the answers to the lines in `done` were written
+pub record RanTo {E : Type 0} (answers : E → List ℕ → List ℕ → E → Type 0)
+    (old new : Option (List ℕ)) (before after : E) (done : List (List ℕ)) : Type 0 where
+  pub text : List ℕ
+  pub answered : AnswersAll answers before done text after
+  pub wrote : Appends old new text
+
+-- the lines in `done` are all that were read whole: of the next one only a front without a line feed was read
+pub record IsAllRead (input left : Option (List ℕ)) (done : List (List ℕ)) : Type 0 where
+  pub next : Option (List ℕ)
+  pub lost : LosesLines input next done
+  pub part : TookPart next left
+
+-- the lines in `done` were taken off, and of the rest only one line was touched: a front of it or all of it is gone
+pub record StopsAfter (input left : Option (List ℕ)) (done : List (List ℕ)) : Type 0 where
+  pub next : Option (List ℕ)
+  pub lost : LosesLines input next done
+  pub touched : TookPart next left ⊎ ((line : List ℕ) × LosesLine next left line)
+
+-- a front of the answers was written: of those to all lines, or to all that were read but perhaps the last
+pub record RanShort {E : Type 0} (answers : E → List ℕ → List ℕ → E → Type 0)
+    (input left old new : Option (List ℕ)) (before : E) : Type 0 where
+  pub done : List (List ℕ)
+  pub text : List ℕ
+  pub after : E
+  pub stops : HasLines input done ⊎ StopsAfter input left done
+  pub answered : AnswersAll answers before done text after
+  pub wrote : WroteFront old new text
+
+-- reading stopped as nothing is held and the reader failed or was called too often, or as too many lines were answered
+abbrev pub ReadingStopped : Reading → Bool → ℕ → List (List ℕ) → Type 0
+ReadingStopped lines failed calls done =
+    ((lines.held ≡ []) × ((failed ≡ true) ⊎ (COUNT_LIMIT ≤ calls))) ⊎ (COUNT_LIMIT ≤ length done)
+
+-- the first line of the input was taken off and answered
+pub record AnsweredLine {E : Type 0} (answers : E → List ℕ → List ℕ → E → Type 0)
+    (input left : Option (List ℕ)) (text : List ℕ) (before after : E) : Type 0 where
+  pub line : List ℕ
+  pub lost : LosesLine input left line
+  pub answered : answers before line text after
+
+-- the lines in `done` were answered: of these answers a front was written, and the rest waits
+pub record Answered {E : Type 0} (answers : E → List ℕ → List ℕ → E → Type 0)
+    (old new : Option (List ℕ)) (waiting : List ℕ)
+    (before after : E) (done : List (List ℕ)) : Type 0 where
+  pub sent : List ℕ
+  pub answered : AnswersAll answers before done (sent ++ waiting) after
+  pub wrote : Appends old new sent
+
+-- the fault where reading stopped
+abbrev pub answer_fault : ReadFault → AnswerFault
+answer_fault Read = stopped.Read
+answer_fault NoMemory = stopped.NoMemory

@@ -1,0 +1,104 @@
+ghost use Rattle.std.specs.Prelude.{◌≡◌, ◌+◌, ◌<◌, ◌≤◌, length, true, false, IfOk, OnErr, MatchResult};
+ghost use Rattle.std.specs.Io.{ReadsAtMost, WritesAtMost};
+ghost use Rattle.std.specs.Io.KnownBytes.{ReadConsumes, WriteAppends, Keeps};
+
+use std::io;
+use std::io::{Read, Write};
+
+/// The number at which calls and lines are no longer counted: 2^32.
+pub const COUNT_LIMIT: u64 = 1 << 32;
+
+/// A reader or a writer that is watched: each read and write is passed on.
+#[derive(Drop)]
+pub struct Watched<T> {
+    /// What is watched.
+    pub inner: T,
+    /// How many reads or writes were made, at most [`COUNT_LIMIT`].
+    pub calls: u64,
+    /// Whether a call failed, or a write took none of the bytes that it was given.
+    pub failed: bool,
+}
+
+impl<T> Watched<T> {
+    /// Watches `inner`, of which no call was made yet.
+    pub fn new(inner: T) -> Watched<T>
+        ensures inner { result.inner ≡ inner }
+        ensures calls { result.calls ≡ 0 }
+        ensures failed { result.failed ≡ false }
+    {
+        Watched {
+            inner,
+            calls: 0,
+            failed: false,
+        }
+    }
+
+    /// Counts a call, up to the limit.
+    fn count_call(&mut self)
+        ensures below { self.old.calls < COUNT_LIMIT
+            → self.new ≡ record self.old { calls = self.old.calls + 1 } }
+        ensures at_limit { COUNT_LIMIT ≤ self.old.calls → self.new ≡ self.old }
+    {
+        if self.calls < COUNT_LIMIT {
+            self.calls += 1;
+        }
+    }
+}
+
+impl<R: Read> Read for Watched<R> {
+    ghost remaining = { λ w. R.remaining w.inner };
+
+    fn read(&mut self, buf: &mut [u8]) -> io::Result<usize>
+        ensures bound { ReadsAtMost result buf.new }
+        ensures bytes { ReadConsumes (R.remaining self.old.inner)
+            (R.remaining self.new.inner) result buf.new }
+        ensures counted { self.old.calls < COUNT_LIMIT → self.new.calls ≡ self.old.calls + 1 }
+        ensures at_limit { COUNT_LIMIT ≤ self.old.calls → self.new.calls ≡ self.old.calls }
+        ensures failed { MatchResult result (λ _. self.new.failed ≡ self.old.failed) (λ _. self.new.failed ≡ true) }
+    {
+        self.count_call();
+        let result = self.inner.read(buf);
+        if result.is_err() {
+            self.failed = true;
+        }
+        result
+    }
+}
+
+impl<W: Write> Write for Watched<W> {
+    ghost contents = { λ w. W.contents w.inner };
+
+    fn write(&mut self, buf: &[u8]) -> io::Result<usize>
+        ensures bound { WritesAtMost result buf.now }
+        ensures bytes { WriteAppends (W.contents self.old.inner)
+            (W.contents self.new.inner) result buf.now }
+        ensures counted { self.old.calls < COUNT_LIMIT → self.new.calls ≡ self.old.calls + 1 }
+        ensures at_limit { COUNT_LIMIT ≤ self.old.calls → self.new.calls ≡ self.old.calls }
+        ensures failed { OnErr result (self.new.failed ≡ true) }
+        ensures took_none { IfOk result (λ n. n ≡ 0 → 0 < length buf.now → self.new.failed ≡ true) }
+        ensures took_some { IfOk result (λ n. 0 < n → self.new.failed ≡ self.old.failed) }
+        ensures took_empty { length buf.now ≡ 0
+            → IfOk result (λ _. self.new.failed ≡ self.old.failed) }
+    {
+        self.count_call();
+        let result = self.inner.write(buf);
+        match &result {
+            Ok(0) if !buf.is_empty() => self.failed = true,
+            Ok(_) => {}
+            Err(_) => self.failed = true,
+        }
+        result
+    }
+
+    fn flush(&mut self) -> io::Result<()>
+        ensures bytes { Keeps (W.contents self.old.inner) (W.contents self.new.inner) }
+        ensures counted { self.new.calls ≡ self.old.calls }
+        ensures failed { MatchResult result (λ _. self.new.failed ≡ self.old.failed) (λ _. self.new.failed ≡ true) }
+    {
+        let result = self.inner.flush();
+        if result.is_err() {
+            self.failed = true;
+        }
+        result
+    }
+}

@@ -1,0 +1,132 @@
+-- The grammar of a script's lines: the word that each begins with, and what the words after it have to be.
+use Rattle.std.specs.Prelude.{ℕ, Bool, true, false, ◌&&◌, ◌||◌, nat_le, if◌then◌else◌, List, [], ◌∷◌, length, codes, Option, None, Some, is_some, ◌^◌, ◌-◌}
+use Rattle.std.specs.List.{find}
+use Rattle.std.specs.Str.{bytes_eq}
+use Rattle.std.specs.Option.{option_or}
+use Rattle.sm_script.specs.Words.{is_nil}
+use Rattle.sm_script.specs.Numbers.{number_between, increment_of}
+use Rattle.sm_script.specs.declared.fault.LineFault.{LineFault}
+use Rattle.sm_script.specs.declared.fault.LineFault.TheVariants.{BadLine, BadNumber, BadKey}
+use Rattle.sm_script.specs.declared.shape.Shape.{Shape}
+use Rattle.sm_script.specs.declared.shape.Shape.TheVariants.{Shard, Server, Key, Text, Increment, Limit, Clients, Each}
+use Rattle.sm_script.specs.declared.word.Word.{Word}
+use Rattle.sm_script.specs.declared.word.Word.TheVariants.{Assign, PrepareAdd, PrepareDrop, Add, Drop, Cancel, Pause, Resume, Reassign, Ask, Approve, Stopped, Back, Fail, Place, Drain, Look, Publish, Route, Hold, Free, Load, Get, Put, Append, Inc, Del, Scan}
+
+-- what a word has to be, as it is written
+abbrev pub accepts : Shape → List ℕ → Bool
+accepts Shard word = is_some (number_between 0 4095 word)
+accepts Server word = is_some (number_between 1 4095 word)
+accepts Key word = nat_le 1 (length word) && nat_le (length word) 255
+accepts Text word = true
+accepts Increment word = is_some (increment_of word)
+accepts Limit word = is_some (number_between 0 (2 ^ 32 - 1) word)
+accepts Clients word = is_some (number_between 1 16 word)
+accepts Each word = is_some (number_between 1 10000 word)
+
+-- the fault where a word isn't of its shape
+abbrev pub refusal : Shape → LineFault
+refusal Key = BadKey
+refusal _ = BadNumber
+
+-- the fault of one word
+abbrev pub fault_of : Shape → List ℕ → Option LineFault
+fault_of shape word = if accepts shape word then None else Some (refusal shape)
+
+-- the rest of the line is a text
+abbrev pub is_text : Shape → Bool
+is_text Text = true
+is_text _ = false
+
+-- a word for each shape and no other; a text takes all words that are left, or none
+abbrev pub fits : List Shape → List (List ℕ) → Bool
+fits [] words = is_nil words
+fits (shape ∷ shapes) [] = is_text shape
+fits (shape ∷ shapes) (word ∷ words) = is_text shape || fits shapes words
+
+-- the fault of the leftmost word that isn't of its shape
+abbrev pub first_fault : List Shape → List (List ℕ) → Option LineFault
+first_fault [] words = None
+first_fault (shape ∷ shapes) [] = None
+first_fault (shape ∷ shapes) (word ∷ words) = option_or (fault_of shape word) (first_fault shapes words)
+
+-- too few or too many words, and then the leftmost word that isn't of its shape
+abbrev pub arguments_fault : List Shape → List (List ℕ) → Option LineFault
+arguments_fault shapes words = if fits shapes words then first_fault shapes words else Some BadLine
+
+-- how a line spells each word
+abbrev pub name_of : Word → List ℕ
+name_of Get = codes "get"
+name_of Put = codes "put"
+name_of Append = codes "append"
+name_of Inc = codes "inc"
+name_of Del = codes "del"
+name_of Scan = codes "scan"
+name_of Look = codes "look"
+name_of Assign = codes "assign"
+name_of PrepareAdd = codes "prepare_add"
+name_of PrepareDrop = codes "prepare_drop"
+name_of Add = codes "add"
+name_of Drop = codes "drop"
+name_of Cancel = codes "cancel"
+name_of Pause = codes "pause"
+name_of Resume = codes "resume"
+name_of Reassign = codes "reassign"
+name_of Ask = codes "ask"
+name_of Approve = codes "approve"
+name_of Stopped = codes "stopped"
+name_of Back = codes "back"
+name_of Fail = codes "fail"
+name_of Place = codes "place"
+name_of Drain = codes "drain"
+name_of Publish = codes "publish"
+name_of Route = codes "route"
+name_of Hold = codes "hold"
+name_of Free = codes "free"
+name_of Load = codes "load"
+
+-- what the words after each word have to be
+abbrev pub shapes_of : Word → List Shape
+shapes_of Get = Key ∷ []
+shapes_of Put = Key ∷ Text ∷ []
+shapes_of Append = Key ∷ Text ∷ []
+shapes_of Inc = Key ∷ Increment ∷ []
+shapes_of Del = Key ∷ []
+shapes_of Scan = Key ∷ Key ∷ Limit ∷ []
+shapes_of Look = Shard ∷ []
+shapes_of Assign = Shard ∷ Server ∷ []
+shapes_of PrepareAdd = Shard ∷ Server ∷ []
+shapes_of PrepareDrop = Shard ∷ []
+shapes_of Add = Shard ∷ []
+shapes_of Drop = Shard ∷ []
+shapes_of Cancel = Shard ∷ []
+shapes_of Pause = Shard ∷ []
+shapes_of Resume = Shard ∷ []
+shapes_of Reassign = Shard ∷ Server ∷ []
+shapes_of Ask = Server ∷ []
+shapes_of Approve = Server ∷ []
+shapes_of Stopped = Server ∷ []
+shapes_of Back = Server ∷ []
+shapes_of Fail = Server ∷ []
+shapes_of Place = []
+shapes_of Drain = Server ∷ []
+shapes_of Publish = Shard ∷ []
+shapes_of Route = Key ∷ []
+shapes_of Hold = Shard ∷ Server ∷ []
+shapes_of Free = Shard ∷ []
+shapes_of Load = Key ∷ Clients ∷ Each ∷ []
+
+-- the words of requests
+abbrev pub request_words : List Word
+request_words = Get ∷ Put ∷ Append ∷ Inc ∷ Del ∷ Scan ∷ []
+
+-- the words that a line may begin with, beside `at` and `client`
+abbrev pub first_words : List Word
+first_words =
+    Get ∷ Put ∷ Append ∷ Inc ∷ Del ∷ Scan ∷
+    Look ∷ Assign ∷ PrepareAdd ∷ PrepareDrop ∷ Add ∷ Drop ∷ Cancel ∷ Pause ∷ Resume ∷ Reassign ∷
+    Ask ∷ Approve ∷ Stopped ∷ Back ∷ Fail ∷ Place ∷ Drain ∷
+    Publish ∷ Route ∷ Hold ∷ Free ∷ Load ∷ []
+
+-- the one of these words that has these bytes
+abbrev pub word_among : List Word → List ℕ → Option Word
+word_among words bytes = find (λ word. bytes_eq (name_of word) bytes) words

@@ -1,0 +1,88 @@
+ghost use Rattle.std.specs.Prelude.{◌≡◌};
+ghost use Rattle.sm_script.specs.declared.fault.ParseFault.TheVariants.{NoMemory};
+
+use std::alloc::AllocError;
+use std::error::Error;
+use std::fmt;
+
+/// Why a line of a script makes no call. Of several faults the first in this order is the answer,
+/// and of several words the leftmost.
+#[derive(Clone, Copy, Debug, PartialEq, Eq, Drop)]
+pub enum LineFault {
+    /// The line has more bytes than a line may have.
+    LineTooLong,
+    /// The first word, or the word after `at A` or `client`, is not one of the script's.
+    UnknownWord,
+    /// There are too few or too many words.
+    BadLine,
+    /// A number is spelled otherwise, or out of its range.
+    BadNumber,
+    /// A key has no byte, or more than 255.
+    BadKey,
+    /// The line is right, and this program doesn't run it.
+    NotHere,
+}
+
+impl fmt::Display for LineFault {
+    ghost use Rattle.std.specs.Prelude.{Some};
+    ghost use Rattle.sm_script.specs.Answers.{line_fault_name};
+
+    ghost output = { λ fault. Some (line_fault_name fault) };
+
+    fn fmt<W: fmt::Write>(&self, f: &mut fmt::Formatter<W>) -> fmt::Result {
+        f.write_str(self.name())
+    }
+}
+
+impl Error for LineFault {}
+
+impl LineFault {
+    ghost use Rattle.sm_script.specs.Answers.{line_fault_name};
+
+    /// The name that an answer gives it.
+    pub fn name(self) -> &'static str
+        ensures { result.now ≡ line_fault_name self }
+    {
+        match self {
+            LineFault::LineTooLong => "LineTooLong",
+            LineFault::UnknownWord => "UnknownWord",
+            LineFault::BadLine => "BadLine",
+            LineFault::BadNumber => "BadNumber",
+            LineFault::BadKey => "BadKey",
+            LineFault::NotHere => "NotHere",
+        }
+    }
+}
+
+/// Why a line gives no command.
+#[derive(Clone, Copy, Debug, PartialEq, Eq, Drop)]
+pub enum ParseFault {
+    /// The line makes no call.
+    Line(LineFault),
+    /// The line asks for a request, and memory for it was refused.
+    NoMemory,
+}
+
+impl fmt::Display for ParseFault {
+    ghost use Rattle.std.specs.Prelude.{Some};
+    ghost use Rattle.sm_script.specs.Lines.{parse_fault_text};
+
+    ghost output = { λ fault. Some (parse_fault_text fault) };
+
+    fn fmt<W: fmt::Write>(&self, f: &mut fmt::Formatter<W>) -> fmt::Result {
+        match self {
+            ParseFault::Line(fault) => f.write_str(fault.name()),
+            ParseFault::NoMemory => f.write_str("out of memory"),
+        }
+    }
+}
+
+impl Error for ParseFault {}
+
+impl From<AllocError> for ParseFault {
+    ghost from_gives = { λ _ made. made ≡ NoMemory };
+
+    fn from(_error: AllocError) -> ParseFault {
+        ParseFault::NoMemory
+    }
+}

@@ -1,0 +1,67 @@
+ghost use Rattle.std.specs.Prelude.{◌≡◌, ◌++◌, OnOk, OnErr};
+ghost use Rattle.sm_script.specs.Answers.{reply_text, place_text};
+
+use crate::append::append_all;
+use itoa::Buffer;
+use sm_ranges::server_id::ServerId;
+use sm_service::reply::Reply;
+use std::alloc::AllocError;
+
+// Appends the reply's text.
+fn append_reply(out: &mut Vec<u8>, reply: &Reply) -> Result<(), AllocError>
+    ensures ok { OnOk result (out.new.items ≡ out.old.items ++ reply_text reply.now) }
+    ensures err { OnErr result (out.new.items ≡ out.old.items) }
+{
+    let mut number = Buffer::new();
+    match reply {
+        Reply::Nothing => append_all(out, &[b"nothing"]),
+        Reply::Done => append_all(out, &[b"done"]),
+        Reply::Text(text) => {
+            let bytes = text.as_bytes();
+            append_all(
+                out,
+                &[b"text ", number.format(bytes.len()).as_bytes(), b":", bytes],
+            )
+        }
+        Reply::Count(count) => append_all(out, &[b"count ", number.format(*count).as_bytes()]),
+        Reply::WrongKind => append_all(out, &[b"reply WrongKind"]),
+        Reply::TooLong => append_all(out, &[b"reply TooLong"]),
+    }
+}
+
+// Appends who executed a request, and its place.
+fn append_place(out: &mut Vec<u8>, server: ServerId, place: u64) -> Result<(), AllocError>
+    ensures ok { OnOk result (out.new.items ≡ out.old.items ++ place_text server place) }
+    ensures err { OnErr result (out.new.items ≡ out.old.items) }
+{
+    let mut by = Buffer::new();
+    let mut at = Buffer::new();
+    append_all(
+        out,
+        &[
+            b" @",
+            by.format(server.number()).as_bytes(),
+            b"#",
+            at.format(place).as_bytes(),
+        ],
+    )
+}
+
+/// Appends the text of an executed request.
+pub(crate) fn append_executed(
+    out: &mut Vec<u8>,
+    reply: &Reply,
+    server: ServerId,
+    place: u64,
+) -> Result<(), AllocError>
+    ensures ok { OnOk result (out.new.items ≡ out.old.items ++ (reply_text reply.now ++ place_text server place)) }
+    ensures err { OnErr result (out.new.items ≡ out.old.items) }
+{
+    let start = out.len();
+    append_reply(out, reply)?;
+    if append_place(out, server, place).is_err() {
+        out.truncate(start);
+        return Err(AllocError);
+    }
+    Ok(())
+}

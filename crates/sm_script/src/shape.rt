@@ -1,0 +1,103 @@
+ghost use Rattle.std.specs.Prelude.{◌≡◌};
+ghost use Rattle.sm_script.specs.Grammar.{first_fault, fits, arguments_fault};
+
+use crate::fault::LineFault;
+use crate::number::{increment, number_between};
+use crate::words::Words;
+
+/// What a word of a line has to be.
+#[derive(Clone, Copy, Debug, PartialEq, Eq, Drop)]
+pub(crate) enum Shape {
+    /// The number of a shard, 0 to 4,095.
+    Shard,
+    /// The number of a server, 1 to 4,095.
+    Server,
+    /// A key, of 1 to 255 bytes.
+    Key,
+    /// The rest of the line with all its spaces, or nothing where the line has ended.
+    Text,
+    /// What is added to a count: a number of 64 bits with a sign.
+    Increment,
+    /// How many pairs a scan gives at most: a number of 32 bits.
+    Limit,
+    /// How many clients a load has, 1 to 16.
+    Clients,
+    /// How many requests each client of a load makes, 1 to 10,000.
+    Each,
+}
+
+impl Shape {
+    ghost use Rattle.sm_script.specs.Grammar.{accepts, fault_of};
+
+    /// Whether the word is one.
+    fn accepts(self, word: &[u8]) -> bool
+        ensures { result ≡ accepts self word.now }
+    {
+        match self {
+            Shape::Shard => number_between(word, 0, 4095).is_some(),
+            Shape::Server => number_between(word, 1, 4095).is_some(),
+            Shape::Key => !word.is_empty() && word.len() <= 255,
+            Shape::Text => true,
+            Shape::Increment => increment(word).is_some(),
+            Shape::Limit => number_between(word, 0, 4294967295).is_some(),
+            Shape::Clients => number_between(word, 1, 16).is_some(),
+            Shape::Each => number_between(word, 1, 10000).is_some(),
+        }
+    }
+
+    /// Why the word isn't one, or nothing where it is.
+    pub(crate) fn fault(self, word: &[u8]) -> Option<LineFault>
+        ensures { result ≡ fault_of self word.now }
+    {
+        if self.accepts(word) {
+            None
+        } else if self == Shape::Key {
+            Some(LineFault::BadKey)
+        } else {
+            Some(LineFault::BadNumber)
+        }
+    }
+}
+
+/// Whether there is a word for each shape and no other. A text takes all words that are left.
+pub(crate) fn fits(shapes: &[Shape], mut words: Words) -> bool
+    ensures { result ≡ fits shapes.now words.entry }
+{
+    for shape in shapes {
+        if *shape == Shape::Text {
+            return true;
+        }
+        if words.next().is_none() {
+            return false;
+        }
+    }
+    words.is_empty()
+}
+
+/// The fault of the leftmost word that isn't of its shape.
+pub(crate) fn first_fault(shapes: &[Shape], mut words: Words) -> Option<LineFault>
+    ensures { result ≡ first_fault shapes.now words.entry }
+{
+    for shape in shapes {
+        match words.next() {
+            None => return None,
+            Some(word) => {
+                if let Some(fault) = shape.fault(word) {
+                    return Some(fault);
+                }
+            }
+        }
+    }
+    None
+}
+
+/// What is wrong with the words that stand for these shapes, or nothing.
+pub(crate) fn arguments_fault(shapes: &[Shape], words: &Words) -> Option<LineFault>
+    ensures { result ≡ arguments_fault shapes.now words.now }
+{
+    if fits(shapes, words.again()) {
+        first_fault(shapes, words.again())
+    } else {
+        Some(LineFault::BadLine)
+    }
+}
