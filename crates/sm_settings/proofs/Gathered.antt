@@ -1,0 +1,19 @@
+-- Lists gathered item by item, each tested.
+use Rattle.std.proofs.Common.{◌≡◌, ℕ, ◌<◌, List, length, map, refl, ap, ◌∙◌, sym, None, Bool, true, false, get_or}
+use Rattle.std.specs.List.{list_all}
+use Rattle.std.proofs.lemmas.List.Folds.{list_all-map, list_all_at}
+use Rattle.sm_settings.specs.Members.{when}
+
+-- where the value isn't there the test failed
+pub failed_test : {R : Type 0} (passed : Bool) (row : R) → None ≡ when passed row → passed ≡ false
+failed_test true row none = cc
+failed_test false row none = refl
+
+-- one row that fails is enough
+pub refused_at : {V D R : Type 0} (view : V → D) (of : D → R) (test : R → Bool) (vs : List V) (i : ℕ) (v : V) → i < length vs → v ≡ get_or vs i v
+    → None ≡ when (test (of (view v))) (of (view v)) → None ≡ when (list_all test (map of (map view vs))) (map of (map view vs))
+refused_at view of test vs i v within is none =
+    let failed : test (of (view (get_or vs i v))) ≡ false = ap (λ x. test (of (view x))) (sym is) ∙ failed_test (test (of (view v))) (of (view v)) none in
+    let all_failed : list_all test (map of (map view vs)) ≡ false =
+    list_all-map test of (map view vs) ∙ list_all-map (λ d. test (of d)) view vs ∙ list_all_at (λ x. test (of (view x))) vs i v within failed in
+    sym (ap (λ b. when b (map of (map view vs))) all_failed)

@@ -1,0 +1,76 @@
+-- Looking into JSON data: what an object's members hold, and tests of their types.
+-- What is missing or of another type counts as 0 or as nothing: a line with such a member breaks the rule on
+-- shapes, which comes before all rules on values.
+use Rattle.std.specs.Prelude.{ℕ, suc, ◌&&◌, ◌==◌, List, [], ◌∷◌, length, Bool, false, nat_le, if◌then◌else◌, Option, None, Some, is_some, unwrap_or, option_map, option_and_then}
+use Rattle.std.specs.List.{list_all}
+use Rattle.serde_json.specs.Data.{Data, Items, no_items, item, Members, no_members, member}
+use Rattle.serde_json.specs.Find.{get, as_number, as_u64, as_array, as_object, as_str}
+
+-- ---- values
+
+-- the number, where it is written in digits alone and is below 2^64
+abbrev pub as_whole : Data → Option ℕ
+as_whole d = option_and_then as_u64 (as_number d)
+
+-- the number at a member
+abbrev pub number_at : List ℕ → Data → ℕ
+number_at name d = unwrap_or (option_and_then as_whole (get name d)) 0
+
+-- the bytes of a text
+abbrev pub text_of : Data → List ℕ
+text_of d = unwrap_or (as_str d) []
+
+-- the items as a list
+abbrev pub list_of : Items → List Data
+list_of no_items = []
+list_of (item d ds) = d ∷ list_of ds
+
+-- the items of an array
+abbrev pub array_of : Data → Option (List Data)
+array_of d = option_map list_of (as_array d)
+
+-- the items of the array at a member
+abbrev pub items_at : List ℕ → Data → List Data
+items_at name d = unwrap_or (option_and_then array_of (get name d)) []
+
+-- ---- types
+
+-- the value is there, and passes
+abbrev pub passes : {T : Type 0} → (T → Bool) → Option T → Bool
+passes test None = false
+passes test (Some x) = test x
+
+-- a number in digits alone, below 2^64
+abbrev pub is_whole : Data → Bool
+is_whole d = is_some (as_whole d)
+
+-- a string
+abbrev pub is_text : Data → Bool
+is_text d = is_some (as_str d)
+
+-- an array whose items all pass
+abbrev pub is_array_of : (Data → Bool) → Data → Bool
+is_array_of test d = passes (list_all test) (array_of d)
+
+-- how many members there are
+abbrev pub count_of : Members → ℕ
+count_of no_members = 0
+count_of (member name d ms) = suc (count_of ms)
+
+-- an object of so many members
+abbrev pub has_size : ℕ → Data → Bool
+has_size size d = passes (λ ms. count_of ms == size) (as_object d)
+
+-- an object with exactly these members, the value of each passing its test
+abbrev pub is_object_of : List (List ℕ × (Data → Bool)) → Data → Bool
+is_object_of members d = has_size (length members) d && list_all (λ m. passes m.1 (get m.0 d)) members
+
+-- ---- ranges
+
+-- the number is from low to high, both included
+abbrev pub is_within : ℕ → ℕ → ℕ → Bool
+is_within low high n = nat_le low n && nat_le n high
+
+-- the value where the test holds
+abbrev pub when : {T : Type 0} → Bool → T → Option T
+when holds x = if holds then Some x else None

@@ -1,0 +1,94 @@
+-- What a settings line gives: its values, or the first rule that it breaks.
+use Rattle.std.specs.Prelude.{ℕ, ◌==◌, List, [], ◌∷◌, length, map, is_none, Bool, nat_le, if◌then◌else◌, Option, None, Some, Result, Ok, Err, codes}
+use Rattle.std.specs.Str.{is_utf8}
+use Rattle.serde_json.specs.Data.{Data}
+use Rattle.serde_json.specs.Read.{read}
+use Rattle.sm_ranges.specs.LayoutFault.{first_layout_fault}
+use Rattle.sm_settings.specs.declared.server_row.ServerRow.{ServerRow}
+use Rattle.sm_settings.specs.declared.group_row.GroupRow.{GroupRow}
+use Rattle.sm_settings.specs.declared.shard_row.ShardRow.{ShardRow}
+use Rattle.sm_settings.specs.declared.settings.Settings.{Settings}
+use Rattle.sm_settings.specs.declared.settings_fault.SettingsFault.{SettingsFault}
+use Rattle.sm_settings.specs.declared.settings_fault.SettingsFault.TheVariants.{TooLong, BadJson, BadVersion, BadShape, BadLayout, BadServers, BadGroups, BadShards, BadOps, BadKept, BadCeiling, BadWorkers}
+use Rattle.sm_settings.specs.Members.{number_at, text_of, items_at, is_whole, is_text, is_array_of, is_object_of, is_within}
+use Rattle.sm_settings.specs.ServerRow.{is_server_object, server_row_of, are_servers}
+use Rattle.sm_settings.specs.GroupRow.{is_group_object, group_row_of, are_groups}
+use Rattle.sm_settings.specs.ShardRow.{is_shard_object, shard_row_of, are_shards}
+
+-- exactly the members of settings, each of its type
+abbrev pub is_settings_object : Data → Bool
+is_settings_object = is_object_of (
+    (codes "version", is_whole) ∷
+    (codes "bounds", is_array_of is_text) ∷
+    (codes "servers", is_array_of is_server_object) ∷
+    (codes "groups", is_array_of is_group_object) ∷
+    (codes "shards", is_array_of is_shard_object) ∷
+    (codes "ops", is_whole) ∷
+    (codes "kept", is_whole) ∷
+    (codes "ceiling", is_whole) ∷
+    (codes "workers", is_whole) ∷ [])
+
+-- what settings say: the bounds of the layout, the rows, and the limits
+pub record SettingsValues : Type 0 where
+  pub bounds : List (List ℕ)
+  pub servers : List ServerRow
+  pub groups : List GroupRow
+  pub shards : List ShardRow
+  pub ops : ℕ
+  pub kept : ℕ
+  pub ceiling : ℕ
+  pub workers : ℕ
+
+-- the values that an object says
+abbrev pub values_in : Data → SettingsValues
+values_in d = record {
+  bounds = map text_of (items_at (codes "bounds") d);
+  servers = map server_row_of (items_at (codes "servers") d);
+  groups = map group_row_of (items_at (codes "groups") d);
+  shards = map shard_row_of (items_at (codes "shards") d);
+  ops = number_at (codes "ops") d;
+  kept = number_at (codes "kept") d;
+  ceiling = number_at (codes "ceiling") d;
+  workers = number_at (codes "workers") d;
+}
+
+-- the rules of settings in the order of the checks, each with the fault of a line that breaks it
+abbrev pub rules : Data → SettingsValues → List (Bool × SettingsFault)
+rules d v =
+    (number_at (codes "version") d == 1, BadVersion) ∷
+    (is_settings_object d, BadShape) ∷
+    (is_none (first_layout_fault v.bounds), BadLayout) ∷
+    (are_servers v.servers, BadServers) ∷
+    (are_groups v.groups, BadGroups) ∷
+    (are_shards (length v.bounds) (length v.groups) v.shards, BadShards) ∷
+    (is_within 0 4095 v.ops, BadOps) ∷
+    (is_within 1 1048576 v.kept, BadKept) ∷
+    (is_within 3 68719476735 v.ceiling, BadCeiling) ∷
+    (is_within 1 8 v.workers, BadWorkers) ∷ []
+
+-- the value where all rules hold, and else the fault of the first that doesn't
+abbrev pub value_or_fault : {V F : Type 0} → List (Bool × F) → V → Result V F
+value_or_fault [] v = Ok v
+value_or_fault (r ∷ rs) v = if r.0 then value_or_fault rs v else Err r.1
+
+-- what JSON data gives as settings: its values, or the fault of the first rule that it breaks; none was read of what is no JSON
+abbrev pub verdict_of : Option Data → Result SettingsValues SettingsFault
+verdict_of None = Err BadJson
+verdict_of (Some d) = value_or_fault (rules d (values_in d)) (values_in d)
+
+-- what the bytes of a line give as settings: their values, or their first fault
+unfoldable pub settings_of : List ℕ → Result SettingsValues SettingsFault
+settings_of line = if nat_le (length line) 1048576 then (if is_utf8 line then verdict_of (read line) else Err BadJson) else Err TooLong
+
+-- the values that settings hold
+abbrev pub values_of : Settings → SettingsValues
+values_of s = record {
+  bounds = s.layout;
+  servers = s.servers.items;
+  groups = s.groups.items;
+  shards = s.shards.items;
+  ops = s.ops;
+  kept = s.kept;
+  ceiling = s.ceiling;
+  workers = s.workers;
+}

@@ -1,0 +1,48 @@
+ghost use Rattle.std.specs.Prelude.{◌≡◌, map, is_none, IfOk};
+ghost use Rattle.std.specs.List.{list_all};
+ghost use Rattle.serde_json.specs.View.{view};
+ghost use Rattle.sm_ranges.specs.LayoutFault.{texts_of, first_layout_fault};
+ghost use Rattle.sm_settings.specs.Members.{is_text, text_of, when};
+
+use serde_json::Value;
+use sm_ranges::layout::{Layout, LayoutFault};
+use std::alloc::{AllocError, Global};
+
+/// Whether each value is a text.
+pub fn are_texts(values: &[Value]) -> bool
+    ensures { result ≡ list_all is_text (map view values.now) }
+{
+    values.iter().all(|value| value.is_string())
+}
+
+/// The layout with the values' texts as its bounds, where they make one.
+pub fn layout_from(alloc: Global, values: &[Value]) -> Result<Option<Layout>, AllocError>
+    ensures { let bounds = map text_of (map view values.now) in
+        IfOk result (λ found. found ≡ when (is_none (first_layout_fault bounds)) bounds) }
+{
+    let bounds = bytes_of(alloc, values)?;
+    match Layout::new(alloc, &bounds) {
+        Ok(layout) => Ok(Some(layout)),
+        Err(LayoutFault::NoMemory) => Err(AllocError),
+        Err(_) => Ok(None),
+    }
+}
+
+fn bytes_of<'a>(alloc: Global, values: &'a [Value]) -> Result<Vec<&'a [u8]>, AllocError>
+    ensures { IfOk result (λ texts. texts_of texts.items ≡ map text_of (map view values.now)) }
+{
+    let mut texts = Vec::with_capacity(alloc, values.len())?;
+    for value in values {
+        texts.push(text(value))?;
+    }
+    Ok(texts)
+}
+
+fn text(value: &Value) -> &[u8]
+    ensures { result.now ≡ text_of (view value.now) }
+{
+    match value.as_str() {
+        Some(text) => text.as_bytes(),
+        None => &[],
+    }
+}

@@ -1,0 +1,63 @@
+ghost use Rattle.std.specs.Prelude.{◌≡◌, ◌≤◌, IfSome, map, option_map, option_and_then};
+ghost use Rattle.serde_json.specs.Find.{get};
+ghost use Rattle.serde_json.specs.View.{view};
+ghost use Rattle.sm_settings.specs.Members.{number_at, array_of, items_at, is_whole, passes, has_size, is_within, when};
+
+use serde_json::Value;
+
+/// The number at a member, and 0 where there is none.
+pub fn number(value: &Value, name: &str) -> u64
+    ensures { result ≡ number_at name.now (view value.now) }
+{
+    value.get(name).and_then(Value::as_u64).unwrap_or(0)
+}
+
+/// Whether a number in digits alone and below 2^64 is at the member.
+pub fn has_number(value: &Value, name: &str) -> bool
+    ensures { result ≡ passes is_whole (get name.now (view value.now)) }
+{
+    value.get(name).and_then(Value::as_u64).is_some()
+}
+
+/// The number at a member, where it is from `low` to `high`.
+pub fn number_within(value: &Value, name: &str, low: u64, high: u64) -> Option<u64>
+    ensures value { result ≡ when (is_within low high (number_at name.now (view value.now))) (number_at name.now (view value.now)) }
+    ensures low { IfSome result (λ n. low ≤ n) }
+    ensures high { IfSome result (λ n. n ≤ high) }
+{
+    let number = number(value, name);
+    if low <= number && number <= high {
+        Some(number)
+    } else {
+        None
+    }
+}
+
+/// Whether the value is an object of so many members.
+pub fn has_size(value: &Value, size: usize) -> bool
+    ensures { result ≡ has_size size (view value.now) }
+{
+    match value.as_object() {
+        Some(members) => members.len() == size,
+        None => false,
+    }
+}
+
+/// The items of the array at a member, if there is one.
+pub fn array<'a>(value: &'a Value, name: &str) -> Option<&'a [Value]>
+    ensures { option_map (λ items. map view items.now) result ≡ option_and_then array_of (get name.now (view value.now)) }
+{
+    let member = value.get(name)?;
+    let items = member.as_array()?;
+    Some(items.as_slice())
+}
+
+/// The items of the array at a member, and none where there is no array.
+pub fn items<'a>(value: &'a Value, name: &str) -> &'a [Value]
+    ensures { map view result.now ≡ items_at name.now (view value.now) }
+{
+    match array(value, name) {
+        Some(items) => items,
+        None => &[],
+    }
+}

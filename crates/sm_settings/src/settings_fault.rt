@@ -1,0 +1,84 @@
+use std::alloc::AllocError;
+use std::error::Error;
+use std::fmt;
+
+/// Why a settings line is refused, in the order of the checks.
+#[derive(Clone, Copy, Debug, PartialEq, Eq, Drop)]
+pub enum SettingsFault {
+    /// The line has more than 1,048,576 bytes.
+    TooLong,
+    /// The line is not one JSON value in UTF-8.
+    BadJson,
+    /// The value is no object with the number 1 as its member `version`.
+    BadVersion,
+    /// A member is missing, unknown or of another type.
+    BadShape,
+    /// The bounds make no layout.
+    BadLayout,
+    /// The servers break a rule.
+    BadServers,
+    /// The groups break a rule.
+    BadGroups,
+    /// The shards break a rule.
+    BadShards,
+    /// `ops` is not 0 to 4,095.
+    BadOps,
+    /// `kept` is not 1 to 1,048,576.
+    BadKept,
+    /// `ceiling` is not 3 to 68,719,476,735.
+    BadCeiling,
+    /// `workers` is not 1 to 8.
+    BadWorkers,
+    /// Memory was refused: whether the line has another fault is not known.
+    NoMemory,
+}
+
+impl SettingsFault {
+    ghost use Rattle.std.specs.Prelude.{◌≡◌};
+    ghost use Rattle.sm_settings.specs.SettingsFault.{name_of};
+
+    /// The fault as the answer to a settings line writes it.
+    pub fn as_str(self) -> &'static str
+        ensures { result.now ≡ name_of self }
+    {
+        match self {
+            SettingsFault::TooLong => "TooLong",
+            SettingsFault::BadJson => "BadJson",
+            SettingsFault::BadVersion => "BadVersion",
+            SettingsFault::BadShape => "BadShape",
+            SettingsFault::BadLayout => "BadLayout",
+            SettingsFault::BadServers => "BadServers",
+            SettingsFault::BadGroups => "BadGroups",
+            SettingsFault::BadShards => "BadShards",
+            SettingsFault::BadOps => "BadOps",
+            SettingsFault::BadKept => "BadKept",
+            SettingsFault::BadCeiling => "BadCeiling",
+            SettingsFault::BadWorkers => "BadWorkers",
+            SettingsFault::NoMemory => "NoMemory",
+        }
+    }
+}
+
+impl fmt::Display for SettingsFault {
+    ghost use Rattle.std.specs.Prelude.{Some};
+    ghost use Rattle.sm_settings.specs.SettingsFault.{name_of};
+
+    ghost output = { λ fault. Some (name_of fault) };
+
+    fn fmt<W: fmt::Write>(&self, f: &mut fmt::Formatter<W>) -> fmt::Result {
+        f.write_str(self.as_str())
+    }
+}
+
+impl Error for SettingsFault {}
+
+impl From<AllocError> for SettingsFault {
+    ghost use Rattle.std.specs.Prelude.{◌≡◌};
+    ghost use Rattle.sm_settings.specs.declared.settings_fault.SettingsFault.TheVariants.{NoMemory};
+
+    ghost from_gives = { λ _ fault. fault ≡ NoMemory };
+
+    fn from(_error: AllocError) -> SettingsFault {
+        SettingsFault::NoMemory
+    }
+}
