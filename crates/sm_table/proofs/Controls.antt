@@ -1,0 +1,132 @@
+-- A change of a shard's stand, in the parts and in the world that they stand for.
+use Rattle.std.proofs.Common.{◌≡◌, ℕ, ◌<◌, Bool, true, false, not, List, [], ◌∷◌, ◌++◌, length, refl, sym, ap, subst, ◌∙◌, arith}
+use Rattle.std.specs.Prelude.{Option, Some, None, Ok, Err, map, reverse, nat_lt, slice_set, unwrap_or, if◌then◌else◌}
+use Rattle.std.specs.Option.{option_map}
+use Rattle.std.proofs.lemmas.Bool.{lt-ltb, ltb-true}
+use Rattle.std.proofs.lemmas.List.{reverse-append, map-set, length-map, get_or-map}
+use Rattle.sm_ranges.specs.declared.stand.Stand.TheVariants.{Vacant}
+use Rattle.sm_table.specs.declared.change.Change.{Change}
+use Rattle.sm_table.specs.declared.change_fault.ChangeFault.{ChangeFault}
+use Rattle.sm_table.specs.declared.command.Command.TheVariants.{Change as ChangeOf}
+use Rattle.sm_table.specs.declared.command.CommandFault.{CommandFault}
+use Rattle.sm_table.specs.declared.entry.Entry.{Entry}
+use Rattle.sm_table.specs.declared.entry.Kind.TheVariants.{Change as Changed}
+use Rattle.sm_table.specs.declared.record.Record.{Record}
+use Rattle.sm_table.specs.declared.step.Step.TheVariants.{Control}
+use Rattle.sm_table.specs.declared.world_answer.WorldAnswer.TheVariants.{Made}
+use Rattle.sm_table.specs.declared.world_fault.WorldFault.TheVariants.{Command as CommandRefused}
+use Rattle.sm_table.specs.Rules.{stand_after, phase_fault, newly_named}
+use Rattle.sm_table.specs.Desk.{DeskView, is_unknown, stand_at, change_fault, command_fault_of, desk_after}
+use Rattle.sm_table.specs.History.{vacant, after_change, fits, table_of, IsLegal}
+use Rattle.sm_table.specs.Tables.{TableView, record_fault, apply_fault, table_changed, command_fault_from}
+use Rattle.sm_table.specs.World.{Service, WorldState, Plain, count_of, desk_of, world_table, world_record, table_fault, with_entry, outcome}
+use Rattle.sm_table.specs.Standing.{IsSound, WorldView, StandsFor, Follows}
+use Rattle.sm_table.proofs.Growth.{length-table_of, table_of-push, kept-push_none}
+use Rattle.sm_table.proofs.Parts.{parts_of, parts-from_StandsFor, Follows-unchanged, Follows-changed}
+
+-- an entry of a legal history fits what came before it
+pub fits-from_legal : {Q : Type 0} (count ceiling : ℕ) (history : List (Entry Q)) (entry : Entry Q) → IsLegal count ceiling (history ++ entry ∷ []) → fits ceiling (reverse history) (table_of count ceiling history) entry ≡ true
+fits-from_legal count ceiling history entry legal = (rw (reverse-append history (entry ∷ [])) at legal).0
+
+first_none : {X Y : Type 0} (there unknown : Bool) (x y : X) (fault : Option Y) (of : Y → X) → None ≡ (if not there then Some x else if unknown then Some y else option_map of fault) → (there ≡ true) × (fault ≡ None)
+first_none true false x y None of none = (refl, refl)
+first_none true false x y (Some fault) of none = absurd cc
+first_none true true x y fault of none = absurd cc
+first_none false unknown x y fault of none = absurd cc
+
+-- what the desk lets through: a shard that is there, and a change that begins from its stand
+let_through : (desk : DeskView) (shard : ℕ) (change : Change) → None ≡ change_fault desk shard change → (shard < length desk.stands) × (phase_fault (stand_at desk.stands shard) change ≡ None)
+let_through desk shard change none =
+    let first = first_none (nat_lt shard (length desk.stands)) (is_unknown desk.servers (newly_named change)) _ _ (phase_fault (stand_at desk.stands shard) change) command_fault_of none in
+    (ltb-true _ _ first.0, first.1)
+
+fault_of_record : (room busy : Bool) (state : Record) (x y : ChangeFault) → (if not room then Some (command_fault_from x) else if busy then Some (command_fault_from y) else None) ≡ option_map command_fault_from (if not room then Some x else if busy then Some y else None)
+fault_of_record true true state x y = refl
+fault_of_record true false state x y = refl
+fault_of_record false busy state x y = refl
+
+table_fault-record_fault : (ceiling : ℕ) (state : Record) → table_fault ceiling state ≡ option_map command_fault_from (record_fault ceiling state)
+table_fault-record_fault ceiling state = fault_of_record (nat_lt state.generation ceiling) state.admitted state _ _
+
+module _ {Q R : Type 0} (service : Service Q R) (w : WorldState Q) (sound : IsSound w) (shard : ℕ) (change : Change) (none : None ≡ change_fault (desk_of w) shard change) where
+  long : length (world_table w) ≡ count_of w
+  long = length-table_of (count_of w) w.frame.ceiling w.history
+
+  pub change_within : shard < length (world_table w)
+  change_within = omega (arith, (let_through (desk_of w) shard change none).0, length-map (world_table w) (λ (state : Record). state.stand))
+
+  same_stand : stand_at (desk_of w).stands shard ≡ (world_record w shard).stand
+  same_stand = get_or-map (λ (state : Record). state.stand) (world_table w) shard vacant Vacant change_within
+
+  phase : phase_fault (world_record w shard).stand change ≡ None
+  phase = ap (λ stand. phase_fault stand change) (sym same_stand) ∙ (let_through (desk_of w) shard change none).1
+
+  -- where the desk lets a change through, the table refuses it by its record alone
+  refusal : (fault : Option ChangeFault) → fault ≡ apply_fault (record { records = world_table w; ceiling = w.frame.ceiling }) shard change → table_fault w.frame.ceiling (world_record w shard) ≡ option_map command_fault_from fault
+  refusal fault is =
+      let inside : nat_lt shard (length (world_table w)) ≡ true = lt-ltb _ _ change_within in
+      let by_record : fault ≡ record_fault w.frame.ceiling (world_record w shard) = is ∙ rw (inside, phase) refl in
+      table_fault-record_fault w.frame.ceiling (world_record w shard) ∙ ap (option_map command_fault_from) (sym by_record)
+
+  abbrev changed_world : WorldState Q
+  changed_world = with_entry w 0 shard (Changed change)
+
+  -- the parts after the change, as the code makes them
+  abbrev pub changed_parts : WorldView Q → WorldView Q
+  changed_parts v = record v { desk = desk_after v.desk (ChangeOf shard change); records = (table_changed (record { records = v.records; ceiling = v.ceiling }) shard change).records }
+
+  -- are those of the changed world
+  pub changed_parts_of : (lists : List (List Q)) → IsSound changed_world → changed_parts (parts_of w lists) ≡ parts_of changed_world lists
+  changed_parts_of lists after =
+      let entry : Entry Q = record { actor = 0; shard = shard; kind = Changed change } in
+      let grown = table_of-push (count_of w) w.frame.ceiling w.history entry (fits-from_legal (count_of w) w.frame.ceiling w.history entry after.legal) in
+      let shown : (desk_after (desk_of w) (ChangeOf shard change)).stands ≡ (desk_of changed_world).stands =
+      ap (λ stand. slice_set (map (λ (state : Record). state.stand) (world_table w)) shard (unwrap_or (stand_after stand change) stand)) same_stand
+      ∙ sym (map-set (λ (state : Record). state.stand) (world_table w) shard (after_change (world_record w shard) change))
+      ∙ ap (map (λ (state : Record). state.stand)) (sym grown) in
+      ap (λ stands. record (parts_of w lists) { desk = record { servers = w.frame.servers; stands = stands }; records = slice_set (world_table w) shard (after_change (world_record w shard) change) }) shown
+      ∙ ap (λ records. record (parts_of w lists) { desk = desk_of changed_world; records = records }) (sym grown)
+
+module _ {Q R : Type 0} (service : Service Q R) (v now : WorldView Q) (same : v ≡ now) (w : WorldState Q) (given : StandsFor now w) (shard : ℕ) (change : Change) where
+  stands : StandsFor v w
+  stands = subst (λ u. StandsFor u w) (sym same) given
+
+  -- the desk refuses the change
+  pub refused_by_desk : (fault : CommandFault) → Some fault ≡ change_fault v.desk shard change → Follows now (Err (CommandRefused fault)) (outcome service w Plain (Control (ChangeOf shard change)))
+  refused_by_desk fault is =
+      let refused : change_fault (desk_of w) shard change ≡ Some fault = ap (λ desk. change_fault desk shard change) (sym stands.desk) ∙ sym is in
+      Follows-unchanged service w Plain (Control (ChangeOf shard change)) now now (Err (CommandRefused fault)) given (rw refused refl) refl
+
+  module _ (none : None ≡ change_fault v.desk shard change) where
+    allowed : None ≡ change_fault (desk_of w) shard change
+    allowed = none ∙ ap (λ desk. change_fault desk shard change) stands.desk
+
+    as_of_world : (fault : Option ChangeFault) → fault ≡ apply_fault (record { records = v.records; ceiling = v.ceiling }) shard change → fault ≡ apply_fault (record { records = world_table w; ceiling = w.frame.ceiling }) shard change
+    as_of_world fault is = is ∙ ap (λ records. apply_fault (record { records = records; ceiling = v.ceiling }) shard change) stands.records ∙ ap (λ ceiling. apply_fault (record { records = world_table w; ceiling = ceiling }) shard change) stands.ceiling
+
+    -- the table refuses it
+    pub refused_by_table : (fault : ChangeFault) (table : TableView) → Some fault ≡ apply_fault (record { records = v.records; ceiling = v.ceiling }) shard change → table ≡ record { records = v.records; ceiling = v.ceiling } → Follows (record v { records = table.records; ceiling = table.ceiling }) (Err (CommandRefused (command_fault_from fault))) (outcome service w Plain (Control (ChangeOf shard change)))
+    refused_by_table fault table is unchanged =
+        let refused : table_fault w.frame.ceiling (world_record w shard) ≡ Some (command_fault_from fault) = refusal service w stands.sound shard change allowed (Some fault) (as_of_world (Some fault) is) in
+        let through : change_fault (desk_of w) shard change ≡ None = sym allowed in
+        Follows-unchanged service w Plain (Control (ChangeOf shard change)) (record v { records = table.records; ceiling = table.ceiling }) v (Err (CommandRefused (command_fault_from fault))) stands (rw (through, refused) refl) (ap (λ (t : TableView). record v { records = t.records; ceiling = t.ceiling }) unchanged)
+
+    -- neither does
+    pub made : (table : TableView) (desk : DeskView) → None ≡ apply_fault (record { records = v.records; ceiling = v.ceiling }) shard change → table ≡ table_changed (record { records = v.records; ceiling = v.ceiling }) shard change → desk ≡ desk_after v.desk (ChangeOf shard change) → Follows (record v { desk = desk; records = table.records; ceiling = table.ceiling }) (Ok Made) (outcome service w Plain (Control (ChangeOf shard change)))
+    made table desk is changed noted =
+        let taken : table_fault w.frame.ceiling (world_record w shard) ≡ None = refusal service w stands.sound shard change allowed None (as_of_world None is) in
+        let through : change_fault (desk_of w) shard change ≡ None = sym allowed in
+        Follows-changed service w Plain (Control (ChangeOf shard change)) (record v { desk = desk; records = table.records; ceiling = table.ceiling }) (Ok Made) (with_entry w 0 shard (Changed change)) v.kept stands.sound (rw (through, taken) refl)
+        (λ after. ap (λ (t : TableView). record v { desk = desk; records = t.records; ceiling = t.ceiling }) changed
+        ∙ ap (λ (d : DeskView). record v { desk = d; records = (table_changed (record { records = v.records; ceiling = v.ceiling }) shard change).records }) noted
+        ∙ ap (changed_parts service w stands.sound shard change allowed) (parts-from_StandsFor v w stands)
+        ∙ changed_parts_of service w stands.sound shard change allowed v.kept after)
+        (λ after. record { bodies = stands.bodies; each = λ other within. stands.kept other within ∙ sym (kept-push_none w.history (record { actor = 0; shard = shard; kind = Changed change }) other refl) })
+
+-- a shard whose change the table doesn't refuse is there
+pub within-apply_fault : (table : TableView) (shard : ℕ) (change : Change) → None ≡ apply_fault table shard change → shard < length table.records
+within-apply_fault table shard change is = ltb-true _ _ (by (nat_lt shard (length table.records)) _ _ is)
+  where
+    by : {X : Type 0} (there : Bool) (x : X) (later : Option X) → None ≡ (if not there then Some x else later) → there ≡ true
+    by true x later none = refl
+    by false x later none = absurd cc

@@ -1,0 +1,186 @@
+-- The entries that steps write keep a world sound.
+use Rattle.std.proofs.Common.{◌≡◌, ◌≢◌, ℕ, ◌<◌, ◌≤◌, Bool, true, false, not, ◌&&◌, ◌||◌, List, [], ◌∷◌, ◌++◌, length, refl, sym, ap, subst, ◌∙◌, arith, ⊎_elim}
+use Rattle.std.specs.Prelude.{Option, Some, None, map, reverse, slice_set, slice_index_or, nat_lt, is_none, ◌==◌, if◌then◌else◌}
+use Rattle.std.specs.List.{list_all}
+use Rattle.std.specs.Option.{option_map}
+use Rattle.std.proofs.lemmas.Bool.{true≢false, cases_eq, cases_lt, eq-eqb, ne_eqb, and_parts, and_from, lt-ltb, ltb-true, eqb-true}
+use Rattle.std.proofs.lemmas.Bool.Decides.{nat_tests}
+use Rattle.std.proofs.lemmas.List.{reverse-append, get_or-set_same, get_or-set_other, get_or_past, get_or-map, length-map, length-set}
+use Rattle.std.proofs.lemmas.List.Folds.{list_all-append}
+use Rattle.sm_ranges.specs.ServerId.{IsServer}
+use Rattle.sm_ranges.specs.declared.stand.Stand.TheVariants.{Vacant}
+use Rattle.sm_table.specs.declared.change.Change.{Change}
+use Rattle.sm_table.specs.declared.change.PhaseFault.{PhaseFault}
+use Rattle.sm_table.specs.declared.entry.Entry.{Entry}
+use Rattle.sm_table.specs.declared.entry.Kind.{Kind}
+use Rattle.sm_table.specs.declared.entry.Kind.TheVariants.{Change as Changed, Admit, Done}
+use Rattle.sm_table.specs.declared.mode.Mode.{Mode}
+use Rattle.sm_table.specs.declared.record.Record.{Record}
+use Rattle.sm_table.specs.declared.in_hand.InHand.{InHand}
+use Rattle.sm_table.specs.Rules.{newly_named, phase_fault, admit_fault}
+use Rattle.sm_table.specs.Desk.{is_unknown, stand_at, change_fault, command_fault_of}
+use Rattle.sm_table.specs.History.{vacant, after_kind, admits_only, acts_as, fits}
+use Rattle.sm_table.specs.World.{WorldState, count_of, world_table, world_record, with_entry, with_hand, desk_of, table_fault, ended}
+use Rattle.sm_table.specs.Standing.{IsHeld, IsSound}
+use Rattle.sm_table.proofs.Faults.{change_fits-no_fault, admit_fault-none}
+use Rattle.sm_table.proofs.Growth.{length-table_of, legal-push, record_at-push, record_at-push_other}
+
+list_all-reverse : {X : Type 0} (test : X → Bool) (xs : List X) → list_all test (reverse xs) ≡ list_all test xs
+list_all-reverse test [] = refl
+list_all-reverse test (x ∷ xs) =
+    ap (list_all test) (reverse-append (x ∷ []) xs) ∙ list_all-append test (reverse xs) (x ∷ []) ∙ rw (list_all-reverse test xs) (swapped (list_all test xs) (test x))
+  where
+    swapped : (a b : Bool) → (a && (b && true)) ≡ (b && a)
+    swapped true true = refl
+    swapped true false = refl
+    swapped false true = refl
+    swapped false false = refl
+
+list_all_weaker : {X : Type 0} (test weaker : X → Bool) → ((x : X) → test x ≡ true → weaker x ≡ true) → (xs : List X) → list_all test xs ≡ true → list_all weaker xs ≡ true
+list_all_weaker test weaker each [] all = refl
+list_all_weaker test weaker each (x ∷ xs) all =
+    let both = and_parts (test x) (list_all test xs) all in
+    and_from (weaker x) (list_all weaker xs) (each x both.0) (list_all_weaker test weaker each xs both.1)
+
+unless_other : {Q : Type 0} (same : Bool) (own actor : ℕ) (kind : Kind Q) → (same ≡ true → own ≡ actor) → admits_only own kind ≡ true → (not same || admits_only actor kind) ≡ true
+unless_other false own actor kind is own_only = refl
+unless_other true own actor kind is own_only = subst (λ a. admits_only a kind ≡ true) (is refl) own_only
+
+-- where each actor is admitted under its own number alone, each has one server for good
+acts_as_itself : {Q : Type 0} (history : List (Entry Q)) (actor : ℕ) → list_all (λ entry. admits_only entry.actor entry.kind) history ≡ true → acts_as (reverse history) actor actor ≡ true
+acts_as_itself history actor own =
+    list_all-reverse _ history ∙ list_all_weaker _ _ (λ entry only. unless_other (entry.actor == actor) entry.actor actor entry.kind (eqb-true entry.actor actor) only) history own
+
+module _ {Q : Type 0} where
+  -- an entry of another shard leaves who holds this one
+  held_other : (history : List (Entry Q)) (entry : Entry Q) (admitted : Bool) (shard : ℕ) (hand : Option (InHand Q)) → (entry.shard == shard) ≡ false → IsHeld history admitted shard hand → IsHeld (history ++ entry ∷ []) admitted shard hand
+  held_other history entry admitted shard None other held = held
+  held_other history entry admitted shard (Some hand) other held = (held.0, rw (reverse-append history (entry ∷ [])) (rw other held.1))
+
+  -- nothing is in hand at an idle record, whatever is written next
+  held_idle : (history longer : List (Entry Q)) (admitted : Bool) (shard : ℕ) (hand : Option (InHand Q)) → admitted ≡ false → IsHeld history admitted shard hand → IsHeld longer admitted shard hand
+  held_idle history longer admitted shard None idle held = held
+  held_idle history longer admitted shard (Some hand) idle held = absurd (true≢false (sym held.0 ∙ idle))
+
+  -- what is in hand is so at a shard that is there
+  hand_within : (hands : List (Option (InHand Q))) (shard : ℕ) (hand : InHand Q) → slice_index_or hands shard None ≡ Some hand → shard < length hands
+  hand_within hands shard hand is =
+      ⊎_elim
+      (λ (within : shard < length hands). within)
+      (λ (past : length hands ≤ shard). let gone = get_or_past hands shard None past in absurd cc)
+      (cases_lt shard (length hands))
+
+-- an entry that may come next in a world, and what is then in hand
+record IsNext {Q : Type 0} (w : WorldState Q) (entry : Entry Q) (hands : List (Option (InHand Q))) : Type 0 where
+  fit : fits w.frame.ceiling (reverse w.history) (world_table w) entry ≡ true
+  own_server : admits_only entry.actor entry.kind ≡ true
+  places : length hands ≡ count_of w
+  others : (shard : ℕ) → shard ≢ entry.shard → slice_index_or hands shard None ≡ slice_index_or w.in_hand shard None
+  here : IsHeld (w.history ++ entry ∷ []) (after_kind (world_record w entry.shard) entry.kind).admitted entry.shard (slice_index_or hands entry.shard None)
+
+module _ {Q : Type 0} (w : WorldState Q) (entry : Entry Q) (hands : List (Option (InHand Q))) (sound : IsSound w) (next : IsNext w entry hands) where
+  abbrev grown : WorldState Q
+  grown = record w { history = w.history ++ entry ∷ []; in_hand = hands }
+
+  abbrev HeldAt : ℕ → Type 0
+  HeldAt shard = IsHeld grown.history (world_record grown shard).admitted shard (slice_index_or hands shard None)
+
+  held_own : HeldAt entry.shard
+  held_own =
+      let at = ap (λ state. state.admitted) (record_at-push (count_of w) w.frame.ceiling w.history entry next.fit) in
+      subst (λ admitted. IsHeld grown.history admitted entry.shard (slice_index_or hands entry.shard None)) (sym at) next.here
+
+  held_apart : (shard : ℕ) → shard < count_of w → shard ≢ entry.shard → HeldAt shard
+  held_apart shard within apart =
+      let at = ap (λ state. state.admitted) (record_at-push_other (count_of w) w.frame.ceiling w.history entry shard apart next.fit) in
+      let other : (entry.shard == shard) ≡ false = ne_eqb entry.shard shard (λ same. apart (sym same)) in
+      let before : IsHeld w.history (world_record grown shard).admitted shard (slice_index_or w.in_hand shard None) = subst (λ admitted. IsHeld w.history admitted shard (slice_index_or w.in_hand shard None)) (sym at) (sound.held shard within) in
+      held_other w.history entry (world_record grown shard).admitted shard (slice_index_or hands shard None) other (rw (next.others shard apart) before)
+
+  -- a world stays sound with an entry that may come next
+  grown_sound : IsSound grown
+  grown_sound = record {
+    frame = sound.frame;
+    legal = legal-push (count_of w) w.frame.ceiling w.history entry sound.legal next.fit;
+    own_server = list_all-append _ w.history (entry ∷ []) ∙ rw (sound.own_server, next.own_server) refl;
+    flights = sound.flights;
+    hands = next.places;
+    held = λ shard within. ⊎_elim (λ same. subst HeldAt (sym same) held_own) (held_apart shard within) (cases_eq shard entry.shard);
+  }
+
+-- what holds where no fault of the desk applies, and where none of the table does
+not_refused : {X : Type 0} (there unknown : Bool) (x y : X) (fault : Option PhaseFault) (of : PhaseFault → X) → (if not there then Some x else if unknown then Some y else option_map of fault) ≡ None → (there ≡ true) × (fault ≡ None)
+not_refused true false x y None of none = (refl, refl)
+not_refused true false x y (Some fault) of none = absurd cc
+not_refused true true x y fault of none = absurd cc
+not_refused false unknown x y fault of none = absurd cc
+
+not_busy : {X : Type 0} (room busy : Bool) (x y : X) → (if not room then Some x else if busy then Some y else None) ≡ None → busy ≡ false
+not_busy true false x y none = refl
+not_busy true true x y none = absurd cc
+not_busy false busy x y none = absurd cc
+
+not_zero : (server : ℕ) → 1 ≤ server → not (server == 0) ≡ true
+not_zero server some = grind (arith, nat_tests)
+
+module _ {Q : Type 0} (w : WorldState Q) (sound : IsSound w) where
+  long_table : length (world_table w) ≡ count_of w
+  long_table = length-table_of (count_of w) w.frame.ceiling w.history
+
+  -- a change that neither the desk nor the table refuses
+  pub sound_change : (shard : ℕ) (change : Change) → change_fault (desk_of w) shard change ≡ None → table_fault w.frame.ceiling (world_record w shard) ≡ None → IsSound (with_entry w 0 shard (Changed change))
+  sound_change shard change desk table =
+      let state = world_record w shard in
+      let stands = map (λ (one : Record). one.stand) (world_table w) in
+      let allowed = not_refused (nat_lt shard (length stands)) (is_unknown w.frame.servers (newly_named change)) _ _ (phase_fault (stand_at stands shard) change) command_fault_of desk in
+      let long = length-map (world_table w) (λ (one : Record). one.stand) in
+      let below = ltb-true _ _ allowed.0 in
+      let count = long_table in
+      let inside : shard < length (world_table w) = omega arith in
+      let within : shard < count_of w = omega arith in
+      let stand : stand_at stands shard ≡ state.stand = get_or-map (λ (one : Record). one.stand) (world_table w) shard vacant Vacant inside in
+      let phase : phase_fault state.stand change ≡ None = ap (λ at. phase_fault at change) (sym stand) ∙ allowed.1 in
+      let idle : state.admitted ≡ false = not_busy (nat_lt state.generation w.frame.ceiling) state.admitted _ _ table in
+      let entry : Entry Q = record { actor = 0; shard = shard; kind = Changed change } in
+      grown_sound w entry w.in_hand sound (record {
+        fit = and_from _ _ (lt-ltb _ _ inside) (change_fits-no_fault w.frame.ceiling state change ∙ and_from _ _ (ap is_none phase) (ap is_none table));
+        own_server = refl;
+        places = sound.hands;
+        others = λ _ _. refl;
+        here = held_idle w.history (w.history ++ entry ∷ []) state.admitted shard (slice_index_or w.in_hand shard None) idle (sound.held shard within);
+      })
+
+  -- the admission of a server that no fault keeps out, with its request in hand
+  pub sound_admit : (server shard : ℕ) (mode : Mode) (hand : InHand Q) → shard < count_of w → IsServer server → server ≡ hand.server → admit_fault w.frame.ceiling (world_record w shard) server mode ≡ None → IsSound (with_hand (with_entry w server shard (Admit server mode)) shard (Some hand))
+  sound_admit server shard mode hand within is same none =
+      let count = long_table in
+      let long = sound.hands in
+      let inside : shard < length (world_table w) = omega arith in
+      let alone = acts_as_itself w.history server sound.own_server in
+      let accepted = sym (admit_fault-none w.frame.ceiling (world_record w shard) server mode) ∙ ap is_none none in
+      let placed : slice_index_or (slice_set w.in_hand shard (Some hand)) shard None ≡ Some hand = get_or-set_same w.in_hand shard (Some hand) None (omega arith) in
+      let entry : Entry Q = record { actor = server; shard = shard; kind = Admit server mode } in
+      grown_sound w entry (slice_set w.in_hand shard (Some hand)) sound (record {
+        fit = and_from _ _ (lt-ltb _ _ inside) (and_from _ _ (not_zero server is.0) (and_from _ _ alone accepted));
+        own_server = eq-eqb server server refl;
+        places = length-set w.in_hand shard (Some hand) ∙ sound.hands;
+        others = λ other apart. get_or-set_other w.in_hand shard other (Some hand) None apart;
+        here = rw placed (refl, rw (reverse-append w.history (entry ∷ [])) (rw (eq-eqb shard shard refl) (and_from _ _ (eq-eqb server hand.server same) refl)));
+      })
+
+  -- the end of an admission by the server that has its request in hand
+  pub sound_done : (shard : ℕ) (hand : InHand Q) (request : Option Q) → slice_index_or w.in_hand shard None ≡ Some hand → IsSound (ended w shard hand.server request)
+  sound_done shard hand request is =
+      let count = long_table in
+      let long = sound.hands in
+      let there : shard < length w.in_hand = hand_within w.in_hand shard hand is in
+      let inside : shard < length (world_table w) = omega arith in
+      let held : IsHeld w.history (world_record w shard).admitted shard (Some hand) = subst (λ one. IsHeld w.history (world_record w shard).admitted shard one) is (sound.held shard (omega arith)) in
+      let freed : slice_index_or (slice_set w.in_hand shard None) shard None ≡ None = get_or-set_same w.in_hand shard None None there in
+      grown_sound w (record { actor = hand.server; shard = shard; kind = Done request }) (slice_set w.in_hand shard None) sound (record {
+        fit = and_from _ _ (lt-ltb _ _ inside) (and_from _ _ held.0 held.1);
+        own_server = refl;
+        places = length-set w.in_hand shard None ∙ sound.hands;
+        others = λ other apart. get_or-set_other w.in_hand shard other None None apart;
+        here = rw freed refl;
+      })

@@ -1,0 +1,76 @@
+-- The parts of a `World` fit together after each step.
+use Rattle.std.proofs.Common.{◌≡◌, ℕ, suc, ◌<◌, true, List, [], ◌∷◌, ◌++◌, length, refl, sym, ap, subst, ◌∙◌, arith, ⊎_elim}
+use Rattle.std.specs.Prelude.{Option, Some, None, All, remove, slice_index_or, slice_set}
+use Rattle.std.proofs.lemmas.Bool.{cases_eq}
+use Rattle.std.proofs.lemmas.List.{get_or-set_same, get_or-set_other, length-set}
+use Rattle.std.proofs.lemmas.List.Elements.{All-append, All-push, All-take, All-drop}
+use Rattle.sm_table.specs.declared.change.Change.{Change}
+use Rattle.sm_table.specs.declared.record.Record.{Record}
+use Rattle.sm_table.specs.declared.flight.Flight.{Flight}
+use Rattle.sm_table.specs.declared.in_hand.InHand.{InHand}
+use Rattle.sm_table.specs.History.{vacant, record_at, after_change, after_admit, after_done}
+use Rattle.sm_table.specs.Standing.{WorldView}
+use Rattle.sm_table.specs.Tables.{TableView}
+use Rattle.sm_table.specs.Together.{IsTogether}
+
+module _ {Q : Type 0} (v : WorldView Q) (whole : IsTogether v) where
+  abbrev IsShardThere : Flight Q → Type 0
+  IsShardThere flight = flight.envelope.shard < length v.in_hand
+
+  -- another record of a shard, and another hand, which it admits
+  with_shard : (shard : ℕ) (state : Record) (hands : List (Option (InHand Q))) (now : WorldView Q) → now.bounds ≡ v.bounds → now.records ≡ slice_set v.records shard state → length now.kept ≡ length v.kept → All IsShardThere now.in_flight → now.in_hand ≡ hands → length hands ≡ length v.in_hand → ((other : ℕ) → (other ≡ shard → ⊥) → slice_index_or hands other None ≡ slice_index_or v.in_hand other None) → ((hand : InHand Q) → slice_index_or hands shard None ≡ Some hand → (record_at (slice_set v.records shard state) shard).admitted ≡ true) → IsTogether now
+  with_shard shard state hands now bounds records kept in_flight in_hand long others here =
+      let same_length : length now.in_hand ≡ length v.in_hand = ap length in_hand ∙ long in
+      record {
+        layout = ap length bounds ∙ whole.layout ∙ sym same_length;
+        table = ap length records ∙ length-set v.records shard state ∙ whole.table ∙ sym same_length;
+        bodies = kept ∙ whole.bodies ∙ sym same_length;
+        flights = subst (λ count. All (λ (flight : Flight Q). flight.envelope.shard < count) now.in_flight) (sym same_length) in_flight;
+        admitted = λ other hand is. admitted other hand (ap (λ all. slice_index_or all other None) (sym in_hand) ∙ is);
+      }
+    where
+      admitted : (other : ℕ) (hand : InHand Q) → slice_index_or hands other None ≡ Some hand → (record_at now.records other).admitted ≡ true
+      admitted other hand is = ap (λ all. (record_at all other).admitted) records ∙ ⊎_elim
+          (λ (at : other ≡ shard). ap (λ i. (record_at (slice_set v.records shard state) i).admitted) at ∙ here hand (ap (λ i. slice_index_or hands i None) (sym at) ∙ is))
+          (λ (apart : other ≡ shard → ⊥). ap (λ (r : Record). r.admitted) (get_or-set_other v.records shard other state vacant apart) ∙ whole.admitted other hand (sym (others other apart) ∙ is))
+          (cases_eq other shard)
+
+  -- after a change of a shard's stand
+  pub IsTogether-changed : (shard : ℕ) (change : Change) (now : WorldView Q) → shard < length v.records → now.bounds ≡ v.bounds → now.records ≡ slice_set v.records shard (after_change (record_at v.records shard) change) → now.kept ≡ v.kept → now.in_flight ≡ v.in_flight → now.in_hand ≡ v.in_hand → IsTogether now
+  IsTogether-changed shard change now within bounds records kept in_flight in_hand =
+      with_shard shard (after_change (record_at v.records shard) change) v.in_hand now bounds records (ap length kept) (subst (All IsShardThere) (sym in_flight) whole.flights) in_hand refl (λ _ _. refl)
+      (λ hand is. ap (λ (r : Record). r.admitted) (get_or-set_same v.records shard (after_change (record_at v.records shard) change) vacant within) ∙ whole.admitted shard hand is)
+
+  -- after an admission, with a request in hand
+  pub IsTogether-admitted : (shard : ℕ) (hand : InHand Q) (now : WorldView Q) → shard < length v.records → now.bounds ≡ v.bounds → now.records ≡ slice_set v.records shard (after_admit (record_at v.records shard)) → now.kept ≡ v.kept → All IsShardThere now.in_flight → now.in_hand ≡ slice_set v.in_hand shard (Some hand) → IsTogether now
+  IsTogether-admitted shard hand now within bounds records kept in_flight in_hand =
+      with_shard shard (after_admit (record_at v.records shard)) (slice_set v.in_hand shard (Some hand)) now bounds records (ap length kept) in_flight in_hand (length-set v.in_hand shard (Some hand)) (λ other apart. get_or-set_other v.in_hand shard other (Some hand) None apart)
+      (λ _ _. ap (λ (r : Record). r.admitted) (get_or-set_same v.records shard (after_admit (record_at v.records shard)) vacant within))
+
+  -- after the end of an admission
+  pub IsTogether-done : (shard : ℕ) (now : WorldView Q) → shard < length v.in_hand → now.bounds ≡ v.bounds → now.records ≡ slice_set v.records shard (after_done (record_at v.records shard)) → length now.kept ≡ length v.kept → now.in_flight ≡ v.in_flight → now.in_hand ≡ slice_set v.in_hand shard None → IsTogether now
+  IsTogether-done shard now within bounds records kept in_flight in_hand =
+      with_shard shard (after_done (record_at v.records shard)) (slice_set v.in_hand shard None) now bounds records kept (subst (All IsShardThere) (sym in_flight) whole.flights) in_hand (length-set v.in_hand shard None) (λ other apart. get_or-set_other v.in_hand shard other None None apart)
+      (λ hand is. let none = get_or-set_same v.in_hand shard None None within in absurd cc)
+
+  -- with other envelopes in flight, for shards that are there
+  pub IsTogether-in_flight : (in_flight : List (Flight Q)) → All IsShardThere in_flight → IsTogether (record v { in_flight = in_flight })
+  IsTogether-in_flight in_flight all = record { layout = whole.layout; table = whole.table; bodies = whole.bodies; flights = all; admitted = whole.admitted }
+
+  pub flights-push : (flight : Flight Q) → IsShardThere flight → All IsShardThere (v.in_flight ++ flight ∷ [])
+  flights-push flight there = All-push IsShardThere v.in_flight flight whole.flights there
+
+  pub flights-remove : (place : ℕ) → All IsShardThere (remove v.in_flight place)
+  flights-remove place = All-append IsShardThere _ _ (All-take IsShardThere place v.in_flight whole.flights) (All-drop IsShardThere (suc place) v.in_flight whole.flights)
+
+  -- after an envelope whose server refused it
+  pub IsTogether-refused : (place : ℕ) (table : TableView) (in_flight : List (Flight Q)) → table ≡ record { records = v.records; ceiling = v.ceiling } → in_flight ≡ remove v.in_flight place → IsTogether (record v { records = table.records; ceiling = table.ceiling; in_flight = in_flight })
+  IsTogether-refused place table in_flight unchanged gone =
+      let after : WorldView Q → Type 0 = λ u. IsTogether u in
+      subst after (sym (ap (λ (t : TableView). record v { records = t.records; ceiling = t.ceiling; in_flight = in_flight }) unchanged ∙ ap (λ flights. record v { in_flight = flights }) gone)) (IsTogether-in_flight (remove v.in_flight place) (flights-remove place))
+
+  -- the shard of an envelope in flight has a record
+  pub flight_there : (place : ℕ) (flight : Flight Q) → place < length v.in_flight → flight ≡ slice_index_or v.in_flight place flight → flight.envelope.shard < length v.records
+  flight_there place flight within is =
+      let there : IsShardThere flight = subst IsShardThere (sym is) (whole.flights place flight within) in
+      omega (arith, whole.table)

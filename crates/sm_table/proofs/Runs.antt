@@ -1,0 +1,101 @@
+-- Each reply is that of one run of the shard's kept requests.
+use Rattle.std.proofs.Common.{◌≡◌, ℕ, List, [], ◌∷◌, ◌++◌, length, refl, ap, ◌∙◌, append_assoc}
+use Rattle.std.specs.Prelude.{Option, Some, None, Ok, nat_lt, slice_get, slice_index_or, take}
+use Rattle.std.specs.Option.{option_map}
+use Rattle.std.proofs.lemmas.Bool.{cond_both}
+use Rattle.std.proofs.lemmas.List.{take_at}
+use Rattle.sm_table.specs.declared.admit_fault.AdmitFault.{AdmitFault}
+use Rattle.sm_table.specs.declared.change.Change.{Change}
+use Rattle.sm_table.specs.declared.command.Command.TheVariants.{Change as ChangeOf}
+use Rattle.sm_table.specs.declared.command.CommandFault.{CommandFault}
+use Rattle.sm_table.specs.declared.entry.Entry.{Entry}
+use Rattle.sm_table.specs.declared.entry.Kind.TheVariants.{Done}
+use Rattle.sm_table.specs.declared.flight.Flight.{Flight}
+use Rattle.sm_table.specs.declared.in_hand.InHand.{InHand}
+use Rattle.sm_table.specs.declared.step.Step.{Step}
+use Rattle.sm_table.specs.declared.step.Step.TheVariants.{Control, Look, Send, Deliver, Finish}
+use Rattle.sm_table.specs.declared.world_answer.WorldAnswer.TheVariants.{Replied}
+use Rattle.sm_table.specs.Desk.{is_known}
+use Rattle.sm_table.specs.Envelope.{EnvelopeView}
+use Rattle.sm_table.specs.History.{kept, said}
+use Rattle.sm_table.specs.World.{Service, Frame, WorldState, Mark, Plain, Unmade, Unserved, Outcome, count_of, controlled, reached, delivered, with_room, served, empty_world, answer, next, outcome, world_after, world_of}
+use Rattle.sm_table.proofs.Extensions.{extends_after}
+use Rattle.sm_table.proofs.Growth.{kept-append, kept-push_some}
+
+slice_get-middle : {X : Type 0} (xs : List X) (x : X) (ys : List X) → slice_get (xs ++ x ∷ ys) (length xs) ≡ Some x
+slice_get-middle [] x ys = refl
+slice_get-middle (first ∷ xs) x ys = slice_get-middle xs x ys
+
+said_middle : {Q R : Type 0} (reply_of : List Q → Q → R) (all before : List Q) (request : Q) (after : List Q) → all ≡ before ++ request ∷ after → option_map (λ (q : Q). reply_of (take (length before) all) q) (slice_get all (length before)) ≡ Some (reply_of before request)
+said_middle reply_of all before request after is = rw is (rw (slice_get-middle before request after, take_at before (request ∷ after) (length before) refl) refl)
+
+-- a step that replied executed a request after those that the shard had kept, and kept it
+record HasRun {Q R : Type 0} (service : Service Q R) (w : WorldState Q) (outcome : Outcome Q R) (shard : ℕ) (reply : R) (place : ℕ) : Type 0 where
+  server : ℕ
+  request : Q
+  at_end : place ≡ length (kept w.history shard)
+  executed : reply ≡ service.reply_of (kept w.history shard) request
+  written : outcome.1.history ≡ w.history ++ record { actor = server; shard = shard; kind = Done (Some request) } ∷ []
+
+module _ {Q R : Type 0} (service : Service Q R) (w : WorldState Q) (number server : ℕ) (reply : R) (place : ℕ) where
+  abbrev RunsAt : ℕ → Outcome Q R → Type 0
+  RunsAt shard outcome = outcome.0 ≡ Ok (Replied number server reply place) → HasRun service w outcome shard reply place
+
+  runs_with_room : (mark : Mark) (shard : ℕ) (hand : InHand Q) → RunsAt shard (with_room service w mark shard hand)
+  runs_with_room Unserved shard hand answered = absurd cc
+  runs_with_room Plain shard hand answered = record { server = hand.server; request = hand.request; at_end = cc; executed = cc; written = refl }
+  runs_with_room Unmade shard hand answered = record { server = hand.server; request = hand.request; at_end = cc; executed = cc; written = refl }
+
+  runs_served : (mark : Mark) (shard : ℕ) (hand : Option (InHand Q)) → RunsAt shard (served service w mark shard hand)
+  runs_served mark shard None answered = absurd cc
+  runs_served mark shard (Some hand) answered =
+      cond_both (nat_lt (length (kept w.history shard)) (slice_index_or w.frame.limits shard 0)) _ _ (RunsAt shard)
+      (λ _. runs_with_room mark shard hand)
+      (λ _ refused. absurd cc)
+      answered
+
+  abbrev NeverReplied : Outcome Q R → Type 0
+  NeverReplied outcome = outcome.0 ≡ Ok (Replied number server reply place) → ⊥
+
+  never_controlled : (shard : ℕ) (change : Change) (fault : Option CommandFault) → NeverReplied (controlled w shard change fault)
+  never_controlled shard change None answered = cc
+  never_controlled shard change (Some fault) answered = cc
+
+  never_reached : (before : WorldState Q) (to : ℕ) (envelope : EnvelopeView Q) (fault : Option AdmitFault) → NeverReplied (reached before to envelope fault)
+  never_reached before to envelope None answered = cc
+  never_reached before to envelope (Some fault) answered = cc
+
+  never_delivered : (at : ℕ) (flight : Option (Flight Q)) → NeverReplied (delivered w at flight)
+  never_delivered at None answered = cc
+  never_delivered at (Some flight) answered = never_reached _ flight.to flight.envelope _ answered
+
+  -- only `Finish` replies
+  runs_step : (mark : Mark) (step : Step Q) → answer service w mark step ≡ Ok (Replied number server reply place) → (shard : ℕ) × (step ≡ Finish shard) × HasRun service w (outcome service w mark step) shard reply place
+  runs_step Unmade step answered = absurd cc
+  runs_step mark (Control (ChangeOf shard change)) answered = absurd (never_controlled shard change _ answered)
+  runs_step mark (Look shard) answered = absurd (cond_both (nat_lt shard (count_of w)) _ _ NeverReplied (λ _ at. cc) (λ _ at. cc) answered)
+  runs_step mark (Send to name request) answered = absurd (cond_both (is_known w.frame.servers to) _ _ NeverReplied (λ _ at. cc) (λ _ at. cc) answered)
+  runs_step mark (Deliver at) answered = absurd (never_delivered at _ answered)
+  runs_step mark (Finish shard) answered = (shard, refl, runs_served mark shard _ answered)
+
+world_after-append : {Q R : Type 0} (service : Service Q R) (w : WorldState Q) (steps later : List (Mark × Step Q)) → world_after service w (steps ++ later) ≡ world_after service (world_after service w steps) later
+world_after-append service w [] later = refl
+world_after-append service w (step ∷ steps) later = world_after-append service (next service w step.0 step.1) steps later
+
+module _ {Q R : Type 0} (service : Service Q R) (w : WorldState Q) (mark : Mark) (step : Step Q) (shard : ℕ) (reply : R) (place : ℕ) (run : HasRun service w (outcome service w mark step) shard reply place) where
+  -- after any further steps the shard's kept requests still say that reply
+  said_after : (later : List (Mark × Step Q)) → said service.reply_of (world_after service (next service w mark step) later).history shard place ≡ Some reply
+  said_after later =
+      let after = extends_after service (next service w mark step) later in
+      let entry : Entry Q = record { actor = run.server; shard = shard; kind = Done (Some run.request) } in
+      let longer : (world_after service (next service w mark step) later).history ≡ (w.history ++ entry ∷ []) ++ after.added = after.history ∙ ap (λ l. l ++ after.added) run.written in
+      let all : kept (world_after service (next service w mark step) later).history shard ≡ kept w.history shard ++ run.request ∷ kept after.added shard =
+      ap (λ l. kept l shard) longer ∙ (kept-append (w.history ++ entry ∷ []) after.added shard ∙ (ap (λ l. l ++ kept after.added shard) (kept-push_some w.history entry run.request refl) ∙ append_assoc (kept w.history shard) (run.request ∷ []) (kept after.added shard))) in
+      rw (run.at_end, run.executed) (said_middle service.reply_of (kept (world_after service (next service w mark step) later).history shard) (kept w.history shard) run.request (kept after.added shard) all)
+
+-- what a reply says of the run of its shard, from the world that the steps before it made
+pub one_run : {Q R : Type 0} (service : Service Q R) (frame : Frame) (steps later : List (Mark × Step Q)) (mark : Mark) (step : Step Q) (number server : ℕ) (reply : R) (place : ℕ) → answer service (world_of service frame steps) mark step ≡ Ok (Replied number server reply place) → (shard : ℕ) × (step ≡ Finish shard) × (place ≡ length (kept (world_of service frame steps).history shard)) × (said service.reply_of (world_of service frame (steps ++ (mark, step) ∷ later)).history shard place ≡ Some reply)
+one_run service frame steps later mark step number server reply place answered =
+    let found = runs_step service (world_of service frame steps) number server reply place mark step answered in
+    let joined = world_after-append service (empty_world frame) steps ((mark, step) ∷ later) in
+    (found.0, found.1, found.2.at_end, ap (λ v. said service.reply_of v.history found.0 place) joined ∙ said_after service (world_of service frame steps) mark step found.0 reply place found.2 later)

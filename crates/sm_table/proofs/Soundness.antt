@@ -1,0 +1,138 @@
+-- Each world that steps lead to is sound.
+use Rattle.std.proofs.Common.{◌≡◌, ℕ, suc, ◌<◌, true, List, [], ◌∷◌, length, refl, sym, ap, subst, arith, ⊎_elim}
+use Rattle.std.specs.Prelude.{Option, Some, None, All, replicate, remove, slice_get, slice_index_or, nat_lt, ◌==◌}
+use Rattle.std.specs.Option.{option_or}
+use Rattle.std.proofs.lemmas.Bool.{true≢false, cond_both, eqb-true, or_cases}
+use Rattle.std.proofs.lemmas.List.{get_or-replicate, length-replicate}
+use Rattle.std.proofs.lemmas.List.Elements.{All-nil, All-head, All-tail, All-append, All-push, All-take, All-drop}
+use Rattle.std.proofs.lemmas.List.Sums.{count_by-le-length}
+use Rattle.std.proofs.lemmas.Option.{slice_get_within, get_or_from_slice_get}
+use Rattle.sm_ranges.specs.Ranges.{IsLayout, is_at_most, shard_of}
+use Rattle.sm_ranges.specs.ServerId.{IsServer}
+use Rattle.sm_table.specs.declared.admit_fault.AdmitFault.{AdmitFault}
+use Rattle.sm_table.specs.declared.change.Change.{Change}
+use Rattle.sm_table.specs.declared.command.CommandFault.{CommandFault}
+use Rattle.sm_table.specs.declared.command.Command.TheVariants.{Change as ChangeOf}
+use Rattle.sm_table.specs.declared.flight.Flight.{Flight}
+use Rattle.sm_table.specs.declared.in_hand.InHand.{InHand}
+use Rattle.sm_table.specs.declared.step.Step.{Step}
+use Rattle.sm_table.specs.declared.step.Step.TheVariants.{Control, Look, Send, Deliver, Finish}
+use Rattle.sm_table.specs.Rules.{admit_fault}
+use Rattle.sm_table.specs.Desk.{is_known, change_fault}
+use Rattle.sm_table.specs.Envelope.{EnvelopeView}
+use Rattle.sm_table.specs.History.{vacant, record_at, kept}
+use Rattle.sm_table.specs.World.{Service, Frame, WorldState, Mark, Plain, Unmade, Unserved, Outcome, count_of, world_record, desk_of, table_fault, controlled, after_look, after_send, reached, delivered, with_room, served, empty_world, next, world_after, world_of}
+use Rattle.sm_table.specs.Standing.{IsFrame, IsFlight, IsHeld, IsSound}
+use Rattle.sm_table.proofs.Growth.{record_at-empty}
+use Rattle.sm_table.proofs.Entries.{sound_change, sound_admit, sound_done}
+
+-- the empty world is sound
+pub sound_empty : {Q : Type 0} (frame : Frame) → IsFrame frame → IsSound {Q = Q} (empty_world frame)
+sound_empty {Q = Q} frame is = record {
+  frame = is;
+  legal = tt;
+  own_server = refl;
+  flights = All-nil (IsFlight frame);
+  hands = length-replicate (length frame.bounds) None;
+  held = λ shard within. held shard within;
+}
+  where
+    held : (shard : ℕ) → shard < length frame.bounds → IsHeld {Q = Q} [] (record_at (replicate (length frame.bounds) vacant) shard).admitted shard (slice_index_or (replicate (length frame.bounds) None) shard None)
+    held shard within =
+        let nothing : Option (InHand Q) = None in
+        let free : slice_index_or (replicate (length frame.bounds) nothing) shard nothing ≡ nothing = get_or-replicate (length frame.bounds) shard nothing nothing within in
+        rw free (ap (λ state. state.admitted) (record_at-empty (length frame.bounds) shard))
+
+-- what is known is a server
+known_server : (servers : List ℕ) (server : ℕ) → All IsServer servers → is_known servers server ≡ true → IsServer server
+known_server [] server all known = absurd (true≢false (sym known))
+known_server (first ∷ servers) server all known =
+    ⊎_elim
+    (λ here. subst IsServer (eqb-true first server here) (All-head IsServer first servers all))
+    (λ there. known_server servers server (All-tail IsServer first servers all) there)
+    (or_cases (first == server) (is_known servers server) known)
+
+-- a key's shard is there
+shard_within : (bounds : List (List ℕ)) (key : List ℕ) → IsLayout bounds → shard_of bounds key < length bounds
+shard_within bounds key layout =
+    let some = layout.some in
+    let few = count_by-le-length (λ bound. is_at_most bound key) bounds in
+    omega arith
+
+neither : {X : Type 0} (first second : Option X) → option_or first second ≡ None → (first ≡ None) × (second ≡ None)
+neither None second none = (refl, none)
+neither (Some x) second none = absurd cc
+
+-- what each step leaves
+module _ {Q : Type 0} (R : Type 0) (w : WorldState Q) (sound : IsSound w) where
+  abbrev LeavesSound : Outcome Q R → Type 0
+  LeavesSound outcome = IsSound outcome.1
+
+  sound_controlled : (shard : ℕ) (change : Change) (fault : Option CommandFault) → option_or (change_fault (desk_of w) shard change) (table_fault w.frame.ceiling (world_record w shard)) ≡ fault → LeavesSound (controlled w shard change fault)
+  sound_controlled shard change (Some fault) is = sound
+  sound_controlled shard change None is = let none = neither _ _ is in sound_change w sound shard change none.0 none.1
+
+  sound_look : (shard : ℕ) → LeavesSound (after_look w shard)
+  sound_look shard = cond_both (nat_lt shard (count_of w)) _ _ LeavesSound (λ _. sound) (λ _. sound)
+
+  sound_send : (service : Service Q R) (to number : ℕ) (request : Q) → LeavesSound (after_send service w to number request)
+  sound_send service to number request = cond_both (is_known w.frame.servers to) _ _ LeavesSound
+      (λ known. record {
+        frame = sound.frame;
+        legal = sound.legal;
+        own_server = sound.own_server;
+        flights = All-push (IsFlight w.frame) w.in_flight _ sound.flights (record { shard = shard_within w.frame.bounds (service.key_of request) sound.frame.layout; server = known });
+        hands = sound.hands;
+        held = sound.held;
+      })
+      (λ _. sound)
+
+  sound_reached : (to : ℕ) (envelope : EnvelopeView Q) (fault : Option AdmitFault) → envelope.shard < count_of w → IsServer to → admit_fault w.frame.ceiling (world_record w envelope.shard) to envelope.mode ≡ fault → LeavesSound (reached w to envelope fault)
+  sound_reached to envelope (Some fault) within is none = sound
+  sound_reached to envelope None within is none = sound_admit w sound to envelope.shard envelope.mode _ within is refl none
+
+  sound_with_room : (service : Service Q R) (mark : Mark) (shard : ℕ) (hand : InHand Q) → slice_index_or w.in_hand shard None ≡ Some hand → LeavesSound (with_room service w mark shard hand)
+  sound_with_room service Unserved shard hand is = sound_done w sound shard hand None is
+  sound_with_room service Plain shard hand is = sound_done w sound shard hand (Some hand.request) is
+  sound_with_room service Unmade shard hand is = sound_done w sound shard hand (Some hand.request) is
+
+  sound_served : (service : Service Q R) (mark : Mark) (shard : ℕ) (hand : Option (InHand Q)) → slice_index_or w.in_hand shard None ≡ hand → LeavesSound (served service w mark shard hand)
+  sound_served service mark shard None is = sound
+  sound_served service mark shard (Some hand) is = cond_both (nat_lt (length (kept w.history shard)) (slice_index_or w.frame.limits shard 0)) _ _ LeavesSound
+      (λ _. sound_with_room service mark shard hand is)
+      (λ _. sound_done w sound shard hand None is)
+
+-- a world without one of its envelopes in flight
+sound_taken : {Q : Type 0} (w : WorldState Q) (place : ℕ) → IsSound w → IsSound (record w { in_flight = remove w.in_flight place })
+sound_taken w place sound = record {
+  frame = sound.frame;
+  legal = sound.legal;
+  own_server = sound.own_server;
+  flights = All-append (IsFlight w.frame) _ _ (All-take (IsFlight w.frame) place w.in_flight sound.flights) (All-drop (IsFlight w.frame) (suc place) w.in_flight sound.flights);
+  hands = sound.hands;
+  held = sound.held;
+}
+
+sound_delivered : {Q : Type 0} (R : Type 0) (w : WorldState Q) (place : ℕ) (flight : Option (Flight Q)) → IsSound w → slice_get w.in_flight place ≡ flight → IsSound (delivered {R = R} w place flight).1
+sound_delivered R w place None sound is = sound
+sound_delivered R w place (Some flight) sound is =
+    let there : slice_index_or w.in_flight place flight ≡ flight = get_or_from_slice_get w.in_flight place flight flight is in
+    let known : IsFlight w.frame flight = subst (IsFlight w.frame) there (sound.flights place flight (slice_get_within w.in_flight place flight is)) in
+    sound_reached R (record w { in_flight = remove w.in_flight place }) (sound_taken w place sound) flight.to flight.envelope _ known.shard (known_server w.frame.servers flight.to sound.frame.servers known.server) refl
+
+-- each step keeps a world sound
+pub sound_next : {Q R : Type 0} (service : Service Q R) (w : WorldState Q) (mark : Mark) (step : Step Q) → IsSound w → IsSound (next service w mark step)
+sound_next service w Unmade step sound = sound
+sound_next {R = R} service w mark (Control (ChangeOf shard change)) sound = sound_controlled R w sound shard change _ refl
+sound_next {R = R} service w mark (Look shard) sound = sound_look R w sound shard
+sound_next {R = R} service w mark (Send to number request) sound = sound_send R w sound service to number request
+sound_next {R = R} service w mark (Deliver place) sound = sound_delivered R w place _ sound refl
+sound_next {R = R} service w mark (Finish shard) sound = sound_served R w sound service mark shard _ refl
+
+sound_after : {Q R : Type 0} (service : Service Q R) (w : WorldState Q) (steps : List (Mark × Step Q)) → IsSound w → IsSound (world_after service w steps)
+sound_after service w [] sound = sound
+sound_after service w (step ∷ steps) sound = sound_after service (next service w step.0 step.1) steps (sound_next service w step.0 step.1 sound)
+
+-- so every world that steps make is sound
+pub sound_world : {Q R : Type 0} (service : Service Q R) (frame : Frame) (steps : List (Mark × Step Q)) → IsFrame frame → IsSound (world_of service frame steps)
+sound_world service frame steps is = sound_after service (empty_world frame) steps (sound_empty frame is)

@@ -1,0 +1,32 @@
+use Rattle.std.proofs.Common.{◌≡◌, ap, refl, subst, sym, ◌∙◌, [], None, length, replicate, arith}
+use Rattle.std.specs.Prelude.{All, map}
+use Rattle.std.proofs.lemmas.List.{length-map}
+use Rattle.std.proofs.lemmas.List.Elements.{All-map}
+use Rattle.sm_ranges.specs.ServerId.{IsServer}
+use Rattle.sm_table.specs.History.{vacant}
+use Rattle.sm_table.specs.Setup.{frame_of}
+use Rattle.sm_table.proofs.Empties.{StandsFor-empty, IsTogether-empty}
+use Rattle.sm_table.proofs.world.World.new.Goals as goal
+
+pub invariant_of-result : goal.invariant_of-result
+invariant_of-result g c =
+    let bodies : length c.args.bodies.items ≡ length c.args.setup.layout = omega (arith, c.args.bodies.ok.0, c.requires.bodies) in
+    IsTogether-empty _ (length c.args.setup.layout) refl
+    (c.in_ok-new.ensures.records ∙ ap (λ count. replicate count vacant) c.count-count.ensures.value)
+    (ap length c.new-2.ensures.kept ∙ length-map c.args.bodies.items g.S.Service.requests ∙ bodies)
+    c.new-3.ensures.items
+    (c.in_ok-none_in_hand.ensures ∙ ap (λ count. replicate count None) c.count-count.ensures.value)
+
+pub returns : goal.returns
+returns g c =
+    let bodies : length c.args.bodies.items ≡ length c.args.setup.layout = omega (arith, c.args.bodies.ok.0, c.requires.bodies) in
+    StandsFor-empty (frame_of c.args.setup (map g.S.Service.limit c.args.bodies.items)) _
+    (record { layout = c.count-count.ensures.is_layout; servers = subst (λ desk. All IsServer desk.servers) c.desk.view_is c.desk.invariant })
+    refl refl c.requires.vacant
+    (c.in_ok-new.ensures.records ∙ ap (λ count. replicate count vacant) c.count-count.ensures.value)
+    c.in_ok-new.ensures.ceiling
+    (ap length c.new-2.ensures.kept ∙ length-map c.args.bodies.items g.S.Service.requests ∙ bodies)
+    (subst (λ lists. All (λ list. list ≡ []) lists) (sym c.new-2.ensures.kept) (All-map (λ list. list ≡ []) g.S.Service.requests c.args.bodies.items c.requires.empty))
+    c.new-2.ensures.limits
+    c.new-3.ensures.items
+    (c.in_ok-none_in_hand.ensures ∙ ap (λ count. replicate count None) c.count-count.ensures.value)

@@ -1,0 +1,10 @@
+use Rattle.std.proofs.Common.{◌≡◌, All, [], vec_len}
+use Rattle.sm_service.specs.Service.{Kept}
+use Rattle.sm_service.specs.declared.request.Request.{Request}
+use Rattle.sm_table.proofs.world.tests.new_world.Given as goal
+
+abbrev pub invariant-loop : goal.invariant-loop
+invariant-loop l = record {
+  count : vec_len l.bodies ≡ l.counter;
+  empty : All (λ (body : Kept Request). body.requests ≡ []) l.bodies.items;
+}

@@ -1,0 +1,10 @@
+pub mod Bodies
+pub mod Desk
+pub mod Envelope
+pub mod History
+pub mod Rules
+pub mod Setup
+pub mod Standing
+pub mod Tables
+pub mod Together
+pub mod World

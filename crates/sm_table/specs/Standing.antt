@@ -1,0 +1,67 @@
+-- When the parts of a `World` stand for a world of the definitions.
+use Rattle.std.specs.Prelude.{ℕ, Bool, true, false, Option, Some, None, Result, ◌≡◌, ◌<◌, List, [], All, length, reverse, slice_index_or}
+use Rattle.std.specs.List.{list_all}
+use Rattle.sm_ranges.specs.Ranges.{IsLayout}
+use Rattle.sm_ranges.specs.ServerId.{IsServer}
+use Rattle.sm_table.specs.declared.entry.Entry.{Entry}
+use Rattle.sm_table.specs.declared.record.Record.{Record}
+use Rattle.sm_table.specs.declared.flight.Flight.{Flight}
+use Rattle.sm_table.specs.declared.in_hand.InHand.{InHand}
+use Rattle.sm_table.specs.declared.world_answer.WorldAnswer.{WorldAnswer}
+use Rattle.sm_table.specs.declared.world_fault.WorldFault.{WorldFault}
+use Rattle.sm_table.specs.Desk.{DeskView, is_known}
+use Rattle.sm_table.specs.History.{IsLegal, admits_only, is_admission_of, latest_of, kept}
+use Rattle.sm_table.specs.World.{Frame, WorldState, Outcome, count_of, desk_of, world_record, world_table}
+
+-- a frame that a world can be made with: bounds of a layout, and servers by their numbers
+pub record IsFrame (frame : Frame) : Type 0 where
+  pub layout : IsLayout frame.bounds
+  pub servers : All IsServer frame.servers
+
+-- an envelope is for a shard that is there, and goes to a server that is
+pub record IsFlight {Q : Type 0} (frame : Frame) (flight : Flight Q) : Type 0 where
+  pub shard : flight.envelope.shard < length frame.bounds
+  pub server : is_known frame.servers flight.to ≡ true
+
+-- a shard is admitted exactly where a server has a request in hand, and then that server was admitted last
+abbrev pub IsHeld : {Q : Type 0} → List (Entry Q) → Bool → ℕ → Option (InHand Q) → Type 0
+IsHeld history admitted shard None = admitted ≡ false
+IsHeld history admitted shard (Some hand) = (admitted ≡ true) × (is_admission_of hand.server (latest_of (reverse history) shard) ≡ true)
+
+-- what holds of each world that steps lead to
+pub record IsSound {Q : Type 0} (w : WorldState Q) : Type 0 where
+  pub frame : IsFrame w.frame
+  pub legal : IsLegal (count_of w) w.frame.ceiling w.history
+  pub own_server : list_all (λ entry. admits_only entry.actor entry.kind) w.history ≡ true
+  pub flights : All (IsFlight w.frame) w.in_flight
+  pub hands : length w.in_hand ≡ count_of w
+  pub held : (shard : ℕ) → shard < count_of w → IsHeld w.history (world_record w shard).admitted shard (slice_index_or w.in_hand shard None)
+
+-- what the parts of a `World` show
+pub record WorldView (Q : Type 0) : Type 0 where
+  pub bounds : List (List ℕ)
+  pub desk : DeskView
+  pub records : List Record
+  pub ceiling : ℕ
+  pub kept : List (List Q)
+  pub limits : List ℕ
+  pub in_flight : List (Flight Q)
+  pub in_hand : List (Option (InHand Q))
+
+-- the parts are those of the world, which is one that steps lead to
+pub record StandsFor {Q : Type 0} (view : WorldView Q) (w : WorldState Q) : Type 0 where
+  pub bounds : view.bounds ≡ w.frame.bounds
+  pub desk : view.desk ≡ desk_of w
+  pub records : view.records ≡ world_table w
+  pub ceiling : view.ceiling ≡ w.frame.ceiling
+  pub bodies : length view.kept ≡ count_of w
+  pub kept : (shard : ℕ) → shard < count_of w → slice_index_or view.kept shard [] ≡ kept w.history shard
+  pub limits : view.limits ≡ w.frame.limits
+  pub in_flight : view.in_flight ≡ w.in_flight
+  pub in_hand : view.in_hand ≡ w.in_hand
+  pub sound : IsSound w
+
+-- the step answered what it should, and the parts are those of the world that it leaves
+pub record Follows {Q R : Type 0} (view : WorldView Q) (result : Result (WorldAnswer R) WorldFault) (outcome : Outcome Q R) : Type 0 where
+  pub answered : result ≡ outcome.0
+  pub stands : StandsFor view outcome.1

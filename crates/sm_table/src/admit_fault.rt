@@ -1,0 +1,24 @@
+use thiserror::Error;
+
+/// Why a server is not admitted to a shard, by the shard's record. The first that applies is answered.
+#[derive(Clone, Copy, Debug, PartialEq, Eq, Drop, Error)]
+pub enum AdmitFault {
+    /// Nobody owns the shard.
+    #[error("nobody owns the shard")]
+    Vacant,
+    /// The shard is paused.
+    #[error("the shard is paused")]
+    Paused,
+    /// Another server executes the shard's requests.
+    #[error("another server executes the shard's requests")]
+    NotExecutor,
+    /// The server is to own the shard, and executes so far only what the owner forwards.
+    #[error("the server executes only what the owner forwards")]
+    NotYet,
+    /// The shard has an admission that hasn't ended.
+    #[error("the shard is admitted")]
+    Admitted,
+    /// The shard's generation has no room below the ceiling for an admission and its end.
+    #[error("the shard's generations are spent")]
+    Spent,
+}

@@ -1,0 +1,16 @@
+use crate::admit_fault::AdmitFault;
+use thiserror::Error;
+
+/// Why a request was refused.
+#[derive(Clone, Copy, Debug, PartialEq, Eq, Drop, Error)]
+pub enum Refusal {
+    /// The server was not admitted to the shard.
+    #[error("{0}")]
+    Admit(AdmitFault),
+    /// The shard keeps as many requests as it may.
+    #[error("the shard keeps as many requests as it may")]
+    KeptFull,
+    /// Memory for the request was refused.
+    #[error("out of memory")]
+    NoMemory,
+}

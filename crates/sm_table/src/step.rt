@@ -1,0 +1,18 @@
+use crate::command::Command;
+use sm_ranges::server_id::ServerId;
+use sm_ranges::shard_id::ShardId;
+
+/// A step of a world.
+#[derive(Debug, Drop)]
+pub enum Step<Q> {
+    /// The control gives a command.
+    Control(Command),
+    /// The shard's record is read.
+    Look(ShardId),
+    /// A client sends a request, under a number of its own, to the server.
+    Send(ServerId, u64, Q),
+    /// The envelope at this place of those in flight reaches its server.
+    Deliver(usize),
+    /// The server admitted to the shard executes the request that it has in hand.
+    Finish(ShardId),
+}

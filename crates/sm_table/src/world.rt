@@ -1,0 +1,250 @@
+ghost use Rattle.std.specs.Prelude.{◌≡◌, ◌<◌, ◌≤◌, ◌^◌, [], All, IfOk, length, map, replicate, vec_len};
+ghost use Rattle.sm_ranges.specs.declared.stand.Stand.TheVariants.{Vacant};
+ghost use Rattle.sm_table.specs.Setup.{frame_of};
+ghost use Rattle.sm_table.specs.Standing.{StandsFor, Follows};
+ghost use Rattle.sm_table.specs.World.{WorldState, outcome, mark_of, empty_world};
+ghost use Rattle.sm_table.specs.declared.command.Command.TheVariants.{Change as ChangeOf};
+ghost use Rattle.sm_table.specs.declared.step.Step.TheVariants.{Control as ControlOf, Look as LookAt, Send as SendOf, Deliver as DeliverAt, Finish as FinishAt};
+
+use crate::bodies::Bodies;
+use crate::change::Change;
+use crate::command::Command;
+use crate::desk::Desk;
+use crate::envelope::Envelope;
+use crate::flight::Flight;
+use crate::in_hand::InHand;
+use crate::refusal::Refusal;
+use crate::setup::Setup;
+use crate::step::Step;
+use crate::table::Table;
+use crate::world_answer::WorldAnswer;
+use crate::world_fault::WorldFault;
+use sm_ranges::layout::Layout;
+use sm_ranges::server_id::ServerId;
+use sm_ranges::shard_id::ShardId;
+use sm_service::service::{ApplyFault, Service};
+use std::alloc::{AllocError, Global};
+use std::marker::Model;
+
+/// The whole shard manager, as one thread runs it: all shards and servers, and the requests on their way.
+#[derive(Drop)]
+pub struct World<S: Service> {
+    layout: Layout,
+    desk: Desk,
+    table: Table,
+    bodies: Bodies<S>,
+    in_flight: Vec<Flight<S::Request>>,
+    in_hand: Vec<Option<InHand<S::Request>>>,
+}
+
+impl<S: Service> Model for World<S> {
+    ghost use Rattle.sm_table.specs.Standing.{WorldView};
+
+    ghost Value = { WorldView S.Request };
+
+    ghost view = { λ world. record {
+      bounds = world.layout;
+      desk = world.desk;
+      records = world.table.records;
+      ceiling = world.table.ceiling;
+      kept = world.bodies.kept;
+      limits = world.bodies.limits;
+      in_flight = world.in_flight.items;
+      in_hand = world.in_hand.items;
+    } };
+
+    ghost use Rattle.sm_table.specs.Together.{IsTogether};
+
+    ghost invariant = { λ world. IsTogether (record {
+      bounds = world.layout;
+      desk = world.desk;
+      records = world.table.records;
+      ceiling = world.table.ceiling;
+      kept = world.bodies.kept;
+      limits = world.bodies.limits;
+      in_flight = world.in_flight.items;
+      in_hand = world.in_hand.items;
+    }) };
+}
+
+impl<S: Service> World<S> {
+    /// The world in which nothing has happened: no shard has an owner, and nothing is in flight.
+    /// There is a body for each shard of the layout, and none has kept a request yet.
+    pub fn new(alloc: Global, setup: Setup, bodies: Vec<S>) -> Result<World<S>, AllocError>
+        requires vacant { setup.desk.stands ≡ replicate (length setup.layout) Vacant }
+        requires bodies { vec_len bodies ≡ length setup.layout }
+        requires empty { All (λ body. S.requests body ≡ []) bodies.items }
+        requires least_ceiling { 3 ≤ setup.ceiling }
+        requires greatest_ceiling { setup.ceiling < 2 ^ 36 }
+        ensures { IfOk result
+            (λ world. StandsFor world (empty_world (frame_of setup (map S.limit bodies.items)))) }
+    {
+        let Setup {
+            layout,
+            desk,
+            ceiling,
+        } = setup;
+        let count = layout.count();
+        Ok(World {
+            table: Table::new(alloc, count, ceiling)?,
+            bodies: Bodies::new(bodies),
+            in_flight: Vec::new(alloc),
+            in_hand: none_in_hand(alloc, count)?,
+            layout,
+            desk,
+        })
+    }
+
+    /// Makes a step. Where the world stands for one of the definitions, it answers as that one does, and then stands for
+    /// the next. A step that a fault refuses changes nothing; `NoMemory` comes only where memory for the step was refused.
+    pub fn step(&mut self, step: Step<S::Request>) -> Result<WorldAnswer<S::Reply>, WorldFault>
+        ensures stands { (w : WorldState S.Request) → StandsFor self.old w
+            → Follows self.new result
+            (outcome (record { reply_of = S.reply_of; key_of = S.key_of }) w (mark_of result) step) }
+        ensures bounds { self.new.bounds ≡ self.old.bounds }
+    {
+        match step {
+            Step::Control(command) => self.control(&command),
+            Step::Look(k) => self.look(k),
+            Step::Send(to, number, request) => self.send(to, number, request),
+            Step::Deliver(place) => self.deliver(place),
+            Step::Finish(k) => self.finish(k),
+        }
+    }
+
+    // Carries out a command, unless it is refused.
+    fn control(&mut self, command: &Command) -> Result<WorldAnswer<S::Reply>, WorldFault>
+        ensures stands { (w : WorldState S.Request) → StandsFor self.old w
+            → Follows self.new result
+            (outcome (record { reply_of = S.reply_of; key_of = S.key_of }) w (mark_of result) (ControlOf command.now)) }
+        ensures bounds { self.new.bounds ≡ self.old.bounds }
+    {
+        match command {
+            Command::Change(k, change) => self.change(*k, change),
+        }
+    }
+
+    // Changes the stand of a shard, unless the desk or the table refuses it.
+    fn change(&mut self, k: ShardId, change: &Change) -> Result<WorldAnswer<S::Reply>, WorldFault>
+        ensures stands { (w : WorldState S.Request) → StandsFor self.old w
+            → Follows self.new result
+            (outcome (record { reply_of = S.reply_of; key_of = S.key_of }) w (mark_of result) (ControlOf (ChangeOf k change.now))) }
+        ensures bounds { self.new.bounds ≡ self.old.bounds }
+    {
+        let command = Command::Change(k, *change);
+        self.desk.check(&command)?;
+        if let Err(fault) = self.table.apply(k, *change) {
+            return Err(WorldFault::Command(fault.into()));
+        }
+        self.desk.commit(command);
+        Ok(WorldAnswer::Made)
+    }
+
+    // Reads the record of a shard.
+    fn look(&self, k: ShardId) -> Result<WorldAnswer<S::Reply>, WorldFault>
+        ensures { (w : WorldState S.Request) → StandsFor self.now w
+            → Follows self.now result
+            (outcome (record { reply_of = S.reply_of; key_of = S.key_of }) w (mark_of result) (LookAt k)) }
+    {
+        if k.index() < self.table.count() {
+            Ok(WorldAnswer::Seen(self.table.record(k)))
+        } else {
+            Err(WorldFault::UnknownShard)
+        }
+    }
+
+    // Puts a direct request for the server in flight.
+    fn send(
+        &mut self,
+        to: ServerId,
+        number: u64,
+        request: S::Request,
+    ) -> Result<WorldAnswer<S::Reply>, WorldFault>
+        ensures stands { (w : WorldState S.Request) → StandsFor self.old w
+            → Follows self.new result
+            (outcome (record { reply_of = S.reply_of; key_of = S.key_of }) w (mark_of result) (SendOf to number request)) }
+        ensures bounds { self.new.bounds ≡ self.old.bounds }
+    {
+        if !self.desk.knows(to) {
+            return Err(WorldFault::UnknownServer);
+        }
+        let k = self.layout.shard_of(S::key(&request));
+        let flight = Flight {
+            to,
+            envelope: Envelope::new(number, k, request),
+        };
+        if self.in_flight.push(flight).is_err() {
+            return Err(WorldFault::NoMemory);
+        }
+        Ok(WorldAnswer::Sent)
+    }
+
+    // An envelope in flight reaches its server, which is admitted to its shard or refuses it.
+    fn deliver(&mut self, place: usize) -> Result<WorldAnswer<S::Reply>, WorldFault>
+        ensures stands { (w : WorldState S.Request) → StandsFor self.old w
+            → Follows self.new result
+            (outcome (record { reply_of = S.reply_of; key_of = S.key_of }) w (mark_of result) (DeliverAt place)) }
+        ensures bounds { self.new.bounds ≡ self.old.bounds }
+    {
+        if place >= self.in_flight.len() {
+            return Err(WorldFault::NoEnvelope);
+        }
+        let Flight { to, envelope } = self.in_flight.remove(place);
+        let k = envelope.shard();
+        if let Err(fault) = self.table.admit(k, to, envelope.mode()) {
+            return Ok(WorldAnswer::Refused(Refusal::Admit(fault)));
+        }
+        self.in_hand[k.index()] = Some(InHand {
+            server: to,
+            number: envelope.number(),
+            request: envelope.into_request(),
+        });
+        Ok(WorldAnswer::Began(to))
+    }
+
+    // The admitted server executes the request in hand, and its admission ends.
+    fn finish(&mut self, k: ShardId) -> Result<WorldAnswer<S::Reply>, WorldFault>
+        ensures stands { (w : WorldState S.Request) → StandsFor self.old w
+            → Follows self.new result
+            (outcome (record { reply_of = S.reply_of; key_of = S.key_of }) w (mark_of result) (FinishAt k)) }
+        ensures bounds { self.new.bounds ≡ self.old.bounds }
+    {
+        if k.index() >= self.in_hand.len() {
+            return Err(WorldFault::NotHeld);
+        }
+        let Some(hand) = self.in_hand[k.index()].take() else {
+            return Err(WorldFault::NotHeld);
+        };
+        let InHand {
+            server,
+            number,
+            request,
+        } = hand;
+        self.table.done(k);
+        let place = self.bodies.kept(k) as u64;
+        match self.bodies.apply(k, request) {
+            Ok(reply) => Ok(WorldAnswer::Replied {
+                number,
+                server,
+                reply,
+                place,
+            }),
+            Err((_, ApplyFault::KeptFull)) => Ok(WorldAnswer::Refused(Refusal::KeptFull)),
+            Err((_, ApplyFault::NoMemory)) => Ok(WorldAnswer::Refused(Refusal::NoMemory)),
+        }
+    }
+}
+
+// For each of so many shards, that no server has a request in hand.
+fn none_in_hand<Q: Drop>(alloc: Global, count: usize) -> Result<Vec<Option<InHand<Q>>>, AllocError>
+    ensures { IfOk result (λ in_hand. in_hand.items ≡ replicate count None) }
+{
+    let mut in_hand = Vec::with_capacity(alloc, count)?;
+    for _ in 0..count {
+        in_hand.push(None)?;
+    }
+    Ok(in_hand)
+}
+
+#[cfg(test)]
+mod tests;

@@ -1,0 +1,36 @@
+use crate::command::CommandFault;
+use thiserror::Error;
+
+/// Why a step was refused. It then changed nothing.
+#[derive(Clone, Copy, Debug, PartialEq, Eq, Drop, Error)]
+pub enum WorldFault {
+    /// The command was refused.
+    #[error("{0}")]
+    Command(CommandFault),
+    /// There is no such shard.
+    #[error("there is no such shard")]
+    UnknownShard,
+    /// There is no such server.
+    #[error("there is no such server")]
+    UnknownServer,
+    /// There is no envelope at this place.
+    #[error("there is no envelope at this place")]
+    NoEnvelope,
+    /// No server has a request of the shard in hand.
+    #[error("no server has a request of the shard in hand")]
+    NotHeld,
+    /// Memory for the step was refused.
+    #[error("out of memory")]
+    NoMemory,
+}
+
+impl From<CommandFault> for WorldFault {
+    ghost use Rattle.std.specs.Prelude.{◌≡◌};
+    ghost use Rattle.sm_table.specs.declared.world_fault.WorldFault.TheVariants.{Command};
+
+    ghost from_gives = { λ fault world. world ≡ Command fault };
+
+    fn from(fault: CommandFault) -> WorldFault {
+        WorldFault::Command(fault)
+    }
+}
