@@ -1,0 +1,4 @@
+pub mod Commands
+pub mod Models
+pub mod Runs
+pub mod Script

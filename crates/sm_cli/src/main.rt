@@ -1,0 +1,104 @@
+//! The program sm_cli: runs a script of the shard manager, one command at a time.
+#![tactic(auto)]
+
+mod engine;
+mod model_engine;
+mod model_session;
+mod run;
+#[cfg(test)]
+mod tests;
+
+use clap::Command;
+use clap::error::ErrorKind;
+use run::{RunFault, Status, run_model};
+use sm_lines::Watched;
+use std::alloc::Global;
+use std::process::ExitCode;
+use std::{env, io};
+
+const SCRIPT_HELP: &str = "\
+The script comes on standard input: a line of settings, and then a command a line.
+
+  assign K A     shard K gets the owner A
+  look K         the record of shard K
+  get KEY        what the key holds
+  put KEY TEXT   the key holds the text
+
+Each command has one answer line. An empty line and a line that begins with # have none.
+
+Example:
+
+  {\"version\":1,\"bounds\":[\"\",\"m\"],\"servers\":[{\"id\":1,\"domain\":0,\"capacity\":2}],\"groups\":[{\"limit\":2,\"down\":1}],\"shards\":[{\"group\":0,\"load\":1,\"cap\":0},{\"group\":0,\"load\":1,\"cap\":1}],\"ops\":1,\"kept\":100,\"ceiling\":1000,\"workers\":2}
+  assign 1 1
+  put m hello
+  get m
+
+answers
+
+  ok
+  done @1#0
+  text 5:hello @1#1
+
+docs/SCRIPT.md of the repository has all settings, commands and answers.";
+
+/// What the command line asks for.
+enum Choice {
+    Model,
+}
+
+/// The words of the command line, the program's name first; an error is a word that is not UTF-8, or want of memory.
+fn command_line(rt: &HostRuntime) -> io::Result<Vec<String>> {
+    let words = env::args(rt)?.collect(rt.alloc())?;
+    Ok(words)
+}
+
+/// The choice that the words name; an error is a refusal, help that was asked for, or want of memory.
+fn choose(alloc: Global, words: &[String]) -> Result<Choice, clap::Error> {
+    let model = Command::new(alloc, "model")
+        .about("Runs the script of standard input on the model: the whole manager on one thread")
+        .after_help(SCRIPT_HELP);
+    let command = Command::new(alloc, "sm_cli")
+        .about("Runs a script of a shard manager")
+        .after_help(SCRIPT_HELP)
+        .subcommand_required(true)
+        .subcommand(model)?;
+    command.try_get_matches_from(words)?;
+    Ok(Choice::Model)
+}
+
+/// Tells on standard error why the program ends early.
+fn end_early(rt: &HostRuntime, fault: RunFault) -> anyhow::Result<ExitCode> {
+    eprintln!(rt; "fault {fault}")?;
+    Ok(ExitCode::FAILURE)
+}
+
+fn main(rt: HostRuntime) -> anyhow::Result<ExitCode> {
+    let alloc = rt.alloc();
+    let words = match command_line(&rt) {
+        Ok(words) => words,
+        Err(error) if error.kind() == io::ErrorKind::OutOfMemory => {
+            return end_early(&rt, RunFault::NoMemory);
+        }
+        Err(_) => {
+            eprintln!(rt; "error: an argument is not UTF-8")?;
+            return Ok(ExitCode::from(2));
+        }
+    };
+    match choose(alloc, &words) {
+        Ok(Choice::Model) => {}
+        Err(error) if error.kind() == ErrorKind::OutOfMemory => {
+            return end_early(&rt, RunFault::NoMemory);
+        }
+        Err(error) => {
+            error.print(&rt)?;
+            return Ok(ExitCode::from(error.exit_code() as u8));
+        }
+    }
+    let mut reader = Watched::new(rt.reader());
+    let mut writer = Watched::new(io::writer(&rt));
+    match run_model(alloc, &mut reader, &mut writer) {
+        Ok(Status::Ran) => Ok(ExitCode::SUCCESS),
+        Ok(Status::BadSettings) => Ok(ExitCode::FAILURE),
+        Err(fault) => end_early(&rt, fault),
+    }
+}
