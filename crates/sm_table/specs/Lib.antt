@@ -2,6 +2,7 @@ pub mod Bodies
 pub mod Desk
 pub mod Envelope
 pub mod History
+pub mod Routes
 pub mod Rules
 pub mod Setup
 pub mod Standing

@@ -16,6 +16,7 @@ pub mod laws;
 pub mod mode;
 pub mod record;
 pub mod refusal;
+pub mod route;
 pub mod setup;
 pub mod step;
 pub mod table;

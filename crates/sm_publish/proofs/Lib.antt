@@ -1,0 +1,2 @@
+pub mod EmptyStruct
+pub mod Seeing

@@ -1,0 +1,31 @@
+-- What is published, and what is refused.
+use Rattle.std.specs.Prelude.{ℕ, Bool, false, Option, Some, None, nat_lt, nat_le, not, if◌then◌else◌, List, [], ◌∷◌, ◌++◌}
+use Rattle.sm_table.specs.declared.route.Route.{Route}
+use Rattle.sm_table.specs.Routes.{routes_of}
+use Rattle.sm_publish.specs.declared.publish_fault.PublishFault.{PublishFault}
+use Rattle.sm_publish.specs.declared.publish_fault.PublishFault.TheVariants.{UnknownShard, OldRoute}
+
+-- how many shards a map has, and what was published in it, in order
+pub record MapView : Type 0 where
+  pub count : ℕ
+  pub published : List Route
+
+-- the map after one more publication
+abbrev pub with_route : MapView → Route → MapView
+with_route map route = record { count = map.count; published = map.published ++ route ∷ [] }
+
+-- the map takes in routes of its shards alone
+abbrev pub taken : MapView → Route → MapView
+taken map route = if nat_lt route.shard map.count then with_route map route else map
+
+-- the route isn't above the shard's last one
+abbrev pub is_old : Option Route → Route → Bool
+is_old None route = false
+is_old (Some last) route = nat_le route.generation last.generation
+
+-- the first reason for which a route isn't published
+abbrev pub publish_fault : MapView → Route → Option PublishFault
+publish_fault map route =
+    if not (nat_lt route.shard map.count) then Some UnknownShard
+    else if is_old (routes_of map.published route.shard) route then Some OldRoute
+    else None

@@ -1,0 +1,18 @@
+-- What each thread has seen of a map.
+use Rattle.std.specs.Prelude.{ℕ, ◌≡◌, List, ◌++◌}
+use mathlib.Core.Option.{some}
+use lib.ListN.{get_elem?}
+use Rattle.sm_table.specs.declared.route.Route.{Route}
+use Rattle.sm_publish.specs.Publishing.{MapView}
+
+-- the publications begin with the earlier ones
+abbrev pub Extends : List Route → List Route → Type 0
+Extends publications earlier = (more : List Route) × (publications ≡ earlier ++ more)
+
+-- what is published begins with what each has seen
+abbrev pub IsSeen : MapView → List (List Route) → Type 0
+IsSeen map views = (seat : ℕ) (seen : List Route) → get_elem? views seat ≡ some seen → Extends map.published seen
+
+-- all that is published afterwards is seen, and it begins with what was seen before
+abbrev pub Sees : List Route → MapView → MapView → List Route → Type 0
+Sees before map after seen = Extends seen before × (seen ≡ after.published)

@@ -1,0 +1,114 @@
+ghost use Rattle.std.specs.Prelude.{◌≡◌, ◌<◌, ◌^◌, fold, [], drop, replicate, IfOk, IfSome, IfNone, OnOk, OnErr, IsOkUnless, Err};
+ghost use Rattle.sm_publish.specs.Publishing.{with_route, taken, publish_fault};
+
+use crate::publish_fault::PublishFault;
+use crate::route_map::RouteMap;
+use crate::router::Router;
+use crate::rule::{MapWriter, Seeing};
+use core::mem::replace_with;
+use sm_table::route::Route;
+use std::alloc::{AllocError, Global};
+use std::marker::Model;
+use std::sync::Wait;
+
+/// The one that publishes routes. It is not `Drop`: end it by [`Publisher::end`].
+///
+/// Contracts see it as its number of shards and what it has published, in order.
+pub struct Publisher {
+    writer: MapWriter,
+}
+
+impl Model for Publisher {
+    ghost use Rattle.std.specs.Prelude.{◌≡◌, [], drop};
+    ghost use Rattle.sm_publish.specs.Publishing.{MapView};
+
+    ghost Value = { MapView };
+
+    ghost view = { λ publisher. publisher.writer.desk.shown.value };
+
+    // Routers can see all that was published.
+    ghost invariant = { λ publisher. drop publisher.writer.behind publisher.writer.log.items ≡ [] };
+}
+
+impl Publisher {
+    /// A publisher of routes for so many shards, and its routers, of which there is at least one and which have seen nothing.
+    /// It waits only where memory for the routers is refused.
+    pub fn new<R: Wait>(
+        rt: &R,
+        alloc: Global,
+        count: usize,
+        routers: usize,
+    ) -> Result<(Publisher, Vec<Router>), AllocError>
+        requires { (0 < routers) × (routers < 2 ^ 32) }
+        ensures publisher { IfOk result (λ made. made.0 ≡ record { count = count; published = [] }) }
+        ensures routers { IfOk result (λ made. made.1.items ≡ replicate routers []) }
+    {
+        let first = RouteMap::new(alloc, count)?;
+        let second = RouteMap::new(alloc, count)?;
+        let writer = MapWriter::new(alloc, first, second, routers)?;
+        match routers_of(alloc, &writer, routers) {
+            Ok(made) => Ok((Publisher { writer }, made)),
+            Err(refused) => {
+                let _map = writer.take(rt);
+                Err(refused)
+            }
+        }
+    }
+
+    /// Publishes the route, or answers the first fault that applies; a refused route changes nothing.
+    /// It may wait for routers that are reading.
+    pub fn publish<R: Wait>(&mut self, rt: &R, route: Route) -> Result<(), PublishFault>
+        ensures published { OnOk result (self.new ≡ with_route self.old route) }
+        ensures unchanged { OnErr result (self.new ≡ self.old) }
+        ensures fault { IfSome (publish_fault self.old route) (λ fault. result ≡ Err fault) }
+
+        // Only want of memory refuses a newer route of a shard.
+        ensures no_fault { IfNone (publish_fault self.old route) (IsOkUnless result PublishFault.NoMemory) }
+    {
+        let map = self.writer.published();
+        if route.shard.index() >= map.count() {
+            return Err(PublishFault::UnknownShard);
+        }
+        if let Some(last) = map.route(route.shard)
+            && route.generation <= last.generation
+        {
+            return Err(PublishFault::OldRoute);
+        }
+        if self.writer.append(route).is_err() {
+            return Err(PublishFault::NoMemory);
+        }
+        replace_with(&mut self.writer, rt, show::<R>);
+        Ok(())
+    }
+
+    /// Ends the publisher. A router's read after it may be refused. It may wait for routers that are reading.
+    pub fn end<R: Wait>(self, rt: &R) {
+        let Publisher { writer } = self;
+        let _map = writer.take(rt);
+    }
+}
+
+// So many routers of the writer's map, which have seen nothing.
+fn routers_of(alloc: Global, writer: &MapWriter, count: usize) -> Result<Vec<Router>, AllocError>
+    ensures { IfOk result (λ made. made.items ≡ replicate count []) }
+{
+    let mut made = Vec::with_capacity(alloc, count)?;
+    for _ in 0..count {
+        made.push(Router::new(writer.factory().reader()?))?;
+    }
+    Ok(made)
+}
+
+// Shows routers what was appended, which always succeeds.
+fn show<R: Wait>(writer: MapWriter, rt: &R) -> (MapWriter, ())
+    ensures shown { result.0.desk.shown.value
+        ≡ fold taken writer.desk.shown.value (drop writer.behind writer.log.items) }
+    ensures settled { drop result.0.behind result.0.log.items ≡ [] }
+{
+    let (writer, shown) = writer.publish_as::<Seeing, R>(rt);
+    shown.unwrap();
+    (writer, ())
+}
+
+#[cfg(test)]
+mod tests;

@@ -1,0 +1,74 @@
+ghost use Rattle.std.specs.Prelude.{◌≡◌, ◌<◌, [], IfOk};
+ghost use Rattle.sm_table.specs.Routes.{routes_of};
+ghost use Rattle.sm_publish.specs.Publishing.{taken};
+
+use crate::publications::Publications;
+use left_right::Absorb;
+use sm_ranges::shard_id::ShardId;
+use sm_table::route::Route;
+use std::alloc::{AllocError, Global};
+use std::marker::Model;
+
+/// The map that is published: for each of so many shards its last published route.
+#[derive(Drop)]
+pub struct RouteMap {
+    routes: Vec<Option<Route>>,
+    publications: Publications,
+}
+
+impl Model for RouteMap {
+    ghost use Rattle.std.specs.Prelude.{length};
+    ghost use Rattle.sm_publish.specs.Publishing.{MapView};
+    ghost use Rattle.sm_publish.specs.RouteRow.{IsRowOf};
+
+    ghost Value = { MapView };
+
+    ghost view = { λ map. record { count = length map.routes.items; published = map.publications.routes } };
+
+    ghost invariant = { λ map. IsRowOf map.routes.items map.publications.routes };
+}
+
+impl RouteMap {
+    /// The map of so many shards in which nothing was published.
+    pub(crate) fn new(alloc: Global, count: usize) -> Result<RouteMap, AllocError>
+        ensures { IfOk result (λ map. map ≡ record { count = count; published = [] }) }
+    {
+        Ok(RouteMap {
+            routes: vec![in alloc; None; count]?,
+            publications: Publications::none(),
+        })
+    }
+
+    /// The number of shards.
+    pub(crate) fn count(&self) -> usize
+        ensures { result ≡ self.now.count }
+    {
+        self.routes.len()
+    }
+
+    /// The shard's last published route; none where nothing was published of it.
+    pub(crate) fn route(&self, shard: ShardId) -> Option<Route>
+        ensures { result ≡ routes_of self.now.published shard }
+    {
+        self.routes.get(shard.index()).copied().flatten()
+    }
+}
+
+impl Absorb<Route> for RouteMap {
+    type State = RouteMap;
+
+    ghost state = { λ map. map };
+
+    ghost applied = { taken };
+
+    // A shard's place is there from the start.
+    ghost never_fails = { Unit {0} };
+
+    fn absorb_first(&mut self, operation: &Route, _other: &RouteMap) -> Result<(), AllocError> {
+        if let Some(place) = self.routes.get_mut(operation.shard.index()) {
+            *place = Some(*operation);
+            self.publications = self.publications.and(operation);
+        }
+        Ok(())
+    }
+}

@@ -1,0 +1,63 @@
+ghost use Rattle.std.specs.Prelude.{◌≡◌, ◌⊎◌, None};
+ghost use Rattle.left_right.specs.Sides.{view as seen_by};
+ghost use Rattle.sm_ranges.specs.Ranges.{shard_of};
+ghost use Rattle.sm_table.specs.Routes.{routes_of};
+ghost use Rattle.sm_publish.specs.Seen.{Extends};
+
+use crate::rule::{MapReader, Seeing};
+use core::mem::replace_with;
+use sm_ranges::layout::Layout;
+use sm_ranges::shard_id::ShardId;
+use sm_table::route::Route;
+use std::marker::Model;
+
+/// A reader of the published map. What it reads may be stale, and it never goes back. It may move to another thread.
+///
+/// Contracts see it as the publications that it has seen, in order.
+#[derive(Drop)]
+pub struct Router {
+    reader: MapReader,
+}
+
+impl Model for Router {
+    ghost use Rattle.std.specs.Prelude.{List};
+    ghost use Rattle.left_right.specs.Sides.{view as seen_by};
+    ghost use Rattle.sm_table.specs.declared.route.Route.{Route};
+
+    ghost Value = { List Route };
+
+    ghost view = { λ router. seen_by router.reader.place };
+}
+
+impl Router {
+    pub(crate) fn new(reader: MapReader) -> Router
+        ensures { result ≡ seen_by reader.place }
+    {
+        Router { reader }
+    }
+
+    /// The published route of the key's shard, or none where nothing was published of it. It takes no memory and no lock.
+    ///
+    /// The route is the last one in the publications that the router has then seen, which begin with all that it
+    /// had seen before. Where the read is refused the answer is none, and nothing more is seen.
+    pub fn route(&mut self, layout: &Layout, key: &[u8]) -> Option<Route>
+        ensures later { Extends self.new self.old }
+        ensures route { (result ≡ routes_of self.new (shard_of layout.now key.now)) ⊎ ((result ≡ None) × (self.new ≡ self.old)) }
+    {
+        replace_with(&mut self.reader, layout.shard_of(key), read)
+    }
+}
+
+// Reads the shard's route.
+fn read(reader: MapReader, shard: ShardId) -> (MapReader, Option<Route>)
+    ensures later { Extends (seen_by result.0.place) (seen_by reader.place) }
+    ensures route { (result.1 ≡ routes_of (seen_by result.0.place) shard) ⊎ ((result.1 ≡ None) × (seen_by result.0.place ≡ seen_by reader.place)) }
+{
+    match reader.enter_as::<Seeing>() {
+        Ok(reading) => {
+            let route = reading.get().route(shard);
+            (reading.leave(), route)
+        }
+        Err(reader) => (reader, None),
+    }
+}
