@@ -1,0 +1,9 @@
+pub mod Counting
+pub mod Leaving
+pub mod Fitting
+pub mod Keeping
+pub mod Placing
+pub mod Planning
+pub mod Sharing
+pub mod Starting
+pub mod Turns

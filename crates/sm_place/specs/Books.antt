@@ -1,0 +1,122 @@
+-- What the books hold, how a server's row is found, and which rows make books.
+use Rattle.std.specs.Prelude.{ℕ, ◌+◌, Bool, true, Option, Some, None, List, [], ◌∷◌, ◌<◌, ◌==◌, ◌&&◌, nat_lt, if◌then◌else◌, length, map, replicate, slice_index_or, slice_set}
+use Rattle.std.specs.List.{position_or_len, list_all}
+use Rattle.sm_ranges.specs.declared.stand.Stand.{Stand}
+use Rattle.sm_ranges.specs.declared.stand.Stand.TheVariants.{Vacant}
+use Rattle.sm_place.specs.declared.server_row.ServerRow.{ServerRow}
+use Rattle.sm_place.specs.declared.group_row.GroupRow.{GroupRow}
+use Rattle.sm_place.specs.declared.shard_row.ShardRow.{ShardRow}
+use Rattle.sm_place.specs.declared.shard.Shard.{Shard}
+use Rattle.sm_place.specs.declared.server_state.ServerState.{ServerState}
+use Rattle.sm_place.specs.declared.server_state.ServerState.TheVariants.{Up}
+use Rattle.sm_place.specs.declared.books_fault.BooksFault.{BooksFault}
+use Rattle.sm_place.specs.declared.books_fault.BooksFault.TheVariants.{BadServers, BadGroups, BadShards}
+use Rattle.sm_place.specs.Stands.{owner_of, other_of}
+
+-- what the books hold; the states are in the order of the servers
+pub record BooksView : Type 0 where
+  pub servers : List ServerRow
+  pub groups : List GroupRow
+  pub shards : List Shard
+  pub states : List ServerState
+
+-- what is read where there is no row of a server
+abbrev pub no_server : ServerRow
+no_server = record { id = 0; domain = 0; capacity = 0 }
+
+-- what is read where there is no row of a group
+abbrev pub no_group : GroupRow
+no_group = record { limit = 0; down = 0 }
+
+-- what is read where there is no shard
+abbrev pub no_shard : Shard
+no_shard = record { row = record { group = 0; load = 0; cap = 0 }; stand = Vacant }
+
+-- the place of the server's row, or how many rows there are
+abbrev pub place_of : List ServerRow → ℕ → ℕ
+place_of servers a = position_or_len (λ row. row.id == a) servers
+
+-- the server has a row
+abbrev pub IsKnown : List ServerRow → ℕ → Type 0
+IsKnown servers a = place_of servers a < length servers
+
+-- the server's row
+abbrev pub server_of : List ServerRow → ℕ → ServerRow
+server_of servers a = slice_index_or servers (place_of servers a) no_server
+
+-- the server's domain
+abbrev pub domain_of : List ServerRow → ℕ → ℕ
+domain_of servers a = (server_of servers a).domain
+
+-- the server, where there is one, has a row
+abbrev pub HasRow : List ServerRow → Option ℕ → Type 0
+HasRow servers None = Unit {0}
+HasRow servers (Some a) = IsKnown servers a
+
+-- each server that the stand names has a row
+abbrev pub NamesKnown : List ServerRow → Stand → Type 0
+NamesKnown servers stand = HasRow servers (owner_of stand) × HasRow servers (other_of stand)
+
+-- shard k
+abbrev pub shard_at : List Shard → ℕ → Shard
+shard_at shards k = slice_index_or shards k no_shard
+
+-- the shards where shard k has this stand
+abbrev pub with_stand : List Shard → ℕ → Stand → List Shard
+with_stand shards k stand = slice_set shards k (record { row = (shard_at shards k).row; stand = stand })
+
+-- the server's state
+abbrev pub state_of : BooksView → ℕ → ServerState
+state_of books a = slice_index_or books.states (place_of books.servers a) Up
+
+-- the numbers rise strictly, the first above low
+abbrev pub rises_above : ℕ → List ℕ → Bool
+rises_above low [] = true
+rises_above low (n ∷ ns) = nat_lt low n && rises_above n ns
+
+-- the count is at least 1, and at most the second number
+abbrev pub is_count : ℕ → ℕ → Bool
+is_count most n = nat_lt 0 n && nat_lt n (most + 1)
+
+-- a server's domain and capacity are in their ranges
+abbrev pub is_server : ServerRow → Bool
+is_server row = nat_lt row.domain 4096 && nat_lt row.capacity 4294967296
+
+-- the rules of servers: 1 to 4,095 rows in their ranges, by rising numbers
+abbrev pub are_servers : List ServerRow → Bool
+are_servers rows = is_count 4095 (length rows) && rises_above 0 (map (λ row. row.id) rows) && list_all is_server rows
+
+-- a group's limit and down are in their ranges
+abbrev pub is_group : GroupRow → Bool
+is_group row = nat_lt row.limit 4097 && nat_lt row.down 4097
+
+-- the rules of groups: 1 to 4,096 rows in their ranges
+abbrev pub are_groups : List GroupRow → Bool
+are_groups rows = is_count 4096 (length rows) && list_all is_group rows
+
+-- a shard's group has a row, and its cap is 0 or 1
+abbrev pub is_shard : ℕ → ShardRow → Bool
+is_shard groups row = nat_lt row.group groups && nat_lt row.cap 2
+
+-- the rules of shards: 1 to 4,096 rows in their ranges, where there are so many groups
+abbrev pub are_shards : ℕ → List ShardRow → Bool
+are_shards groups rows = is_count 4096 (length rows) && list_all (is_shard groups) rows
+
+-- the first fault of rows, in the order BadServers, BadGroups, BadShards; none where they make books
+abbrev pub first_books_fault : List ServerRow → List GroupRow → List ShardRow → Option BooksFault
+first_books_fault servers groups shards =
+    if are_servers servers then (if are_groups groups then (if are_shards (length groups) shards then None
+    else Some BadShards) else Some BadGroups) else Some BadServers
+
+-- the shard that nobody owns yet
+abbrev pub vacant : ShardRow → Shard
+vacant row = record { row = row; stand = Vacant }
+
+-- the books at the start: all servers are up, all shards vacant
+abbrev pub new_books : List ServerRow → List GroupRow → List ShardRow → BooksView
+new_books servers groups shards = record {
+  servers = servers;
+  groups = groups;
+  shards = map vacant shards;
+  states = replicate (length servers) Up;
+}

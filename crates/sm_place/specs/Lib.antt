@@ -1,0 +1,6 @@
+pub mod Books
+pub mod Cells
+pub mod Counters
+pub mod Plans
+pub mod Room
+pub mod Stands

@@ -1,0 +1,51 @@
+-- The servers that a stand names, and the servers that are leaving.
+use Rattle.std.specs.Prelude.{ℕ, Bool, true, false, Option, Some, None, ◌==◌, ◌||◌}
+use Rattle.sm_ranges.specs.declared.stand.Stand.{Stand}
+use Rattle.sm_ranges.specs.declared.stand.Stand.TheVariants.{Vacant, Serving, Prepared, Forwarding, Taken, Paused}
+use Rattle.sm_place.specs.declared.server_state.ServerState.{ServerState}
+use Rattle.sm_place.specs.declared.server_state.ServerState.TheVariants.{Up, Asked, Approved, Stopped, Failed}
+
+-- the owner that a stand names
+abbrev pub owner_of : Stand → Option ℕ
+owner_of Vacant = None
+owner_of (Serving owner) = Some owner
+owner_of (Prepared owner next) = Some owner
+owner_of (Forwarding owner next) = Some owner
+owner_of (Taken owner previous) = Some owner
+owner_of (Paused owner) = Some owner
+
+-- the next or previous server that a stand names
+abbrev pub other_of : Stand → Option ℕ
+other_of Vacant = None
+other_of (Serving owner) = None
+other_of (Prepared owner next) = Some next
+other_of (Forwarding owner next) = Some next
+other_of (Taken owner previous) = Some previous
+other_of (Paused owner) = None
+
+-- whether there is a number, and it passes the test
+abbrev pub passes : (ℕ → Bool) → Option ℕ → Bool
+passes test None = false
+passes test (Some a) = test a
+
+-- whether a server that the stand names passes the test
+abbrev pub names_one : (ℕ → Bool) → Stand → Bool
+names_one test stand = passes test (owner_of stand) || passes test (other_of stand)
+
+-- whether the stand names the server
+abbrev pub names : Stand → ℕ → Bool
+names stand a = names_one (λ b. b == a) stand
+
+-- whether a plan moves a shard of this stand: one that the server serves, or without a server a vacant one
+abbrev pub stands_to_move : Option ℕ → Stand → Bool
+stands_to_move None Vacant = true
+stands_to_move (Some a) (Serving owner) = owner == a
+stands_to_move from stand = false
+
+-- whether a server in this state takes no further shards
+abbrev pub is_leaving : ServerState → Bool
+is_leaving Up = false
+is_leaving Asked = false
+is_leaving Approved = true
+is_leaving Stopped = true
+is_leaving Failed = true

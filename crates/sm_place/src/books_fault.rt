@@ -1,0 +1,30 @@
+use std::alloc::AllocError;
+use thiserror::Error;
+
+/// Why rows make no books: the first reason that applies, in this order.
+#[derive(Clone, Copy, Debug, PartialEq, Eq, Drop, Error)]
+pub enum BooksFault {
+    /// There are not 1 to 4,095 servers, their numbers do not rise, or a domain is above 4,095.
+    #[error("the servers break their rules")]
+    BadServers,
+    /// There are not 1 to 4,096 groups, or a limit or `down` is above 4,096.
+    #[error("the groups break their rules")]
+    BadGroups,
+    /// There are not 1 to 4,096 shards, or a shard's group has no row or its cap is above 1.
+    #[error("the shards break their rules")]
+    BadShards,
+    /// The rows keep their rules, and memory for the books was refused.
+    #[error("out of memory")]
+    NoMemory,
+}
+
+impl From<AllocError> for BooksFault {
+    ghost use Rattle.std.specs.Prelude.{◌≡◌};
+    ghost use Rattle.sm_place.specs.declared.books_fault.BooksFault.TheVariants.{NoMemory};
+
+    ghost from_gives = { λ _ fault. fault ≡ NoMemory };
+
+    fn from(_: AllocError) -> Self {
+        BooksFault::NoMemory
+    }
+}

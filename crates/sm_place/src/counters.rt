@@ -1,0 +1,81 @@
+ghost use Rattle.std.specs.Prelude.{◌≡◌, ℕ, ◌+◌, ◌^◌, ◌<◌, ◌≤◌, length, slice_index, true};
+ghost use Rattle.sm_place.specs.Cells.{amount_at, is_hit, AreInside};
+
+/// What place `at` gets of the amount.
+pub(crate) fn amount_of(first: Option<usize>, second: Option<usize>, amount: u32, at: usize) -> u32
+    ensures { result ≡ amount_at first second amount at }
+{
+    if first == Some(at) || second == Some(at) {
+        amount
+    } else {
+        0
+    }
+}
+
+/// Adds the load at both places, once where they are the same.
+pub(crate) fn raise(loads: &mut [u32], first: Option<usize>, second: Option<usize>, load: u32)
+    requires first { AreInside (length loads.old) first }
+    requires second { AreInside (length loads.old) second }
+    requires fits { (i : ℕ) → is_hit first second i ≡ true → slice_index loads.old i + load < 2 ^ 32 }
+    ensures { (i : ℕ) → i < length loads.old → slice_index loads.new i ≡ slice_index loads.old i + amount_at first second load i }
+{
+    if let Some(at) = first {
+        loads[at] += load;
+    }
+    if let Some(at) = second {
+        if first != Some(at) {
+            loads[at] += load;
+        }
+    }
+}
+
+/// Takes the load away at both places, once where they are the same.
+pub(crate) fn lower(loads: &mut [u32], first: Option<usize>, second: Option<usize>, load: u32)
+    requires first { AreInside (length loads.old) first }
+    requires second { AreInside (length loads.old) second }
+    requires fits { (i : ℕ) → is_hit first second i ≡ true → load ≤ slice_index loads.old i }
+    ensures { (i : ℕ) → i < length loads.old → slice_index loads.new i + amount_at first second load i ≡ slice_index loads.old i }
+{
+    if let Some(at) = first {
+        loads[at] -= load;
+    }
+    if let Some(at) = second {
+        if first != Some(at) {
+            loads[at] -= load;
+        }
+    }
+}
+
+/// Counts one more at both places, once where they are the same.
+pub(crate) fn count_in(counts: &mut [u16], first: Option<usize>, second: Option<usize>)
+    requires first { AreInside (length counts.old) first }
+    requires second { AreInside (length counts.old) second }
+    requires fits { (i : ℕ) → is_hit first second i ≡ true → slice_index counts.old i + 1 < 2 ^ 16 }
+    ensures { (i : ℕ) → i < length counts.old → slice_index counts.new i ≡ slice_index counts.old i + amount_at first second 1 i }
+{
+    if let Some(at) = first {
+        counts[at] += 1;
+    }
+    if let Some(at) = second {
+        if first != Some(at) {
+            counts[at] += 1;
+        }
+    }
+}
+
+/// Counts one less at both places, once where they are the same.
+pub(crate) fn count_out(counts: &mut [u16], first: Option<usize>, second: Option<usize>)
+    requires first { AreInside (length counts.old) first }
+    requires second { AreInside (length counts.old) second }
+    requires fits { (i : ℕ) → is_hit first second i ≡ true → 1 ≤ slice_index counts.old i }
+    ensures { (i : ℕ) → i < length counts.old → slice_index counts.new i + amount_at first second 1 i ≡ slice_index counts.old i }
+{
+    if let Some(at) = first {
+        counts[at] -= 1;
+    }
+    if let Some(at) = second {
+        if first != Some(at) {
+            counts[at] -= 1;
+        }
+    }
+}

@@ -1,0 +1,146 @@
+ghost use Rattle.std.specs.Prelude.{◌≡◌, ◌<◌, ◌≤◌, ◌↔◌, IfOk, IsTrue, length, option_map};
+ghost use Rattle.sm_place.specs.Cells.{cell_of, IsAt, IsIn};
+ghost use Rattle.sm_place.specs.Counters.{AreRising};
+ghost use Rattle.sm_place.specs.Books.{HasRow, IsKnown, NamesKnown, place_of, server_of};
+
+use crate::named::{other_of, owner_of};
+use crate::server_row::ServerRow;
+use sm_ranges::server_id::ServerId;
+use sm_ranges::stand::Stand;
+use std::alloc::{AllocError, Global};
+use std::marker::Model;
+
+/// The rows of the servers, each found by its number.
+#[derive(Drop)]
+pub struct Roster {
+    rows: Vec<ServerRow>,
+    // by number: the place of the row, or how many there are
+    places: Vec<u16>,
+}
+
+impl Model for Roster {
+    ghost use Rattle.std.specs.Prelude.{List};
+    ghost use Rattle.sm_place.specs.declared.server_row.ServerRow.{ServerRow};
+    ghost use Rattle.sm_place.specs.Counters.{HasPlaces};
+
+    ghost Value = { List ServerRow };
+
+    ghost view = { λ r. r.rows.items };
+
+    ghost invariant = { λ r. HasPlaces r.rows.items r.places.items };
+}
+
+impl Roster {
+    /// The rows, whose numbers rise.
+    pub fn new(alloc: Global, rows: &[ServerRow]) -> Result<Roster, AllocError>
+        requires rise { AreRising rows.now }
+        requires few { length rows.now ≤ 4095 }
+        ensures { IfOk result (λ r. r ≡ rows.now) }
+    {
+        let mut places = vec![in alloc; rows.len() as u16; 4096]?;
+        for (at, row) in rows.iter().enumerate() {
+            places[row.id.number() as usize] = at as u16;
+        }
+        Ok(Roster {
+            rows: Vec::from_slice(alloc, rows)?,
+            places,
+        })
+    }
+
+    /// The same rows again.
+    pub fn try_clone(&self, alloc: Global) -> Result<Roster, AllocError>
+        ensures { IfOk result (λ r. r ≡ self.now) }
+    {
+        Ok(Roster {
+            rows: Vec::from_slice(alloc, &self.rows)?,
+            places: Vec::from_slice(alloc, &self.places)?,
+        })
+    }
+
+    /// The rows.
+    pub fn rows(&self) -> &[ServerRow]
+        ensures { result.now ≡ self.now }
+    {
+        &self.rows
+    }
+
+    /// The place of the server's row, or how many rows there are.
+    pub fn place(&self, a: ServerId) -> usize
+        ensures { result ≡ place_of self.now a }
+    {
+        self.places[a.number() as usize] as usize
+    }
+
+    /// The row of the server.
+    pub fn row(&self, a: ServerId) -> ServerRow
+        requires { IsKnown self.now a }
+        ensures { result ≡ server_of self.now a }
+    {
+        self.rows[self.place(a)]
+    }
+
+    /// Whether the server has a row.
+    pub fn knows(&self, a: ServerId) -> bool
+        ensures { IsTrue result ↔ IsKnown self.now a }
+    {
+        (self.places[a.number() as usize] as usize) < self.rows.len()
+    }
+
+    /// The places of the servers that the stand names.
+    pub(crate) fn places_of(&self, stand: &Stand) -> (Option<usize>, Option<usize>)
+        ensures { IsAt self.now stand.now result.0 result.1 }
+    {
+        (
+            self.place_at(owner_of(stand)),
+            self.place_at(other_of(stand)),
+        )
+    }
+
+    /// The place of the row, where there is a server.
+    fn place_at(&self, server: Option<ServerId>) -> Option<usize>
+        ensures { result ≡ option_map (place_of self.now) server }
+    {
+        match server {
+            Some(a) => Some(self.place(a)),
+            None => None,
+        }
+    }
+
+    /// The counter of the group and the server's domain, where each group has `width` of them.
+    pub(crate) fn cell(&self, width: usize, group: u16, a: ServerId) -> usize
+        requires known { IsKnown self.now a }
+        requires fits { width ≤ 4096 }
+        ensures { result ≡ cell_of self.now width group a }
+    {
+        group as usize * width + self.rows[self.place(a)].domain as usize
+    }
+
+    /// The counters of the group and the domains of the servers that the stand names.
+    pub(crate) fn cells_of(
+        &self,
+        width: usize,
+        group: u16,
+        stand: &Stand,
+    ) -> (Option<usize>, Option<usize>)
+        requires known { NamesKnown self.now stand.now }
+        requires fits { width ≤ 4096 }
+        ensures { IsIn self.now width group stand.now result.0 result.1 }
+    {
+        (
+            self.cell_at(width, group, owner_of(stand)),
+            self.cell_at(width, group, other_of(stand)),
+        )
+    }
+
+    /// The counter, where there is a server.
+    fn cell_at(&self, width: usize, group: u16, server: Option<ServerId>) -> Option<usize>
+        requires known { HasRow self.now server }
+        requires fits { width ≤ 4096 }
+        ensures { result ≡ option_map (cell_of self.now width group) server }
+    {
+        match server {
+            Some(a) => Some(self.cell(width, group, a)),
+            None => None,
+        }
+    }
+}
