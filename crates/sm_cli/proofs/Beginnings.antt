@@ -27,4 +27,4 @@ is_at_begin settings layout servers bodies count world same servers_are bodies_a
     let frame_is : record { bounds = settings.bounds; servers = servers; ceiling = settings.ceiling; limits = map (λ (body : Kept Request). body.limit) bodies } ≡ frame_of settings =
     ap (λ (s : List ℕ). record { bounds = settings.bounds; servers = s; ceiling = settings.ceiling; limits = map (λ (body : Kept Request). body.limit) bodies }) servers_are
     ∙ ap (λ (l : List ℕ). record { bounds = settings.bounds; servers = map (λ row. row.id) settings.servers; ceiling = settings.ceiling; limits = l }) limits in
-    record { layout = same; world = subst (λ (frame : Frame). StandsFor world (empty_world frame)) frame_is stands }
+    record { layout = same; rest = refl; world = subst (λ (frame : Frame). StandsFor world (empty_world frame)) frame_is stands }

@@ -15,7 +15,7 @@ use Rattle.sm_settings.specs.SettingsLine.{SettingsValues, settings_of}
 use Rattle.sm_table.specs.World.{WorldState, empty_world}
 use Rattle.sm_cli.specs.Commands.{frame_of}
 use Rattle.sm_cli.specs.Models.{ModelView, IsAt, IsNew, Responds, RespondsLong}
-use Rattle.sm_cli.specs.Runs.{RanScript, RefusedScript, WroteScript}
+use Rattle.sm_cli.specs.Runs.{RanScript, RefusedScript, WritesFor, WritesScript, WroteScript}
 use Rattle.sm_cli.specs.Script.{line_response, responded, responses, script, script_with, settings_in}
 
 -- what a session of the model gives to a line, within the limit or beyond it
@@ -74,8 +74,9 @@ script_is bytes first lines settings are accepted =
 pub ran_script : (input old new : Option (List ℕ)) → RanScript IsNew Gives input old new → WroteScript input old new
 ran_script None old new ran = tt
 ran_script (Some bytes) old new ran =
-    let is = gives_responses ran.lines ran.begun (empty_world (frame_of ran.settings)) ran.text ran.ended ran.began ran.answered in
-    subst (λ (t : List ℕ). Appends old new t) (is ∙ script_is bytes ran.first ran.lines ran.settings ran.are ran.accepted) ran.wrote
+    let s = ran.session in
+    let is = gives_responses ran.lines s.begun (empty_world (frame_of s.settings)) ran.text s.ended s.began s.answered in
+    subst (λ (t : List ℕ). Appends old new t) (is ∙ script_is bytes ran.first ran.lines s.settings ran.are s.accepted) ran.wrote
 
 -- and so does one whose settings are refused
 pub refused_script : (input old new : Option (List ℕ)) → RefusedScript input old new → WroteScript input old new
@@ -89,3 +90,9 @@ pub wrote_script : (input old new : Option (List ℕ)) (result : Result Status R
 wrote_script input old new (Ok Ran) ran bad = ran_script input old new (ran refl)
 wrote_script input old new (Ok BadSettings) ran bad = refused_script input old new (bad refl)
 wrote_script input old new (Err fault) ran bad = tt
+
+-- what a run of the model has to write before it comes to a line is the script of the lines before that
+pub writes_script : (before : List (List ℕ)) (text : List ℕ) → WritesFor IsNew Gives before text → WritesScript before text
+writes_script [] text none = none
+writes_script (first ∷ lines) text s =
+    gives_responses lines s.begun (empty_world (frame_of s.settings)) text s.ended s.began s.answered ∙ sym (ap (λ read. script_with read lines) s.accepted)

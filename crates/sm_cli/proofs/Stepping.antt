@@ -2,17 +2,17 @@
 use Rattle.std.proofs.Common.{◌≡◌, ℕ, Bool, true, false, ap, ◌∙◌, subst, refl, Ok, Err, Result, is_some, nat_lt, if◌then◌else◌}
 use Rattle.sm_service.specs.declared.reply.Reply.{Reply}
 use Rattle.sm_service.specs.declared.request.Request.{Request}
-use Rattle.sm_table.specs.declared.record.Record.{Record}
+use Rattle.sm_ownership.specs.declared.record.Record.{Record}
 use Rattle.sm_table.specs.declared.refusal.Refusal.TheVariants as refusal
 use Rattle.sm_table.specs.declared.step.Step.{Step}
 use Rattle.sm_table.specs.declared.step.Step.TheVariants.{Look}
 use Rattle.sm_table.specs.declared.world_answer.WorldAnswer.{WorldAnswer}
-use Rattle.sm_table.specs.declared.world_answer.WorldAnswer.TheVariants.{Made, Seen, Sent, Began, Refused, Replied}
+use Rattle.sm_table.specs.declared.world_answer.WorldAnswer.TheVariants.{Made, Seen, Sent, Began, Forwarded, Refused, Replied}
 use Rattle.sm_table.specs.declared.world_fault.WorldFault.{WorldFault}
 use Rattle.sm_table.specs.declared.world_fault.WorldFault.TheVariants as fault
 use Rattle.sm_table.specs.Standing.{Follows, StandsFor, WorldView}
 use Rattle.sm_table.specs.World.{WorldState, Mark, Plain, mark_of, outcome, count_of, world_record}
-use Rattle.sm_cli.specs.Commands.{answer_of, counter_text, delivered, finished, stepped, Stepped}
+use Rattle.sm_cli.specs.Commands.{answer_of, counter_text, delivered, finished, is_begun, is_sent, stepped, Stepped}
 
 -- a step that answers the script went as it should
 pub plain_of_answer : (result : Result (WorldAnswer Reply) WorldFault) → is_some (answer_of result) ≡ true → mark_of result ≡ Plain
@@ -20,37 +20,41 @@ plain_of_answer (Ok Made) some = refl
 plain_of_answer (Ok (Seen state)) some = refl
 plain_of_answer (Ok Sent) some = refl
 plain_of_answer (Ok (Began server)) some = refl
+plain_of_answer (Ok (Forwarded server)) some = refl
+plain_of_answer (Ok (Refused refusal.TooManyHops)) some = refl
 plain_of_answer (Ok (Refused (refusal.Admit reason))) some = refl
 plain_of_answer (Ok (Refused refusal.KeptFull)) some = refl
 plain_of_answer (Ok (Refused refusal.NoMemory)) some = cc
 plain_of_answer (Ok (Replied number server reply place)) some = refl
 plain_of_answer (Err (fault.Command reason)) some = refl
+plain_of_answer (Err (fault.Admit reason)) some = refl
 plain_of_answer (Err fault.UnknownShard) some = refl
 plain_of_answer (Err fault.UnknownServer) some = refl
 plain_of_answer (Err fault.NoEnvelope) some = refl
 plain_of_answer (Err fault.NotHeld) some = refl
 plain_of_answer (Err fault.NoMemory) some = cc
 
--- what a step answers that isn't the sending of a request, or the beginning of one
-pub delivered_answer : (shard : ℕ) (result : Result (WorldAnswer Reply) WorldFault) (w : WorldState Request)
-    → is_some (answer_of result) ≡ true → delivered shard result w ≡ (result, w)
-delivered_answer shard (Ok Made) w some = refl
-delivered_answer shard (Ok (Seen state)) w some = refl
-delivered_answer shard (Ok Sent) w some = cc
-delivered_answer shard (Ok (Began server)) w some = refl
-delivered_answer shard (Ok (Refused reason)) w some = refl
-delivered_answer shard (Ok (Replied number server reply place)) w some = refl
-delivered_answer shard (Err reason) w some = refl
+-- a step that didn't send the request ends the command
+pub delivered_unsent : (shard : ℕ) (result : Result (WorldAnswer Reply) WorldFault) (w : WorldState Request) → is_sent result ≡ false → delivered shard result w ≡ (result, w)
+delivered_unsent shard (Ok Made) w unsent = refl
+delivered_unsent shard (Ok (Seen state)) w unsent = refl
+delivered_unsent shard (Ok Sent) w unsent = cc
+delivered_unsent shard (Ok (Began server)) w unsent = refl
+delivered_unsent shard (Ok (Forwarded server)) w unsent = refl
+delivered_unsent shard (Ok (Refused reason)) w unsent = refl
+delivered_unsent shard (Ok (Replied number server reply place)) w unsent = refl
+delivered_unsent shard (Err reason) w unsent = refl
 
-pub finished_answer : (shard : ℕ) (result : Result (WorldAnswer Reply) WorldFault) (w : WorldState Request)
-    → is_some (answer_of result) ≡ true → finished shard result w ≡ (result, w)
-finished_answer shard (Ok Made) w some = refl
-finished_answer shard (Ok (Seen state)) w some = refl
-finished_answer shard (Ok Sent) w some = refl
-finished_answer shard (Ok (Began server)) w some = cc
-finished_answer shard (Ok (Refused reason)) w some = refl
-finished_answer shard (Ok (Replied number server reply place)) w some = refl
-finished_answer shard (Err reason) w some = refl
+-- a delivery in which no server began the request ends the command
+pub finished_unbegun : (shard : ℕ) (result : Result (WorldAnswer Reply) WorldFault) (w : WorldState Request) → is_begun result ≡ false → finished shard result w ≡ (result, w)
+finished_unbegun shard (Ok Made) w unbegun = refl
+finished_unbegun shard (Ok (Seen state)) w unbegun = refl
+finished_unbegun shard (Ok Sent) w unbegun = refl
+finished_unbegun shard (Ok (Began server)) w unbegun = cc
+finished_unbegun shard (Ok (Forwarded server)) w unbegun = refl
+finished_unbegun shard (Ok (Refused reason)) w unbegun = refl
+finished_unbegun shard (Ok (Replied number server reply place)) w unbegun = refl
+finished_unbegun shard (Err reason) w unbegun = refl
 
 -- a step that went as it should is one with ample memory
 pub follows_plain : (view : WorldView Request) (w : WorldState Request) (step : Step Request) (result : Result (WorldAnswer Reply) WorldFault)

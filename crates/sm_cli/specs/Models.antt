@@ -1,6 +1,6 @@
 -- When a session of the model stands at a world of the definitions, and what it answers there.
-use Rattle.std.specs.Prelude.{◌≡◌, ℕ, ◌<◌, ◌++◌, List, Some, Result, true, is_some, length}
-use Rattle.sm_cli.specs.Commands.{answer_of, commanded, frame_of, Stepped}
+use Rattle.std.specs.Prelude.{◌≡◌, ℕ, ◌<◌, ◌++◌, List, [], Some, Result, true, is_some, length}
+use Rattle.sm_cli.specs.Commands.{answer_of, arrived, commanded, frame_of, Stepped}
 use Rattle.sm_cli.specs.Script.{responded}
 use Rattle.sm_script.specs.Lines.{meaning_of}
 use Rattle.sm_script.specs.declared.answer.Answer.{Answer}
@@ -11,22 +11,25 @@ use Rattle.sm_service.specs.declared.request.Request.{Request}
 use Rattle.sm_settings.specs.SettingsLine.{SettingsValues}
 use Rattle.sm_table.specs.declared.world_answer.WorldAnswer.{WorldAnswer}
 use Rattle.sm_table.specs.declared.world_fault.WorldFault.{WorldFault}
-use Rattle.sm_table.specs.Standing.{StandsFor, WorldView}
-use Rattle.sm_table.specs.World.{WorldState, empty_world}
+use Rattle.sm_table.specs.Envelope.{most_hops}
+use Rattle.sm_table.specs.Standing.{Follows, StandsFor, WorldView}
+use Rattle.sm_table.specs.World.{WorldState, Plain, empty_world, mark_of}
 
 -- what a session shows: the bounds of its layout, and its world
 pub record ModelView : Type 0 where
   pub bounds : List (List ℕ)
   pub world : WorldView Request
 
--- the session's world is this one
+-- the session's world is this one, and no request is under way
 pub record IsAt (view : ModelView) (w : WorldState Request) : Type 0 where
   pub layout : view.bounds ≡ w.frame.bounds
   pub world : StandsFor view.world w
+  pub rest : w.in_flight ≡ []
 
--- the command ended in this step, and the session's world is the one that it leaves
+-- the command ended in this step, which answers the script, and the session's world is the one that it leaves
 pub record EndsAt (view : ModelView) (result : Result (WorldAnswer Reply) WorldFault) (ended : Stepped) : Type 0 where
   pub answered : result ≡ ended.0
+  pub answers : is_some (answer_of result) ≡ true
   pub stands : IsAt view ended.1
 
 -- at every world the command has this answer, and leaves the world that it should
@@ -49,7 +52,16 @@ RespondsLong start text =
 abbrev pub IsNew : SettingsValues → ModelView → Type 0
 IsNew settings view = IsAt view (empty_world (frame_of settings))
 
--- at every world the command, where it ended in a step that answers the script, ended as it should
+-- at every world these steps, unless memory was refused for the last of them, went as they should
+abbrev pub EndsIn : ModelView → (WorldState Request → Stepped) → Result (WorldAnswer Reply) WorldFault → ModelView → Type 0
+EndsIn before went result after =
+    (w : WorldState Request) → IsAt before w → mark_of result ≡ Plain → EndsAt after result (went w)
+
+-- the same of the steps of a command
 abbrev pub Ends : ModelView → Command → Result (WorldAnswer Reply) WorldFault → ModelView → Type 0
-Ends before command result after =
-    is_some (answer_of result) ≡ true → (w : WorldState Request) → IsAt before w → EndsAt after result (commanded w command)
+Ends before command result after = EndsIn before (λ w. commanded w command) result after
+
+-- at every world the first envelope in flight arrived as it should, unless memory was refused
+abbrev pub Arrives : WorldView Request → Result (WorldAnswer Reply) WorldFault → WorldView Request → Type 0
+Arrives before result after =
+    (w : WorldState Request) → StandsFor before w → mark_of result ≡ Plain → Follows after result (arrived most_hops w)

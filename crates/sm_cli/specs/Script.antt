@@ -55,3 +55,8 @@ script_with (Ok settings) lines = responses (empty_world (frame_of settings)) li
 -- what the program writes for the bytes that it reads
 abbrev pub script : List ℕ → List ℕ
 script bytes = script_with (settings_in (lines_of bytes)) (drop 1 (lines_of bytes))
+
+-- the script of the lines before one: nothing before the first
+abbrev pub script_before : List (List ℕ) → List ℕ
+script_before [] = []
+script_before (first ∷ lines) = script_with (settings_of first) lines

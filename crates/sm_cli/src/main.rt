@@ -19,10 +19,21 @@ use std::{env, io};
 const SCRIPT_HELP: &str = "\
 The script comes on standard input: a line of settings, and then a command a line.
 
-  assign K A     shard K gets the owner A
-  look K         the record of shard K
-  get KEY        what the key holds
-  put KEY TEXT   the key holds the text
+  assign K A        the vacant shard K gets the owner A
+  prepare_add K B   a migration of shard K to server B begins
+  prepare_drop K    the owner forwards what comes to it to server B
+  add K             server B becomes the owner, and the one before it forwards to B
+  drop K            the one before it drops the shard
+  cancel K          the migration is given up
+  pause K           nobody executes on shard K
+  resume K          its owner does again
+  reassign K B      the paused shard K gets the owner B
+  look K            the record of shard K
+  hold K A, free K  server A is admitted to shard K without a request; its end
+  get KEY           what the key holds
+  put KEY TEXT      the key holds the text
+  inc KEY N         adds N to the count that the key holds
+  at A REQUEST      a request to server A, where the others go to the owner
 
 Each command has one answer line. An empty line and a line that begins with # have none.
 

@@ -1,14 +1,17 @@
 ghost use Rattle.std.specs.Prelude.{◌≡◌, ◌++◌, [], Some, None, Ok, Err, IfOk, OnOk, OnErr, map, replicate};
 ghost use Rattle.sm_settings.specs.SettingsLine.{values_of};
 ghost use Rattle.sm_settings.specs.SettingsRules.{KeepsRules};
-ghost use Rattle.sm_cli.specs.Commands.{answer_of, refused_answer, refused_command, refused_admission, owner_of, owner_seen, is_sent, is_begun};
-ghost use Rattle.sm_cli.specs.Models.{IsNew, Answers, Ends};
-ghost use Rattle.sm_script.specs.declared.command.Command.TheVariants.{Request as RequestOf};
+ghost use Rattle.sm_cli.specs.Commands.{answer_of, refused_answer, refused_command, refused_admission, changed, owner_of, owner_seen, is_sent, is_begun, is_forwarded};
+ghost use Rattle.sm_cli.specs.Models.{IsNew, Answers, Arrives, Ends, EndsIn};
+ghost use Rattle.sm_script.specs.declared.command.Command.TheVariants as ask;
 ghost use Rattle.sm_cli.specs.Script.{answer_line};
 
 use sm_lines::Responder;
+use sm_ownership::admit_fault::AdmitFault;
+use sm_ownership::change::Change;
 use sm_ranges::layout::Layout;
 use sm_ranges::server_id::ServerId;
+use sm_ranges::shard_id::ShardId;
 use sm_ranges::stand::Stand;
 use sm_script::answer::Answer;
 use sm_script::command::Command;
@@ -21,10 +24,9 @@ use sm_service::request::Request;
 use sm_service::service::Service;
 use sm_settings::server_row::ServerRow;
 use sm_settings::settings::Settings;
-use sm_table::admit_fault::AdmitFault;
-use sm_table::change::Change;
 use sm_table::command::{Command as ControlCommand, CommandFault};
 use sm_table::desk::Desk;
+use sm_table::envelope::MOST_HOPS;
 use sm_table::refusal::Refusal;
 use sm_table::setup::Setup;
 use sm_table::step::Step;
@@ -85,18 +87,36 @@ impl ModelSession {
         ensures { Ends self.old command result self.new }
     {
         match command {
-            Command::Assign(shard, server) => {
-                let change = ControlCommand::Change(shard, Change::Assign(server));
-                return self.world.step(Step::Control(change));
+            Command::Assign(shard, server) => return self.change(shard, Change::Assign(server)),
+            Command::PrepareAdd(shard, server) => {
+                return self.change(shard, Change::PrepareAddShard(server));
             }
+            Command::PrepareDrop(shard) => return self.change(shard, Change::PrepareDropShard),
+            Command::Add(shard) => return self.change(shard, Change::AddShard),
+            Command::Drop(shard) => return self.change(shard, Change::DropShard),
+            Command::Cancel(shard) => return self.change(shard, Change::Cancel),
+            Command::Pause(shard) => return self.change(shard, Change::Pause),
+            Command::Resume(shard) => return self.change(shard, Change::Resume),
+            Command::Reassign(shard, server) => return self.change(shard, Change::Reassign(server)),
+            Command::Hold(shard, server) => return self.world.step(Step::Hold(shard, server)),
+            Command::Free(shard) => return self.world.step(Step::Free(shard)),
             Command::Look(shard) => return self.world.step(Step::Look(shard)),
             Command::Request(request) => return self.run_request(request),
+            Command::RequestAt(server, request) => return self.run_request_at(server, request),
         }
+    }
+
+    /// Changes the stand of a shard.
+    fn change(&mut self, shard: ShardId, change: Change) -> Result<WorldAnswer<Reply>, WorldFault>
+        ensures { EndsIn self.old (λ w. changed w shard change) result self.new }
+    {
+        self.world
+            .step(Step::Control(ControlCommand::Change(shard, change)))
     }
 
     /// Sends the request to the owner of its key's shard, has it delivered, and finishes it there.
     fn run_request(&mut self, request: Request) -> Result<WorldAnswer<Reply>, WorldFault>
-        ensures { Ends self.old (RequestOf request) result self.new }
+        ensures { Ends self.old (ask.Request request) result self.new }
     {
         let shard = self.layout.shard_of(CounterText::key(&request));
         let looked = self.world.step(Step::Look(shard));
@@ -106,16 +126,42 @@ impl ModelSession {
         let Some(owner) = owner_seen(&looked) else {
             return Ok(WorldAnswer::Refused(Refusal::Admit(AdmitFault::Vacant)));
         };
-        let sent = self.world.step(Step::Send(owner, 0, request));
+        self.run_request_at(owner, request)
+    }
+
+    /// Sends the request to the server, has it delivered, and finishes it where it began.
+    fn run_request_at(
+        &mut self,
+        server: ServerId,
+        request: Request,
+    ) -> Result<WorldAnswer<Reply>, WorldFault>
+        ensures { Ends self.old (ask.RequestAt server request) result self.new }
+    {
+        let shard = self.layout.shard_of(CounterText::key(&request));
+        let sent = self.world.step(Step::Send(server, 0, request));
         if !is_sent(&sent) {
             return sent;
         }
-        let reached = self.world.step(Step::Deliver(0));
+        let reached = arrive(&mut self.world);
         if !is_begun(&reached) {
             return reached;
         }
         self.world.step(Step::Finish(shard))
     }
+}
+
+/// Has the envelope in flight delivered, and again after each hop, until a server begins its request or refuses it.
+fn arrive(world: &mut World<CounterText>) -> Result<WorldAnswer<Reply>, WorldFault>
+    ensures arrives { Arrives world.old result world.new }
+    ensures bounds { world.new.bounds ≡ world.old.bounds }
+{
+    for _hop in 0..MOST_HOPS {
+        let reached = world.step(Step::Deliver(0));
+        if !is_forwarded(&reached) {
+            return reached;
+        }
+    }
+    world.step(Step::Deliver(0))
 }
 
 impl Responder for ModelSession {
@@ -201,6 +247,13 @@ fn is_begun(answer: &Result<WorldAnswer<Reply>, WorldFault>) -> bool
     matches!(answer, Ok(WorldAnswer::Began(_)))
 }
 
+/// Whether the step had a server forward a request.
+fn is_forwarded(answer: &Result<WorldAnswer<Reply>, WorldFault>) -> bool
+    ensures { result ≡ is_forwarded answer.now }
+{
+    matches!(answer, Ok(WorldAnswer::Forwarded(_)))
+}
+
 /// The server that owns a shard with this stand.
 fn owner_of(stand: &Stand) -> Option<ServerId>
     ensures { result ≡ owner_of stand.now }
@@ -248,9 +301,10 @@ fn answer_of_made(made: WorldAnswer<Reply>) -> Result<Answer, AllocError>
             server,
             place,
         }),
-        // A request that was only sent or begun ends no command.
+        // No command ends with a request that was only sent, begun or forwarded.
         WorldAnswer::Sent => Err(AllocError),
         WorldAnswer::Began(_) => Err(AllocError),
+        WorldAnswer::Forwarded(_) => Err(AllocError),
     }
 }
 
@@ -261,6 +315,7 @@ fn answer_of_refusal(refusal: Refusal) -> Result<Answer, AllocError>
 {
     match refusal {
         Refusal::Admit(fault) => Ok(Answer::Refused(refused_admission(fault))),
+        Refusal::TooManyHops => Ok(Answer::Refused(Refused::TooManyHops)),
         Refusal::KeptFull => Ok(Answer::Refused(Refused::KeptFull)),
         Refusal::NoMemory => Err(AllocError),
     }
@@ -273,11 +328,12 @@ fn answer_of_fault(fault: WorldFault) -> Result<Answer, AllocError>
 {
     match fault {
         WorldFault::Command(fault) => Ok(Answer::Refused(refused_command(fault))),
+        WorldFault::Admit(fault) => Ok(Answer::Refused(refused_admission(fault))),
         WorldFault::UnknownShard => Ok(Answer::Refused(Refused::UnknownShard)),
         WorldFault::UnknownServer => Ok(Answer::Refused(Refused::UnknownServer)),
-        // No command ends with a shard or a place in flight that holds nothing.
+        WorldFault::NotHeld => Ok(Answer::Refused(Refused::NotHeld)),
+        // No command delivers where nothing is in flight.
         WorldFault::NoEnvelope => Err(AllocError),
-        WorldFault::NotHeld => Err(AllocError),
         WorldFault::NoMemory => Err(AllocError),
     }
 }

@@ -1,10 +1,12 @@
-ghost use Rattle.std.specs.Prelude.{◌≡◌, ◌≢◌, ◌⊎◌, ◌≤◌, IfOk, IfErr, OnOk, Ok, Err, true};
+ghost use Rattle.std.specs.Prelude.{◌≡◌, ◌≢◌, ◌⊎◌, ◌≤◌, ℕ, List, [], IfOk, IfErr, OnOk, OnErr, Ok, Err, true, false};
 ghost use Rattle.std.specs.Io.KnownBytes.{Appends, IsAtEnd};
-ghost use Rattle.sm_lines.specs.Answers.{Answers};
-ghost use Rattle.sm_lines.specs.Reading.{unread, EndStands};
+ghost use Rattle.sm_lines.specs.Answers.{Answers, ReadingStopped, StopsAfter};
+ghost use Rattle.sm_lines.specs.Lines.{TookPart};
+ghost use Rattle.sm_lines.specs.Reading.{unread, CallsFit, EndStands};
+ghost use Rattle.sm_lines.specs.Sending.{WroteFront};
 ghost use Rattle.sm_settings.specs.SettingsLine.{values_of};
 ghost use Rattle.sm_settings.specs.SettingsRules.{KeepsRules};
-ghost use Rattle.sm_cli.specs.Runs.{IsOpening, ReadsAs, RanScript, RanSession, RefusedScript, WroteScript, AcceptsSettings, RefusesSettings};
+ghost use Rattle.sm_cli.specs.Runs.{IsOpening, ReadsAs, RanScript, RanSession, RefusedScript, RefusedShort, SessionShort, SessionTo, StoppedAt, StoppedReading, StoppedWriting, WritesFor, WritesScript, WroteScript, AcceptsSettings, RefusesSettings};
 ghost use Rattle.sm_cli.specs.Script.{settings_line};
 
 use crate::engine::Engine;
@@ -56,6 +58,10 @@ impl From<AllocError> for RunFault {
 }
 
 impl From<AnswerFault> for RunFault {
+    ghost use Rattle.sm_cli.specs.Runs.{run_fault};
+
+    ghost from_gives = { λ stopped fault. fault ≡ run_fault stopped };
+
     fn from(fault: AnswerFault) -> RunFault {
         match fault {
             AnswerFault::Read => RunFault::Read,
@@ -75,6 +81,10 @@ pub enum Opening {
 }
 
 /// Runs the script of the reader on the model, and writes its answers.
+///
+/// `Read` comes only where the reader failed, or 2^32 of its calls or lines were counted; `Write` only where the writer
+/// failed; `NoMemory` only where neither failed. The answers to all lines before the one at which a fault came were
+/// written, and nothing else, but for a front of that line's answer where writing failed.
 pub fn run_model<R: Read, W: Write>(
     alloc: Global,
     reader: &mut Watched<R>,
@@ -87,11 +97,33 @@ pub fn run_model<R: Read, W: Write>(
     ensures read_all { result ≡ Ok Status.Ran → IsAtEnd (R.remaining reader.new.inner) }
     ensures bad_settings { result ≡ Ok Status.BadSettings
         → RefusesSettings (R.remaining reader.old.inner) }
+
+    // Where reading stopped, it is the script of all lines that were read whole.
+    ensures read { result ≡ Err RunFault.Read → StoppedReading WritesScript
+        reader.new.failed reader.new.calls (R.remaining reader.old.inner)
+        (R.remaining reader.new.inner) (W.contents writer.old.inner) (W.contents writer.new.inner) }
+    // Where memory was refused, it is the script of the lines before one.
+    ensures no_memory { result ≡ Err RunFault.NoMemory → StoppedAt WritesScript
+        (R.remaining reader.old.inner) (W.contents writer.old.inner) (W.contents writer.new.inner) }
+    // Where writing failed, it is the script of the lines before one, and then a front of that one's answer.
+    ensures write { result ≡ Err RunFault.Write → StoppedWriting WritesScript
+        (R.remaining reader.old.inner) (W.contents writer.old.inner) (W.contents writer.new.inner)
+        ⊎ RefusedShort (R.remaining reader.old.inner) (W.contents writer.old.inner)
+        (W.contents writer.new.inner) }
+
+    ensures write_failed { result ≡ Err RunFault.Write → writer.new.failed ≡ true }
+    // No failed call is hidden by another fault, but that a failed write may come after a failed read.
+    ensures reader_unfailed { result ≢ Err RunFault.Read → result ≢ Err RunFault.Write
+        → reader.new.failed ≡ reader.old.failed }
+    ensures writer_unfailed { result ≢ Err RunFault.Write → writer.new.failed ≡ writer.old.failed }
+    // The reader is called no more often than it gives bytes, but for one call that sees the end or fails.
+    ensures calls { CallsFit false true (R.remaining reader.old.inner)
+        (R.remaining reader.new.inner) reader.old.calls reader.new.calls }
 {
     run(alloc, reader, writer, &mut ModelEngine::new(alloc))
 }
 
-/// Runs the script of the reader on the engine, and writes its answers.
+/// Runs the script of the reader on the engine, and writes its answers. A fault comes where it does of `run_model`.
 pub fn run<R: Read, W: Write, E: Engine>(
     alloc: Global,
     reader: &mut Watched<R>,
@@ -104,6 +136,24 @@ pub fn run<R: Read, W: Write, E: Engine>(
     ensures read_all { result ≡ Ok Status.Ran → IsAtEnd (R.remaining reader.new.inner) }
     ensures bad_settings { result ≡ Ok Status.BadSettings → RefusedScript
         (R.remaining reader.old.inner) (W.contents writer.old.inner) (W.contents writer.new.inner) }
+    ensures read { result ≡ Err RunFault.Read → StoppedReading
+        (WritesFor E.begins (Answers E.Session.gives E.Session.gives_long MAX_LINE))
+        reader.new.failed reader.new.calls (R.remaining reader.old.inner)
+        (R.remaining reader.new.inner) (W.contents writer.old.inner) (W.contents writer.new.inner) }
+    ensures no_memory { result ≡ Err RunFault.NoMemory → StoppedAt
+        (WritesFor E.begins (Answers E.Session.gives E.Session.gives_long MAX_LINE))
+        (R.remaining reader.old.inner) (W.contents writer.old.inner) (W.contents writer.new.inner) }
+    ensures write { result ≡ Err RunFault.Write → StoppedWriting
+        (WritesFor E.begins (Answers E.Session.gives E.Session.gives_long MAX_LINE))
+        (R.remaining reader.old.inner) (W.contents writer.old.inner) (W.contents writer.new.inner)
+        ⊎ RefusedShort (R.remaining reader.old.inner) (W.contents writer.old.inner)
+        (W.contents writer.new.inner) }
+    ensures write_failed { result ≡ Err RunFault.Write → writer.new.failed ≡ true }
+    ensures reader_unfailed { result ≢ Err RunFault.Read → result ≢ Err RunFault.Write
+        → reader.new.failed ≡ reader.old.failed }
+    ensures writer_unfailed { result ≢ Err RunFault.Write → writer.new.failed ≡ writer.old.failed }
+    ensures calls { CallsFit false true (R.remaining reader.old.inner)
+        (R.remaining reader.new.inner) reader.old.calls reader.new.calls }
 {
     let mut lines = match LineReader::new(alloc) {
         Ok(lines) => lines,
@@ -125,12 +175,20 @@ fn open<R: Read>(
     reader: &mut Watched<R>,
 ) -> Result<Opening, RunFault>
     requires { EndStands lines.old (R.remaining reader.old.inner) }
-    ensures opening { IfOk result (IsOpening (unread lines.old (R.remaining reader.old.inner))
+    ensures opening { IfOk result (IsOpening lines.new.ended (unread lines.old (R.remaining reader.old.inner))
         (unread lines.new (R.remaining reader.new.inner))) }
     ensures end_stands { OnOk result (EndStands lines.new (R.remaining reader.new.inner)) }
-    ensures read { result ≡ Err RunFault.Read
-        → (reader.new.failed ≡ true) ⊎ (COUNT_LIMIT ≤ reader.new.calls) }
+    ensures read { result ≡ Err RunFault.Read → TookPart (unread lines.old
+        (R.remaining reader.old.inner)) (unread lines.new (R.remaining reader.new.inner))
+        × (lines.new.held ≡ []) × ((reader.new.failed ≡ true) ⊎ (COUNT_LIMIT ≤ reader.new.calls)) }
     ensures write { result ≢ Err RunFault.Write }
+    ensures unfailed { result ≢ Err RunFault.Read → reader.new.failed ≡ reader.old.failed }
+    ensures calls { OnOk result (CallsFit lines.old.ended lines.new.ended
+        (R.remaining reader.old.inner) (R.remaining reader.new.inner)
+        reader.old.calls reader.new.calls) }
+    ensures last_call { OnErr result (CallsFit lines.old.ended true
+        (R.remaining reader.old.inner) (R.remaining reader.new.inner)
+        reader.old.calls reader.new.calls) }
 {
     match lines.next_line(reader, MAX_SETTINGS) {
         Ok(Next::Line) => read_settings(alloc, lines.line()),
@@ -170,6 +228,30 @@ fn run_session<R: Read, W: Write, E: Engine>(
         (W.contents writer.old.inner) (W.contents writer.new.inner)) }
     ensures read_all { OnOk result (IsAtEnd (R.remaining reader.new.inner)) }
     ensures status { IfOk result (λ status. status ≡ Status.Ran) }
+    ensures read { result ≡ Err RunFault.Read → (done : List (List ℕ))
+        × SessionTo E.begins (Answers E.Session.gives E.Session.gives_long MAX_LINE)
+        (values_of settings) (W.contents writer.old.inner) (W.contents writer.new.inner) done
+        × ReadingStopped lines.old lines.new reader.new.failed reader.new.calls
+        (unread lines.old (R.remaining reader.old.inner))
+        (unread lines.new (R.remaining reader.new.inner)) done }
+    // Either no session began, or this one ran up to a line.
+    ensures no_memory { result ≡ Err RunFault.NoMemory
+        → (writer.new ≡ writer.old) ⊎ ((done : List (List ℕ))
+        × SessionTo E.begins (Answers E.Session.gives E.Session.gives_long MAX_LINE)
+        (values_of settings) (W.contents writer.old.inner) (W.contents writer.new.inner) done
+        × StopsAfter (unread lines.old (R.remaining reader.old.inner))
+        (unread lines.new (R.remaining reader.new.inner)) done) }
+    ensures write { result ≡ Err RunFault.Write → SessionShort E.begins
+        (Answers E.Session.gives E.Session.gives_long MAX_LINE) (values_of settings)
+        (unread lines.old (R.remaining reader.old.inner))
+        (unread lines.new (R.remaining reader.new.inner)) (W.contents writer.old.inner)
+        (W.contents writer.new.inner) }
+    ensures write_failed { result ≡ Err RunFault.Write → writer.new.failed ≡ true }
+    ensures reader_unfailed { result ≢ Err RunFault.Read → result ≢ Err RunFault.Write
+        → reader.new.failed ≡ reader.old.failed }
+    ensures writer_unfailed { result ≢ Err RunFault.Write → writer.new.failed ≡ writer.old.failed }
+    ensures calls { CallsFit lines.old.ended true (R.remaining reader.old.inner)
+        (R.remaining reader.new.inner) reader.old.calls reader.new.calls }
 {
     let mut session = match engine.begin(settings) {
         Ok(session) => session,
@@ -190,7 +272,11 @@ fn refuse<W: Write>(
     ensures wrote { OnOk result (Appends (W.contents writer.old.inner)
         (W.contents writer.new.inner) (settings_line fault)) }
     ensures status { IfOk result (λ status. status ≡ Status.BadSettings) }
-    ensures write { result ≡ Err RunFault.Write → writer.new.failed ≡ true }
+    ensures write { result ≡ Err RunFault.Write → (writer.new.failed ≡ true)
+        × WroteFront (W.contents writer.old.inner) (W.contents writer.new.inner)
+        (settings_line fault) }
+    ensures unfailed { OnOk result (writer.new.failed ≡ writer.old.failed) }
+    ensures no_memory { result ≡ Err RunFault.NoMemory → writer.new ≡ writer.old }
     ensures read { result ≢ Err RunFault.Read }
 {
     match settings_text(alloc, fault) {

@@ -172,3 +172,23 @@ fn stops_where_the_writer_fails(rt: HostRuntime) -> Result<(), Fail> {
     }
     Ok(())
 }
+
+#[test]
+fn reads_nothing_after_the_end(rt: HostRuntime) -> Result<(), Fail> {
+    let alloc = rt.alloc();
+    let input = script_of(alloc, FIRST_PATH)?;
+    // The last line with its line feed, and without it.
+    for end in [input.len(), input.len().saturating_sub(1)] {
+        let mut written = Vec::new(alloc);
+        // A call for each byte, one that sees the end, and none after it.
+        let mut reader = Watched::new(FailingReader {
+            bytes: &input[..end],
+            left: end + 1,
+        });
+        let ended = run_model(alloc, &mut reader, &mut Watched::new(&mut written));
+        assert_eq!(rt; ended, Ok(Status::Ran));
+        assert_eq!(rt; reader.calls, end as u64 + 1);
+        assert_eq!(rt; written.as_slice(), FIRST_ANSWERS);
+    }
+    Ok(())
+}

@@ -2,3 +2,4 @@ pub mod Pieces
 pub mod LineLemmas
 pub mod Writing
 pub mod AnswerLemmas
+pub mod Calls

@@ -2,12 +2,12 @@
 use Rattle.std.proofs.Common.{Option, None, Some, Bool, true, false, ◌⊎◌, ◌≡◌, ◌≢◌, ℕ, List, [], ◌∷◌, ◌++◌, All, refl, ap, subst, sym, ◌∙◌, arith, length, ◌+◌, ◌<◌, ◌≤◌, take, drop, slice_index, drop-cons, append_assoc, append-nil}
 use Rattle.std.proofs.lemmas.Grind.{common_steps}
 use Rattle.std.proofs.lemmas.List.{take-append-drop, take_all, drop_all}
-use Rattle.std.proofs.lemmas.List.Elements.{All-head, All-tail, All-append}
+use Rattle.std.proofs.lemmas.List.Elements.{All-nil, All-cons, All-head, All-tail, All-append}
 use Rattle.std.proofs.lemmas.Bool.{ne_eqb, false≢true}
 use Rattle.std.proofs.KnownBytes.{Consumes-trans}
 use Rattle.std.specs.Io.KnownBytes.{prepend_known, Consumes, IsAtEnd}
 use Rattle.sm_lines.specs.Reading.{Reading, unread}
-use Rattle.sm_lines.specs.Lines.{lines_of, onto_first, LosesLine, TookLine, TookLongLine}
+use Rattle.sm_lines.specs.Lines.{lines_of, onto_first, HadFeed, LosesLine, TookLine, TookLongLine}
 
 -- the line in front as far as it was taken off: what there is of it, and what is shown of that
 pub record SoFar (first now : Option (List ℕ)) (shown : List ℕ) (is_long : Bool) (limit : ℕ) : Type 0 where
@@ -57,6 +57,13 @@ loses_line : (first left : Option (List ℕ)) (full : List ℕ) → All (λ b. b
 loses_line None left full plain h = tt
 loses_line (Some xs) None full plain h = h
 loses_line (Some xs) (Some ys) full plain h = ap lines_of (h ∙ append_assoc full (10 ∷ []) ys) ∙ lines_of-line full ys plain
+
+-- a line that was taken off with its line feed
+one_taken : (ended : Bool) (first left : Option (List ℕ)) (full : List ℕ) → All (λ b. b ≢ 10) full → Consumes first left (full ++ 10 ∷ []) → HadFeed ended first left full
+one_taken ended first left full plain h = λ _. record {
+  plain = All-cons (λ line. All (λ b. b ≢ 10) line) full [] plain (All-nil (λ line. All (λ b. b ≢ 10) line));
+  lost = h;
+}
 
 -- the last line was taken off
 loses_last : (first left : Option (List ℕ)) (full : List ℕ) → All (λ b. b ≢ 10) full → 0 < length full → Consumes first left full → IsAtEnd left → LosesLine first left full
@@ -114,34 +121,42 @@ feed_first : (held : List ℕ) (n : ℕ) → n < length held → slice_index hel
 feed_first held n inside is = ap (take 1) (drop-cons held n 0 inside) ∙ ap (λ b. b ∷ []) is
 
 -- the line in front was taken off, up to the line feed that stands at n and with it
-lost_line : {first : Option (List ℕ)} {shown : List ℕ} {is_long : Bool} {limit : ℕ} (held : List ℕ) (rest : Option (List ℕ))
-    → (s : SoFar first (prepend_known held rest) shown is_long limit) → take 1 held ≡ 10 ∷ [] → LosesLine first (prepend_known (drop 1 held) rest) s.full
-lost_line {first} held rest s feed =
+taken_line : {first : Option (List ℕ)} {shown : List ℕ} {is_long : Bool} {limit : ℕ} (held : List ℕ) (rest : Option (List ℕ))
+    → (s : SoFar first (prepend_known held rest) shown is_long limit) → take 1 held ≡ 10 ∷ [] → Consumes first (prepend_known (drop 1 held) rest) (s.full ++ 10 ∷ [])
+taken_line {first} held rest s feed =
     let P : List ℕ → Type 0 = λ r. Consumes (prepend_known held rest) (prepend_known (drop 1 held) rest) r in
     let one = subst P feed (Consumes-held held 1 rest) in
-    loses_line first (prepend_known (drop 1 held) rest) s.full s.plain (Consumes-trans first (prepend_known held rest) (prepend_known (drop 1 held) rest) s.full (10 ∷ []) s.lost one)
+    Consumes-trans first (prepend_known held rest) (prepend_known (drop 1 held) rest) s.full (10 ∷ []) s.lost one
 
 -- a line within the limit, at its line feed
 pub took_line : {first : Option (List ℕ)} {is_long : Bool} {limit : ℕ} (now final : Reading) (rest : Option (List ℕ)) (n : ℕ)
     → SoFar first (unread now rest) now.line is_long limit → n < length now.held → slice_index now.held n ≡ 10 → All (λ b. b ≢ 10) (take n now.held)
     → final ≡ record now { line = take limit (now.line ++ take n now.held); held = drop 1 (drop n now.held) }
-    → (is_long ≡ false) × (length now.line + n ≤ limit) → TookLine first (unread final rest) final.line limit
+    → (is_long ≡ false) × (length now.line + n ≤ limit) → TookLine final.ended first (unread final rest) final.line limit
 took_line {first} {is_long} {limit} now final rest n s inside feed plain final_is short =
     let line = so_far_more now.held rest n s (omega arith) plain false (λ no. absurd (false≢true no)) (λ _. short) in
-    let lost = lost_line (drop n now.held) rest line (feed_first now.held n inside feed) in
+    let left = prepend_known (drop 1 (drop n now.held)) rest in
+    let taken = taken_line (drop n now.held) rest line (feed_first now.held n inside feed) in
     let fits = line.short refl in
     let same : take limit (now.line ++ take n now.held) ≡ line.full = line.starts ∙ take_all limit line.full fits in
-    rw (final_is, same) (record { lost = lost; fits = fits })
+    rw (final_is, same) (record { lost = loses_line first left line.full line.plain taken; feed = one_taken now.ended first left line.full line.plain taken; fits = fits })
 
 -- a line beyond the limit, at its line feed
 pub took_long_line : {first : Option (List ℕ)} {is_long : Bool} {limit : ℕ} (now final : Reading) (rest : Option (List ℕ)) (n : ℕ)
     → SoFar first (unread now rest) now.line is_long limit → n < length now.held → slice_index now.held n ≡ 10 → All (λ b. b ≢ 10) (take n now.held)
     → final ≡ record now { line = take limit (now.line ++ take n now.held); held = drop 1 (drop n now.held) }
-    → (is_long ≡ true) ⊎ (limit < length now.line + n) → TookLongLine first (unread final rest) final.line limit
+    → (is_long ≡ true) ⊎ (limit < length now.line + n) → TookLongLine final.ended first (unread final rest) final.line limit
 took_long_line {first} {is_long} {limit} now final rest n s inside feed plain final_is long =
     let line = so_far_more now.held rest n s (omega arith) plain true (λ _. long) (λ no. absurd (false≢true (sym no))) in
-    let lost = lost_line (drop n now.held) rest line (feed_first now.held n inside feed) in
-    rw final_is (record { line = line.full; lost = lost; long = line.long refl; starts = line.starts })
+    let left = prepend_known (drop 1 (drop n now.held)) rest in
+    let taken = taken_line (drop n now.held) rest line (feed_first now.held n inside feed) in
+    rw final_is (record {
+      line = line.full;
+      lost = loses_line first left line.full line.plain taken;
+      feed = one_taken now.ended first left line.full line.plain taken;
+      long = line.long refl;
+      starts = line.starts;
+    })
 
 -- all that is held was taken off
 pub so_far_all : {first : Option (List ℕ)} {is_long : Bool} {limit : ℕ} (now took : Reading) (rest : Option (List ℕ))
@@ -170,19 +185,29 @@ so_far_next {first} {is_long} {limit} now took next rest left s plain took_is lo
     rw same (so_far_read took.held next.held rest left all (ap (λ r. r.held) took_is) read)
 
 -- the last line within the limit, at the end
-pub took_last_line : {first : Option (List ℕ)} {is_long : Bool} {limit : ℕ} {shown : List ℕ} (held : List ℕ) (left : Option (List ℕ))
-    → SoFar first (prepend_known held left) shown is_long limit → held ≡ [] → IsAtEnd left → is_long ≡ false → 0 < length shown
-    → TookLine first (prepend_known held left) shown limit
-took_last_line {first} {is_long} {limit} {shown} held left s none end short some =
+pub took_last_line : {first : Option (List ℕ)} {is_long : Bool} {limit : ℕ} {shown : List ℕ} (ended : Bool) (held : List ℕ) (left : Option (List ℕ))
+    → SoFar first (prepend_known held left) shown is_long limit → held ≡ [] → IsAtEnd left → ended ≡ true → is_long ≡ false → 0 < length shown
+    → TookLine ended first (prepend_known held left) shown limit
+took_last_line {first} {is_long} {limit} {shown} ended held left s none end seen short some =
     let fits = s.short short in
     let same : shown ≡ s.full = s.starts ∙ take_all limit s.full fits in
     let any : 0 < length s.full = omega (arith, ap length same) in
-    rw same (record { lost = loses_last first (prepend_known held left) s.full s.plain any s.lost (all_at_end held left none end); fits = fits })
+    rw same (record {
+      lost = loses_last first (prepend_known held left) s.full s.plain any s.lost (all_at_end held left none end);
+      feed = λ not_seen. absurd (false≢true (sym not_seen ∙ seen));
+      fits = fits;
+    })
 
 -- the last line beyond the limit, at the end
-pub took_last_long_line : {first : Option (List ℕ)} {is_long : Bool} {limit : ℕ} {shown : List ℕ} (held : List ℕ) (left : Option (List ℕ))
-    → SoFar first (prepend_known held left) shown is_long limit → held ≡ [] → IsAtEnd left → is_long ≡ true
-    → TookLongLine first (prepend_known held left) shown limit
-took_last_long_line {first} {is_long} {limit} {shown} held left s none end is =
+pub took_last_long_line : {first : Option (List ℕ)} {is_long : Bool} {limit : ℕ} {shown : List ℕ} (ended : Bool) (held : List ℕ) (left : Option (List ℕ))
+    → SoFar first (prepend_known held left) shown is_long limit → held ≡ [] → IsAtEnd left → ended ≡ true → is_long ≡ true
+    → TookLongLine ended first (prepend_known held left) shown limit
+took_last_long_line {first} {is_long} {limit} {shown} ended held left s none end seen is =
     let long = s.long is in
-    record { line = s.full; lost = loses_last first (prepend_known held left) s.full s.plain (omega arith) s.lost (all_at_end held left none end); long = long; starts = s.starts }
+    record {
+      line = s.full;
+      lost = loses_last first (prepend_known held left) s.full s.plain (omega arith) s.lost (all_at_end held left none end);
+      feed = λ not_seen. absurd (false≢true (sym not_seen ∙ seen));
+      long = long;
+      starts = s.starts;
+    }

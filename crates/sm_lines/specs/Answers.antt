@@ -1,7 +1,7 @@
 -- What is written in answer to lines.
-use Rattle.std.specs.Prelude.{◌≡◌, ◌⊎◌, Bool, true, ℕ, ◌≤◌, ◌<◌, List, [], ◌∷◌, ◌++◌, length, take, ⊤, Option, None, Some}
+use Rattle.std.specs.Prelude.{◌≡◌, ◌⊎◌, Bool, true, false, ℕ, ◌≤◌, ◌<◌, List, [], ◌∷◌, ◌++◌, length, take, ⊤, Option, None, Some}
 use Rattle.std.specs.Io.KnownBytes.{Appends}
-use Rattle.sm_lines.specs.Lines.{lines_of, LosesLine, TookPart}
+use Rattle.sm_lines.specs.Lines.{lines_of, HadFeed, LosesLine, TookLines, TookPart}
 use Rattle.sm_lines.specs.declared.line_reader.ReadFault.{ReadFault}
 use Rattle.sm_lines.specs.declared.line_reader.ReadFault.TheVariants.{Read, NoMemory}
 use Rattle.sm_lines.specs.declared.respond.AnswerFault.{AnswerFault}
@@ -50,10 +50,10 @@ pub record RanTo {E : Type 0} (answers : E → List ℕ → List ℕ → E → T
   pub answered : AnswersAll answers before done text after
   pub wrote : Appends old new text
 
--- the lines in `done` are all that were read whole: of the next one only a front without a line feed was read
+-- the lines in `done` are all that were read whole: they were read with their line feeds, and then a part of one line
 pub record IsAllRead (input left : Option (List ℕ)) (done : List (List ℕ)) : Type 0 where
   pub next : Option (List ℕ)
-  pub lost : LosesLines input next done
+  pub took : TookLines input next done
   pub part : TookPart next left
 
 -- the lines in `done` were taken off, and of the rest only one line was touched: a front of it or all of it is gone
@@ -72,16 +72,30 @@ pub record RanShort {E : Type 0} (answers : E → List ℕ → List ℕ → E �
   pub answered : AnswersAll answers before done text after
   pub wrote : WroteFront old new text
 
--- reading stopped as nothing is held and the reader failed or was called too often, or as too many lines were answered
-abbrev pub ReadingStopped : Reading → Bool → ℕ → List (List ℕ) → Type 0
-ReadingStopped lines failed calls done =
-    ((lines.held ≡ []) × ((failed ≡ true) ⊎ (COUNT_LIMIT ≤ calls))) ⊎ (COUNT_LIMIT ≤ length done)
+-- the reader failed or was called too often: the end had not been seen before, nothing is held, and the lines in `done`
+-- are all that were read whole
+pub record ReaderStopped (before after : Reading) (failed : Bool) (calls : ℕ) (input left : Option (List ℕ)) (done : List (List ℕ)) : Type 0 where
+  pub unseen : before.ended ≡ false
+  pub none_held : after.held ≡ []
+  pub all_read : IsAllRead input left done
+  pub why : (failed ≡ true) ⊎ (COUNT_LIMIT ≤ calls)
+
+-- so many lines were answered: those in `done`, the first of the input
+pub record LinesCounted (input left : Option (List ℕ)) (done : List (List ℕ)) : Type 0 where
+  pub lost : LosesLines input left done
+  pub many : COUNT_LIMIT ≤ length done
+
+-- why reading stopped after the lines in `done`
+abbrev pub ReadingStopped : Reading → Reading → Bool → ℕ → Option (List ℕ) → Option (List ℕ) → List (List ℕ) → Type 0
+ReadingStopped before after failed calls input left done =
+    ReaderStopped before after failed calls input left done ⊎ LinesCounted input left done
 
 -- the first line of the input was taken off and answered
 pub record AnsweredLine {E : Type 0} (answers : E → List ℕ → List ℕ → E → Type 0)
-    (input left : Option (List ℕ)) (text : List ℕ) (before after : E) : Type 0 where
+    (ended : Bool) (input left : Option (List ℕ)) (text : List ℕ) (before after : E) : Type 0 where
   pub line : List ℕ
   pub lost : LosesLine input left line
+  pub feed : HadFeed ended input left line
   pub answered : answers before line text after
 
 -- the lines in `done` were answered: of these answers a front was written, and the rest waits

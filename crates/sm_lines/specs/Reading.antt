@@ -1,5 +1,5 @@
 -- What callers see of a reader of lines.
-use Rattle.std.specs.Prelude.{◌≡◌, ℕ, List, Bool, true, Option}
+use Rattle.std.specs.Prelude.{◌≡◌, ℕ, ◌+◌, ◌≤◌, List, length, Bool, true, false, ⊤, Option, None, Some}
 use Rattle.std.specs.Io.KnownBytes.{prepend_known, IsAtEnd}
 
 -- the line in front, the bytes read beyond it, and whether the end of the input was seen
@@ -15,3 +15,15 @@ unread lines remaining = prepend_known lines.held remaining
 -- where the end was seen, this is the reader that ended
 abbrev pub EndStands : Reading → Option (List ℕ) → Type 0
 EndStands lines remaining = lines.ended ≡ true → IsAtEnd remaining
+
+-- one call for the end, where it was seen
+abbrev pub end_call : Bool → ℕ
+end_call true = 1
+end_call false = 0
+
+-- the reader was called no more often than it gave bytes, but for the call that saw the end: `was` and `ended` say whether it
+-- was seen before and after
+abbrev pub CallsFit : Bool → Bool → Option (List ℕ) → Option (List ℕ) → ℕ → ℕ → Type 0
+CallsFit was ended None left before after = ⊤
+CallsFit was ended (Some bytes) None before after = ⊥
+CallsFit was ended (Some bytes) (Some left) before after = after + length left + end_call was ≤ before + length bytes + end_call ended

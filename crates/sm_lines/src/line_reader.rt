@@ -1,7 +1,7 @@
 ghost use Rattle.std.specs.Prelude.{◌≡◌, ◌≢◌, ℕ, ◌+◌, ◌<◌, ◌≤◌, ◌⊎◌, ◌↔◌, ◌++◌, [], true, false, IsTrue, IfOk, IfSome, IfNone, OnOk, OnErr, All, Contains, length, take, drop, slice_index};
 ghost use Rattle.std.specs.Io.KnownBytes.{Consumes, IsAtEnd};
 ghost use Rattle.sm_lines.specs.Lines.{TookLine, TookLongLine, TookPart};
-ghost use Rattle.sm_lines.specs.Reading.{unread, EndStands};
+ghost use Rattle.sm_lines.specs.Reading.{unread, CallsFit, EndStands};
 
 use crate::{COUNT_LIMIT, PIECE, Watched};
 use memchr::memchr;
@@ -214,6 +214,11 @@ impl LineReader {
         ensures err { OnErr result ((self.new ≡ self.old) × (self.old.ended ≡ false)) }
         ensures read_fault { OnErr result ((result ≡ Err ReadFault.Read)
             × ((reader.new.failed ≡ true) ⊎ (COUNT_LIMIT ≤ reader.new.calls))) }
+        ensures calls { OnOk result (CallsFit self.old.ended self.new.ended
+            (R.remaining reader.old.inner) (R.remaining reader.new.inner)
+            reader.old.calls reader.new.calls) }
+        ensures last_call { OnErr result (CallsFit false true (R.remaining reader.old.inner)
+            (R.remaining reader.new.inner) reader.old.calls reader.new.calls) }
     {
         if self.ended {
             return Ok(false);
@@ -247,10 +252,10 @@ impl LineReader {
         // A reader that ended is the one that is passed again.
         requires { EndStands self.old (R.remaining reader.old.inner) }
 
-        ensures line { IfOk result (λ next. next ≡ Next.Line → TookLine
+        ensures line { IfOk result (λ next. next ≡ Next.Line → TookLine self.new.ended
             (unread self.old (R.remaining reader.old.inner))
             (unread self.new (R.remaining reader.new.inner)) self.new.line limit) }
-        ensures long_line { IfOk result (λ next. next ≡ Next.LongLine → TookLongLine
+        ensures long_line { IfOk result (λ next. next ≡ Next.LongLine → TookLongLine self.new.ended
             (unread self.old (R.remaining reader.old.inner))
             (unread self.new (R.remaining reader.new.inner)) self.new.line limit) }
         ensures end { IfOk result (λ next. next ≡ Next.End → IsAtEnd (unread self.old
@@ -262,10 +267,20 @@ impl LineReader {
         ensures err { OnErr result (TookPart (unread self.old
             (R.remaining reader.old.inner)) (unread self.new (R.remaining reader.new.inner))) }
         ensures read_fault { result ≡ Err ReadFault.Read → (self.new.held ≡ [])
+            × (self.old.ended ≡ false)
             × ((reader.new.failed ≡ true) ⊎ (COUNT_LIMIT ≤ reader.new.calls)) }
 
-        ensures unfailed { OnOk result (reader.new.failed ≡ reader.old.failed) }
+        ensures unfailed { result ≢ Err ReadFault.Read → reader.new.failed ≡ reader.old.failed }
+        ensures stays_ended { self.old.ended ≡ true → self.new.ended ≡ true }
         ensures end_stands { EndStands self.new (R.remaining reader.new.inner) }
+
+        // The reader is called no more often than it gives bytes, but for a call that sees the end or fails.
+        ensures calls { result ≢ Err ReadFault.Read → CallsFit self.old.ended self.new.ended
+            (R.remaining reader.old.inner) (R.remaining reader.new.inner)
+            reader.old.calls reader.new.calls }
+        ensures last_call { result ≡ Err ReadFault.Read → CallsFit false true
+            (R.remaining reader.old.inner) (R.remaining reader.new.inner)
+            reader.old.calls reader.new.calls }
         ensures not_read_again { self.old.ended ≡ true → reader.new ≡ reader.old }
     {
         self.begin_line();

@@ -1,9 +1,9 @@
 ghost use Rattle.std.specs.Prelude.{◌≡◌, ◌≢◌, ℕ, ◌≤◌, ◌⊎◌, List, [], true, false, IfOk, OnOk, OnErr, length};
 ghost use Rattle.std.specs.Io.KnownBytes.{IsAtEnd};
 ghost use Rattle.sm_lines.specs.Lines.{LosesLine, TookPart};
-ghost use Rattle.sm_lines.specs.Reading.{unread, EndStands};
+ghost use Rattle.sm_lines.specs.Reading.{unread, CallsFit, EndStands};
 ghost use Rattle.sm_lines.specs.Sending.{Sends, WroteFront};
-ghost use Rattle.sm_lines.specs.Answers.{Answers, Answered, AnsweredLine, HasLines, IsAllRead, RanAll, RanTo, RanShort, ReadingStopped, StopsAfter};
+ghost use Rattle.sm_lines.specs.Answers.{Answers, Answered, AnsweredLine, HasLines, RanAll, RanTo, RanShort, ReadingStopped, StopsAfter};
 
 use crate::{COUNT_LIMIT, LineReader, Next, PieceWriter, ReadFault, Watched, WriteFault};
 use std::alloc::{AllocError, Global};
@@ -84,7 +84,7 @@ fn answer_next<R: Read, E: Responder>(
 ) -> Result<bool, AnswerFault>
     requires { EndStands lines.old (R.remaining reader.old.inner) }
     ensures line { IfOk result (λ more. more ≡ true
-        → AnsweredLine (Answers E.gives E.gives_long limit)
+        → AnsweredLine (Answers E.gives E.gives_long limit) lines.new.ended
         (unread lines.old (R.remaining reader.old.inner)) (unread lines.new
         (R.remaining reader.new.inner)) out.new.items responder.old responder.new) }
     ensures end { IfOk result (λ more. more ≡ false → IsAtEnd (unread lines.old
@@ -92,15 +92,22 @@ fn answer_next<R: Read, E: Responder>(
         × IsAtEnd (R.remaining reader.new.inner) × (responder.new ≡ responder.old)) }
     ensures read { result ≡ Err AnswerFault.Read → TookPart (unread lines.old
         (R.remaining reader.old.inner)) (unread lines.new (R.remaining reader.new.inner))
-        × (responder.new ≡ responder.old) × (lines.new.held ≡ []) × ((reader.new.failed ≡ true)
-        ⊎ (COUNT_LIMIT ≤ reader.new.calls)) }
+        × (responder.new ≡ responder.old) × (lines.new.held ≡ []) × (lines.old.ended ≡ false)
+        × ((reader.new.failed ≡ true) ⊎ (COUNT_LIMIT ≤ reader.new.calls)) }
     ensures err { OnErr result (TookPart (unread lines.old (R.remaining reader.old.inner))
         (unread lines.new (R.remaining reader.new.inner))
         ⊎ ((line : List ℕ) × LosesLine (unread lines.old (R.remaining reader.old.inner))
         (unread lines.new (R.remaining reader.new.inner)) line)) }
     ensures write { result ≢ Err AnswerFault.Write }
-    ensures unfailed { OnOk result (reader.new.failed ≡ reader.old.failed) }
+    ensures unfailed { result ≢ Err AnswerFault.Read → reader.new.failed ≡ reader.old.failed }
+    ensures stays_ended { lines.old.ended ≡ true → lines.new.ended ≡ true }
     ensures end_stands { EndStands lines.new (R.remaining reader.new.inner) }
+    ensures calls { result ≢ Err AnswerFault.Read → CallsFit lines.old.ended lines.new.ended
+        (R.remaining reader.old.inner) (R.remaining reader.new.inner)
+        reader.old.calls reader.new.calls }
+    ensures last_call { result ≡ Err AnswerFault.Read → CallsFit false true
+        (R.remaining reader.old.inner) (R.remaining reader.new.inner)
+        reader.old.calls reader.new.calls }
 {
     out.clear();
     match lines.next_line(reader, limit) {
@@ -154,14 +161,14 @@ fn answer_rest<R: Read, W: Write, E: Responder>(
         × Answered (Answers E.gives E.gives_long limit) (W.contents writer.old.inner)
         (W.contents writer.new.inner) pieces.new responder.old responder.new done) }
     ensures read_all { OnOk result (IsAtEnd (R.remaining reader.new.inner)) }
-    ensures unfailed { OnOk result ((reader.new.failed ≡ reader.old.failed)
-        × (writer.new.failed ≡ writer.old.failed)) }
+    ensures reader_unfailed { result ≢ Err AnswerFault.Read → reader.new.failed ≡ reader.old.failed }
+    ensures writer_unfailed { result ≢ Err AnswerFault.Write → writer.new.failed ≡ writer.old.failed }
     ensures read { result ≡ Err AnswerFault.Read → (done : List (List ℕ))
-        × IsAllRead (unread lines.old (R.remaining reader.old.inner))
-        (unread lines.new (R.remaining reader.new.inner)) done
         × Answered (Answers E.gives E.gives_long limit) (W.contents writer.old.inner)
         (W.contents writer.new.inner) pieces.new responder.old responder.new done
-        × ReadingStopped lines.new reader.new.failed reader.new.calls done }
+        × ReadingStopped lines.old lines.new reader.new.failed reader.new.calls
+        (unread lines.old (R.remaining reader.old.inner))
+        (unread lines.new (R.remaining reader.new.inner)) done }
     ensures no_memory { result ≡ Err AnswerFault.NoMemory → (done : List (List ℕ)) × (after : E)
         × StopsAfter (unread lines.old (R.remaining reader.old.inner))
         (unread lines.new (R.remaining reader.new.inner)) done
@@ -171,6 +178,8 @@ fn answer_rest<R: Read, W: Write, E: Responder>(
         × RanShort (Answers E.gives E.gives_long limit) (unread lines.old
         (R.remaining reader.old.inner)) (unread lines.new (R.remaining reader.new.inner))
         (W.contents writer.old.inner) (W.contents writer.new.inner) responder.old }
+    ensures calls { CallsFit lines.old.ended true (R.remaining reader.old.inner)
+        (R.remaining reader.new.inner) reader.old.calls reader.new.calls }
 {
     'lines: for _count in 0..COUNT_LIMIT {
         match flush_before_read(lines, pieces, writer) {
@@ -210,16 +219,19 @@ pub fn answer_lines<R: Read, W: Write, E: Responder>(
         (unread lines.old (R.remaining reader.old.inner))
         (W.contents writer.old.inner) (W.contents writer.new.inner) responder.old responder.new) }
     ensures read_all { OnOk result (IsAtEnd (R.remaining reader.new.inner)) }
-    ensures unfailed { OnOk result ((reader.new.failed ≡ reader.old.failed)
-        × (writer.new.failed ≡ writer.old.failed)) }
+
+    // No failed call is hidden by another fault, but that a failed write may come after a failed read.
+    ensures reader_unfailed { result ≢ Err AnswerFault.Read → result ≢ Err AnswerFault.Write
+        → reader.new.failed ≡ reader.old.failed }
+    ensures writer_unfailed { result ≢ Err AnswerFault.Write → writer.new.failed ≡ writer.old.failed }
 
     // All lines that were read whole were answered, and nothing else was written.
     ensures read { result ≡ Err AnswerFault.Read → (done : List (List ℕ))
-        × IsAllRead (unread lines.old (R.remaining reader.old.inner))
-        (unread lines.new (R.remaining reader.new.inner)) done
         × RanTo (Answers E.gives E.gives_long limit) (W.contents writer.old.inner)
         (W.contents writer.new.inner) responder.old responder.new done
-        × ReadingStopped lines.new reader.new.failed reader.new.calls done }
+        × ReadingStopped lines.old lines.new reader.new.failed reader.new.calls
+        (unread lines.old (R.remaining reader.old.inner))
+        (unread lines.new (R.remaining reader.new.inner)) done }
 
     // All lines before the one at which it came were answered, and nothing else was written.
     ensures no_memory { result ≡ Err AnswerFault.NoMemory → (done : List (List ℕ)) × (after : E)
@@ -233,6 +245,10 @@ pub fn answer_lines<R: Read, W: Write, E: Responder>(
         × RanShort (Answers E.gives E.gives_long limit) (unread lines.old
         (R.remaining reader.old.inner)) (unread lines.new (R.remaining reader.new.inner))
         (W.contents writer.old.inner) (W.contents writer.new.inner) responder.old }
+
+    // The reader is called no more often than it gives bytes, but for one call that sees the end or fails.
+    ensures calls { CallsFit lines.old.ended true (R.remaining reader.old.inner)
+        (R.remaining reader.new.inner) reader.old.calls reader.new.calls }
 {
     let mut pieces = match PieceWriter::new(alloc) {
         Ok(pieces) => pieces,

@@ -6,7 +6,7 @@ use Rattle.std.proofs.lemmas.List.{append-nil}
 use lib.ListN.{get_elem?}
 use Rattle.crossbeam_utils.specs.Register.{Admits, TurnsAt}
 use Rattle.atomic_table.proofs.Lists.{at_set, at_snoc}
-use Rattle.sm_table.specs.declared.route.Route.{Route}
+use Rattle.sm_ownership.specs.declared.route.Route.{Route}
 use Rattle.sm_publish.specs.Publishing.{MapView, taken}
 use Rattle.sm_publish.specs.Seen.{Extends, IsSeen, Sees}
 

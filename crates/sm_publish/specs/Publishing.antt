@@ -1,7 +1,7 @@
 -- What is published, and what is refused.
 use Rattle.std.specs.Prelude.{ℕ, Bool, false, Option, Some, None, nat_lt, nat_le, not, if◌then◌else◌, List, [], ◌∷◌, ◌++◌}
-use Rattle.sm_table.specs.declared.route.Route.{Route}
-use Rattle.sm_table.specs.Routes.{routes_of}
+use Rattle.sm_ownership.specs.declared.route.Route.{Route}
+use Rattle.sm_ownership.specs.Routes.{routes_of}
 use Rattle.sm_publish.specs.declared.publish_fault.PublishFault.{PublishFault}
 use Rattle.sm_publish.specs.declared.publish_fault.PublishFault.TheVariants.{UnknownShard, OldRoute}
 

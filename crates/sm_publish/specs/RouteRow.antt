@@ -1,7 +1,7 @@
 -- Rows with a place for each shard.
 use Rattle.std.specs.Prelude.{ℕ, ◌≡◌, Option, None, List, slice_index_or}
-use Rattle.sm_table.specs.declared.route.Route.{Route}
-use Rattle.sm_table.specs.Routes.{routes_of}
+use Rattle.sm_ownership.specs.declared.route.Route.{Route}
+use Rattle.sm_ownership.specs.Routes.{routes_of}
 
 -- the row has the last route of each shard
 abbrev pub IsRowOf : List (Option Route) → List Route → Type 0

@@ -2,7 +2,7 @@
 use Rattle.std.specs.Prelude.{ℕ, ◌≡◌, List, ◌++◌}
 use mathlib.Core.Option.{some}
 use lib.ListN.{get_elem?}
-use Rattle.sm_table.specs.declared.route.Route.{Route}
+use Rattle.sm_ownership.specs.declared.route.Route.{Route}
 use Rattle.sm_publish.specs.Publishing.{MapView}
 
 -- the publications begin with the earlier ones

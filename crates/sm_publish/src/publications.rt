@@ -1,8 +1,8 @@
 ghost use Rattle.std.specs.Prelude.{◌≡◌, List, [], ◌∷◌, ◌++◌};
 ghost use Rattle.std.specs.Borrow.{ftrue};
-ghost use Rattle.sm_table.specs.declared.route.Route.{Route as Published};
+ghost use Rattle.sm_ownership.specs.declared.route.Route.{Route as Published};
 
-use sm_table::route::Route;
+use sm_ownership::route::Route;
 use std::marker::Model;
 
 /// What was published in a map, in order. Proofs alone read it: it takes no memory.

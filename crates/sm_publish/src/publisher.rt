@@ -6,7 +6,7 @@ use crate::route_map::RouteMap;
 use crate::router::Router;
 use crate::rule::{MapWriter, Seeing};
 use core::mem::replace_with;
-use sm_table::route::Route;
+use sm_ownership::route::Route;
 use std::alloc::{AllocError, Global};
 use std::marker::Model;
 use std::sync::Wait;

@@ -1,11 +1,11 @@
 ghost use Rattle.std.specs.Prelude.{◌≡◌, ◌<◌, [], IfOk};
-ghost use Rattle.sm_table.specs.Routes.{routes_of};
+ghost use Rattle.sm_ownership.specs.Routes.{routes_of};
 ghost use Rattle.sm_publish.specs.Publishing.{taken};
 
 use crate::publications::Publications;
 use left_right::Absorb;
+use sm_ownership::route::Route;
 use sm_ranges::shard_id::ShardId;
-use sm_table::route::Route;
 use std::alloc::{AllocError, Global};
 use std::marker::Model;
 

@@ -1,14 +1,14 @@
 ghost use Rattle.std.specs.Prelude.{◌≡◌, ◌⊎◌, None};
 ghost use Rattle.left_right.specs.Sides.{view as seen_by};
 ghost use Rattle.sm_ranges.specs.Ranges.{shard_of};
-ghost use Rattle.sm_table.specs.Routes.{routes_of};
+ghost use Rattle.sm_ownership.specs.Routes.{routes_of};
 ghost use Rattle.sm_publish.specs.Seen.{Extends};
 
 use crate::rule::{MapReader, Seeing};
 use core::mem::replace_with;
+use sm_ownership::route::Route;
 use sm_ranges::layout::Layout;
 use sm_ranges::shard_id::ShardId;
-use sm_table::route::Route;
 use std::marker::Model;
 
 /// A reader of the published map. What it reads may be stale, and it never goes back. It may move to another thread.
@@ -22,7 +22,7 @@ pub struct Router {
 impl Model for Router {
     ghost use Rattle.std.specs.Prelude.{List};
     ghost use Rattle.left_right.specs.Sides.{view as seen_by};
-    ghost use Rattle.sm_table.specs.declared.route.Route.{Route};
+    ghost use Rattle.sm_ownership.specs.declared.route.Route.{Route};
 
     ghost Value = { List Route };
 

@@ -6,7 +6,7 @@ use crate::route_map::RouteMap;
 use crossbeam_utils::rule::{Outcome, Protocol};
 use left_right::reader::Reader;
 use left_right::writer::Writer;
-use sm_table::route::Route;
+use sm_ownership::route::Route;
 use std::collections::LinkedList;
 
 /// Each one's view is the publications that it has seen, and what is published begins with them.

@@ -37,6 +37,14 @@ impl ServerId {
         }
     }
 
+    /// The server with this number, which is 1 to 4,095.
+    pub fn of(number: u16) -> ServerId
+        requires { IsServer number }
+        ensures { result ≡ number }
+    {
+        ServerId { number }
+    }
+
     /// The number of the server.
     pub fn number(self) -> u16
         ensures value { result ≡ self }

@@ -9,9 +9,9 @@ use Rattle.sm_script.specs.declared.answer.Answer.TheVariants.{Made, Refused as 
 use Rattle.sm_script.specs.declared.fault.LineFault.{LineFault}
 use Rattle.sm_script.specs.declared.fault.LineFault.TheVariants.{LineTooLong, UnknownWord, BadLine, BadNumber, BadKey, NotHere}
 use Rattle.sm_script.specs.declared.refused.Refused.{Refused}
-use Rattle.sm_script.specs.declared.refused.Refused.TheVariants.{UnknownShard, UnknownServer, WrongPhase, SameServer, Spent, Busy, Vacant as VacantName, Paused as PausedName, NotExecutor, NotYet, Admitted, KeptFull}
+use Rattle.sm_script.specs.declared.refused.Refused.TheVariants.{UnknownShard, UnknownServer, WrongPhase, SameServer, Spent, Busy, Vacant as VacantName, Paused as PausedName, NotExecutor, NotYet, Admitted, KeptFull, TooManyHops, NotHeld}
 use Rattle.sm_service.specs.declared.reply.Reply.{Reply}
-use Rattle.sm_service.specs.declared.reply.Reply.TheVariants.{Nothing, Done, Text, Count, WrongKind, TooLong}
+use Rattle.sm_service.specs.declared.reply.Reply.TheVariants.{Nothing, Done, Text, Count, WrongKind, Overflow, TooLong}
 
 -- the name of a line's fault
 abbrev pub line_fault_name : LineFault → List ℕ
@@ -36,6 +36,8 @@ refused_name NotExecutor = codes "NotExecutor"
 refused_name NotYet = codes "NotYet"
 refused_name Admitted = codes "Admitted"
 refused_name KeptFull = codes "KeptFull"
+refused_name TooManyHops = codes "TooManyHops"
+refused_name NotHeld = codes "NotHeld"
 
 -- the name of a kind of stand
 abbrev pub stand_name : Stand → List ℕ
@@ -83,6 +85,7 @@ reply_text Done = codes "done"
 reply_text (Text text) = codes "text " ++ decimal (length text) ++ codes ":" ++ text
 reply_text (Count count) = codes "count " ++ signed_decimal count
 reply_text WrongKind = codes "reply WrongKind"
+reply_text Overflow = codes "reply Overflow"
 reply_text TooLong = codes "reply TooLong"
 
 -- the server that executed a request, and the request's place

@@ -1,5 +1,5 @@
 ghost use Rattle.std.specs.Prelude.{◌≡◌};
-ghost use Rattle.sm_script.specs.declared.fault.ParseFault.TheVariants.{NoMemory};
+ghost use Rattle.sm_script.specs.declared.fault.ParseFault.TheVariants.{Line, NoMemory};
 
 use std::alloc::AllocError;
 use std::error::Error;
@@ -78,6 +78,14 @@ impl fmt::Display for ParseFault {
 }
 
 impl Error for ParseFault {}
+
+impl From<LineFault> for ParseFault {
+    ghost from_gives = { λ fault made. made ≡ Line fault };
+
+    fn from(fault: LineFault) -> ParseFault {
+        ParseFault::Line(fault)
+    }
+}
 
 impl From<AllocError> for ParseFault {
     ghost from_gives = { λ _ made. made ≡ NoMemory };

@@ -3,6 +3,7 @@
 
 pub mod answer;
 mod append;
+mod argument;
 pub mod command;
 pub mod fault;
 pub mod line;
@@ -10,6 +11,7 @@ mod number;
 mod record;
 pub mod refused;
 mod reply;
+mod request;
 mod shape;
 #[cfg(test)]
 mod tests;

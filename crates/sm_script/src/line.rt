@@ -1,89 +1,55 @@
-ghost use Rattle.std.specs.Prelude.{◌≡◌, ◌<◌, ℕ, List, ◌++◌, length, IfOk, IfErr, IsTrue};
+ghost use Rattle.std.specs.Prelude.{◌≡◌, ◌<◌, ℕ, List, [], ◌∷◌, ◌++◌, length, IfOk, IfErr, IfNone, IsTrue};
 ghost use Rattle.sm_script.specs.Grammar.{accepts, arguments_fault, shapes_of, word_among, first_words};
-ghost use Rattle.sm_script.specs.Numbers.{number};
-ghost use Rattle.sm_script.specs.Lines.{command_with, unless_fault, at_fault, client_fault, plain_command, command_of_words, has_no_answer, meaning_of, IsFaultIn, IsFaultOf, meaning_if_long};
-ghost use Rattle.sm_script.specs.declared.shape.Shape.TheVariants.{Shard, Server, Key as KeyShape};
-ghost use Rattle.sm_script.specs.declared.word.Word.TheVariants.{Assign, Look, Get, Put};
+ghost use Rattle.sm_script.specs.Lines.{command_with, unless_fault, at_server, at_command, client_fault, plain_command, command_of_words, has_no_answer, meaning_of, IsFaultIn, IsFaultOf, meaning_if_long};
+ghost use Rattle.sm_script.specs.declared.shape.Shape.TheVariants.{Shard, Server};
 
+use crate::argument::{server, shard};
 use crate::command::Command;
 use crate::fault::{LineFault, ParseFault};
-use crate::number::number_between;
+use crate::request::request_with;
 use crate::shape::{Shape, arguments_fault, first_fault, fits};
 use crate::word::Word;
 use crate::words::Words;
-use sm_ranges::key::{Key, KeyFault};
-use sm_ranges::server_id::ServerId;
-use sm_ranges::shard_id::ShardId;
-use sm_service::bytes::Bytes;
-use sm_service::request::Request;
-use std::alloc::{AllocError, Global};
+use std::alloc::Global;
 
 /// The most bytes that a line may have; a comment may have more.
 pub const MAX_LINE: usize = 70_000;
 
-// The shard that the word names.
-fn shard(word: &[u8]) -> ShardId
-    requires { IsTrue (accepts Shard word.now) }
-    ensures { result ≡ number word.now }
-{
-    ShardId::new(number_between(word, 0, 4095).unwrap() as u16).unwrap()
-}
-
-// The server that the word names.
-fn server(word: &[u8]) -> ServerId
-    requires { IsTrue (accepts Server word.now) }
-    ensures { result ≡ number word.now }
-{
-    ServerId::new(number_between(word, 1, 4095).unwrap() as u16).unwrap()
-}
-
-// The key that the word is.
-fn key(alloc: Global, word: &[u8]) -> Result<Key, AllocError>
-    requires { IsTrue (accepts KeyShape word.now) }
-    ensures { IfOk result (λ key. key ≡ word.now) }
-{
-    match Key::new(alloc, word) {
-        Ok(key) => Ok(key),
-        Err(KeyFault::NoMemory) => Err(AllocError),
-        Err(KeyFault::Empty | KeyFault::TooLong) => unreachable!(),
-    }
-}
-
-// `assign K A`.
-fn assign(mut words: Words) -> Command
-    requires { arguments_fault (shapes_of Assign) words ≡ None }
-    ensures { command_with Assign words.entry ≡ Ok result }
+// A line of a shard and a server.
+fn shard_and_server_command(word: Word, mut words: Words) -> Result<Command, LineFault>
+    requires shapes { shapes_of word ≡ Shard ∷ Server ∷ [] }
+    requires right { arguments_fault (Shard ∷ Server ∷ []) words ≡ None }
+    ensures { result ≡ command_with word words.entry }
 {
     let shard = shard(words.next().unwrap());
     let server = server(words.next().unwrap());
-    Command::Assign(shard, server)
+    match word {
+        Word::Assign => Ok(Command::Assign(shard, server)),
+        Word::PrepareAdd => Ok(Command::PrepareAdd(shard, server)),
+        Word::Reassign => Ok(Command::Reassign(shard, server)),
+        Word::Hold => Ok(Command::Hold(shard, server)),
+        _ => Err(LineFault::NotHere),
+    }
 }
 
-// `look K`.
-fn look(mut words: Words) -> Command
-    requires { arguments_fault (shapes_of Look) words ≡ None }
-    ensures { command_with Look words.entry ≡ Ok result }
+// A line of a shard alone.
+fn shard_command(word: Word, mut words: Words) -> Result<Command, LineFault>
+    requires shapes { shapes_of word ≡ Shard ∷ [] }
+    requires right { arguments_fault (Shard ∷ []) words ≡ None }
+    ensures { result ≡ command_with word words.entry }
 {
-    Command::Look(shard(words.next().unwrap()))
-}
-
-// `get KEY`.
-fn get(alloc: Global, mut words: Words) -> Result<Command, AllocError>
-    requires { arguments_fault (shapes_of Get) words ≡ None }
-    ensures { IfOk result (λ command. command_with Get words.entry ≡ Ok command) }
-{
-    let key = key(alloc, words.next().unwrap())?;
-    Ok(Command::Request(Request::Get(key)))
-}
-
-// `put KEY TEXT`.
-fn put(alloc: Global, mut words: Words) -> Result<Command, AllocError>
-    requires { arguments_fault (shapes_of Put) words ≡ None }
-    ensures { IfOk result (λ command. command_with Put words.entry ≡ Ok command) }
-{
-    let key = key(alloc, words.next().unwrap())?;
-    let text = Bytes::new(alloc, words.text())?;
-    Ok(Command::Request(Request::Put(key, text)))
+    let shard = shard(words.next().unwrap());
+    match word {
+        Word::PrepareDrop => Ok(Command::PrepareDrop(shard)),
+        Word::Add => Ok(Command::Add(shard)),
+        Word::Drop => Ok(Command::Drop(shard)),
+        Word::Cancel => Ok(Command::Cancel(shard)),
+        Word::Pause => Ok(Command::Pause(shard)),
+        Word::Resume => Ok(Command::Resume(shard)),
+        Word::Free => Ok(Command::Free(shard)),
+        Word::Look => Ok(Command::Look(shard)),
+        _ => Err(LineFault::NotHere),
+    }
 }
 
 // The command of a word and the words after it, which are right.
@@ -93,30 +59,59 @@ fn command_with(alloc: Global, word: Word, words: Words) -> Result<Command, Pars
     ensures err { IfErr result (λ fault. IsFaultIn fault (command_with word words.entry)) }
 {
     match word {
-        Word::Assign => Ok(assign(words)),
-        Word::Look => Ok(look(words)),
-        Word::Get => Ok(get(alloc, words)?),
-        Word::Put => Ok(put(alloc, words)?),
-        _ => Err(ParseFault::Line(LineFault::NotHere)),
+        Word::Assign | Word::PrepareAdd | Word::Reassign | Word::Hold => Ok(
+            shard_and_server_command(word, words)?,
+        ),
+        Word::PrepareDrop
+        | Word::Add
+        | Word::Drop
+        | Word::Cancel
+        | Word::Pause
+        | Word::Resume
+        | Word::Free
+        | Word::Look => Ok(shard_command(word, words)?),
+        _ => Ok(Command::Request(request_with(alloc, word, words)?)),
     }
 }
 
-// What is wrong with the words after `at`.
-fn at_fault(mut words: Words) -> Option<LineFault>
-    ensures { result ≡ at_fault words.entry }
+// What is wrong with a server and the words after a request's.
+fn at_fault(server: &[u8], word: Word, words: &Words) -> Option<LineFault>
+    ensures fault { result ≡ arguments_fault (Server ∷ shapes_of word) (server.now ∷ words.now) }
+    ensures right { IfNone result (IsTrue (accepts Server server.now)
+        × (arguments_fault (shapes_of word) words.now ≡ None)) }
 {
-    let (Some(server), Some(request)) = (words.next(), words.next()) else {
-        return Some(LineFault::BadLine);
-    };
-    let Some(word) = Word::among(&Word::REQUESTS, request) else {
-        return Some(LineFault::UnknownWord);
-    };
     if !fits(word.shapes(), words.again()) {
         return Some(LineFault::BadLine);
     }
     match Shape::Server.fault(server) {
         Some(fault) => Some(fault),
-        None => first_fault(word.shapes(), words),
+        None => first_fault(word.shapes(), words.again()),
+    }
+}
+
+// A request to a server.
+fn at_server(alloc: Global, to: &[u8], word: Word, words: Words) -> Result<Command, ParseFault>
+    ensures ok { IfOk result (λ command. at_server to.now word words.entry ≡ Ok command) }
+    ensures err { IfErr result (λ fault. IsFaultIn fault (at_server to.now word words.entry)) }
+{
+    if let Some(fault) = at_fault(to, word, &words) {
+        return Err(ParseFault::Line(fault));
+    }
+    let server = server(to);
+    Ok(Command::RequestAt(server, request_with(alloc, word, words)?))
+}
+
+// The command of the words after `at`.
+fn at_command(alloc: Global, mut words: Words) -> Result<Command, ParseFault>
+    ensures ok { IfOk result (λ command. at_command words.entry ≡ Ok command) }
+    ensures err { IfErr result (λ fault. IsFaultIn fault (at_command words.entry)) }
+{
+    let (Some(server), Some(request)) = (words.next(), words.next()) else {
+        return Err(ParseFault::Line(LineFault::BadLine));
+    };
+    match Word::among(&Word::REQUESTS, request) {
+        None => Err(ParseFault::Line(LineFault::UnknownWord)),
+        Some(word) => at_server(alloc, server, word, words),
     }
 }
 
@@ -165,7 +160,7 @@ fn command_of(alloc: Global, mut words: Words) -> Result<Command, ParseFault>
         None => Err(ParseFault::Line(LineFault::UnknownWord)),
         Some(first) => {
             if first == b"at".as_slice() {
-                Err(fault_or_not_here(at_fault(words)))
+                at_command(alloc, words)
             } else if first == b"client".as_slice() {
                 Err(fault_or_not_here(client_fault(words)))
             } else {

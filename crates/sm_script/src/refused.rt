@@ -29,6 +29,10 @@ pub enum Refused {
     Admitted,
     /// The shard keeps as many requests as it may.
     KeptFull,
+    /// The request was forwarded as often as a request may be.
+    TooManyHops,
+    /// The shard has no admission without a request.
+    NotHeld,
 }
 
 impl Refused {
@@ -51,6 +55,8 @@ impl Refused {
             Refused::NotYet => "NotYet",
             Refused::Admitted => "Admitted",
             Refused::KeptFull => "KeptFull",
+            Refused::TooManyHops => "TooManyHops",
+            Refused::NotHeld => "NotHeld",
         }
     }
 }

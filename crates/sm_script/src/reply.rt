@@ -25,6 +25,7 @@ fn append_reply(out: &mut Vec<u8>, reply: &Reply) -> Result<(), AllocError>
         }
         Reply::Count(count) => append_all(out, &[b"count ", number.format(*count).as_bytes()]),
         Reply::WrongKind => append_all(out, &[b"reply WrongKind"]),
+        Reply::Overflow => append_all(out, &[b"reply Overflow"]),
         Reply::TooLong => append_all(out, &[b"reply TooLong"]),
     }
 }

@@ -38,8 +38,13 @@ fn first_fault_of_a_line(rt: HostRuntime) -> Result<(), Fail> {
         ("put", "BadLine"),
         ("inc a -0", "BadNumber"),
         ("inc a 9223372036854775808", "BadNumber"),
-        ("inc a -9223372036854775808", "NotHere"),
+        ("inc a -9223372036854775809", "BadNumber"),
+        ("inc a 01", "BadNumber"),
+        ("inc a +1", "BadNumber"),
+        ("inc a", "BadLine"),
         ("inc  x", "BadKey"),
+        ("append a x", "NotHere"),
+        ("del a", "NotHere"),
         ("assign 00 1", "BadNumber"),
         ("scan a z 4294967296", "BadNumber"),
         ("scan a z 4294967295", "NotHere"),
@@ -47,13 +52,30 @@ fn first_fault_of_a_line(rt: HostRuntime) -> Result<(), Fail> {
         ("at x get a", "BadNumber"),
         ("at 1", "BadLine"),
         ("at 1 get", "BadLine"),
-        ("at 1 get a", "NotHere"),
+        ("at 9 foo a", "UnknownWord"),
+        ("at 1 look 0", "UnknownWord"),
+        ("at 0 get a", "BadNumber"),
+        ("at 4096 get a", "BadNumber"),
+        ("at x get ", "BadNumber"),
+        ("at 1 inc  -0", "BadKey"),
+        ("at 1 inc a -0", "BadNumber"),
+        ("at 1 del a", "NotHere"),
+        ("at x del a", "BadNumber"),
         ("client", "BadLine"),
         ("client look 0", "UnknownWord"),
         ("client put a b c", "NotHere"),
         ("at x fly a", "UnknownWord"),
         ("get ", "BadKey"),
         (" ", "UnknownWord"),
+        ("prepare_add 0", "BadLine"),
+        ("prepare_add 0 0", "BadNumber"),
+        ("prepare_drop 0 1", "BadLine"),
+        ("reassign 4096 1", "BadNumber"),
+        ("hold 0 4096", "BadNumber"),
+        ("free", "BadLine"),
+        ("Add 0", "UnknownWord"),
+        ("ask 1", "NotHere"),
+        ("publish 0", "NotHere"),
         ("place", "NotHere"),
         ("place ", "BadLine"),
         ("", ""),
@@ -65,19 +87,41 @@ fn first_fault_of_a_line(rt: HostRuntime) -> Result<(), Fail> {
     Ok(())
 }
 
-// What a command asks for.
-fn shown(alloc: Global, command: &Command) -> Result<String, AllocError> {
-    match command {
-        Command::Assign(shard, server) => format!(in alloc;
-            "assign {} {}",
-            shard.number(),
-            server.number()
-        ),
-        Command::Look(shard) => format!(in alloc; "look {}", shard.number()),
-        Command::Request(Request::Get(key)) => format!(in alloc; "get {:?}", key.as_bytes()),
-        Command::Request(Request::Put(key, text)) => {
+// What a request asks for.
+fn shown_request(alloc: Global, request: &Request) -> Result<String, AllocError> {
+    match request {
+        Request::Get(key) => format!(in alloc; "get {:?}", key.as_bytes()),
+        Request::Put(key, text) => {
             format!(in alloc; "put {:?} {:?}", key.as_bytes(), text.as_bytes())
         }
+        Request::Inc(key, amount) => format!(in alloc; "inc {:?} {}", key.as_bytes(), *amount),
+    }
+}
+
+// What a command asks for.
+fn shown(alloc: Global, command: &Command) -> Result<String, AllocError> {
+    let (word, shard, server) = match command {
+        Command::Request(request) => return shown_request(alloc, request),
+        Command::RequestAt(server, request) => {
+            let request = shown_request(alloc, request)?;
+            return format!(in alloc; "at {} {}", server.number(), request.as_str());
+        }
+        Command::Assign(shard, server) => ("assign", shard, Some(server)),
+        Command::PrepareAdd(shard, server) => ("prepare_add", shard, Some(server)),
+        Command::Reassign(shard, server) => ("reassign", shard, Some(server)),
+        Command::Hold(shard, server) => ("hold", shard, Some(server)),
+        Command::PrepareDrop(shard) => ("prepare_drop", shard, None),
+        Command::Add(shard) => ("add", shard, None),
+        Command::Drop(shard) => ("drop", shard, None),
+        Command::Cancel(shard) => ("cancel", shard, None),
+        Command::Pause(shard) => ("pause", shard, None),
+        Command::Resume(shard) => ("resume", shard, None),
+        Command::Free(shard) => ("free", shard, None),
+        Command::Look(shard) => ("look", shard, None),
+    };
+    match server {
+        Some(server) => format!(in alloc; "{word} {} {}", shard.number(), server.number()),
+        None => format!(in alloc; "{word} {}", shard.number()),
     }
 }
 
@@ -86,11 +130,34 @@ fn commands_of_lines(rt: HostRuntime) -> Result<(), Fail> {
     let lines = [
         (b"assign 1 1".as_slice(), "assign 1 1"),
         (b"assign 4095 4095", "assign 4095 4095"),
+        (b"prepare_add 0 2", "prepare_add 0 2"),
+        (b"prepare_drop 1", "prepare_drop 1"),
+        (b"add 2", "add 2"),
+        (b"drop 3", "drop 3"),
+        (b"cancel 4", "cancel 4"),
+        (b"pause 5", "pause 5"),
+        (b"resume 6", "resume 6"),
+        (b"reassign 7 8", "reassign 7 8"),
+        (b"hold 9 10", "hold 9 10"),
+        (b"free 11", "free 11"),
         (b"look 0", "look 0"),
         (b"get \xff", "get [255]"),
         (b"put m  a b ", "put [109] [32, 97, 32, 98, 32]"),
         (b"put m", "put [109] []"),
         (b"put m ", "put [109] []"),
+        (b"inc m 0", "inc [109] 0"),
+        (b"inc m -1", "inc [109] -1"),
+        (
+            b"inc m 9223372036854775807",
+            "inc [109] 9223372036854775807",
+        ),
+        (
+            b"inc m -9223372036854775808",
+            "inc [109] -9223372036854775808",
+        ),
+        (b"at 4095 get m", "at 4095 get [109]"),
+        (b"at 1 put m  a", "at 1 put [109] [32, 97]"),
+        (b"at 2 inc m 12", "at 2 inc [109] 12"),
     ];
     for (line, text) in lines {
         let command = parse(rt.alloc(), line)?.ok_or("no command")?;
@@ -144,6 +211,51 @@ fn texts_of_answers(rt: HostRuntime) -> Result<(), Fail> {
                 generation: 4,
             },
             "Prepared 1 2 admitted 4",
+        ),
+        (Answer::Refused(Refused::TooManyHops), "refused TooManyHops"),
+        (Answer::Refused(Refused::NotHeld), "refused NotHeld"),
+        (
+            Answer::Seen {
+                stand: Stand::Forwarding { owner, next },
+                admitted: false,
+                generation: 5,
+            },
+            "Forwarding 1 2 idle 5",
+        ),
+        (
+            Answer::Seen {
+                stand: Stand::Taken {
+                    owner: next,
+                    previous: owner,
+                },
+                admitted: false,
+                generation: 6,
+            },
+            "Taken 2 1 idle 6",
+        ),
+        (
+            Answer::Seen {
+                stand: Stand::Paused(owner),
+                admitted: false,
+                generation: 68719476735,
+            },
+            "Paused 1 0 idle 68719476735",
+        ),
+        (
+            Answer::Executed {
+                reply: Reply::Overflow,
+                server: owner,
+                place: 1,
+            },
+            "reply Overflow @1#1",
+        ),
+        (
+            Answer::Executed {
+                reply: Reply::WrongKind,
+                server: owner,
+                place: 3,
+            },
+            "reply WrongKind @1#3",
         ),
         (
             Answer::Executed {

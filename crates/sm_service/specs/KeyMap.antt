@@ -1,5 +1,5 @@
 -- Key maps: pairs of a key and what it holds, and what each request replies and changes there.
-use Rattle.std.specs.Prelude.{◌≡◌, ℕ, ◌<◌, ◌≤◌, Bool, List, ◌∷◌, ◌++◌, Option, Some, None, AllPairs, filter, find, length, nat_le, if◌then◌else◌}
+use Rattle.std.specs.Prelude.{◌≡◌, ℕ, ◌<◌, ◌≤◌, ◌-◌, ◌^◌, ℤ, pos, neg_ℤ, ◌+ℤ◌, int_le, Bool, ◌&&◌, List, ◌∷◌, ◌++◌, Option, Some, None, AllPairs, filter, find, length, nat_le, if◌then◌else◌}
 use Rattle.std.specs.List.{HoldsAt}
 use Rattle.std.specs.List.Sorted.{IsPartitionPoint}
 use Rattle.std.specs.Option.{option_map}
@@ -12,10 +12,10 @@ use Rattle.sm_service.specs.declared.held.Held.{Held}
 use Rattle.sm_service.specs.declared.held.Held.TheVariants.{Text, Count}
 use Rattle.sm_service.specs.declared.pair.Pair.{Pair}
 use Rattle.sm_service.specs.declared.reply.Reply.{Reply}
-use Rattle.sm_service.specs.declared.reply.Reply.TheVariants.{Nothing, Done, WrongKind, TooLong}
+use Rattle.sm_service.specs.declared.reply.Reply.TheVariants.{Nothing, Done, WrongKind, Overflow, TooLong}
 use Rattle.sm_service.specs.declared.reply.Reply.TheVariants.{Text as ReplyText, Count as ReplyCount}
 use Rattle.sm_service.specs.declared.request.Request.{Request}
-use Rattle.sm_service.specs.declared.request.Request.TheVariants.{Get, Put}
+use Rattle.sm_service.specs.declared.request.Request.TheVariants.{Get, Put, Inc}
 
 -- the order of two keys: their bytes are compared as numbers, and a proper prefix comes first
 abbrev pub key_cmp : List ℕ → List ℕ → Ordering
@@ -70,12 +70,38 @@ abbrev pub text_after : List Pair → List ℕ → List ℕ → Reply → List P
 text_after m key text Done = holding m key (Text text)
 text_after m key text _ = m
 
+-- the number is from -2 ^ 63 to 2 ^ 63 - 1
+abbrev pub is_i64 : ℤ → Bool
+is_i64 n = int_le (neg_ℤ (pos (2 ^ 63))) n && int_le n (pos (2 ^ 63 - 1))
+
+-- the sum, where it is a count
+abbrev pub sum_of : ℤ → ℤ → Option ℤ
+sum_of count amount = if is_i64 (count +ℤ amount) then Some (count +ℤ amount) else None
+
+-- the reply to an Inc of a count, by the sum
+abbrev pub count_reply : Option ℤ → Reply
+count_reply (Some sum) = ReplyCount sum
+count_reply None = Overflow
+
+-- the reply to an Inc, by what the key holds
+abbrev pub inc_reply : Option Held → ℤ → Reply
+inc_reply None amount = ReplyCount amount
+inc_reply (Some (Text text)) amount = WrongKind
+inc_reply (Some (Count count)) amount = count_reply (sum_of count amount)
+
+-- the map after an Inc, by its reply
+abbrev pub inc_after : List Pair → List ℕ → Reply → List Pair
+inc_after m key (ReplyCount sum) = holding m key (Count sum)
+inc_after m key _ = m
+
 -- the reply to a request on the map m
 abbrev pub reply : List Pair → Request → Reply
 reply m (Get key) = get_reply (held_at m key)
 reply m (Put key text) = text_reply (held_at m key) text
+reply m (Inc key amount) = inc_reply (held_at m key) amount
 
 -- the map after a request on the map m
 abbrev pub after : List Pair → Request → List Pair
 after m (Get key) = m
 after m (Put key text) = text_after m key text (reply m (Put key text))
+after m (Inc key amount) = inc_after m key (reply m (Inc key amount))

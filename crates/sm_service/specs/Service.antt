@@ -3,7 +3,7 @@ use Rattle.std.specs.Prelude.{ℕ, List, [], fold}
 use Rattle.sm_service.specs.declared.pair.Pair.{Pair}
 use Rattle.sm_service.specs.declared.reply.Reply.{Reply}
 use Rattle.sm_service.specs.declared.request.Request.{Request}
-use Rattle.sm_service.specs.declared.request.Request.TheVariants.{Get, Put}
+use Rattle.sm_service.specs.declared.request.Request.TheVariants.{Get, Put, Inc}
 use Rattle.sm_service.specs.KeyMap.{reply, after}
 
 -- the requests that a body keeps, and how many it keeps at most
@@ -23,3 +23,4 @@ reply_after requests request = reply (map_of requests) request
 abbrev pub key_of_request : Request → List ℕ
 key_of_request (Get key) = key
 key_of_request (Put key text) = key
+key_of_request (Inc key amount) = key

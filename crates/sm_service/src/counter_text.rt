@@ -1,5 +1,5 @@
 ghost use Rattle.std.specs.Prelude.{◌≡◌, [], IfOk, OnOk, OnErr};
-ghost use Rattle.sm_service.specs.KeyMap.{reply, after};
+ghost use Rattle.sm_service.specs.KeyMap.{reply, after, sum_of};
 ghost use Rattle.sm_service.specs.Service.{reply_after, key_of_request};
 
 use crate::bytes::Bytes;
@@ -63,7 +63,7 @@ impl Service for CounterText {
 
     fn key(request: &Request) -> &[u8] {
         match request {
-            Request::Get(key) | Request::Put(key, _) => key.as_bytes(),
+            Request::Get(key) | Request::Put(key, _) | Request::Inc(key, _) => key.as_bytes(),
         }
     }
 
@@ -98,6 +98,7 @@ fn answer(alloc: Global, map: &mut PairMap, request: &Request) -> Result<Reply, 
     match request {
         Request::Get(key) => get(alloc, map, key),
         Request::Put(key, text) => put(alloc, map, key, text),
+        Request::Inc(key, amount) => inc(alloc, map, key, *amount),
     }
 }
 
@@ -124,6 +125,30 @@ fn put(alloc: Global, map: &mut PairMap, key: &Key, text: &Bytes) -> Result<Repl
     }
     map.put(alloc, key, Held::Text(text.try_clone(alloc)?))?;
     Ok(Reply::Done)
+}
+
+fn inc(alloc: Global, map: &mut PairMap, key: &Key, amount: i64) -> Result<Reply, AllocError>
+    ensures reply { IfOk result (λ made. made ≡ reply map.old (Request.Inc key.now amount)) }
+    ensures after { OnOk result (map.new ≡ after map.old (Request.Inc key.now amount)) }
+    ensures err { OnErr result (map.new ≡ map.old) }
+{
+    let sum = match map.get(key.as_bytes()) {
+        None => amount,
+        Some(Held::Text(_)) => return Ok(Reply::WrongKind),
+        Some(Held::Count(count)) => match sum_of(*count, amount) {
+            None => return Ok(Reply::Overflow),
+            Some(sum) => sum,
+        },
+    };
+    map.put(alloc, key, Held::Count(sum))?;
+    Ok(Reply::Count(sum))
+}
+
+// The sum, where it has 64 bits.
+fn sum_of(count: i64, amount: i64) -> Option<i64>
+    ensures { result ≡ sum_of count amount }
+{
+    count.checked_add(amount)
 }
 
 #[cfg(test)]

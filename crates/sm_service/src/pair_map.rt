@@ -1,10 +1,11 @@
 ghost use Rattle.std.specs.Prelude.{◌≡◌, [], IfOk, IfErr, OnOk, OnErr, option_copied};
-ghost use Rattle.sm_service.specs.KeyMap.{held_at, holding, IsPlaceOf, IsGapFor};
+ghost use Rattle.sm_service.specs.KeyMap.{key_cmp, held_at, holding, IsPlaceOf, IsGapFor};
 
 use crate::held::Held;
 use crate::pair::Pair;
 use sm_ranges::key::Key;
 use std::alloc::{AllocError, Global};
+use std::cmp::Ordering;
 use std::marker::Model;
 
 /// A map from keys to what they hold, as the pairs in the order of their keys.
@@ -52,7 +53,7 @@ impl PairMap {
     {
         match self.search(key.as_bytes()) {
             Ok(at) => {
-                self.pairs[at].value = value;
+                self.pairs[at].hold(value);
                 Ok(())
             }
             Err(at) => {
@@ -69,6 +70,13 @@ impl PairMap {
     {
         self.pairs
             .as_slice()
-            .binary_search_by(|pair| pair.key.as_bytes().cmp(key))
+            .binary_search_by(|pair| order(pair, key))
     }
+}
+
+// How the pair's key compares with this one.
+fn order(pair: &Pair, key: &[u8]) -> Ordering
+    ensures { result ≡ key_cmp pair.now.key key.now }
+{
+    pair.key.as_bytes().cmp(key)
 }

@@ -9,10 +9,13 @@ pub enum Reply {
     Done,
     /// The text that the key holds.
     Text(Bytes),
-    /// The count that the key holds.
+    /// The count that the key holds, after an addition the new one.
     Count(i64),
-    /// The key holds a count where the request is for a text, and nothing has changed.
+    /// The key holds a count where the request is for a text, or a text where it is for a count, and
+    /// nothing has changed.
     WrongKind,
+    /// The new count would not have 64 bits, and nothing has changed.
+    Overflow,
     /// The new text would be longer than `MAX_TEXT` bytes, and nothing has changed.
     TooLong,
 }

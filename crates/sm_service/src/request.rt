@@ -8,4 +8,6 @@ pub enum Request {
     Get(Key),
     /// The key is to hold the text, in place of the text that it held.
     Put(Key, Bytes),
+    /// The number is to be added to the count that the key holds. A key that holds nothing counts as 0.
+    Inc(Key, i64),
 }

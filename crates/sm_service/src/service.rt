@@ -13,11 +13,12 @@ pub enum ApplyFault {
     NoMemory,
 }
 
-/// The body of a shard: it applies requests in turn, keeps each of them, and stands for the list of them.
-pub trait Service: Drop {
-    type Request: Drop;
+/// The body of a shard: it applies requests in turn, keeps each of them, and stands for the list of them. Bodies, requests
+/// and replies pass between threads.
+pub trait Service: Drop + Send {
+    type Request: Drop + Send;
 
-    type Reply: Drop;
+    type Reply: Drop + Send;
 
     /// The requests that were applied, in their order.
     ghost requests: { Self → List Self.Request };

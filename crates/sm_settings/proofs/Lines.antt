@@ -1,8 +1,7 @@
 -- What a line gives, by what was read of it.
-use Rattle.std.proofs.Common.{◌≡◌, ◌≢◌, ◌≤◌, ◌<◌, nat_le, arith, ℕ, List, [], length, refl, ap, ◌∙◌, Some, None, Err, true, false, if◌then◌else◌}
+use Rattle.std.proofs.Common.{◌≡◌, ◌≢◌, ◌≤◌, nat_le, arith, ℕ, List, [], length, refl, ap, ◌∙◌, Some, None, Err, true, false, if◌then◌else◌}
 use Rattle.std.specs.Str.{IsUtf8, is_utf8}
 use Rattle.std.proofs.lemmas.Bool.{le-leb}
-use Rattle.std.proofs.lemmas.Bool.Decides.{nat_tests}
 use Rattle.std.proofs.lemmas.Str.{IsUtf8-from_is_utf8, is_utf8-from_IsUtf8}
 use Rattle.serde_json.specs.Data.{Data}
 use Rattle.serde_json.specs.Read.{read}
@@ -10,14 +9,6 @@ use Rattle.serde_json.proofs.OnLiterals.{serde_json_on_literals}
 use Rattle.sm_settings.specs.declared.settings_fault.SettingsFault.TheVariants.{TooLong, BadJson, NoMemory}
 use Rattle.sm_settings.proofs.Rules.{verdict_decides}
 use Rattle.sm_settings.specs.SettingsLine.{verdict_of, settings_of}
-
-is_above : (n most : ℕ) → most < n → nat_le n most ≡ false
-is_above n most above = grind (arith, nat_tests)
-
--- a line that is too long is refused
-pub settings_of_long : (line : List ℕ) → 1048576 < length line → settings_of line ≡ Err TooLong
-unfolding settings_of
-settings_of_long line long = ap (λ b. if b then (if is_utf8 line then verdict_of (read line) else Err BadJson) else Err TooLong) (is_above (length line) 1048576 long)
 
 settings_of_short : (line : List ℕ) → length line ≤ 1048576 → settings_of line ≡ (if is_utf8 line then verdict_of (read line) else Err BadJson)
 unfolding settings_of

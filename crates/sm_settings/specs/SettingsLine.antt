@@ -1,6 +1,8 @@
 -- What a settings line gives: its values, or the first rule that it breaks.
-use Rattle.std.specs.Prelude.{ℕ, ◌==◌, List, [], ◌∷◌, length, map, is_none, Bool, nat_le, if◌then◌else◌, Option, None, Some, Result, Ok, Err, codes}
+use Rattle.std.specs.Prelude.{◌≡◌, ℕ, ◌<◌, ◌==◌, List, [], ◌∷◌, length, map, is_none, Bool, nat_le, if◌then◌else◌, Option, None, Some, Result, Ok, Err, codes}
 use Rattle.std.specs.Str.{is_utf8}
+use Rattle.std.proofs.Common.{ap}
+use Rattle.std.proofs.lemmas.Bool.{lt-leb}
 use Rattle.serde_json.specs.Data.{Data}
 use Rattle.serde_json.specs.Read.{read}
 use Rattle.sm_ranges.specs.LayoutFault.{first_layout_fault}
@@ -79,6 +81,11 @@ verdict_of (Some d) = value_or_fault (rules d (values_in d)) (values_in d)
 -- what the bytes of a line give as settings: their values, or their first fault
 unfoldable pub settings_of : List ℕ → Result SettingsValues SettingsFault
 settings_of line = if nat_le (length line) 1048576 then (if is_utf8 line then verdict_of (read line) else Err BadJson) else Err TooLong
+
+-- a line beyond the limit is too long, whatever it says
+pub settings_of_long : (line : List ℕ) → 1048576 < length line → settings_of line ≡ Err TooLong
+unfolding settings_of
+settings_of_long line long = ap (λ b. if b then (if is_utf8 line then verdict_of (read line) else Err BadJson) else Err TooLong) (lt-leb (length line) 1048576 long)
 
 -- the values that settings hold
 abbrev pub values_of : Settings → SettingsValues

@@ -5,28 +5,24 @@ use Rattle.std.specs.Option.{option_map}
 use Rattle.std.proofs.lemmas.Bool.{lt-ltb, ltb-true}
 use Rattle.std.proofs.lemmas.List.{reverse-append, map-set, length-map, get_or-map}
 use Rattle.sm_ranges.specs.declared.stand.Stand.TheVariants.{Vacant}
-use Rattle.sm_table.specs.declared.change.Change.{Change}
-use Rattle.sm_table.specs.declared.change_fault.ChangeFault.{ChangeFault}
+use Rattle.sm_ownership.specs.declared.change.Change.{Change}
+use Rattle.sm_ownership.specs.declared.change_fault.ChangeFault.{ChangeFault}
 use Rattle.sm_table.specs.declared.command.Command.TheVariants.{Change as ChangeOf}
 use Rattle.sm_table.specs.declared.command.CommandFault.{CommandFault}
-use Rattle.sm_table.specs.declared.entry.Entry.{Entry}
-use Rattle.sm_table.specs.declared.entry.Kind.TheVariants.{Change as Changed}
-use Rattle.sm_table.specs.declared.record.Record.{Record}
+use Rattle.sm_ownership.specs.declared.entry.Entry.{Entry}
+use Rattle.sm_ownership.specs.declared.entry.Kind.TheVariants.{Change as Changed}
+use Rattle.sm_ownership.specs.declared.record.Record.{Record}
 use Rattle.sm_table.specs.declared.step.Step.TheVariants.{Control}
 use Rattle.sm_table.specs.declared.world_answer.WorldAnswer.TheVariants.{Made}
 use Rattle.sm_table.specs.declared.world_fault.WorldFault.TheVariants.{Command as CommandRefused}
-use Rattle.sm_table.specs.Rules.{stand_after, phase_fault, newly_named}
-use Rattle.sm_table.specs.Desk.{DeskView, is_unknown, stand_at, change_fault, command_fault_of, desk_after}
-use Rattle.sm_table.specs.History.{vacant, after_change, fits, table_of, IsLegal}
-use Rattle.sm_table.specs.Tables.{TableView, record_fault, apply_fault, table_changed, command_fault_from}
+use Rattle.sm_ownership.specs.Rules.{stand_after, phase_fault, newly_named}
+use Rattle.sm_table.specs.Desk.{DeskView, is_unknown, stand_at, change_fault, command_fault_of, command_fault_from, desk_after}
+use Rattle.sm_ownership.specs.History.{vacant, after_change, fits, table_of, IsLegal}
+use Rattle.sm_ownership.specs.Tables.{TableView, record_fault, apply_fault, table_changed}
 use Rattle.sm_table.specs.World.{Service, WorldState, Plain, count_of, desk_of, world_table, world_record, table_fault, with_entry, outcome}
 use Rattle.sm_table.specs.Standing.{IsSound, WorldView, StandsFor, Follows}
-use Rattle.sm_table.proofs.Growth.{length-table_of, table_of-push, kept-push_none}
+use Rattle.sm_ownership.specs.Growth.{fits-push, length-table_of, table_of-push, kept-push_none}
 use Rattle.sm_table.proofs.Parts.{parts_of, parts-from_StandsFor, Follows-unchanged, Follows-changed}
-
--- an entry of a legal history fits what came before it
-pub fits-from_legal : {Q : Type 0} (count ceiling : ℕ) (history : List (Entry Q)) (entry : Entry Q) → IsLegal count ceiling (history ++ entry ∷ []) → fits ceiling (reverse history) (table_of count ceiling history) entry ≡ true
-fits-from_legal count ceiling history entry legal = (rw (reverse-append history (entry ∷ [])) at legal).0
 
 first_none : {X Y : Type 0} (there unknown : Bool) (x y : X) (fault : Option Y) (of : Y → X) → None ≡ (if not there then Some x else if unknown then Some y else option_map of fault) → (there ≡ true) × (fault ≡ None)
 first_none true false x y None of none = (refl, refl)
@@ -39,14 +35,6 @@ let_through : (desk : DeskView) (shard : ℕ) (change : Change) → None ≡ cha
 let_through desk shard change none =
     let first = first_none (nat_lt shard (length desk.stands)) (is_unknown desk.servers (newly_named change)) _ _ (phase_fault (stand_at desk.stands shard) change) command_fault_of none in
     (ltb-true _ _ first.0, first.1)
-
-fault_of_record : (room busy : Bool) (state : Record) (x y : ChangeFault) → (if not room then Some (command_fault_from x) else if busy then Some (command_fault_from y) else None) ≡ option_map command_fault_from (if not room then Some x else if busy then Some y else None)
-fault_of_record true true state x y = refl
-fault_of_record true false state x y = refl
-fault_of_record false busy state x y = refl
-
-table_fault-record_fault : (ceiling : ℕ) (state : Record) → table_fault ceiling state ≡ option_map command_fault_from (record_fault ceiling state)
-table_fault-record_fault ceiling state = fault_of_record (nat_lt state.generation ceiling) state.admitted state _ _
 
 module _ {Q R : Type 0} (service : Service Q R) (w : WorldState Q) (sound : IsSound w) (shard : ℕ) (change : Change) (none : None ≡ change_fault (desk_of w) shard change) where
   long : length (world_table w) ≡ count_of w
@@ -66,7 +54,7 @@ module _ {Q R : Type 0} (service : Service Q R) (w : WorldState Q) (sound : IsSo
   refusal fault is =
       let inside : nat_lt shard (length (world_table w)) ≡ true = lt-ltb _ _ change_within in
       let by_record : fault ≡ record_fault w.frame.ceiling (world_record w shard) = is ∙ rw (inside, phase) refl in
-      table_fault-record_fault w.frame.ceiling (world_record w shard) ∙ ap (option_map command_fault_from) (sym by_record)
+      ap (option_map command_fault_from) (sym by_record)
 
   abbrev changed_world : WorldState Q
   changed_world = with_entry w 0 shard (Changed change)
@@ -79,7 +67,7 @@ module _ {Q R : Type 0} (service : Service Q R) (w : WorldState Q) (sound : IsSo
   pub changed_parts_of : (lists : List (List Q)) → IsSound changed_world → changed_parts (parts_of w lists) ≡ parts_of changed_world lists
   changed_parts_of lists after =
       let entry : Entry Q = record { actor = 0; shard = shard; kind = Changed change } in
-      let grown = table_of-push (count_of w) w.frame.ceiling w.history entry (fits-from_legal (count_of w) w.frame.ceiling w.history entry after.legal) in
+      let grown = table_of-push (count_of w) w.frame.ceiling w.history entry (fits-push (count_of w) w.frame.ceiling w.history entry after.legal) in
       let shown : (desk_after (desk_of w) (ChangeOf shard change)).stands ≡ (desk_of changed_world).stands =
       ap (λ stand. slice_set (map (λ (state : Record). state.stand) (world_table w)) shard (unwrap_or (stand_after stand change) stand)) same_stand
       ∙ sym (map-set (λ (state : Record). state.stand) (world_table w) shard (after_change (world_record w shard) change))

@@ -5,10 +5,10 @@ use Rattle.std.proofs.lemmas.Bool.{cases_lt}
 use Rattle.std.proofs.lemmas.List.{get_or-replicate, get_or_past, length-replicate}
 use Rattle.std.proofs.lemmas.List.Elements.{All-nil}
 use Rattle.sm_ranges.specs.declared.stand.Stand.TheVariants.{Vacant}
-use Rattle.sm_table.specs.declared.record.Record.{Record}
+use Rattle.sm_ownership.specs.declared.record.Record.{Record}
 use Rattle.sm_table.specs.declared.flight.Flight.{Flight}
 use Rattle.sm_table.specs.declared.in_hand.InHand.{InHand}
-use Rattle.sm_table.specs.History.{vacant}
+use Rattle.sm_ownership.specs.History.{vacant}
 use Rattle.sm_table.specs.World.{Frame, empty_world}
 use Rattle.sm_table.specs.Standing.{IsFrame, WorldView, StandsFor}
 use Rattle.sm_table.specs.Together.{IsTogether}

@@ -9,21 +9,23 @@ use Rattle.std.proofs.lemmas.List.{reverse-append, get_or-set_same, get_or-set_o
 use Rattle.std.proofs.lemmas.List.Folds.{list_all-append}
 use Rattle.sm_ranges.specs.ServerId.{IsServer}
 use Rattle.sm_ranges.specs.declared.stand.Stand.TheVariants.{Vacant}
-use Rattle.sm_table.specs.declared.change.Change.{Change}
-use Rattle.sm_table.specs.declared.change.PhaseFault.{PhaseFault}
-use Rattle.sm_table.specs.declared.entry.Entry.{Entry}
-use Rattle.sm_table.specs.declared.entry.Kind.{Kind}
-use Rattle.sm_table.specs.declared.entry.Kind.TheVariants.{Change as Changed, Admit, Done}
-use Rattle.sm_table.specs.declared.mode.Mode.{Mode}
-use Rattle.sm_table.specs.declared.record.Record.{Record}
+use Rattle.sm_ownership.specs.declared.change.Change.{Change}
+use Rattle.sm_ownership.specs.declared.change.PhaseFault.{PhaseFault}
+use Rattle.sm_ownership.specs.declared.entry.Entry.{Entry}
+use Rattle.sm_ownership.specs.declared.entry.Kind.{Kind}
+use Rattle.sm_ownership.specs.declared.entry.Kind.TheVariants.{Change as Changed, Admit, Done}
+use Rattle.sm_ownership.specs.declared.mode.Mode.{Mode}
+use Rattle.sm_ownership.specs.declared.record.Record.{Record}
 use Rattle.sm_table.specs.declared.in_hand.InHand.{InHand}
-use Rattle.sm_table.specs.Rules.{newly_named, phase_fault, admit_fault}
-use Rattle.sm_table.specs.Desk.{is_unknown, stand_at, change_fault, command_fault_of}
-use Rattle.sm_table.specs.History.{vacant, after_kind, admits_only, acts_as, fits}
+use Rattle.sm_ownership.specs.Rules.{newly_named, phase_fault, admit_fault}
+use Rattle.sm_table.specs.Desk.{is_unknown, stand_at, change_fault, command_fault_of, command_fault_from}
+use Rattle.sm_ownership.specs.History.{vacant, after_kind, admits_only, acts_as, fits}
 use Rattle.sm_table.specs.World.{WorldState, count_of, world_table, world_record, with_entry, with_hand, desk_of, table_fault, ended}
-use Rattle.sm_table.specs.Standing.{IsHeld, IsSound}
-use Rattle.sm_table.proofs.Faults.{change_fits-no_fault, admit_fault-none}
-use Rattle.sm_table.proofs.Growth.{length-table_of, legal-push, record_at-push, record_at-push_other}
+use Rattle.sm_table.specs.Standing.{NamesKnown, IsHeld, IsSound}
+use Rattle.sm_ownership.specs.Faults.{change_fits-no_fault, admit_fault-none}
+use Rattle.sm_ownership.specs.Tables.{record_fault}
+use Rattle.sm_table.proofs.Names.{names_after}
+use Rattle.sm_ownership.specs.Growth.{length-table_of, legal-push, record_at-push, record_at-push_other}
 
 list_all-reverse : {X : Type 0} (test : X → Bool) (xs : List X) → list_all test (reverse xs) ≡ list_all test xs
 list_all-reverse test [] = refl
@@ -63,7 +65,7 @@ module _ {Q : Type 0} where
   held_idle history longer admitted shard (Some hand) idle held = absurd (true≢false (sym held.0 ∙ idle))
 
   -- what is in hand is so at a shard that is there
-  hand_within : (hands : List (Option (InHand Q))) (shard : ℕ) (hand : InHand Q) → slice_index_or hands shard None ≡ Some hand → shard < length hands
+  pub hand_within : (hands : List (Option (InHand Q))) (shard : ℕ) (hand : InHand Q) → slice_index_or hands shard None ≡ Some hand → shard < length hands
   hand_within hands shard hand is =
       ⊎_elim
       (λ (within : shard < length hands). within)
@@ -76,6 +78,7 @@ record IsNext {Q : Type 0} (w : WorldState Q) (entry : Entry Q) (hands : List (O
   own_server : admits_only entry.actor entry.kind ≡ true
   places : length hands ≡ count_of w
   others : (shard : ℕ) → shard ≢ entry.shard → slice_index_or hands shard None ≡ slice_index_or w.in_hand shard None
+  named : NamesKnown w.frame.servers (after_kind (world_record w entry.shard) entry.kind).stand
   here : IsHeld (w.history ++ entry ∷ []) (after_kind (world_record w entry.shard) entry.kind).admitted entry.shard (slice_index_or hands entry.shard None)
 
 module _ {Q : Type 0} (w : WorldState Q) (entry : Entry Q) (hands : List (Option (InHand Q))) (sound : IsSound w) (next : IsNext w entry hands) where
@@ -97,20 +100,31 @@ module _ {Q : Type 0} (w : WorldState Q) (entry : Entry Q) (hands : List (Option
       let before : IsHeld w.history (world_record grown shard).admitted shard (slice_index_or w.in_hand shard None) = subst (λ admitted. IsHeld w.history admitted shard (slice_index_or w.in_hand shard None)) (sym at) (sound.held shard within) in
       held_other w.history entry (world_record grown shard).admitted shard (slice_index_or hands shard None) other (rw (next.others shard apart) before)
 
+  abbrev NamedAt : ℕ → Type 0
+  NamedAt shard = NamesKnown w.frame.servers (world_record grown shard).stand
+
+  named_own : NamedAt entry.shard
+  named_own = subst (λ (state : Record). NamesKnown w.frame.servers state.stand) (sym (record_at-push (count_of w) w.frame.ceiling w.history entry next.fit)) next.named
+
+  named_apart : (shard : ℕ) → shard < count_of w → shard ≢ entry.shard → NamedAt shard
+  named_apart shard within apart =
+      subst (λ (state : Record). NamesKnown w.frame.servers state.stand) (sym (record_at-push_other (count_of w) w.frame.ceiling w.history entry shard apart next.fit)) (sound.named shard within)
+
   -- a world stays sound with an entry that may come next
   grown_sound : IsSound grown
   grown_sound = record {
     frame = sound.frame;
     legal = legal-push (count_of w) w.frame.ceiling w.history entry sound.legal next.fit;
     own_server = list_all-append _ w.history (entry ∷ []) ∙ rw (sound.own_server, next.own_server) refl;
+    named = λ shard within. ⊎_elim (λ same. subst NamedAt (sym same) named_own) (named_apart shard within) (cases_eq shard entry.shard);
     flights = sound.flights;
     hands = next.places;
     held = λ shard within. ⊎_elim (λ same. subst HeldAt (sym same) held_own) (held_apart shard within) (cases_eq shard entry.shard);
   }
 
 -- what holds where no fault of the desk applies, and where none of the table does
-not_refused : {X : Type 0} (there unknown : Bool) (x y : X) (fault : Option PhaseFault) (of : PhaseFault → X) → (if not there then Some x else if unknown then Some y else option_map of fault) ≡ None → (there ≡ true) × (fault ≡ None)
-not_refused true false x y None of none = (refl, refl)
+not_refused : {X : Type 0} (there unknown : Bool) (x y : X) (fault : Option PhaseFault) (of : PhaseFault → X) → (if not there then Some x else if unknown then Some y else option_map of fault) ≡ None → (there ≡ true) × (unknown ≡ false) × (fault ≡ None)
+not_refused true false x y None of none = (refl, refl, refl)
 not_refused true false x y (Some fault) of none = absurd cc
 not_refused true true x y fault of none = absurd cc
 not_refused false unknown x y fault of none = absurd cc
@@ -119,6 +133,10 @@ not_busy : {X : Type 0} (room busy : Bool) (x y : X) → (if not room then Some 
 not_busy true false x y none = refl
 not_busy true true x y none = absurd cc
 not_busy false busy x y none = absurd cc
+
+not_mapped : {X Y : Type 0} (of : X → Y) (option : Option X) → option_map of option ≡ None → option ≡ None
+not_mapped of None none = refl
+not_mapped of (Some x) none = absurd cc
 
 not_zero : (server : ℕ) → 1 ≤ server → not (server == 0) ≡ true
 not_zero server some = grind (arith, nat_tests)
@@ -139,14 +157,16 @@ module _ {Q : Type 0} (w : WorldState Q) (sound : IsSound w) where
       let inside : shard < length (world_table w) = omega arith in
       let within : shard < count_of w = omega arith in
       let stand : stand_at stands shard ≡ state.stand = get_or-map (λ (one : Record). one.stand) (world_table w) shard vacant Vacant inside in
-      let phase : phase_fault state.stand change ≡ None = ap (λ at. phase_fault at change) (sym stand) ∙ allowed.1 in
-      let idle : state.admitted ≡ false = not_busy (nat_lt state.generation w.frame.ceiling) state.admitted _ _ table in
+      let phase : phase_fault state.stand change ≡ None = ap (λ at. phase_fault at change) (sym stand) ∙ allowed.2 in
+      let free : record_fault w.frame.ceiling state ≡ None = not_mapped command_fault_from (record_fault w.frame.ceiling state) table in
+      let idle : state.admitted ≡ false = not_busy (nat_lt state.generation w.frame.ceiling) state.admitted _ _ free in
       let entry : Entry Q = record { actor = 0; shard = shard; kind = Changed change } in
       grown_sound w entry w.in_hand sound (record {
-        fit = and_from _ _ (lt-ltb _ _ inside) (change_fits-no_fault w.frame.ceiling state change ∙ and_from _ _ (ap is_none phase) (ap is_none table));
+        fit = and_from _ _ (lt-ltb _ _ inside) (change_fits-no_fault w.frame.ceiling state change ∙ and_from _ _ (ap is_none phase) (ap is_none free));
         own_server = refl;
         places = sound.hands;
         others = λ _ _. refl;
+        named = names_after w.frame.servers state.stand change (sound.named shard within) allowed.1;
         here = held_idle w.history (w.history ++ entry ∷ []) state.admitted shard (slice_index_or w.in_hand shard None) idle (sound.held shard within);
       })
 
@@ -165,6 +185,7 @@ module _ {Q : Type 0} (w : WorldState Q) (sound : IsSound w) where
         own_server = eq-eqb server server refl;
         places = length-set w.in_hand shard (Some hand) ∙ sound.hands;
         others = λ other apart. get_or-set_other w.in_hand shard other (Some hand) None apart;
+        named = sound.named shard within;
         here = rw placed (refl, rw (reverse-append w.history (entry ∷ [])) (rw (eq-eqb shard shard refl) (and_from _ _ (eq-eqb server hand.server same) refl)));
       })
 
@@ -182,5 +203,6 @@ module _ {Q : Type 0} (w : WorldState Q) (sound : IsSound w) where
         own_server = refl;
         places = length-set w.in_hand shard None ∙ sound.hands;
         others = λ other apart. get_or-set_other w.in_hand shard other None None apart;
+        named = sound.named shard (omega arith);
         here = rw freed refl;
       })

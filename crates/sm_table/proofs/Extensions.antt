@@ -3,19 +3,20 @@ use Rattle.std.proofs.Common.{◌≡◌, ℕ, List, [], ◌∷◌, ◌++◌, len
 use Rattle.std.specs.Prelude.{Option, Some, None, nat_lt, remove, slice_index_or}
 use Rattle.std.proofs.lemmas.Bool.{cond_both}
 use Rattle.std.proofs.lemmas.List.{append-nil}
-use Rattle.sm_table.specs.declared.admit_fault.AdmitFault.{AdmitFault}
-use Rattle.sm_table.specs.declared.change.Change.{Change}
+use Rattle.sm_ownership.specs.declared.admit_fault.AdmitFault.{AdmitFault}
+use Rattle.sm_ownership.specs.declared.change.Change.{Change}
 use Rattle.sm_table.specs.declared.command.Command.TheVariants.{Change as ChangeOf}
 use Rattle.sm_table.specs.declared.command.CommandFault.{CommandFault}
-use Rattle.sm_table.specs.declared.entry.Entry.{Entry}
+use Rattle.sm_ownership.specs.declared.entry.Entry.{Entry}
 use Rattle.sm_table.specs.declared.flight.Flight.{Flight}
 use Rattle.sm_table.specs.declared.in_hand.InHand.{InHand}
+use Rattle.sm_table.specs.declared.in_hand.Work.{Work}
 use Rattle.sm_table.specs.declared.step.Step.{Step}
-use Rattle.sm_table.specs.declared.step.Step.TheVariants.{Control, Look, Send, Deliver, Finish}
+use Rattle.sm_table.specs.declared.step.Step.TheVariants.{Control, Look, Send, Deliver, Finish, Lose, Hold, Free}
 use Rattle.sm_table.specs.Desk.{is_known}
 use Rattle.sm_table.specs.Envelope.{EnvelopeView}
-use Rattle.sm_table.specs.History.{kept}
-use Rattle.sm_table.specs.World.{Service, WorldState, Mark, Plain, Unmade, Unserved, Outcome, count_of, controlled, reached, delivered, with_room, served, next, world_after}
+use Rattle.sm_ownership.specs.History.{kept}
+use Rattle.sm_table.specs.World.{Service, WorldState, Mark, Plain, Unmade, Unserved, Outcome, count_of, controlled, reached, arrived, without_flight, delivered, with_room, worked, served, held, after_hold, let_go, freed, next, world_after}
 
 -- the later world has the frame of the earlier one, and its history and then these entries
 pub record Extends {Q : Type 0} (w later : WorldState Q) : Type 0 where
@@ -41,34 +42,66 @@ module _ {Q : Type 0} (R : Type 0) (w : WorldState Q) where
   extends_controlled shard change None = record { frame = refl; added = _; history = refl }
   extends_controlled shard change (Some fault) = extends_itself w
 
-  extends_reached : (place to : ℕ) (envelope : EnvelopeView Q) (fault : Option AdmitFault) → LeavesExtended (reached (record w { in_flight = remove w.in_flight place }) to envelope fault)
+  -- other envelopes are in flight
+  extends_flights : (in_flight : List (Flight Q)) → Extends w (record w { in_flight = in_flight })
+  extends_flights in_flight = record { frame = refl; added = []; history = sym (append-nil w.history) }
+
+  extends_reached : (place to : ℕ) (envelope : EnvelopeView Q) (fault : Option AdmitFault) → LeavesExtended (reached (without_flight w place) to envelope fault)
   extends_reached place to envelope None = record { frame = refl; added = _; history = refl }
-  extends_reached place to envelope (Some fault) = record { frame = refl; added = []; history = sym (append-nil w.history) }
+  extends_reached place to envelope (Some fault) = extends_flights (remove w.in_flight place)
+
+  extends_arrived : (place at : ℕ) (envelope : EnvelopeView Q) (to : Option ℕ) → LeavesExtended (arrived (without_flight w place) at envelope to)
+  extends_arrived place at envelope None = extends_reached place at envelope _
+  extends_arrived place at envelope (Some to) = extends_flights _
 
   extends_delivered : (place : ℕ) (flight : Option (Flight Q)) → LeavesExtended (delivered w place flight)
   extends_delivered place None = extends_itself w
-  extends_delivered place (Some flight) = extends_reached place flight.to flight.envelope _
+  extends_delivered place (Some flight) = extends_arrived place flight.to flight.envelope _
 
-  extends_with_room : (service : Service Q R) (mark : Mark) (shard : ℕ) (hand : InHand Q) → LeavesExtended (with_room service w mark shard hand)
-  extends_with_room service Unserved shard hand = record { frame = refl; added = _; history = refl }
-  extends_with_room service Plain shard hand = record { frame = refl; added = _; history = refl }
-  extends_with_room service Unmade shard hand = record { frame = refl; added = _; history = refl }
+  extends_with_room : (service : Service Q R) (mark : Mark) (shard server : ℕ) (work : Work Q) → LeavesExtended (with_room service w mark shard server work)
+  extends_with_room service Unserved shard server work = record { frame = refl; added = _; history = refl }
+  extends_with_room service Plain shard server work = record { frame = refl; added = _; history = refl }
+  extends_with_room service Unmade shard server work = record { frame = refl; added = _; history = refl }
+
+  extends_worked : (service : Service Q R) (mark : Mark) (shard server : ℕ) (work : Option (Work Q)) → LeavesExtended (worked service w mark shard server work)
+  extends_worked service mark shard server None = extends_itself w
+  extends_worked service mark shard server (Some work) = cond_both (nat_lt (length (kept w.history shard)) (slice_index_or w.frame.limits shard 0)) _ _ LeavesExtended
+      (λ _. extends_with_room service mark shard server work)
+      (λ _. record { frame = refl; added = _; history = refl })
 
   extends_served : (service : Service Q R) (mark : Mark) (shard : ℕ) (hand : Option (InHand Q)) → LeavesExtended (served service w mark shard hand)
   extends_served service mark shard None = extends_itself w
-  extends_served service mark shard (Some hand) = cond_both (nat_lt (length (kept w.history shard)) (slice_index_or w.frame.limits shard 0)) _ _ LeavesExtended
-      (λ _. extends_with_room service mark shard hand)
-      (λ _. record { frame = refl; added = _; history = refl })
+  extends_served service mark shard (Some hand) = extends_worked service mark shard hand.server hand.work
+
+  extends_held : (shard server : ℕ) (fault : Option AdmitFault) → LeavesExtended (held w shard server fault)
+  extends_held shard server None = record { frame = refl; added = _; history = refl }
+  extends_held shard server (Some fault) = extends_itself w
+
+  extends_hold : (shard server : ℕ) → LeavesExtended (after_hold w shard server)
+  extends_hold shard server = cond_both (nat_lt shard (count_of w)) _ _ LeavesExtended
+      (λ _. cond_both (is_known w.frame.servers server) _ _ LeavesExtended (λ _. extends_held shard server _) (λ _. extends_itself w))
+      (λ _. extends_itself w)
+
+  extends_let_go : (shard server : ℕ) (work : Option (Work Q)) → LeavesExtended (let_go w shard server work)
+  extends_let_go shard server None = record { frame = refl; added = _; history = refl }
+  extends_let_go shard server (Some work) = extends_itself w
+
+  extends_freed : (shard : ℕ) (hand : Option (InHand Q)) → LeavesExtended (freed w shard hand)
+  extends_freed shard None = extends_itself w
+  extends_freed shard (Some hand) = extends_let_go shard hand.server hand.work
 
 pub extends_next : {Q R : Type 0} (service : Service Q R) (w : WorldState Q) (mark : Mark) (step : Step Q) → Extends w (next service w mark step)
 extends_next service w Unmade step = extends_itself w
 extends_next {R = R} service w mark (Control (ChangeOf shard change)) = extends_controlled R w shard change _
 extends_next {R = R} service w mark (Look shard) = cond_both (nat_lt shard (count_of w)) _ _ (LeavesExtended R w) (λ _. extends_itself w) (λ _. extends_itself w)
 extends_next {R = R} service w mark (Send to number request) = cond_both (is_known w.frame.servers to) _ _ (LeavesExtended R w)
-    (λ _. record { frame = refl; added = []; history = sym (append-nil w.history) })
+    (λ _. extends_flights R w _)
     (λ _. extends_itself w)
 extends_next {R = R} service w mark (Deliver place) = extends_delivered R w place _
 extends_next {R = R} service w mark (Finish shard) = extends_served R w service mark shard _
+extends_next {R = R} service w mark (Lose place) = cond_both (nat_lt place (length w.in_flight)) _ _ (LeavesExtended R w) (λ _. extends_flights R w _) (λ _. extends_itself w)
+extends_next {R = R} service w mark (Hold shard server) = extends_hold R w shard server
+extends_next {R = R} service w mark (Free shard) = cond_both (nat_lt shard (count_of w)) _ _ (LeavesExtended R w) (λ _. extends_freed R w shard _) (λ _. extends_itself w)
 
 pub extends_after : {Q R : Type 0} (service : Service Q R) (w : WorldState Q) (steps : List (Mark × Step Q)) → Extends w (world_after service w steps)
 extends_after service w [] = extends_itself w

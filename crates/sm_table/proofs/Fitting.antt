@@ -1,16 +1,17 @@
 -- The parts of a `World` fit together after each step.
 use Rattle.std.proofs.Common.{◌≡◌, ℕ, suc, ◌<◌, true, List, [], ◌∷◌, ◌++◌, length, refl, sym, ap, subst, ◌∙◌, arith, ⊎_elim}
-use Rattle.std.specs.Prelude.{Option, Some, None, All, remove, slice_index_or, slice_set}
-use Rattle.std.proofs.lemmas.Bool.{cases_eq}
+use Rattle.std.specs.Prelude.{Option, Some, None, Result, All, nat_lt, remove, slice_index_or, slice_set}
+use Rattle.std.proofs.lemmas.Bool.{cases_eq, cond_both}
 use Rattle.std.proofs.lemmas.List.{get_or-set_same, get_or-set_other, length-set}
 use Rattle.std.proofs.lemmas.List.Elements.{All-append, All-push, All-take, All-drop}
-use Rattle.sm_table.specs.declared.change.Change.{Change}
-use Rattle.sm_table.specs.declared.record.Record.{Record}
+use Rattle.sm_ownership.specs.declared.change.Change.{Change}
+use Rattle.sm_ownership.specs.declared.record.Record.{Record}
 use Rattle.sm_table.specs.declared.flight.Flight.{Flight}
 use Rattle.sm_table.specs.declared.in_hand.InHand.{InHand}
-use Rattle.sm_table.specs.History.{vacant, record_at, after_change, after_admit, after_done}
+use Rattle.sm_ownership.specs.History.{vacant, record_at, after_admit, after_change, after_done}
 use Rattle.sm_table.specs.Standing.{WorldView}
-use Rattle.sm_table.specs.Tables.{TableView}
+use Rattle.sm_table.specs.Envelope.{EnvelopeView, most_hops, one_hop_more, sent_on}
+use Rattle.sm_table.specs.World.{after_hop, flight_to}
 use Rattle.sm_table.specs.Together.{IsTogether}
 
 module _ {Q : Type 0} (v : WorldView Q) (whole : IsTogether v) where
@@ -41,17 +42,17 @@ module _ {Q : Type 0} (v : WorldView Q) (whole : IsTogether v) where
       with_shard shard (after_change (record_at v.records shard) change) v.in_hand now bounds records (ap length kept) (subst (All IsShardThere) (sym in_flight) whole.flights) in_hand refl (λ _ _. refl)
       (λ hand is. ap (λ (r : Record). r.admitted) (get_or-set_same v.records shard (after_change (record_at v.records shard) change) vacant within) ∙ whole.admitted shard hand is)
 
-  -- after an admission, with a request in hand
-  pub IsTogether-admitted : (shard : ℕ) (hand : InHand Q) (now : WorldView Q) → shard < length v.records → now.bounds ≡ v.bounds → now.records ≡ slice_set v.records shard (after_admit (record_at v.records shard)) → now.kept ≡ v.kept → All IsShardThere now.in_flight → now.in_hand ≡ slice_set v.in_hand shard (Some hand) → IsTogether now
-  IsTogether-admitted shard hand now within bounds records kept in_flight in_hand =
-      with_shard shard (after_admit (record_at v.records shard)) (slice_set v.in_hand shard (Some hand)) now bounds records (ap length kept) in_flight in_hand (length-set v.in_hand shard (Some hand)) (λ other apart. get_or-set_other v.in_hand shard other (Some hand) None apart)
-      (λ _ _. ap (λ (r : Record). r.admitted) (get_or-set_same v.records shard (after_admit (record_at v.records shard)) vacant within))
-
   -- after the end of an admission
   pub IsTogether-done : (shard : ℕ) (now : WorldView Q) → shard < length v.in_hand → now.bounds ≡ v.bounds → now.records ≡ slice_set v.records shard (after_done (record_at v.records shard)) → length now.kept ≡ length v.kept → now.in_flight ≡ v.in_flight → now.in_hand ≡ slice_set v.in_hand shard None → IsTogether now
   IsTogether-done shard now within bounds records kept in_flight in_hand =
       with_shard shard (after_done (record_at v.records shard)) (slice_set v.in_hand shard None) now bounds records kept (subst (All IsShardThere) (sym in_flight) whole.flights) in_hand (length-set v.in_hand shard None) (λ other apart. get_or-set_other v.in_hand shard other None None apart)
       (λ hand is. let none = get_or-set_same v.in_hand shard None None within in absurd cc)
+
+  -- after an admission
+  pub IsTogether-admitted : (shard : ℕ) (hand : InHand Q) (now : WorldView Q) → shard < length v.records → now.bounds ≡ v.bounds → now.records ≡ slice_set v.records shard (after_admit (record_at v.records shard)) → now.kept ≡ v.kept → now.in_flight ≡ v.in_flight → now.in_hand ≡ slice_set v.in_hand shard (Some hand) → IsTogether now
+  IsTogether-admitted shard hand now within bounds records kept in_flight in_hand =
+      with_shard shard (after_admit (record_at v.records shard)) (slice_set v.in_hand shard (Some hand)) now bounds records (ap length kept) (subst (All IsShardThere) (sym in_flight) whole.flights) in_hand (length-set v.in_hand shard (Some hand)) (λ other apart. get_or-set_other v.in_hand shard other (Some hand) None apart)
+      (λ _ _. ap (λ (r : Record). r.admitted) (get_or-set_same v.records shard (after_admit (record_at v.records shard)) vacant within))
 
   -- with other envelopes in flight, for shards that are there
   pub IsTogether-in_flight : (in_flight : List (Flight Q)) → All IsShardThere in_flight → IsTogether (record v { in_flight = in_flight })
@@ -63,11 +64,13 @@ module _ {Q : Type 0} (v : WorldView Q) (whole : IsTogether v) where
   pub flights-remove : (place : ℕ) → All IsShardThere (remove v.in_flight place)
   flights-remove place = All-append IsShardThere _ _ (All-take IsShardThere place v.in_flight whole.flights) (All-drop IsShardThere (suc place) v.in_flight whole.flights)
 
-  -- after an envelope whose server refused it
-  pub IsTogether-refused : (place : ℕ) (table : TableView) (in_flight : List (Flight Q)) → table ≡ record { records = v.records; ceiling = v.ceiling } → in_flight ≡ remove v.in_flight place → IsTogether (record v { records = table.records; ceiling = table.ceiling; in_flight = in_flight })
-  IsTogether-refused place table in_flight unchanged gone =
-      let after : WorldView Q → Type 0 = λ u. IsTogether u in
-      subst after (sym (ap (λ (t : TableView). record v { records = t.records; ceiling = t.ceiling; in_flight = in_flight }) unchanged ∙ ap (λ flights. record v { in_flight = flights }) gone)) (IsTogether-in_flight (remove v.in_flight place) (flights-remove place))
+  -- an envelope that is forwarded stays with its shard
+  pub flights-hop : (R : Type 0) (in_flight : List (Flight Q)) (envelope : EnvelopeView Q) (from : ℕ) (to : Option ℕ) → All IsShardThere in_flight → envelope.shard < length v.in_hand → All IsShardThere (after_hop {R = R} in_flight (sent_on envelope from to)).1
+  flights-hop R in_flight envelope from None all there = all
+  flights-hop R in_flight envelope from (Some to) all there =
+      cond_both (nat_lt envelope.hops most_hops) _ _ (λ (sent : Result (ℕ × EnvelopeView Q) (EnvelopeView Q)). All IsShardThere (after_hop {R = R} in_flight sent).1)
+      (λ _. All-push IsShardThere in_flight (flight_to to (one_hop_more envelope from)) all there)
+      (λ _. all)
 
   -- the shard of an envelope in flight has a record
   pub flight_there : (place : ℕ) (flight : Flight Q) → place < length v.in_flight → flight ≡ slice_index_or v.in_flight place flight → flight.envelope.shard < length v.records

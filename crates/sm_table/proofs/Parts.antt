@@ -1,14 +1,14 @@
 -- What the parts of a `World` show of the world that they stand for.
 use Rattle.std.proofs.Common.{◌≡◌, ℕ, ◌<◌, List, [], length, refl, sym, ap, subst, ◌∙◌}
 use Rattle.std.specs.Prelude.{Option, Result, slice_index_or}
-use Rattle.sm_table.specs.declared.record.Record.{Record}
+use Rattle.sm_ownership.specs.declared.record.Record.{Record}
 use Rattle.sm_table.specs.declared.flight.Flight.{Flight}
 use Rattle.sm_table.specs.declared.in_hand.InHand.{InHand}
 use Rattle.sm_table.specs.declared.step.Step.{Step}
 use Rattle.sm_table.specs.declared.world_answer.WorldAnswer.{WorldAnswer}
 use Rattle.sm_table.specs.declared.world_fault.WorldFault.{WorldFault}
 use Rattle.sm_table.specs.Desk.{DeskView}
-use Rattle.sm_table.specs.History.{kept}
+use Rattle.sm_ownership.specs.History.{kept}
 use Rattle.sm_table.specs.World.{Service, WorldState, Mark, Outcome, count_of, desk_of, world_table, outcome}
 use Rattle.sm_table.specs.Standing.{IsSound, WorldView, StandsFor, Follows}
 use Rattle.sm_table.proofs.Soundness.{sound_next}

@@ -1,26 +1,28 @@
 -- Each reply is that of one run of the shard's kept requests.
 use Rattle.std.proofs.Common.{◌≡◌, ℕ, List, [], ◌∷◌, ◌++◌, length, refl, ap, ◌∙◌, append_assoc}
-use Rattle.std.specs.Prelude.{Option, Some, None, Ok, nat_lt, slice_get, slice_index_or, take}
+use Rattle.std.specs.Prelude.{Option, Some, None, Result, Ok, Err, nat_lt, slice_get, slice_index_or, take}
 use Rattle.std.specs.Option.{option_map}
 use Rattle.std.proofs.lemmas.Bool.{cond_both}
 use Rattle.std.proofs.lemmas.List.{take_at}
-use Rattle.sm_table.specs.declared.admit_fault.AdmitFault.{AdmitFault}
-use Rattle.sm_table.specs.declared.change.Change.{Change}
+use Rattle.sm_ownership.specs.declared.admit_fault.AdmitFault.{AdmitFault}
+use Rattle.sm_ownership.specs.declared.change.Change.{Change}
 use Rattle.sm_table.specs.declared.command.Command.TheVariants.{Change as ChangeOf}
 use Rattle.sm_table.specs.declared.command.CommandFault.{CommandFault}
-use Rattle.sm_table.specs.declared.entry.Entry.{Entry}
-use Rattle.sm_table.specs.declared.entry.Kind.TheVariants.{Done}
+use Rattle.sm_ownership.specs.declared.entry.Entry.{Entry}
+use Rattle.sm_ownership.specs.declared.entry.Kind.TheVariants.{Done}
 use Rattle.sm_table.specs.declared.flight.Flight.{Flight}
 use Rattle.sm_table.specs.declared.in_hand.InHand.{InHand}
+use Rattle.sm_table.specs.declared.in_hand.Work.{Work}
 use Rattle.sm_table.specs.declared.step.Step.{Step}
-use Rattle.sm_table.specs.declared.step.Step.TheVariants.{Control, Look, Send, Deliver, Finish}
+use Rattle.sm_table.specs.declared.step.Step.TheVariants.{Control, Look, Send, Deliver, Finish, Lose, Hold, Free}
 use Rattle.sm_table.specs.declared.world_answer.WorldAnswer.TheVariants.{Replied}
+use Rattle.sm_ownership.specs.Rules.{forward_to}
 use Rattle.sm_table.specs.Desk.{is_known}
 use Rattle.sm_table.specs.Envelope.{EnvelopeView}
-use Rattle.sm_table.specs.History.{kept, said}
-use Rattle.sm_table.specs.World.{Service, Frame, WorldState, Mark, Plain, Unmade, Unserved, Outcome, count_of, controlled, reached, delivered, with_room, served, empty_world, answer, next, outcome, world_after, world_of}
+use Rattle.sm_ownership.specs.History.{kept, said}
+use Rattle.sm_table.specs.World.{Service, Frame, WorldState, Mark, Plain, Unmade, Unserved, Outcome, count_of, world_record, controlled, reached, after_hop, hopped, arrived, without_flight, delivered, with_room, worked, served, held, after_hold, let_go, freed, empty_world, answer, next, outcome, world_after, world_of}
 use Rattle.sm_table.proofs.Extensions.{extends_after}
-use Rattle.sm_table.proofs.Growth.{kept-append, kept-push_some}
+use Rattle.sm_ownership.specs.Growth.{kept-append, kept-push_some}
 
 slice_get-middle : {X : Type 0} (xs : List X) (x : X) (ys : List X) → slice_get (xs ++ x ∷ ys) (length xs) ≡ Some x
 slice_get-middle [] x ys = refl
@@ -41,18 +43,22 @@ module _ {Q R : Type 0} (service : Service Q R) (w : WorldState Q) (number serve
   abbrev RunsAt : ℕ → Outcome Q R → Type 0
   RunsAt shard outcome = outcome.0 ≡ Ok (Replied number server reply place) → HasRun service w outcome shard reply place
 
-  runs_with_room : (mark : Mark) (shard : ℕ) (hand : InHand Q) → RunsAt shard (with_room service w mark shard hand)
-  runs_with_room Unserved shard hand answered = absurd cc
-  runs_with_room Plain shard hand answered = record { server = hand.server; request = hand.request; at_end = cc; executed = cc; written = refl }
-  runs_with_room Unmade shard hand answered = record { server = hand.server; request = hand.request; at_end = cc; executed = cc; written = refl }
+  runs_with_room : (mark : Mark) (shard by : ℕ) (work : Work Q) → RunsAt shard (with_room service w mark shard by work)
+  runs_with_room Unserved shard by work answered = absurd cc
+  runs_with_room Plain shard by work answered = record { server = by; request = work.request; at_end = cc; executed = cc; written = refl }
+  runs_with_room Unmade shard by work answered = record { server = by; request = work.request; at_end = cc; executed = cc; written = refl }
+
+  runs_worked : (mark : Mark) (shard by : ℕ) (work : Option (Work Q)) → RunsAt shard (worked service w mark shard by work)
+  runs_worked mark shard by None answered = absurd cc
+  runs_worked mark shard by (Some work) answered =
+      cond_both (nat_lt (length (kept w.history shard)) (slice_index_or w.frame.limits shard 0)) _ _ (RunsAt shard)
+      (λ _. runs_with_room mark shard by work)
+      (λ _ refused. absurd cc)
+      answered
 
   runs_served : (mark : Mark) (shard : ℕ) (hand : Option (InHand Q)) → RunsAt shard (served service w mark shard hand)
   runs_served mark shard None answered = absurd cc
-  runs_served mark shard (Some hand) answered =
-      cond_both (nat_lt (length (kept w.history shard)) (slice_index_or w.frame.limits shard 0)) _ _ (RunsAt shard)
-      (λ _. runs_with_room mark shard hand)
-      (λ _ refused. absurd cc)
-      answered
+  runs_served mark shard (Some hand) answered = runs_worked mark shard hand.server hand.work answered
 
   abbrev NeverReplied : Outcome Q R → Type 0
   NeverReplied outcome = outcome.0 ≡ Ok (Replied number server reply place) → ⊥
@@ -65,9 +71,34 @@ module _ {Q R : Type 0} (service : Service Q R) (w : WorldState Q) (number serve
   never_reached before to envelope None answered = cc
   never_reached before to envelope (Some fault) answered = cc
 
+  never_hopped : (before : WorldState Q) (in_flight : List (Flight Q)) (sent : Result (ℕ × EnvelopeView Q) (EnvelopeView Q)) → NeverReplied (hopped before (after_hop in_flight sent))
+  never_hopped before in_flight (Ok hop) answered = cc
+  never_hopped before in_flight (Err envelope) answered = cc
+
+  never_arrived : (before : WorldState Q) (at : ℕ) (envelope : EnvelopeView Q) (to : Option ℕ) → NeverReplied (arrived before at envelope to)
+  never_arrived before at envelope None answered = never_reached before at envelope _ answered
+  never_arrived before at envelope (Some to) answered = never_hopped before before.in_flight _ answered
+
   never_delivered : (at : ℕ) (flight : Option (Flight Q)) → NeverReplied (delivered w at flight)
   never_delivered at None answered = cc
-  never_delivered at (Some flight) answered = never_reached _ flight.to flight.envelope _ answered
+  never_delivered at (Some flight) answered = never_arrived (without_flight w at) flight.to flight.envelope (forward_to (world_record w flight.envelope.shard) flight.to) answered
+
+  never_held : (shard by : ℕ) (fault : Option AdmitFault) → NeverReplied (held w shard by fault)
+  never_held shard by None answered = cc
+  never_held shard by (Some fault) answered = cc
+
+  never_hold : (shard by : ℕ) → NeverReplied (after_hold w shard by)
+  never_hold shard by = cond_both (nat_lt shard (count_of w)) _ _ NeverReplied
+      (λ _. cond_both (is_known w.frame.servers by) _ _ NeverReplied (λ _. never_held shard by _) (λ _ at. cc))
+      (λ _ at. cc)
+
+  never_let_go : (shard by : ℕ) (work : Option (Work Q)) → NeverReplied (let_go w shard by work)
+  never_let_go shard by None answered = cc
+  never_let_go shard by (Some work) answered = cc
+
+  never_freed : (shard : ℕ) (hand : Option (InHand Q)) → NeverReplied (freed w shard hand)
+  never_freed shard None answered = cc
+  never_freed shard (Some hand) answered = never_let_go shard hand.server hand.work answered
 
   -- only `Finish` replies
   runs_step : (mark : Mark) (step : Step Q) → answer service w mark step ≡ Ok (Replied number server reply place) → (shard : ℕ) × (step ≡ Finish shard) × HasRun service w (outcome service w mark step) shard reply place
@@ -77,6 +108,9 @@ module _ {Q R : Type 0} (service : Service Q R) (w : WorldState Q) (number serve
   runs_step mark (Send to name request) answered = absurd (cond_both (is_known w.frame.servers to) _ _ NeverReplied (λ _ at. cc) (λ _ at. cc) answered)
   runs_step mark (Deliver at) answered = absurd (never_delivered at _ answered)
   runs_step mark (Finish shard) answered = (shard, refl, runs_served mark shard _ answered)
+  runs_step mark (Lose at) answered = absurd (cond_both (nat_lt at (length w.in_flight)) _ _ NeverReplied (λ _ lost. cc) (λ _ lost. cc) answered)
+  runs_step mark (Hold shard by) answered = absurd (never_hold shard by answered)
+  runs_step mark (Free shard) answered = absurd (cond_both (nat_lt shard (count_of w)) _ _ NeverReplied (λ _. never_freed shard _) (λ _ at. cc) answered)
 
 world_after-append : {Q R : Type 0} (service : Service Q R) (w : WorldState Q) (steps later : List (Mark × Step Q)) → world_after service w (steps ++ later) ≡ world_after service (world_after service w steps) later
 world_after-append service w [] later = refl

@@ -1,29 +1,33 @@
 -- Each world that steps lead to is sound.
 use Rattle.std.proofs.Common.{◌≡◌, ℕ, suc, ◌<◌, true, List, [], ◌∷◌, length, refl, sym, ap, subst, arith, ⊎_elim}
-use Rattle.std.specs.Prelude.{Option, Some, None, All, replicate, remove, slice_get, slice_index_or, nat_lt, ◌==◌}
+use Rattle.std.specs.Prelude.{Option, Some, None, Result, All, replicate, remove, slice_get, slice_index_or, nat_lt, ◌==◌}
 use Rattle.std.specs.Option.{option_or}
-use Rattle.std.proofs.lemmas.Bool.{true≢false, cond_both, eqb-true, or_cases}
+use Rattle.std.proofs.lemmas.Bool.{true≢false, cond_both, eqb-true, ltb-true, or_cases}
 use Rattle.std.proofs.lemmas.List.{get_or-replicate, length-replicate}
 use Rattle.std.proofs.lemmas.List.Elements.{All-nil, All-head, All-tail, All-append, All-push, All-take, All-drop}
 use Rattle.std.proofs.lemmas.List.Sums.{count_by-le-length}
 use Rattle.std.proofs.lemmas.Option.{slice_get_within, get_or_from_slice_get}
 use Rattle.sm_ranges.specs.Ranges.{IsLayout, is_at_most, shard_of}
 use Rattle.sm_ranges.specs.ServerId.{IsServer}
-use Rattle.sm_table.specs.declared.admit_fault.AdmitFault.{AdmitFault}
-use Rattle.sm_table.specs.declared.change.Change.{Change}
+use Rattle.sm_ownership.specs.declared.admit_fault.AdmitFault.{AdmitFault}
+use Rattle.sm_ownership.specs.declared.change.Change.{Change}
 use Rattle.sm_table.specs.declared.command.CommandFault.{CommandFault}
 use Rattle.sm_table.specs.declared.command.Command.TheVariants.{Change as ChangeOf}
 use Rattle.sm_table.specs.declared.flight.Flight.{Flight}
 use Rattle.sm_table.specs.declared.in_hand.InHand.{InHand}
+use Rattle.sm_table.specs.declared.in_hand.Work.{Work}
+use Rattle.sm_ownership.specs.declared.mode.Mode.TheVariants.{Direct}
+use Rattle.sm_ownership.specs.declared.record.Record.{Record}
 use Rattle.sm_table.specs.declared.step.Step.{Step}
-use Rattle.sm_table.specs.declared.step.Step.TheVariants.{Control, Look, Send, Deliver, Finish}
-use Rattle.sm_table.specs.Rules.{admit_fault}
+use Rattle.sm_table.specs.declared.step.Step.TheVariants.{Control, Look, Send, Deliver, Finish, Lose, Hold, Free}
+use Rattle.sm_ownership.specs.Rules.{admit_fault, forward_to}
 use Rattle.sm_table.specs.Desk.{is_known, change_fault}
-use Rattle.sm_table.specs.Envelope.{EnvelopeView}
-use Rattle.sm_table.specs.History.{vacant, record_at, kept}
-use Rattle.sm_table.specs.World.{Service, Frame, WorldState, Mark, Plain, Unmade, Unserved, Outcome, count_of, world_record, desk_of, table_fault, controlled, after_look, after_send, reached, delivered, with_room, served, empty_world, next, world_after, world_of}
-use Rattle.sm_table.specs.Standing.{IsFrame, IsFlight, IsHeld, IsSound}
-use Rattle.sm_table.proofs.Growth.{record_at-empty}
+use Rattle.sm_table.specs.Envelope.{EnvelopeView, most_hops, one_hop_more, sent_on}
+use Rattle.sm_ownership.specs.History.{vacant, record_at, kept}
+use Rattle.sm_table.specs.World.{Service, Frame, WorldState, Mark, Plain, Unmade, Unserved, Outcome, count_of, world_record, desk_of, table_fault, controlled, after_look, after_send, flight_to, reached, after_hop, hopped, arrived, without_flight, delivered, after_lose, with_room, worked, served, held, after_hold, let_go, freed, after_free, empty_world, next, world_after, world_of}
+use Rattle.sm_table.specs.Standing.{IsFrame, IsFlight, NamesKnown, IsHeld, IsSound}
+use Rattle.sm_ownership.specs.Growth.{record_at-empty}
+use Rattle.sm_table.proofs.Names.{known_forward}
 use Rattle.sm_table.proofs.Entries.{sound_change, sound_admit, sound_done}
 
 -- the empty world is sound
@@ -32,6 +36,7 @@ sound_empty {Q = Q} frame is = record {
   frame = is;
   legal = tt;
   own_server = refl;
+  named = λ shard within. subst (λ (state : Record). NamesKnown frame.servers state.stand) (sym (record_at-empty (length frame.bounds) shard)) tt;
   flights = All-nil (IsFlight frame);
   hands = length-replicate (length frame.bounds) None;
   held = λ shard within. held shard within;
@@ -63,6 +68,23 @@ neither : {X : Type 0} (first second : Option X) → option_or first second ≡ 
 neither None second none = (refl, none)
 neither (Some x) second none = absurd cc
 
+-- a world stays sound with other envelopes in flight, for shards that are there and to servers that are
+sound_flights : {Q : Type 0} (w : WorldState Q) (in_flight : List (Flight Q)) → IsSound w → All (IsFlight w.frame) in_flight → IsSound (record w { in_flight = in_flight })
+sound_flights w in_flight sound flights = record {
+  frame = sound.frame;
+  legal = sound.legal;
+  own_server = sound.own_server;
+  named = sound.named;
+  flights = flights;
+  hands = sound.hands;
+  held = sound.held;
+}
+
+-- a world without one of its envelopes in flight
+sound_taken : {Q : Type 0} (w : WorldState Q) (place : ℕ) → IsSound w → IsSound (without_flight w place)
+sound_taken w place sound = sound_flights w (remove w.in_flight place) sound
+    (All-append (IsFlight w.frame) _ _ (All-take (IsFlight w.frame) place w.in_flight sound.flights) (All-drop (IsFlight w.frame) (suc place) w.in_flight sound.flights))
+
 -- what each step leaves
 module _ {Q : Type 0} (R : Type 0) (w : WorldState Q) (sound : IsSound w) where
   abbrev LeavesSound : Outcome Q R → Type 0
@@ -77,48 +99,69 @@ module _ {Q : Type 0} (R : Type 0) (w : WorldState Q) (sound : IsSound w) where
 
   sound_send : (service : Service Q R) (to number : ℕ) (request : Q) → LeavesSound (after_send service w to number request)
   sound_send service to number request = cond_both (is_known w.frame.servers to) _ _ LeavesSound
-      (λ known. record {
-        frame = sound.frame;
-        legal = sound.legal;
-        own_server = sound.own_server;
-        flights = All-push (IsFlight w.frame) w.in_flight _ sound.flights (record { shard = shard_within w.frame.bounds (service.key_of request) sound.frame.layout; server = known });
-        hands = sound.hands;
-        held = sound.held;
-      })
+      (λ known. sound_flights w _ sound (All-push (IsFlight w.frame) w.in_flight _ sound.flights (record { shard = shard_within w.frame.bounds (service.key_of request) sound.frame.layout; server = known })))
       (λ _. sound)
 
   sound_reached : (to : ℕ) (envelope : EnvelopeView Q) (fault : Option AdmitFault) → envelope.shard < count_of w → IsServer to → admit_fault w.frame.ceiling (world_record w envelope.shard) to envelope.mode ≡ fault → LeavesSound (reached w to envelope fault)
   sound_reached to envelope (Some fault) within is none = sound
   sound_reached to envelope None within is none = sound_admit w sound to envelope.shard envelope.mode _ within is refl none
 
-  sound_with_room : (service : Service Q R) (mark : Mark) (shard : ℕ) (hand : InHand Q) → slice_index_or w.in_hand shard None ≡ Some hand → LeavesSound (with_room service w mark shard hand)
-  sound_with_room service Unserved shard hand is = sound_done w sound shard hand None is
-  sound_with_room service Plain shard hand is = sound_done w sound shard hand (Some hand.request) is
-  sound_with_room service Unmade shard hand is = sound_done w sound shard hand (Some hand.request) is
+  -- an envelope goes on to a server that is known
+  sound_hopped : (from to : ℕ) (envelope : EnvelopeView Q) → envelope.shard < count_of w → is_known w.frame.servers to ≡ true → LeavesSound (hopped w (after_hop w.in_flight (sent_on envelope from (Some to))))
+  sound_hopped from to envelope within known = cond_both (nat_lt envelope.hops most_hops) _ _ (λ (sent : Result (ℕ × EnvelopeView Q) (EnvelopeView Q)). LeavesSound (hopped w (after_hop w.in_flight sent)))
+      (λ _. sound_flights w _ sound (All-push (IsFlight w.frame) w.in_flight (flight_to to (one_hop_more envelope from)) sound.flights (record { shard = within; server = known })))
+      (λ _. sound)
+
+  sound_arrived : (at : ℕ) (envelope : EnvelopeView Q) (to : Option ℕ) → envelope.shard < count_of w → is_known w.frame.servers at ≡ true → forward_to (world_record w envelope.shard) at ≡ to → LeavesSound (arrived w at envelope to)
+  sound_arrived at envelope None within known is = sound_reached at envelope _ within (known_server w.frame.servers at sound.frame.servers known) refl
+  sound_arrived at envelope (Some to) within known is = sound_hopped at to envelope within (known_forward w.frame.servers (world_record w envelope.shard).stand at to (sound.named envelope.shard within) is)
+
+  sound_with_room : (service : Service Q R) (mark : Mark) (shard : ℕ) (hand : InHand Q) (work : Work Q) → slice_index_or w.in_hand shard None ≡ Some hand → LeavesSound (with_room service w mark shard hand.server work)
+  sound_with_room service Unserved shard hand work is = sound_done w sound shard hand None is
+  sound_with_room service Plain shard hand work is = sound_done w sound shard hand (Some work.request) is
+  sound_with_room service Unmade shard hand work is = sound_done w sound shard hand (Some work.request) is
+
+  sound_worked : (service : Service Q R) (mark : Mark) (shard : ℕ) (hand : InHand Q) (work : Option (Work Q)) → slice_index_or w.in_hand shard None ≡ Some hand → LeavesSound (worked service w mark shard hand.server work)
+  sound_worked service mark shard hand None is = sound
+  sound_worked service mark shard hand (Some work) is = cond_both (nat_lt (length (kept w.history shard)) (slice_index_or w.frame.limits shard 0)) _ _ LeavesSound
+      (λ _. sound_with_room service mark shard hand work is)
+      (λ _. sound_done w sound shard hand None is)
 
   sound_served : (service : Service Q R) (mark : Mark) (shard : ℕ) (hand : Option (InHand Q)) → slice_index_or w.in_hand shard None ≡ hand → LeavesSound (served service w mark shard hand)
   sound_served service mark shard None is = sound
-  sound_served service mark shard (Some hand) is = cond_both (nat_lt (length (kept w.history shard)) (slice_index_or w.frame.limits shard 0)) _ _ LeavesSound
-      (λ _. sound_with_room service mark shard hand is)
-      (λ _. sound_done w sound shard hand None is)
+  sound_served service mark shard (Some hand) is = sound_worked service mark shard hand hand.work is
 
--- a world without one of its envelopes in flight
-sound_taken : {Q : Type 0} (w : WorldState Q) (place : ℕ) → IsSound w → IsSound (record w { in_flight = remove w.in_flight place })
-sound_taken w place sound = record {
-  frame = sound.frame;
-  legal = sound.legal;
-  own_server = sound.own_server;
-  flights = All-append (IsFlight w.frame) _ _ (All-take (IsFlight w.frame) place w.in_flight sound.flights) (All-drop (IsFlight w.frame) (suc place) w.in_flight sound.flights);
-  hands = sound.hands;
-  held = sound.held;
-}
+  sound_lose : (place : ℕ) → LeavesSound (after_lose w place)
+  sound_lose place = cond_both (nat_lt place (length w.in_flight)) _ _ LeavesSound (λ _. sound_taken w place sound) (λ _. sound)
+
+  sound_held : (shard server : ℕ) (fault : Option AdmitFault) → shard < count_of w → IsServer server → admit_fault w.frame.ceiling (world_record w shard) server Direct ≡ fault → LeavesSound (held w shard server fault)
+  sound_held shard server (Some fault) within is none = sound
+  sound_held shard server None within is none = sound_admit w sound server shard Direct _ within is refl none
+
+  sound_hold : (shard server : ℕ) → LeavesSound (after_hold w shard server)
+  sound_hold shard server = cond_both (nat_lt shard (count_of w)) _ _ LeavesSound
+      (λ within. cond_both (is_known w.frame.servers server) _ _ LeavesSound
+      (λ known. sound_held shard server _ (ltb-true _ _ within) (known_server w.frame.servers server sound.frame.servers known) refl)
+      (λ _. sound))
+      (λ _. sound)
+
+  sound_let_go : (shard : ℕ) (hand : InHand Q) (work : Option (Work Q)) → slice_index_or w.in_hand shard None ≡ Some hand → LeavesSound (let_go w shard hand.server work)
+  sound_let_go shard hand None is = sound_done w sound shard hand None is
+  sound_let_go shard hand (Some work) is = sound
+
+  sound_freed : (shard : ℕ) (hand : Option (InHand Q)) → slice_index_or w.in_hand shard None ≡ hand → LeavesSound (freed w shard hand)
+  sound_freed shard None is = sound
+  sound_freed shard (Some hand) is = sound_let_go shard hand hand.work is
+
+  sound_free : (shard : ℕ) → LeavesSound (after_free w shard)
+  sound_free shard = cond_both (nat_lt shard (count_of w)) _ _ LeavesSound (λ _. sound_freed shard _ refl) (λ _. sound)
 
 sound_delivered : {Q : Type 0} (R : Type 0) (w : WorldState Q) (place : ℕ) (flight : Option (Flight Q)) → IsSound w → slice_get w.in_flight place ≡ flight → IsSound (delivered {R = R} w place flight).1
 sound_delivered R w place None sound is = sound
 sound_delivered R w place (Some flight) sound is =
     let there : slice_index_or w.in_flight place flight ≡ flight = get_or_from_slice_get w.in_flight place flight flight is in
     let known : IsFlight w.frame flight = subst (IsFlight w.frame) there (sound.flights place flight (slice_get_within w.in_flight place flight is)) in
-    sound_reached R (record w { in_flight = remove w.in_flight place }) (sound_taken w place sound) flight.to flight.envelope _ known.shard (known_server w.frame.servers flight.to sound.frame.servers known.server) refl
+    sound_arrived R (without_flight w place) (sound_taken w place sound) flight.to flight.envelope _ known.shard known.server refl
 
 -- each step keeps a world sound
 pub sound_next : {Q R : Type 0} (service : Service Q R) (w : WorldState Q) (mark : Mark) (step : Step Q) → IsSound w → IsSound (next service w mark step)
@@ -128,6 +171,9 @@ sound_next {R = R} service w mark (Look shard) sound = sound_look R w sound shar
 sound_next {R = R} service w mark (Send to number request) sound = sound_send R w sound service to number request
 sound_next {R = R} service w mark (Deliver place) sound = sound_delivered R w place _ sound refl
 sound_next {R = R} service w mark (Finish shard) sound = sound_served R w sound service mark shard _ refl
+sound_next {R = R} service w mark (Lose place) sound = sound_lose R w sound place
+sound_next {R = R} service w mark (Hold shard server) sound = sound_hold R w sound shard server
+sound_next {R = R} service w mark (Free shard) sound = sound_free R w sound shard
 
 sound_after : {Q R : Type 0} (service : Service Q R) (w : WorldState Q) (steps : List (Mark × Step Q)) → IsSound w → IsSound (world_after service w steps)
 sound_after service w [] sound = sound

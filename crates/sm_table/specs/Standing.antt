@@ -1,16 +1,18 @@
 -- When the parts of a `World` stand for a world of the definitions.
-use Rattle.std.specs.Prelude.{ℕ, Bool, true, false, Option, Some, None, Result, ◌≡◌, ◌<◌, List, [], All, length, reverse, slice_index_or}
+use Rattle.std.specs.Prelude.{ℕ, Bool, true, false, Option, Some, None, Result, ◌≡◌, ◌<◌, List, [], All, length, reverse, slice_index_or, slice_set}
 use Rattle.std.specs.List.{list_all}
 use Rattle.sm_ranges.specs.Ranges.{IsLayout}
 use Rattle.sm_ranges.specs.ServerId.{IsServer}
-use Rattle.sm_table.specs.declared.entry.Entry.{Entry}
-use Rattle.sm_table.specs.declared.record.Record.{Record}
+use Rattle.sm_ranges.specs.declared.stand.Stand.{Stand}
+use Rattle.sm_ranges.specs.declared.stand.Stand.TheVariants.{Vacant, Serving, Prepared, Forwarding, Taken, Paused}
+use Rattle.sm_ownership.specs.declared.entry.Entry.{Entry}
+use Rattle.sm_ownership.specs.declared.record.Record.{Record}
 use Rattle.sm_table.specs.declared.flight.Flight.{Flight}
 use Rattle.sm_table.specs.declared.in_hand.InHand.{InHand}
 use Rattle.sm_table.specs.declared.world_answer.WorldAnswer.{WorldAnswer}
 use Rattle.sm_table.specs.declared.world_fault.WorldFault.{WorldFault}
 use Rattle.sm_table.specs.Desk.{DeskView, is_known}
-use Rattle.sm_table.specs.History.{IsLegal, admits_only, is_admission_of, latest_of, kept}
+use Rattle.sm_ownership.specs.History.{after_admit, record_at, IsLegal, admits_only, is_admission_of, latest_of, kept}
 use Rattle.sm_table.specs.World.{Frame, WorldState, Outcome, count_of, desk_of, world_record, world_table}
 
 -- a frame that a world can be made with: bounds of a layout, and servers by their numbers
@@ -23,16 +25,26 @@ pub record IsFlight {Q : Type 0} (frame : Frame) (flight : Flight Q) : Type 0 wh
   pub shard : flight.envelope.shard < length frame.bounds
   pub server : is_known frame.servers flight.to ≡ true
 
--- a shard is admitted exactly where a server has a request in hand, and then that server was admitted last
+-- a shard is admitted exactly where a server has it in hand, and then that server was admitted last
 abbrev pub IsHeld : {Q : Type 0} → List (Entry Q) → Bool → ℕ → Option (InHand Q) → Type 0
 IsHeld history admitted shard None = admitted ≡ false
 IsHeld history admitted shard (Some hand) = (admitted ≡ true) × (is_admission_of hand.server (latest_of (reverse history) shard) ≡ true)
+
+-- the servers that a stand names exist
+abbrev pub NamesKnown : List ℕ → Stand → Type 0
+NamesKnown servers Vacant = Unit {0}
+NamesKnown servers (Serving owner) = is_known servers owner ≡ true
+NamesKnown servers (Prepared owner next) = (is_known servers owner ≡ true) × (is_known servers next ≡ true)
+NamesKnown servers (Forwarding owner next) = (is_known servers owner ≡ true) × (is_known servers next ≡ true)
+NamesKnown servers (Taken owner previous) = (is_known servers owner ≡ true) × (is_known servers previous ≡ true)
+NamesKnown servers (Paused owner) = is_known servers owner ≡ true
 
 -- what holds of each world that steps lead to
 pub record IsSound {Q : Type 0} (w : WorldState Q) : Type 0 where
   pub frame : IsFrame w.frame
   pub legal : IsLegal (count_of w) w.frame.ceiling w.history
   pub own_server : list_all (λ entry. admits_only entry.actor entry.kind) w.history ≡ true
+  pub named : (shard : ℕ) → shard < count_of w → NamesKnown w.frame.servers (world_record w shard).stand
   pub flights : All (IsFlight w.frame) w.in_flight
   pub hands : length w.in_hand ≡ count_of w
   pub held : (shard : ℕ) → shard < count_of w → IsHeld w.history (world_record w shard).admitted shard (slice_index_or w.in_hand shard None)
@@ -65,3 +77,8 @@ pub record StandsFor {Q : Type 0} (view : WorldView Q) (w : WorldState Q) : Type
 pub record Follows {Q R : Type 0} (view : WorldView Q) (result : Result (WorldAnswer R) WorldFault) (outcome : Outcome Q R) : Type 0 where
   pub answered : result ≡ outcome.0
   pub stands : StandsFor view outcome.1
+
+-- the parts after an admission to a shard, with what the server then has in hand
+abbrev pub with_admission : {Q : Type 0} → WorldView Q → ℕ → InHand Q → WorldView Q
+with_admission view shard hand =
+    record view { records = slice_set view.records shard (after_admit (record_at view.records shard)); in_hand = slice_set view.in_hand shard (Some hand) }

@@ -1,31 +1,32 @@
 -- The world: the whole shard manager as one thread would run it. What each step answers, and what it leaves.
-use Rattle.std.specs.Prelude.{ℕ, Option, Some, None, Result, Ok, Err, nat_lt, not, if◌then◌else◌, List, [], ◌∷◌, ◌++◌, length, map, remove, replicate, slice_get, slice_index_or, slice_set}
-use Rattle.std.specs.Option.{option_or}
+use Rattle.std.specs.Prelude.{ℕ, Option, Some, None, Result, Ok, Err, nat_lt, if◌then◌else◌, List, [], ◌∷◌, ◌++◌, length, map, remove, replicate, slice_get, slice_index_or, slice_set}
+use Rattle.std.specs.Option.{option_map, option_or}
 use Rattle.sm_ranges.specs.Ranges.{shard_of}
-use Rattle.sm_table.specs.declared.admit_fault.AdmitFault.{AdmitFault}
-use Rattle.sm_table.specs.declared.change.Change.{Change}
+use Rattle.sm_ownership.specs.declared.admit_fault.AdmitFault.{AdmitFault}
+use Rattle.sm_ownership.specs.declared.change.Change.{Change}
 use Rattle.sm_table.specs.declared.command.Command.{Command}
 use Rattle.sm_table.specs.declared.command.Command.TheVariants.{Change as ChangeOf}
 use Rattle.sm_table.specs.declared.command.CommandFault.{CommandFault}
-use Rattle.sm_table.specs.declared.command.CommandFault.TheVariants.{Spent, Busy}
-use Rattle.sm_table.specs.declared.entry.Entry.{Entry}
-use Rattle.sm_table.specs.declared.entry.Kind.{Kind}
-use Rattle.sm_table.specs.declared.entry.Kind.TheVariants.{Change as Changed, Admit, Done}
-use Rattle.sm_table.specs.declared.mode.Mode.TheVariants.{Direct}
-use Rattle.sm_table.specs.declared.record.Record.{Record}
+use Rattle.sm_ownership.specs.declared.entry.Entry.{Entry}
+use Rattle.sm_ownership.specs.declared.entry.Kind.{Kind}
+use Rattle.sm_ownership.specs.declared.entry.Kind.TheVariants.{Change as Changed, Admit, Done}
+use Rattle.sm_ownership.specs.declared.mode.Mode.TheVariants.{Direct}
+use Rattle.sm_ownership.specs.declared.record.Record.{Record}
 use Rattle.sm_table.specs.declared.flight.Flight.{Flight}
 use Rattle.sm_table.specs.declared.in_hand.InHand.{InHand}
-use Rattle.sm_table.specs.declared.refusal.Refusal.TheVariants.{Admit as NotAdmitted, KeptFull, NoMemory as NoMemoryFor}
+use Rattle.sm_table.specs.declared.in_hand.Work.{Work}
+use Rattle.sm_table.specs.declared.refusal.Refusal.TheVariants.{TooManyHops, Admit as NotAdmitted, KeptFull, NoMemory as NoMemoryFor}
 use Rattle.sm_table.specs.declared.step.Step.{Step}
-use Rattle.sm_table.specs.declared.step.Step.TheVariants.{Control, Look, Send, Deliver, Finish}
+use Rattle.sm_table.specs.declared.step.Step.TheVariants.{Control, Look, Send, Deliver, Finish, Lose, Hold, Free}
 use Rattle.sm_table.specs.declared.world_answer.WorldAnswer.{WorldAnswer}
-use Rattle.sm_table.specs.declared.world_answer.WorldAnswer.TheVariants.{Made, Seen, Sent, Began, Refused, Replied}
+use Rattle.sm_table.specs.declared.world_answer.WorldAnswer.TheVariants.{Made, Seen, Sent, Began, Forwarded, Refused, Replied}
 use Rattle.sm_table.specs.declared.world_fault.WorldFault.{WorldFault}
-use Rattle.sm_table.specs.declared.world_fault.WorldFault.TheVariants.{Command as CommandRefused, UnknownShard, UnknownServer, NoEnvelope, NotHeld, NoMemory}
-use Rattle.sm_table.specs.Desk.{DeskView, is_known, desk_fault}
-use Rattle.sm_table.specs.Envelope.{EnvelopeView}
-use Rattle.sm_table.specs.History.{record_at, table_of, kept}
-use Rattle.sm_table.specs.Rules.{admit_fault}
+use Rattle.sm_table.specs.declared.world_fault.WorldFault.TheVariants.{Command as CommandRefused, Admit as AdmitRefused, UnknownShard, UnknownServer, NoEnvelope, NotHeld, NoMemory}
+use Rattle.sm_table.specs.Desk.{DeskView, is_known, desk_fault, command_fault_from}
+use Rattle.sm_table.specs.Envelope.{EnvelopeView, sent_on}
+use Rattle.sm_ownership.specs.History.{record_at, table_of, kept}
+use Rattle.sm_ownership.specs.Rules.{admit_fault, forward_to}
+use Rattle.sm_ownership.specs.Tables.{record_fault}
 
 -- what a service means: the reply to a request after those of a list, and the bytes that choose its shard
 pub record Service (Q R : Type 0) : Type 0 where
@@ -39,7 +40,7 @@ pub record Frame : Type 0 where
   pub ceiling : ℕ
   pub limits : List ℕ
 
--- a world: its history, the envelopes in flight, and by shard the request that a server has in hand
+-- a world: its history, the envelopes in flight, and by shard what the server that is admitted to it has in hand
 pub record WorldState (Q : Type 0) : Type 0 where
   pub frame : Frame
   pub history : List (Entry Q)
@@ -77,10 +78,7 @@ desk_of w = record { servers = w.frame.servers; stands = map (λ state. state.st
 
 -- what the table refuses of a change that the desk lets through
 abbrev pub table_fault : ℕ → Record → Option CommandFault
-table_fault ceiling state =
-    if not (nat_lt state.generation ceiling) then Some (Spent state)
-    else if state.admitted then Some (Busy state)
-    else None
+table_fault ceiling state = option_map command_fault_from (record_fault ceiling state)
 
 abbrev pub controlled : {Q R : Type 0} → WorldState Q → ℕ → Change → Option CommandFault → Outcome Q R
 controlled w shard change (Some fault) = (Err (CommandRefused fault), w)
@@ -101,47 +99,96 @@ after_send service w to number request =
     then (Ok Sent, record w { in_flight = w.in_flight ++ record { to = to; envelope = record { number = number; shard = shard_of w.frame.bounds (service.key_of request); mode = Direct; hops = 0; request = request } } ∷ [] })
     else (Err UnknownServer, w)
 
+-- an envelope in flight to a server
+abbrev pub flight_to : {Q : Type 0} → ℕ → EnvelopeView Q → Flight Q
+flight_to to envelope = record { to = to; envelope = envelope }
+
+-- the request of an envelope, as the server that begins it has it in hand
+abbrev pub hand_of : {Q : Type 0} → ℕ → EnvelopeView Q → InHand Q
+hand_of server envelope = record { server = server; work = Some (record { number = envelope.number; request = envelope.request }) }
+
 -- the server is admitted for the envelope and has its request in hand, or refuses it
 abbrev pub reached : {Q R : Type 0} → WorldState Q → ℕ → EnvelopeView Q → Option AdmitFault → Outcome Q R
 reached w to envelope (Some fault) = (Ok (Refused (NotAdmitted fault)), w)
-reached w to envelope None = (
-  Ok (Began to),
-  with_hand (with_entry w to envelope.shard (Admit to envelope.mode)) envelope.shard
-      (Some (record { server = to; number = envelope.number; request = envelope.request })),
-)
+reached w to envelope None = (Ok (Began to), with_hand (with_entry w to envelope.shard (Admit to envelope.mode)) envelope.shard (Some (hand_of to envelope)))
+
+-- a hop puts the envelope last in flight; where none is left the request is refused
+abbrev pub after_hop : {Q R : Type 0} → List (Flight Q) → Result (ℕ × EnvelopeView Q) (EnvelopeView Q) → WorldAnswer R × List (Flight Q)
+after_hop in_flight (Ok hop) = (Forwarded hop.0, in_flight ++ flight_to hop.0 hop.1 ∷ [])
+after_hop in_flight (Err envelope) = (Refused TooManyHops, in_flight)
+
+abbrev pub hopped : {Q R : Type 0} → WorldState Q → WorldAnswer R × List (Flight Q) → Outcome Q R
+hopped w hop = (Ok hop.0, record w { in_flight = hop.1 })
+
+-- a server that forwards requests on the shard forwards the envelope; any other begins it or refuses it
+abbrev pub arrived : {Q R : Type 0} → WorldState Q → ℕ → EnvelopeView Q → Option ℕ → Outcome Q R
+arrived w at envelope None = reached w at envelope (admit_fault w.frame.ceiling (world_record w envelope.shard) at envelope.mode)
+arrived w at envelope (Some to) = hopped w (after_hop w.in_flight (sent_on envelope at (Some to)))
+
+abbrev pub without_flight : {Q : Type 0} → WorldState Q → ℕ → WorldState Q
+without_flight w place = record w { in_flight = remove w.in_flight place }
 
 abbrev pub delivered : {Q R : Type 0} → WorldState Q → ℕ → Option (Flight Q) → Outcome Q R
 delivered w place None = (Err NoEnvelope, w)
-delivered w place (Some flight) =
-    reached (record w { in_flight = remove w.in_flight place }) flight.to flight.envelope
-    (admit_fault w.frame.ceiling (world_record w flight.envelope.shard) flight.to flight.envelope.mode)
+delivered w place (Some flight) = arrived (without_flight w place) flight.to flight.envelope (forward_to (world_record w flight.envelope.shard) flight.to)
 
 -- the envelope at this place of those in flight reaches its server
 abbrev pub after_deliver : {Q R : Type 0} → WorldState Q → ℕ → Outcome Q R
 after_deliver w place = delivered w place (slice_get w.in_flight place)
+
+-- the envelope at this place of those in flight is lost
+abbrev pub after_lose : {Q R : Type 0} → WorldState Q → ℕ → Outcome Q R
+after_lose w place = if nat_lt place (length w.in_flight) then (Ok Made, without_flight w place) else (Err NoEnvelope, w)
 
 -- the admission ends, and the shard keeps this request of it, if any
 abbrev pub ended : {Q : Type 0} → WorldState Q → ℕ → ℕ → Option Q → WorldState Q
 ended w shard server request = with_hand (with_entry w server shard (Done request)) shard None
 
 -- a shard with room keeps the request and replies, unless memory for it is refused
-abbrev pub with_room : {Q R : Type 0} → Service Q R → WorldState Q → Mark → ℕ → InHand Q → Outcome Q R
-with_room service w Unserved shard hand = (Ok (Refused NoMemoryFor), ended w shard hand.server None)
-with_room service w mark shard hand = (
-  Ok (Replied hand.number hand.server (service.reply_of (kept w.history shard) hand.request) (length (kept w.history shard))),
-  ended w shard hand.server (Some hand.request),
+abbrev pub with_room : {Q R : Type 0} → Service Q R → WorldState Q → Mark → ℕ → ℕ → Work Q → Outcome Q R
+with_room service w Unserved shard server work = (Ok (Refused NoMemoryFor), ended w shard server None)
+with_room service w mark shard server work = (
+  Ok (Replied work.number server (service.reply_of (kept w.history shard) work.request) (length (kept w.history shard))),
+  ended w shard server (Some work.request),
 )
+
+abbrev pub worked : {Q R : Type 0} → Service Q R → WorldState Q → Mark → ℕ → ℕ → Option (Work Q) → Outcome Q R
+worked service w mark shard server None = (Err NotHeld, w)
+worked service w mark shard server (Some work) =
+    if nat_lt (length (kept w.history shard)) (slice_index_or w.frame.limits shard 0)
+    then with_room service w mark shard server work
+    else (Ok (Refused KeptFull), ended w shard server None)
 
 abbrev pub served : {Q R : Type 0} → Service Q R → WorldState Q → Mark → ℕ → Option (InHand Q) → Outcome Q R
 served service w mark shard None = (Err NotHeld, w)
-served service w mark shard (Some hand) =
-    if nat_lt (length (kept w.history shard)) (slice_index_or w.frame.limits shard 0)
-    then with_room service w mark shard hand
-    else (Ok (Refused KeptFull), ended w shard hand.server None)
+served service w mark shard (Some hand) = worked service w mark shard hand.server hand.work
 
 -- the server with the shard's request in hand executes it, and its admission ends
 abbrev pub after_finish : {Q R : Type 0} → Service Q R → WorldState Q → Mark → ℕ → Outcome Q R
 after_finish service w mark shard = served service w mark shard (slice_index_or w.in_hand shard None)
+
+abbrev pub held : {Q R : Type 0} → WorldState Q → ℕ → ℕ → Option AdmitFault → Outcome Q R
+held w shard server (Some fault) = (Err (AdmitRefused fault), w)
+held w shard server None = (Ok Made, with_hand (with_entry w server shard (Admit server Direct)) shard (Some (record { server = server; work = None })))
+
+-- the server is admitted to the shard, without a request
+abbrev pub after_hold : {Q R : Type 0} → WorldState Q → ℕ → ℕ → Outcome Q R
+after_hold w shard server =
+    if nat_lt shard (count_of w)
+    then (if is_known w.frame.servers server then held w shard server (admit_fault w.frame.ceiling (world_record w shard) server Direct) else (Err UnknownServer, w))
+    else (Err UnknownShard, w)
+
+abbrev pub let_go : {Q R : Type 0} → WorldState Q → ℕ → ℕ → Option (Work Q) → Outcome Q R
+let_go w shard server None = (Ok Made, ended w shard server None)
+let_go w shard server (Some work) = (Err NotHeld, w)
+
+abbrev pub freed : {Q R : Type 0} → WorldState Q → ℕ → Option (InHand Q) → Outcome Q R
+freed w shard None = (Err NotHeld, w)
+freed w shard (Some hand) = let_go w shard hand.server hand.work
+
+-- the admission without a request ends
+abbrev pub after_free : {Q R : Type 0} → WorldState Q → ℕ → Outcome Q R
+after_free w shard = if nat_lt shard (count_of w) then freed w shard (slice_index_or w.in_hand shard None) else (Err UnknownShard, w)
 
 -- what a step that went so answers, and the world that it leaves
 abbrev pub outcome : {Q R : Type 0} → Service Q R → WorldState Q → Mark → Step Q → Outcome Q R
@@ -151,6 +198,9 @@ outcome service w mark (Look shard) = after_look w shard
 outcome service w mark (Send to number request) = after_send service w to number request
 outcome service w mark (Deliver place) = after_deliver w place
 outcome service w mark (Finish shard) = after_finish service w mark shard
+outcome service w mark (Lose place) = after_lose w place
+outcome service w mark (Hold shard server) = after_hold w shard server
+outcome service w mark (Free shard) = after_free w shard
 
 abbrev pub answer : {Q R : Type 0} → Service Q R → WorldState Q → Mark → Step Q → Result (WorldAnswer R) WorldFault
 answer service w mark step = (outcome service w mark step).0

@@ -1,5 +1,6 @@
-use crate::change::{Change, PhaseFault};
-use crate::record::Record;
+use sm_ownership::change::{Change, PhaseFault};
+use sm_ownership::change_fault::ChangeFault;
+use sm_ownership::record::Record;
 use sm_ranges::shard_id::ShardId;
 use thiserror::Error;
 
@@ -43,6 +44,23 @@ impl From<PhaseFault> for CommandFault {
         match fault {
             PhaseFault::WrongPhase => CommandFault::WrongPhase,
             PhaseFault::SameServer => CommandFault::SameServer,
+        }
+    }
+}
+
+impl From<ChangeFault> for CommandFault {
+    ghost use Rattle.std.specs.Prelude.{◌≡◌};
+    ghost use Rattle.sm_table.specs.Desk.{command_fault_from};
+
+    ghost from_gives = { λ fault command. command ≡ command_fault_from fault };
+
+    fn from(fault: ChangeFault) -> CommandFault {
+        match fault {
+            ChangeFault::UnknownShard => CommandFault::UnknownShard,
+            ChangeFault::WrongPhase => CommandFault::WrongPhase,
+            ChangeFault::SameServer => CommandFault::SameServer,
+            ChangeFault::Spent(record) => CommandFault::Spent(record),
+            ChangeFault::Busy(record) => CommandFault::Busy(record),
         }
     }
 }

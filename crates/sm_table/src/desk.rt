@@ -4,8 +4,8 @@ ghost use Rattle.std.specs.Result.{result_err};
 ghost use Rattle.sm_ranges.specs.ServerId.{IsServer};
 ghost use Rattle.sm_table.specs.Desk.{is_known, change_fault, desk_fault, desk_after};
 
-use crate::change::Change;
 use crate::command::{Command, CommandFault};
+use sm_ownership::change::Change;
 use sm_ranges::server_id::ServerId;
 use sm_ranges::shard_id::ShardId;
 use sm_ranges::stand::Stand;

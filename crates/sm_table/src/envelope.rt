@@ -1,26 +1,30 @@
 ghost use Rattle.std.specs.Prelude.{◌≡◌};
-ghost use Rattle.sm_table.specs.declared.mode.Mode.TheVariants.{Direct};
+ghost use Rattle.sm_ownership.specs.declared.mode.Mode.TheVariants.{Direct};
+ghost use Rattle.sm_table.specs.Envelope.{forwarded, shell_of, whole};
 
-use crate::mode::Mode;
+use crate::shell::Shell;
+use sm_ownership::mode::Mode;
+use sm_ownership::record::Record;
+use sm_ranges::server_id::ServerId;
 use sm_ranges::shard_id::ShardId;
 use std::marker::Model;
+
+/// How often a request is forwarded at most.
+pub const MOST_HOPS: u8 = 4;
 
 /// A request on its way to a shard: its number, its shard, how it came, and how often it was forwarded.
 #[derive(Debug, Drop)]
 pub struct Envelope<Q: Drop> {
-    number: u64,
-    shard: ShardId,
-    mode: Mode,
-    hops: u8,
+    shell: Shell,
     request: Q,
 }
 
 impl<Q: Drop> Model for Envelope<Q> {
-    ghost use Rattle.sm_table.specs.Envelope.{EnvelopeView};
+    ghost use Rattle.sm_table.specs.Envelope.{EnvelopeView, whole};
 
     ghost Value = { EnvelopeView Q };
 
-    ghost view = { λ e. record { number = e.number; shard = e.shard; mode = e.mode; hops = e.hops; request = e.request } };
+    ghost view = { λ envelope. whole envelope.shell envelope.request };
 }
 
 impl<Q: Drop> Envelope<Q> {
@@ -29,43 +33,79 @@ impl<Q: Drop> Envelope<Q> {
         ensures { result ≡ record { number = number; shard = shard; mode = Direct; hops = 0; request = request } }
     {
         Envelope {
-            number,
-            shard,
-            mode: Mode::Direct,
-            hops: 0,
+            shell: Shell::direct(number, shard),
             request,
         }
+    }
+
+    // The envelope of these parts.
+    pub(crate) fn of_parts(shell: Shell, request: Q) -> Envelope<Q>
+        ensures { result ≡ whole shell request }
+    {
+        Envelope { shell, request }
     }
 
     pub fn number(&self) -> u64
         ensures { result ≡ self.now.number }
     {
-        self.number
+        self.shell.number()
     }
 
     pub fn shard(&self) -> ShardId
         ensures { result ≡ self.now.shard }
     {
-        self.shard
+        self.shell.shard()
     }
 
     pub fn mode(&self) -> Mode
         ensures { result ≡ self.now.mode }
     {
-        self.mode
+        self.shell.mode()
     }
 
-    /// How often the request was forwarded.
+    /// How often the request was forwarded, 0 to 4.
     pub fn hops(&self) -> u8
         ensures { result ≡ self.now.hops }
     {
-        self.hops
+        self.shell.hops()
     }
 
-    /// The request alone.
-    pub fn into_request(self) -> Q
-        ensures { result ≡ self.request }
+    pub fn request(&self) -> &Q
+        ensures { result.now ≡ self.now.request }
     {
-        self.request
+        &self.request
+    }
+
+    /// The envelope as the server `at` forwards it, and the server that it goes to. Where the record lets `at` forward
+    /// nothing, or the request was forwarded as often as it may be, the envelope comes back as it was.
+    pub fn forwarded(
+        self,
+        state: &Record,
+        at: ServerId,
+    ) -> Result<(ServerId, Envelope<Q>), Envelope<Q>>
+        ensures { result ≡ forwarded self state.now at }
+    {
+        let Envelope { shell, request } = self;
+        match state.forward_to(at) {
+            Some(to) if shell.hops() < MOST_HOPS => Ok((
+                to,
+                Envelope {
+                    shell: shell.forwarded(at),
+                    request,
+                },
+            )),
+            _ => Err(Envelope { shell, request }),
+        }
+    }
+
+    /// The request, and the envelope but for it.
+    pub fn parts(self) -> (Q, Shell)
+        ensures request { result.0 ≡ self.request }
+        ensures shell { result.1 ≡ shell_of self }
+    {
+        (self.request, self.shell)
     }
 }
+
+#[cfg(test)]
+mod tests;

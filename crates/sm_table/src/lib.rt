@@ -2,24 +2,20 @@
 //! as one thread would run it, with the laws that hold of it.
 #![tactic(auto)]
 
-pub mod admit_fault;
 mod bodies;
-pub mod change;
-pub mod change_fault;
 pub mod command;
 pub mod desk;
-pub mod entry;
 pub mod envelope;
 pub mod flight;
+mod hands;
 pub mod in_hand;
 pub mod laws;
-pub mod mode;
-pub mod record;
 pub mod refusal;
-pub mod route;
 pub mod setup;
+pub mod shell;
 pub mod step;
-pub mod table;
 pub mod world;
 pub mod world_answer;
 pub mod world_fault;
+
+pub use sm_ownership::{admit_fault, change, change_fault, entry, mode, record, route, table};

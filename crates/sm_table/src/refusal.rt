@@ -1,9 +1,12 @@
-use crate::admit_fault::AdmitFault;
+use sm_ownership::admit_fault::AdmitFault;
 use thiserror::Error;
 
 /// Why a request was refused.
 #[derive(Clone, Copy, Debug, PartialEq, Eq, Drop, Error)]
 pub enum Refusal {
+    /// The server forwards requests on the shard, and this one was forwarded as often as it may be.
+    #[error("the request was forwarded too often")]
+    TooManyHops,
     /// The server was not admitted to the shard.
     #[error("{0}")]
     Admit(AdmitFault),

@@ -15,4 +15,10 @@ pub enum Step<Q> {
     Deliver(usize),
     /// The server admitted to the shard executes the request that it has in hand.
     Finish(ShardId),
+    /// The envelope at this place of those in flight is lost.
+    Lose(usize),
+    /// The server is admitted to the shard without a request.
+    Hold(ShardId, ServerId),
+    /// The admission to the shard without a request ends.
+    Free(ShardId),
 }

@@ -1,24 +1,32 @@
-ghost use Rattle.std.specs.Prelude.{◌≡◌, ◌<◌, ◌≤◌, ◌^◌, [], All, IfOk, length, map, replicate, vec_len};
+ghost use Rattle.std.specs.Prelude.{◌≡◌, ◌<◌, ◌≤◌, ◌^◌, [], All, IfOk, OnOk, OnErr, length, map, replicate, vec_capacity, vec_len};
+ghost use Rattle.std.specs.Result.{result_err};
 ghost use Rattle.sm_ranges.specs.declared.stand.Stand.TheVariants.{Vacant};
+ghost use Rattle.sm_ownership.specs.History.{record_at};
+ghost use Rattle.sm_ownership.specs.Rules.{admit_fault};
+ghost use Rattle.sm_table.specs.Envelope.{forwarded};
 ghost use Rattle.sm_table.specs.Setup.{frame_of};
-ghost use Rattle.sm_table.specs.Standing.{StandsFor, Follows};
-ghost use Rattle.sm_table.specs.World.{WorldState, outcome, mark_of, empty_world};
+ghost use Rattle.sm_table.specs.Standing.{StandsFor, Follows, with_admission};
+ghost use Rattle.sm_table.specs.World.{WorldState, after_hop, outcome, mark_of, empty_world};
 ghost use Rattle.sm_table.specs.declared.command.Command.TheVariants.{Change as ChangeOf};
-ghost use Rattle.sm_table.specs.declared.step.Step.TheVariants.{Control as ControlOf, Look as LookAt, Send as SendOf, Deliver as DeliverAt, Finish as FinishAt};
+ghost use Rattle.sm_table.specs.declared.step.Step.TheVariants.{Control as ControlOf, Look as LookAt, Send as SendOf, Deliver as DeliverAt, Finish as FinishAt, Lose as LoseAt, Hold as HoldAt, Free as FreeAt};
 
 use crate::bodies::Bodies;
-use crate::change::Change;
 use crate::command::Command;
 use crate::desk::Desk;
 use crate::envelope::Envelope;
 use crate::flight::Flight;
-use crate::in_hand::InHand;
+use crate::hands::Hands;
+use crate::in_hand::{InHand, Work};
 use crate::refusal::Refusal;
 use crate::setup::Setup;
 use crate::step::Step;
-use crate::table::Table;
 use crate::world_answer::WorldAnswer;
 use crate::world_fault::WorldFault;
+use sm_ownership::admit_fault::AdmitFault;
+use sm_ownership::change::Change;
+use sm_ownership::mode::Mode;
+use sm_ownership::record::Record;
+use sm_ownership::table::Table;
 use sm_ranges::layout::Layout;
 use sm_ranges::server_id::ServerId;
 use sm_ranges::shard_id::ShardId;
@@ -34,7 +42,7 @@ pub struct World<S: Service> {
     table: Table,
     bodies: Bodies<S>,
     in_flight: Vec<Flight<S::Request>>,
-    in_hand: Vec<Option<InHand<S::Request>>>,
+    in_hand: Hands<S::Request>,
 }
 
 impl<S: Service> Model for World<S> {
@@ -50,7 +58,7 @@ impl<S: Service> Model for World<S> {
       kept = world.bodies.kept;
       limits = world.bodies.limits;
       in_flight = world.in_flight.items;
-      in_hand = world.in_hand.items;
+      in_hand = world.in_hand;
     } };
 
     ghost use Rattle.sm_table.specs.Together.{IsTogether};
@@ -63,7 +71,7 @@ impl<S: Service> Model for World<S> {
       kept = world.bodies.kept;
       limits = world.bodies.limits;
       in_flight = world.in_flight.items;
-      in_hand = world.in_hand.items;
+      in_hand = world.in_hand;
     }) };
 }
 
@@ -89,7 +97,7 @@ impl<S: Service> World<S> {
             table: Table::new(alloc, count, ceiling)?,
             bodies: Bodies::new(bodies),
             in_flight: Vec::new(alloc),
-            in_hand: none_in_hand(alloc, count)?,
+            in_hand: Hands::none(alloc, count)?,
             layout,
             desk,
         })
@@ -109,6 +117,9 @@ impl<S: Service> World<S> {
             Step::Send(to, number, request) => self.send(to, number, request),
             Step::Deliver(place) => self.deliver(place),
             Step::Finish(k) => self.finish(k),
+            Step::Lose(place) => self.lose(place),
+            Step::Hold(k, server) => self.hold(k, server),
+            Step::Free(k) => self.free(k),
         }
     }
 
@@ -179,7 +190,7 @@ impl<S: Service> World<S> {
         Ok(WorldAnswer::Sent)
     }
 
-    // An envelope in flight reaches its server, which is admitted to its shard or refuses it.
+    // An envelope in flight reaches its server, which forwards it, begins it, or refuses it.
     fn deliver(&mut self, place: usize) -> Result<WorldAnswer<S::Reply>, WorldFault>
         ensures stands { (w : WorldState S.Request) → StandsFor self.old w
             → Follows self.new result
@@ -191,14 +202,16 @@ impl<S: Service> World<S> {
         }
         let Flight { to, envelope } = self.in_flight.remove(place);
         let k = envelope.shard();
-        if let Err(fault) = self.table.admit(k, to, envelope.mode()) {
+        let state = self.table.record(k);
+        if state.forward_to(to).is_some() {
+            return Ok(send_on(&mut self.in_flight, &state, to, envelope));
+        }
+        let number = envelope.number();
+        let mode = envelope.mode();
+        let (request, _) = envelope.parts();
+        if let Err(fault) = self.admit(k, to, mode, Some(Work { number, request })) {
             return Ok(WorldAnswer::Refused(Refusal::Admit(fault)));
         }
-        self.in_hand[k.index()] = Some(InHand {
-            server: to,
-            number: envelope.number(),
-            request: envelope.into_request(),
-        });
         Ok(WorldAnswer::Began(to))
     }
 
@@ -209,17 +222,10 @@ impl<S: Service> World<S> {
             (outcome (record { reply_of = S.reply_of; key_of = S.key_of }) w (mark_of result) (FinishAt k)) }
         ensures bounds { self.new.bounds ≡ self.old.bounds }
     {
-        if k.index() >= self.in_hand.len() {
-            return Err(WorldFault::NotHeld);
-        }
-        let Some(hand) = self.in_hand[k.index()].take() else {
+        let Some((server, work)) = self.in_hand.take_work(k) else {
             return Err(WorldFault::NotHeld);
         };
-        let InHand {
-            server,
-            number,
-            request,
-        } = hand;
+        let Work { number, request } = work;
         self.table.done(k);
         let place = self.bodies.kept(k) as u64;
         match self.bodies.apply(k, request) {
@@ -233,17 +239,95 @@ impl<S: Service> World<S> {
             Err((_, ApplyFault::NoMemory)) => Ok(WorldAnswer::Refused(Refusal::NoMemory)),
         }
     }
+
+    // An envelope in flight is lost.
+    fn lose(&mut self, place: usize) -> Result<WorldAnswer<S::Reply>, WorldFault>
+        ensures stands { (w : WorldState S.Request) → StandsFor self.old w
+            → Follows self.new result
+            (outcome (record { reply_of = S.reply_of; key_of = S.key_of }) w (mark_of result) (LoseAt place)) }
+        ensures bounds { self.new.bounds ≡ self.old.bounds }
+    {
+        if place >= self.in_flight.len() {
+            return Err(WorldFault::NoEnvelope);
+        }
+        self.in_flight.remove(place);
+        Ok(WorldAnswer::Made)
+    }
+
+    // Admits the server to the shard without a request.
+    fn hold(&mut self, k: ShardId, server: ServerId) -> Result<WorldAnswer<S::Reply>, WorldFault>
+        ensures stands { (w : WorldState S.Request) → StandsFor self.old w
+            → Follows self.new result
+            (outcome (record { reply_of = S.reply_of; key_of = S.key_of }) w (mark_of result) (HoldAt k server)) }
+        ensures bounds { self.new.bounds ≡ self.old.bounds }
+    {
+        if k.index() >= self.table.count() {
+            return Err(WorldFault::UnknownShard);
+        }
+        if !self.desk.knows(server) {
+            return Err(WorldFault::UnknownServer);
+        }
+        if let Err(fault) = self.admit(k, server, Mode::Direct, None) {
+            return Err(WorldFault::Admit(fault));
+        }
+        Ok(WorldAnswer::Made)
+    }
+
+    // Ends an admission without a request.
+    fn free(&mut self, k: ShardId) -> Result<WorldAnswer<S::Reply>, WorldFault>
+        ensures stands { (w : WorldState S.Request) → StandsFor self.old w
+            → Follows self.new result
+            (outcome (record { reply_of = S.reply_of; key_of = S.key_of }) w (mark_of result) (FreeAt k)) }
+        ensures bounds { self.new.bounds ≡ self.old.bounds }
+    {
+        if k.index() >= self.table.count() {
+            return Err(WorldFault::UnknownShard);
+        }
+        if !self.in_hand.let_go(k) {
+            return Err(WorldFault::NotHeld);
+        }
+        self.table.done(k);
+        Ok(WorldAnswer::Made)
+    }
+
+    // Admits the server to the shard and gives it the work in hand, unless the shard's record refuses it.
+    fn admit(
+        &mut self,
+        k: ShardId,
+        server: ServerId,
+        mode: Mode,
+        work: Option<Work<S::Request>>,
+    ) -> Result<(), AdmitFault>
+        requires { k < length self.old.records }
+        ensures fault { result_err result
+            ≡ admit_fault self.old.ceiling (record_at self.old.records k) server mode }
+        ensures admitted { OnOk result
+            (self.new ≡ with_admission self.old k (record { server = server; work = work })) }
+        ensures unchanged { OnErr result (self.new ≡ self.old) }
+    {
+        self.table.admit(k, server, mode)?;
+        self.in_hand.put(k, InHand { server, work });
+        Ok(())
+    }
 }
 
-// For each of so many shards, that no server has a request in hand.
-fn none_in_hand<Q: Drop>(alloc: Global, count: usize) -> Result<Vec<Option<InHand<Q>>>, AllocError>
-    ensures { IfOk result (λ in_hand. in_hand.items ≡ replicate count None) }
+// The envelope reaches a server that forwards requests: it is put last in flight again, or refused where no hop is left.
+fn send_on<Q: Drop, R>(
+    in_flight: &mut Vec<Flight<Q>>,
+    state: &Record,
+    at: ServerId,
+    envelope: Envelope<Q>,
+) -> WorldAnswer<R>
+    requires room { vec_len in_flight.old < vec_capacity in_flight.old }
+    ensures { (result, in_flight.new.items) ≡ after_hop in_flight.old.items (forwarded envelope state.now at) }
 {
-    let mut in_hand = Vec::with_capacity(alloc, count)?;
-    for _ in 0..count {
-        in_hand.push(None)?;
+    match envelope.forwarded(state, at) {
+        Ok((to, envelope)) => {
+            in_flight.push_reserved(Flight { to, envelope });
+            WorldAnswer::Forwarded(to)
+        }
+        Err(_) => WorldAnswer::Refused(Refusal::TooManyHops),
     }
-    Ok(in_hand)
 }
 
 #[cfg(test)]

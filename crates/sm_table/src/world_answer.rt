@@ -1,11 +1,11 @@
-use crate::record::Record;
 use crate::refusal::Refusal;
+use sm_ownership::record::Record;
 use sm_ranges::server_id::ServerId;
 
 /// What a step answers.
 #[derive(Debug, Drop)]
 pub enum WorldAnswer<R> {
-    /// The command was carried out.
+    /// It was done.
     Made,
     /// The shard's record.
     Seen(Record),
@@ -13,6 +13,8 @@ pub enum WorldAnswer<R> {
     Sent,
     /// The server was admitted, and has the request in hand.
     Began(ServerId),
+    /// The server forwarded the request to this one, and it is in flight again, as the last.
+    Forwarded(ServerId),
     /// The request was refused, and is gone.
     Refused(Refusal),
     /// The request of this number was executed by the server, and stands at this place of the shard's kept requests, from 0.

@@ -1,4 +1,5 @@
 use crate::command::CommandFault;
+use sm_ownership::admit_fault::AdmitFault;
 use thiserror::Error;
 
 /// Why a step was refused. It then changed nothing.
@@ -7,6 +8,9 @@ pub enum WorldFault {
     /// The command was refused.
     #[error("{0}")]
     Command(CommandFault),
+    /// The server was not admitted to the shard.
+    #[error("{0}")]
+    Admit(AdmitFault),
     /// There is no such shard.
     #[error("there is no such shard")]
     UnknownShard,
@@ -16,8 +20,8 @@ pub enum WorldFault {
     /// There is no envelope at this place.
     #[error("there is no envelope at this place")]
     NoEnvelope,
-    /// No server has a request of the shard in hand.
-    #[error("no server has a request of the shard in hand")]
+    /// No server has the shard in hand, or not so: `Finish` ends an admission with a request, `Free` one without.
+    #[error("no server has the shard in hand so")]
     NotHeld,
     /// Memory for the step was refused.
     #[error("out of memory")]

@@ -71,12 +71,45 @@ fn bad_version_3(rt: HostRuntime) -> Result<(), Fail> {
 }
 
 #[test]
+fn cancel(rt: HostRuntime) -> Result<(), Fail> {
+    check(
+        &rt,
+        rt.alloc(),
+        b"{\"version\":1,\"bounds\":[\"\",\"m\"],\"servers\":[{\"id\":1,\"domain\":0,\"capacity\":2},{\"id\":2,\"domain\":1,\"capacity\":2},{\"id\":3,\"domain\":1,\"capacity\":2}],\"groups\":[{\"limit\":2,\"down\":1}],\"shards\":[{\"group\":0,\"load\":1,\"cap\":0},{\"group\":0,\"load\":1,\"cap\":1}],\"ops\":1,\"kept\":100,\"ceiling\":1000,\"workers\":2}\nassign 0 1\nprepare_add 0 2\nprepare_drop 0\nat 1 inc a 1\nat 1 inc a 1\nat 1 inc a 1\ncancel 0\nat 1 get a\nat 2 get a\ncancel 0\nlook 0\n",
+        b"ok\nok\nok\ncount 1 @2#0\ncount 2 @2#1\ncount 3 @2#2\nok\ncount 3 @1#3\nrefused NotExecutor\nrefused WrongPhase\nServing 1 0 idle 12\n",
+        Status::Ran,
+    )
+}
+
+#[test]
+fn counter_limits(rt: HostRuntime) -> Result<(), Fail> {
+    check(
+        &rt,
+        rt.alloc(),
+        b"{\"version\":1,\"bounds\":[\"\",\"m\"],\"servers\":[{\"id\":1,\"domain\":0,\"capacity\":2},{\"id\":2,\"domain\":1,\"capacity\":2},{\"id\":3,\"domain\":1,\"capacity\":2}],\"groups\":[{\"limit\":2,\"down\":1}],\"shards\":[{\"group\":0,\"load\":1,\"cap\":0},{\"group\":0,\"load\":1,\"cap\":1}],\"ops\":1,\"kept\":100,\"ceiling\":1000,\"workers\":2}\nassign 0 1\ninc a 9223372036854775807\ninc a 1\nget a\nput a x\ninc b -9223372036854775808\n",
+        b"ok\ncount 9223372036854775807 @1#0\nreply Overflow @1#1\ncount 9223372036854775807 @1#2\nreply WrongKind @1#3\ncount -9223372036854775808 @1#4\n",
+        Status::Ran,
+    )
+}
+
+#[test]
 fn first_path(rt: HostRuntime) -> Result<(), Fail> {
     check(
         &rt,
         rt.alloc(),
         b"{\"version\":1,\"bounds\":[\"\",\"m\"],\"servers\":[{\"id\":1,\"domain\":0,\"capacity\":2},{\"id\":2,\"domain\":1,\"capacity\":2},{\"id\":3,\"domain\":1,\"capacity\":2}],\"groups\":[{\"limit\":2,\"down\":1}],\"shards\":[{\"group\":0,\"load\":1,\"cap\":0},{\"group\":0,\"load\":1,\"cap\":1}],\"ops\":1,\"kept\":100,\"ceiling\":1000,\"workers\":2}\nassign 1 1\nput m hello\nget m\nlook 1\n",
         b"ok\ndone @1#0\ntext 5:hello @1#1\nServing 1 0 idle 5\n",
+        Status::Ran,
+    )
+}
+
+#[test]
+fn hold(rt: HostRuntime) -> Result<(), Fail> {
+    check(
+        &rt,
+        rt.alloc(),
+        b"{\"version\":1,\"bounds\":[\"\",\"m\"],\"servers\":[{\"id\":1,\"domain\":0,\"capacity\":2},{\"id\":2,\"domain\":1,\"capacity\":2},{\"id\":3,\"domain\":1,\"capacity\":2}],\"groups\":[{\"limit\":2,\"down\":1}],\"shards\":[{\"group\":0,\"load\":1,\"cap\":0},{\"group\":0,\"load\":1,\"cap\":1}],\"ops\":1,\"kept\":100,\"ceiling\":1000,\"workers\":2}\nassign 0 1\nhold 0 1\nprepare_add 0 2\nget a\nfree 0\nprepare_add 0 2\nfree 0\nlook 0\n",
+        b"ok\nok\nrefused Busy\nrefused Admitted\nok\nok\nrefused NotHeld\nPrepared 1 2 idle 4\n",
         Status::Ran,
     )
 }
@@ -93,6 +126,17 @@ fn kept_full(rt: HostRuntime) -> Result<(), Fail> {
 }
 
 #[test]
+fn malformed_words(rt: HostRuntime) -> Result<(), Fail> {
+    check(
+        &rt,
+        rt.alloc(),
+        b"{\"version\":1,\"bounds\":[\"\",\"m\"],\"servers\":[{\"id\":1,\"domain\":0,\"capacity\":2},{\"id\":2,\"domain\":1,\"capacity\":2},{\"id\":3,\"domain\":1,\"capacity\":2}],\"groups\":[{\"limit\":2,\"down\":1}],\"shards\":[{\"group\":0,\"load\":1,\"cap\":0},{\"group\":0,\"load\":1,\"cap\":1}],\"ops\":1,\"kept\":100,\"ceiling\":1000,\"workers\":2}\nget  a\nput  x\ninc a -0\ninc a 9223372036854775808\nassign 00 1\nscan a z 4294967296\nat x get a\nat 1\nclient\nat x fly a\nget \n \n",
+        b"error BadLine\nerror BadKey\nerror BadNumber\nerror BadNumber\nerror BadNumber\nerror BadNumber\nerror BadNumber\nerror BadLine\nerror BadLine\nerror UnknownWord\nerror BadKey\nerror UnknownWord\n",
+        Status::Ran,
+    )
+}
+
+#[test]
 fn malformed(rt: HostRuntime) -> Result<(), Fail> {
     check(
         &rt,
@@ -104,12 +148,34 @@ fn malformed(rt: HostRuntime) -> Result<(), Fail> {
 }
 
 #[test]
+fn migration(rt: HostRuntime) -> Result<(), Fail> {
+    check(
+        &rt,
+        rt.alloc(),
+        b"{\"version\":1,\"bounds\":[\"\",\"m\"],\"servers\":[{\"id\":1,\"domain\":0,\"capacity\":2},{\"id\":2,\"domain\":1,\"capacity\":2},{\"id\":3,\"domain\":1,\"capacity\":2}],\"groups\":[{\"limit\":2,\"down\":1}],\"shards\":[{\"group\":0,\"load\":1,\"cap\":0},{\"group\":0,\"load\":1,\"cap\":1}],\"ops\":1,\"kept\":100,\"ceiling\":1000,\"workers\":2}\nassign 0 1\nat 1 inc a 1\nat 2 inc a 1\nprepare_add 0 2\nat 1 inc a 1\nat 2 inc a 1\nprepare_drop 0\nat 1 inc a 1\nat 2 inc a 1\nadd 0\nat 1 inc a 1\nat 2 inc a 1\ndrop 0\nat 1 inc a 1\nat 2 inc a 1\nlook 0\n",
+        b"ok\ncount 1 @1#0\nrefused NotExecutor\nok\ncount 2 @1#1\nrefused NotExecutor\nok\ncount 3 @2#2\nrefused NotYet\nok\ncount 4 @2#3\ncount 5 @2#4\nok\nrefused NotExecutor\ncount 6 @2#5\nServing 2 0 idle 17\n",
+        Status::Ran,
+    )
+}
+
+#[test]
 fn settings_alone(rt: HostRuntime) -> Result<(), Fail> {
     check(
         &rt,
         rt.alloc(),
         b"{\"version\":1,\"bounds\":[\"\",\"m\"],\"servers\":[{\"id\":1,\"domain\":0,\"capacity\":2},{\"id\":2,\"domain\":1,\"capacity\":2},{\"id\":3,\"domain\":1,\"capacity\":2}],\"groups\":[{\"limit\":2,\"down\":1}],\"shards\":[{\"group\":0,\"load\":1,\"cap\":0},{\"group\":0,\"load\":1,\"cap\":1}],\"ops\":1,\"kept\":100,\"ceiling\":1000,\"workers\":2}\n",
         b"",
+        Status::Ran,
+    )
+}
+
+#[test]
+fn spent(rt: HostRuntime) -> Result<(), Fail> {
+    check(
+        &rt,
+        rt.alloc(),
+        b"{\"version\":1,\"bounds\":[\"\",\"m\"],\"servers\":[{\"id\":1,\"domain\":0,\"capacity\":2},{\"id\":2,\"domain\":1,\"capacity\":2},{\"id\":3,\"domain\":1,\"capacity\":2}],\"groups\":[{\"limit\":2,\"down\":1}],\"shards\":[{\"group\":0,\"load\":1,\"cap\":0},{\"group\":0,\"load\":1,\"cap\":1}],\"ops\":1,\"kept\":100,\"ceiling\":3,\"workers\":2}\nassign 0 1\nget a\nget a\npause 0\nlook 0\n",
+        b"ok\nnothing @1#0\nrefused Spent\nrefused Spent\nServing 1 0 idle 3\n",
         Status::Ran,
     )
 }

@@ -10,6 +10,10 @@ fn put_of(alloc: Global, key: &[u8], text: &[u8]) -> Result<Request, Fail> {
     Ok(Request::Put(Key::new(alloc, key)?, Bytes::new(alloc, text)?))
 }
 
+fn inc_of(alloc: Global, key: &[u8], amount: i64) -> Result<Request, Fail> {
+    Ok(Request::Inc(Key::new(alloc, key)?, amount))
+}
+
 // The service, as generic code sees it.
 fn applied<S: Service>(service: &mut S, request: S::Request) -> Result<S::Reply, ApplyFault> {
     match service.apply(request) {
@@ -100,16 +104,50 @@ fn holds_texts_up_to_the_longest(rt: HostRuntime) -> Result<(), Fail> {
 #[test]
 fn replies_to_counts(rt: HostRuntime) -> Result<(), Fail> {
     let alloc = rt.alloc();
-    let mut map = PairMap::new(alloc);
-    let key = Key::new(alloc, b"a")?;
-    map.put(alloc, &key, Held::Count(-7))?;
+    let mut service = CounterText::new(alloc, 10);
+    let first = applied(&mut service, inc_of(alloc, b"a", -7)?)?;
+    assert!(rt; matches!(first, Reply::Count(-7)));
     let longer: Vec<u8> = vec![in alloc; b'y'; 65_536]?;
     for text in [b"x".as_slice(), longer.as_slice()] {
-        let refused = answer(alloc, &mut map, &put_of(alloc, b"a", text)?)?;
+        let refused = applied(&mut service, put_of(alloc, b"a", text)?)?;
         assert!(rt; matches!(refused, Reply::WrongKind));
     }
-    let reply = answer(alloc, &mut map, &get_of(alloc, b"a")?)?;
+    let reply = applied(&mut service, get_of(alloc, b"a")?)?;
     assert!(rt; matches!(reply, Reply::Count(-7)));
+    assert_eq!(rt; service.kept(), 4);
+    Ok(())
+}
+
+#[test]
+fn counts_up_to_64_bits(rt: HostRuntime) -> Result<(), Fail> {
+    let alloc = rt.alloc();
+    let mut service = CounterText::new(alloc, 100);
+    let reply = applied(&mut service, inc_of(alloc, b"a", 9223372036854775807)?)?;
+    assert!(rt; matches!(reply, Reply::Count(9223372036854775807)));
+    let reply = applied(&mut service, inc_of(alloc, b"a", 1)?)?;
+    assert!(rt; matches!(reply, Reply::Overflow));
+    let reply = applied(&mut service, get_of(alloc, b"a")?)?;
+    assert!(rt; matches!(reply, Reply::Count(9223372036854775807)));
+    let reply = applied(&mut service, put_of(alloc, b"a", b"x")?)?;
+    assert!(rt; matches!(reply, Reply::WrongKind));
+    let reply = applied(&mut service, inc_of(alloc, b"b", -9223372036854775808)?)?;
+    assert!(rt; matches!(reply, Reply::Count(-9223372036854775808)));
+    assert_eq!(rt; service.kept(), 5);
+    Ok(())
+}
+
+#[test]
+fn increments_no_text(rt: HostRuntime) -> Result<(), Fail> {
+    let alloc = rt.alloc();
+    let mut service = CounterText::new(alloc, 100);
+    let inc = inc_of(alloc, b"a", 1)?;
+    assert_eq!(rt; CounterText::key(&inc), b"a".as_slice());
+    let done = applied(&mut service, put_of(alloc, b"a", b"1")?)?;
+    assert!(rt; matches!(done, Reply::Done));
+    let reply = applied(&mut service, inc)?;
+    assert!(rt; matches!(reply, Reply::WrongKind));
+    let reply = applied(&mut service, get_of(alloc, b"a")?)?;
+    assert_eq!(rt; text_of(&reply), Some(b"1".as_slice()));
     Ok(())
 }
 
@@ -140,7 +178,10 @@ fn hands_back_what_memory_refuses(rt: HostRuntime) -> Result<(), Fail> {
         put_of(alloc, b"b", b"three")?,
     ];
     let gets = [get_of(alloc, b"a")?, get_of(alloc, b"b")?];
-    let mut service = CounterText::new(alloc, 5);
+    let inc = inc_of(alloc, b"c", 3)?;
+    let mut service = CounterText::new(alloc, 6);
+    let counted = applied_in_two(&rt, &mut service, inc)?;
+    assert!(rt; matches!(counted, Reply::Count(3)));
     for request in requests {
         let done = applied_in_two(&rt, &mut service, request)?;
         assert!(rt; matches!(done, Reply::Done));
@@ -150,6 +191,6 @@ fn hands_back_what_memory_refuses(rt: HostRuntime) -> Result<(), Fail> {
         let reply = applied_in_two(&rt, &mut service, get)?;
         assert_eq!(rt; text_of(&reply), Some(want));
     }
-    assert_eq!(rt; service.kept(), 5);
+    assert_eq!(rt; service.kept(), 6);
     Ok(())
 }

@@ -1,8 +1,8 @@
 use super::*;
-use crate::admit_fault::AdmitFault;
-use crate::change::Change;
 use crate::command::CommandFault;
-use crate::record::Record;
+use sm_ownership::admit_fault::AdmitFault;
+use sm_ownership::change::Change;
+use sm_ownership::record::Record;
 use sm_ranges::key::Key;
 use sm_ranges::stand::Stand;
 use sm_service::bytes::Bytes;
@@ -40,21 +40,54 @@ fn put(alloc: Global) -> Result<Request, Fail> {
     Ok(Request::Put(Key::new(alloc, b"m")?, Bytes::new(alloc, b"hello")?))
 }
 
-fn assign(to: u16) -> Result<Step<Request>, Fail> {
-    Ok(Step::Control(Command::Change(shard(1)?, Change::Assign(server(to)?))))
+fn change(k: ShardId, change: Change) -> Step<Request> {
+    Step::Control(Command::Change(k, change))
+}
+
+// What a step answered, without a reply's text.
+#[derive(Clone, Copy, Debug, PartialEq, Eq, Drop)]
+enum Told {
+    Made,
+    Seen(Record),
+    Sent,
+    Began(ServerId),
+    Forwarded(ServerId),
+    Refused(Refusal),
+    Replied(u64, ServerId, u64),
+    Fault(WorldFault),
+}
+
+fn answer(world: &mut World<CounterText>, step: Step<Request>) -> Told {
+    let result = match world.step(step) {
+        Ok(result) => result,
+        Err(fault) => return Told::Fault(fault),
+    };
+    match &result {
+        WorldAnswer::Made => Told::Made,
+        WorldAnswer::Seen(record) => Told::Seen(*record),
+        WorldAnswer::Sent => Told::Sent,
+        WorldAnswer::Began(server) => Told::Began(*server),
+        WorldAnswer::Forwarded(server) => Told::Forwarded(*server),
+        WorldAnswer::Refused(refusal) => Told::Refused(*refusal),
+        WorldAnswer::Replied {
+            number,
+            server,
+            place,
+            ..
+        } => Told::Replied(*number, *server, *place),
+    }
 }
 
 #[test]
 fn executes_a_request(rt: HostRuntime) -> Result<(), Fail> {
+    let one = server(1)?;
+    let k = shard(1)?;
+    let send = Step::Send(one, 7, put(rt.alloc())?);
     let mut world = new_world(rt.alloc())?;
-    assert!(rt; matches!(world.step(assign(1)?)?, WorldAnswer::Made));
-    let send = Step::Send(server(1)?, 7, put(rt.alloc())?);
-    assert!(rt; matches!(world.step(send)?, WorldAnswer::Sent));
-    match world.step(Step::Deliver(0))? {
-        WorldAnswer::Began(to) => assert_eq!(rt; to.number(), 1),
-        _ => panic!(rt; "not admitted"),
-    }
-    match world.step(Step::Finish(shard(1)?))? {
+    assert!(rt; answer(&mut world, change(k, Change::Assign(one))) == Told::Made);
+    assert!(rt; answer(&mut world, send) == Told::Sent);
+    assert!(rt; answer(&mut world, Step::Deliver(0)) == Told::Began(one));
+    match world.step(Step::Finish(k))? {
         WorldAnswer::Replied {
             number,
             server,
@@ -67,108 +100,77 @@ fn executes_a_request(rt: HostRuntime) -> Result<(), Fail> {
         _ => panic!(rt; "not executed"),
     }
     let expected = Record {
-        stand: Stand::Serving(server(1)?),
+        stand: Stand::Serving(one),
         admitted: false,
         generation: 3,
     };
-    match world.step(Step::Look(shard(1)?))? {
-        WorldAnswer::Seen(record) => assert_eq!(rt; record, expected),
-        _ => panic!(rt; "not seen"),
-    }
+    assert!(rt; answer(&mut world, Step::Look(k)) == Told::Seen(expected));
     Ok(())
 }
 
 #[test]
 fn refuses_by_the_record(rt: HostRuntime) -> Result<(), Fail> {
+    let one = server(1)?;
+    let sends = [put(rt.alloc())?, put(rt.alloc())?, put(rt.alloc())?];
+    let assign = change(shard(1)?, Change::Assign(one));
     let mut world = new_world(rt.alloc())?;
-    for number in 0..3 {
-        world.step(Step::Send(server(1)?, number, put(rt.alloc())?))?;
+    for request in sends {
+        assert!(rt; answer(&mut world, Step::Send(one, 0, request)) == Told::Sent);
     }
-    assert!(rt;
-        matches!(
-            world.step(Step::Deliver(0))?,
-            WorldAnswer::Refused(Refusal::Admit(AdmitFault::Vacant))
-        )
-    );
-    world.step(assign(1)?)?;
-    assert!(rt; matches!(world.step(Step::Deliver(0))?, WorldAnswer::Began(_)));
-    assert!(rt;
-        matches!(
-            world.step(Step::Deliver(0))?,
-            WorldAnswer::Refused(Refusal::Admit(AdmitFault::Admitted))
-        )
-    );
-    assert!(rt; matches!(world.step(Step::Deliver(0)), Err(WorldFault::NoEnvelope)));
+    let vacant = Refusal::Admit(AdmitFault::Vacant);
+    assert!(rt; answer(&mut world, Step::Deliver(0)) == Told::Refused(vacant));
+    answer(&mut world, assign);
+    assert!(rt; answer(&mut world, Step::Deliver(0)) == Told::Began(one));
+    let admitted = Refusal::Admit(AdmitFault::Admitted);
+    assert!(rt; answer(&mut world, Step::Deliver(0)) == Told::Refused(admitted));
+    assert!(rt; answer(&mut world, Step::Deliver(0)) == Told::Fault(WorldFault::NoEnvelope));
     Ok(())
 }
 
 #[test]
 fn keeps_so_many_requests(rt: HostRuntime) -> Result<(), Fail> {
+    let two = server(2)?;
+    let k = shard(1)?;
     let mut world = new_world(rt.alloc())?;
-    world.step(assign(2)?)?;
-    for expected in 0..2 {
-        world.step(Step::Send(server(2)?, expected, put(rt.alloc())?))?;
-        world.step(Step::Deliver(0))?;
-        match world.step(Step::Finish(shard(1)?))? {
-            WorldAnswer::Replied { place, .. } => assert_eq!(rt; place, expected),
-            _ => panic!(rt; "not executed"),
-        }
+    answer(&mut world, change(k, Change::Assign(two)));
+    for place in 0..2 {
+        answer(&mut world, Step::Send(two, place, put(rt.alloc())?));
+        answer(&mut world, Step::Deliver(0));
+        assert!(rt; answer(&mut world, Step::Finish(k)) == Told::Replied(place, two, place));
     }
-    world.step(Step::Send(server(2)?, 2, put(rt.alloc())?))?;
-    world.step(Step::Deliver(0))?;
-    assert!(rt;
-        matches!(
-            world.step(Step::Finish(shard(1)?))?,
-            WorldAnswer::Refused(Refusal::KeptFull)
-        )
-    );
+    answer(&mut world, Step::Send(two, 2, put(rt.alloc())?));
+    answer(&mut world, Step::Deliver(0));
+    assert!(rt; answer(&mut world, Step::Finish(k)) == Told::Refused(Refusal::KeptFull));
     Ok(())
 }
 
 #[test]
 fn names_the_first_fault(rt: HostRuntime) -> Result<(), Fail> {
-    let mut world = new_world(rt.alloc())?;
-    assert!(rt;
-        matches!(
-            world.step(Step::Look(shard(2)?)),
-            Err(WorldFault::UnknownShard)
-        )
-    );
-    assert!(rt;
-        matches!(
-            world.step(Step::Finish(shard(1)?)),
-            Err(WorldFault::NotHeld)
-        )
-    );
-    assert!(rt;
-        matches!(
-            world.step(Step::Finish(shard(2)?)),
-            Err(WorldFault::NotHeld)
-        )
-    );
-    assert!(rt;
-        matches!(
-            world.step(Step::Send(server(3)?, 0, put(rt.alloc())?)),
-            Err(WorldFault::UnknownServer)
-        )
-    );
-    let unknown_shard = Command::Change(shard(2)?, Change::Assign(server(3)?));
+    let three = server(3)?;
+    let send = Step::Send(three, 0, put(rt.alloc())?);
+    let k = shard(1)?;
+    let unknown = shard(2)?;
     let cases = [
-        (unknown_shard, CommandFault::UnknownShard),
         (
-            Command::Change(shard(1)?, Change::Reassign(server(3)?)),
+            Command::Change(unknown, Change::Assign(three)),
+            CommandFault::UnknownShard,
+        ),
+        (
+            Command::Change(k, Change::Reassign(three)),
             CommandFault::UnknownServer,
         ),
-        (
-            Command::Change(shard(1)?, Change::Pause),
-            CommandFault::WrongPhase,
-        ),
+        (Command::Change(k, Change::Pause), CommandFault::WrongPhase),
     ];
-    for (command, expected) in cases {
-        match world.step(Step::Control(command)) {
-            Err(WorldFault::Command(fault)) => assert_eq!(rt; fault, expected),
-            _ => panic!(rt; "not refused"),
-        }
+    let mut world = new_world(rt.alloc())?;
+    assert!(rt; answer(&mut world, Step::Look(unknown)) == Told::Fault(WorldFault::UnknownShard));
+    assert!(rt; answer(&mut world, Step::Finish(k)) == Told::Fault(WorldFault::NotHeld));
+    assert!(rt; answer(&mut world, Step::Finish(unknown)) == Told::Fault(WorldFault::NotHeld));
+    assert!(rt; answer(&mut world, send) == Told::Fault(WorldFault::UnknownServer));
+    for (command, fault) in cases {
+        let expected = Told::Fault(WorldFault::Command(fault));
+        assert!(rt; answer(&mut world, Step::Control(command)) == expected);
     }
     Ok(())
 }
+
+mod phases;

@@ -1,6 +1,6 @@
 use Rattle.std.proofs.Common.{Err, [], inl, inr, refl, ap}
 use Rattle.std.proofs.KnownBytes.{Appends-nil}
-use Rattle.sm_lines.proofs.AnswerLemmas.{LosesLines-none, stops_after, answered_short}
+use Rattle.sm_lines.proofs.AnswerLemmas.{LosesLines-none, stops_after, stopped_reading, answered_short}
 use Rattle.sm_lines.proofs.respond.answer_lines.Goals as goal
 
 pub returns-in_err-flush-in-Ok-answer_rest-clause-write : goal.returns-in_err-flush-in-Ok-answer_rest-clause-write
@@ -13,7 +13,7 @@ pub returns-in_err-flush-in-Err-Read-clause-write : goal.returns-in_err-flush-in
 returns-in_err-flush-in-Err-Read-clause-write g c = λ _.
     let ran = c.in-Err-Read.ensures.read (ap Err c.in-Err-Read.field-0-is) in
     let wrote = c.in_err-flush-in-Err-Read.ensures in
-    (wrote.failed, answered_short ran.2 (inr (record { next = ran.1.next; lost = ran.1.lost; touched = inl ran.1.part })) wrote.err)
+    (wrote.failed, answered_short ran.1 (inr (stopped_reading _ _ _ _ _ _ _ ran.2)) wrote.err)
 
 pub returns-in_err-flush-in-Err-NoMemory-clause-write : goal.returns-in_err-flush-in-Err-NoMemory-clause-write
 returns-in_err-flush-in-Err-NoMemory-clause-write g c = λ _.

@@ -1,5 +1,5 @@
-use Rattle.std.proofs.Common.{◌≡◌}
-use Rattle.sm_lines.specs.Reading.{unread, EndStands}
+use Rattle.std.proofs.Common.{◌≡◌, true}
+use Rattle.sm_lines.specs.Reading.{unread, CallsFit, EndStands}
 use Rattle.sm_lines.specs.Answers.{Answers}
 use Rattle.sm_lines.proofs.AnswerLemmas.{SoFar}
 use Rattle.sm_lines.proofs.respond.answer_rest.Given as goal
@@ -8,8 +8,10 @@ abbrev pub invariant-lines : goal.invariant-lines
 invariant-lines g l = record {
   so_far : SoFar (Answers g.E.Responder.gives g.E.Responder.gives_long l.limit)
       (unread l.fn.lines (g.R.Read.remaining l.fn.reader.inner)) (unread l.lines (g.R.Read.remaining l.reader.inner))
-      (g.W.Write.contents l.fn.writer.inner) (g.W.Write.contents l.writer.inner) l.pieces l.fn.responder l.responder l._count;
+      (g.W.Write.contents l.fn.writer.inner) (g.W.Write.contents l.writer.inner) l.lines.ended l.pieces l.fn.responder l.responder l._count;
+  stays_ended : l.fn.lines.ended ≡ true → l.lines.ended ≡ true;
   end_stands : EndStands l.lines (g.R.Read.remaining l.reader.inner);
+  calls : CallsFit l.fn.lines.ended l.lines.ended (g.R.Read.remaining l.fn.reader.inner) (g.R.Read.remaining l.reader.inner) l.fn.reader.calls l.reader.calls;
   read_unfailed : l.reader.failed ≡ l.fn.reader.failed;
   write_unfailed : l.writer.failed ≡ l.fn.writer.failed;
 }

@@ -1,5 +1,5 @@
 use Rattle.std.proofs.Common.{length, subst}
-use Rattle.sm_table.specs.History.{IsLegal}
+use Rattle.sm_ownership.specs.History.{IsLegal}
 use Rattle.sm_table.specs.World.{empty_world, world_of}
 use Rattle.sm_table.proofs.Extensions.{extends_after}
 use Rattle.sm_table.proofs.Soundness.{sound_world}

@@ -1,6 +1,8 @@
-use Rattle.std.proofs.Common.{◌≡◌, sym, ◌∙◌, ap}
+use Rattle.std.proofs.Common.{◌≡◌, Bool, subst, sym, ◌∙◌, ap}
 use Rattle.std.proofs.lemmas.Bool.{false≢true}
 use Rattle.sm_lines.proofs.LineLemmas.{took_line, took_long_line, so_far_next, took_last_line, took_last_long_line}
+use Rattle.sm_lines.specs.Reading.{CallsFit}
+use Rattle.sm_lines.proofs.Calls.{took_more}
 use Rattle.sm_lines.proofs.line_reader.LineReader.next_line.Goals as goal
 
 pub returns-in-Some-clause-line : goal.returns-in-Some-clause-line
@@ -25,7 +27,7 @@ returns-in-Ok-false-clause-line g c = λ is.
     let last = c.last_line.ensures.line is in
     let so_far = so_far_next c.pieces.self c.take_held.new.self c.fill.new.self (g.R.Read.remaining c.pieces.reader.inner) (g.R.Read.remaining c.fill.new.reader.inner)
     c.pieces.invariant.so_far c.in-None.ensures.none took.ok c.in_ok-is_long-in-None.is_long took.long took.short read.line read.bytes in
-    took_last_line c.fill.new.self.held (g.R.Read.remaining c.fill.new.reader.inner) so_far at_end.0 at_end.1 last.0 last.1
+    took_last_line c.fill.new.self.ended c.fill.new.self.held (g.R.Read.remaining c.fill.new.reader.inner) so_far at_end.0 at_end.1 at_end.3 last.0 last.1
 
 pub returns-in-Ok-false-clause-long_line : goal.returns-in-Ok-false-clause-long_line
 returns-in-Ok-false-clause-long_line g c = λ is.
@@ -34,7 +36,7 @@ returns-in-Ok-false-clause-long_line g c = λ is.
     let at_end = read.end c.in-Ok-false.field-0-test in
     let so_far = so_far_next c.pieces.self c.take_held.new.self c.fill.new.self (g.R.Read.remaining c.pieces.reader.inner) (g.R.Read.remaining c.fill.new.reader.inner)
     c.pieces.invariant.so_far c.in-None.ensures.none took.ok c.in_ok-is_long-in-None.is_long took.long took.short read.line read.bytes in
-    took_last_long_line c.fill.new.self.held (g.R.Read.remaining c.fill.new.reader.inner) so_far at_end.0 at_end.1 (c.last_line.ensures.long is)
+    took_last_long_line c.fill.new.self.ended c.fill.new.self.held (g.R.Read.remaining c.fill.new.reader.inner) so_far at_end.0 at_end.1 at_end.3 (c.last_line.ensures.long is)
 
 pub returns-in-Err-clause-err : goal.returns-in-Err-clause-err
 returns-in-Err-clause-err g c =
@@ -49,12 +51,14 @@ pieces-preserved g c =
     let took = c.in_ok-is_long-in-None.ensures in
     let read = c.in-Ok-true.ensures in
     let more = read.more c.in-Ok-true.field-0-test in
+    let P : Bool → Type 0 = λ e. CallsFit c.args.self.now.ended e (g.R.Read.remaining c.args.reader.now.inner) (g.R.Read.remaining c.pieces.reader.inner) c.args.reader.now.calls c.pieces.reader.calls in
     let same_end : c.take_held.new.self.ended ≡ c.args.self.now.ended = ap (λ r. r.ended) took.ok ∙ c.pieces.invariant.same_end in
     record {
       so_far = so_far_next c.pieces.self c.take_held.new.self c.fill.new.self (g.R.Read.remaining c.pieces.reader.inner) (g.R.Read.remaining c.fill.new.reader.inner)
           c.pieces.invariant.so_far c.in-None.ensures.none took.ok c.in_ok-is_long-in-None.is_long took.long took.short read.line read.bytes;
       end_stands = λ is. absurd (false≢true (sym more.3 ∙ is));
       same_end = more.3 ∙ sym more.4 ∙ same_end;
+      calls = took_more _ _ _ _ _ _ _ _ _ (subst P (ap (λ r. r.ended) (sym took.ok)) c.pieces.invariant.calls) read.calls;
       unfailed = more.2 ∙ c.pieces.invariant.unfailed;
       not_read = λ is. absurd (false≢true (sym more.4 ∙ same_end ∙ is));
     }

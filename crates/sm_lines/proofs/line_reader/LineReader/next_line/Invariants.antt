@@ -1,5 +1,5 @@
 use Rattle.std.proofs.Common.{◌≡◌, ◌-◌, true}
-use Rattle.sm_lines.specs.Reading.{unread, EndStands}
+use Rattle.sm_lines.specs.Reading.{unread, CallsFit, EndStands}
 use Rattle.sm_lines.specs.declared.watch.TheConstants.{COUNT_LIMIT}
 use Rattle.sm_lines.proofs.LineLemmas.{SoFar}
 use Rattle.sm_lines.proofs.line_reader.LineReader.next_line.Given as goal
@@ -10,6 +10,7 @@ invariant-pieces g l = record {
   end_stands : EndStands l.self (g.R.Read.remaining l.reader.inner);
   same_end : l.self.ended ≡ l.fn.self.ended;
   unfailed : l.reader.failed ≡ l.fn.reader.failed;
+  calls : CallsFit l.fn.self.ended l.self.ended (g.R.Read.remaining l.fn.reader.inner) (g.R.Read.remaining l.reader.inner) l.fn.reader.calls l.reader.calls;
   not_read : l.fn.self.ended ≡ true → l.reader ≡ l.fn.reader;
 }
 

@@ -17,7 +17,7 @@ use denote.Steps.{nothing}
 use denote.Triple.Walked.{Stays, stay_dropped, walk_of, Goes-dropped}
 use Rattle.std.proofs.raw_atomic.Walks.{proved, leaves}
 use Rattle.sm_publish.proofs.EmptyStruct.{empty_val, empty_own, empty_made}
-use Rattle.sm_table.specs.contracts.route.Route as route
+use Rattle.sm_ownership.specs.contracts.route.Route as route
 use Rattle.sm_publish.specs.contracts.publications.Publications as publications
 use Rattle.sm_publish.specs.contracts.publications.Publications.and.{ended, clauses}
 use Rattle.sm_publish.specs.contracts.publications.Publications.and.Key.{name as #self}

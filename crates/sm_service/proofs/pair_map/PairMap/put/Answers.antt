@@ -5,7 +5,7 @@ use Rattle.sm_service.proofs.pair_map.PairMap.put.Goals as goal
 -- the pair that has the key gets the value
 pub returns-in-Ok-clause-ok : goal.returns-in-Ok-clause-ok
 returns-in-Ok-clause-ok c =
-    set_found _ _ c.self.view_is _ _ c.as_bytes.ensures.bytes c.self.invariant _ c.in-Ok.ensures.found c.index_mut.result.now c.index_mut.ensures.value c.args.value
+    rw c.hold.ensures (set_found _ _ c.self.view_is _ _ c.as_bytes.ensures.bytes c.self.invariant _ c.in-Ok.ensures.found c.index_mut.result.now c.index_mut.ensures.value c.args.value)
 
 -- a pair with a copy of the key goes into the gap
 pub invariant_of-self-in-Err : goal.invariant_of-self-in-Err

@@ -3,7 +3,7 @@ use Rattle.std.specs.Prelude.{All, map}
 use Rattle.std.proofs.lemmas.List.{length-map}
 use Rattle.std.proofs.lemmas.List.Elements.{All-map}
 use Rattle.sm_ranges.specs.ServerId.{IsServer}
-use Rattle.sm_table.specs.History.{vacant}
+use Rattle.sm_ownership.specs.History.{vacant}
 use Rattle.sm_table.specs.Setup.{frame_of}
 use Rattle.sm_table.proofs.Empties.{StandsFor-empty, IsTogether-empty}
 use Rattle.sm_table.proofs.world.World.new.Goals as goal
@@ -15,7 +15,7 @@ invariant_of-result g c =
     (c.in_ok-new.ensures.records ∙ ap (λ count. replicate count vacant) c.count-count.ensures.value)
     (ap length c.new-2.ensures.kept ∙ length-map c.args.bodies.items g.S.Service.requests ∙ bodies)
     c.new-3.ensures.items
-    (c.in_ok-none_in_hand.ensures ∙ ap (λ count. replicate count None) c.count-count.ensures.value)
+    (c.in_ok-none.ensures ∙ ap (λ count. replicate count None) c.count-count.ensures.value)
 
 pub returns : goal.returns
 returns g c =
@@ -29,4 +29,4 @@ returns g c =
     (subst (λ lists. All (λ list. list ≡ []) lists) (sym c.new-2.ensures.kept) (All-map (λ list. list ≡ []) g.S.Service.requests c.args.bodies.items c.requires.empty))
     c.new-2.ensures.limits
     c.new-3.ensures.items
-    (c.in_ok-none_in_hand.ensures ∙ ap (λ count. replicate count None) c.count-count.ensures.value)
+    (c.in_ok-none.ensures ∙ ap (λ count. replicate count None) c.count-count.ensures.value)

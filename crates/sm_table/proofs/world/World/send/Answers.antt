@@ -1,6 +1,6 @@
 use Rattle.std.proofs.Common.{◌<◌, ◌++◌, ◌∷◌, [], ap, subst, sym, ◌∙◌, length, arith}
 use Rattle.sm_table.specs.Envelope.{EnvelopeView}
-use Rattle.sm_table.specs.declared.mode.Mode.TheVariants.{Direct}
+use Rattle.sm_ownership.specs.declared.mode.Mode.TheVariants.{Direct}
 use Rattle.sm_table.proofs.Fitting.{IsTogether-in_flight, flights-push}
 use Rattle.sm_table.proofs.Sends.{not_sent, sent}
 use Rattle.sm_table.proofs.world.World.send.Goals as goal
@@ -14,8 +14,8 @@ pub invariant_of-self-2 : goal.invariant_of-self-2
 invariant_of-self-2 g c =
     let pushed = c.if-is_err.ensures.negation in
     let items = rw pushed at c.push.ensures.items in
-    let there : c.shard_of-k.result < length c.self.inside.in_hand.items = omega (arith, c.shard_of-k.ensures.within, c.self.invariant.layout) in
-    let fitting = flights-push _ c.self.invariant (record { to = c.args.to; envelope = c.new.result }) (subst (λ (envelope : EnvelopeView g.row.S-Request.Denot). envelope.shard < length c.self.inside.in_hand.items) (sym c.new.ensures) there) in
+    let there : c.shard_of-k.result < length c.self.inside.in_hand = omega (arith, c.shard_of-k.ensures.within, c.self.invariant.layout) in
+    let fitting = flights-push _ c.self.invariant (record { to = c.args.to; envelope = c.new.result }) (subst (λ (envelope : EnvelopeView g.row.S-Request.Denot). envelope.shard < length c.self.inside.in_hand) (sym c.new.ensures) there) in
     rw items (IsTogether-in_flight _ c.self.invariant _ fitting)
 
 pub returns-clause-stands : goal.returns-clause-stands

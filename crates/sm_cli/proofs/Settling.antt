@@ -1,0 +1,171 @@
+-- A command that is run at a world where no request is under way ends in a step that answers the script, and leaves no
+-- request under way.
+use Rattle.std.proofs.Common.{◌≡◌, zero, suc, ◌+◌, ap, ◌∙◌, arith, ◌<◌, ◌++◌, ◌∷◌, [], Bool, true, false, ℕ, List, length, sym, subst, refl, Option, Some, None, Ok, Err, is_some, nat_lt, if◌then◌else◌, slice_index_or, slice_set, slice_get}
+use Rattle.std.proofs.lemmas.Bool.Decides.{nat_tests}
+use Rattle.std.proofs.lemmas.List.{get_or-set_same}
+use Rattle.sm_ranges.specs.Ranges.{shard_of}
+use Rattle.sm_service.specs.Service.{key_of_request}
+use Rattle.sm_service.specs.declared.reply.Reply.{Reply}
+use Rattle.sm_service.specs.declared.request.Request.{Request}
+use Rattle.sm_script.specs.declared.command.Command.TheVariants as ask
+use Rattle.sm_ownership.specs.declared.admit_fault.AdmitFault.{AdmitFault}
+use Rattle.sm_ownership.specs.declared.change.Change.{Change}
+use Rattle.sm_table.specs.declared.command.CommandFault.{CommandFault}
+use Rattle.sm_table.specs.declared.flight.Flight.{Flight}
+use Rattle.sm_table.specs.declared.in_hand.InHand.{InHand}
+use Rattle.sm_table.specs.declared.in_hand.Work.{Work}
+use Rattle.sm_ownership.specs.declared.mode.Mode.TheVariants.{Direct}
+use Rattle.sm_table.specs.declared.step.Step.TheVariants.{Deliver}
+use Rattle.sm_table.specs.declared.world_answer.WorldAnswer.TheVariants.{Made, Refused, Sent, Began, Forwarded}
+use Rattle.sm_table.specs.declared.world_fault.WorldFault.TheVariants.{UnknownServer, UnknownShard, NotHeld}
+use Rattle.sm_table.specs.Desk.{is_known}
+use Rattle.sm_table.specs.Envelope.{EnvelopeView, most_hops, one_hop_more, sent_on}
+use Rattle.sm_table.specs.World.{WorldState, Plain, after_hop, arrived as arrived_at, controlled, count_of, ended, flight_to, freed, hand_of, held, hopped, let_go, reached, served, with_room, without_flight, worked, world_record}
+use Rattle.sm_ownership.specs.History.{kept}
+use Rattle.sm_ownership.specs.Rules.{admit_fault, forward_to}
+use Rattle.sm_table.specs.declared.refusal.Refusal.TheVariants.{KeptFull, TooManyHops}
+use Rattle.sm_cli.specs.Commands.{answer_of, arrived, changed, commanded, counter_text, delivered, finished, is_forwarded, owner_of, requested, requested_at, shard_for, stepped, Stepped}
+use Rattle.sm_cli.proofs.Stepping.{look_is, looked}
+
+-- the last step answers the script, and no request is under way
+pub record Settles (went : Stepped) : Type 0 where
+  pub answers : is_some (answer_of went.0) ≡ true
+  pub rest : went.1.in_flight ≡ []
+
+control_settles : (w : WorldState Request) (shard : ℕ) (change : Change) (fault : Option CommandFault) → w.in_flight ≡ [] → Settles (controlled w shard change fault)
+control_settles w shard change (Some fault) rest = record { answers = refl; rest = rest }
+control_settles w shard change None rest = record { answers = refl; rest = rest }
+
+looked_settles : (w : WorldState Request) (shard : ℕ) (there : Bool) → w.in_flight ≡ [] → Settles (looked there w shard)
+looked_settles w shard true rest = record { answers = refl; rest = rest }
+looked_settles w shard false rest = record { answers = refl; rest = rest }
+
+-- a shard with a request in hand replies, or keeps as many requests as it may
+worked_settles : (w : WorldState Request) (shard server : ℕ) (work : Work Request) → w.in_flight ≡ [] → Settles (worked counter_text w Plain shard server (Some work))
+worked_settles w shard server work rest = room (nat_lt (length (kept w.history shard)) (slice_index_or w.frame.limits shard 0))
+  where
+    room : (some : Bool) → Settles (if some then with_room counter_text w Plain shard server work else (Ok (Refused KeptFull), ended w shard server None))
+    room true = record { answers = refl; rest = rest }
+    room false = record { answers = refl; rest = rest }
+
+-- a server that began an envelope finishes its request
+begun_settles : (w : WorldState Request) (to : ℕ) (envelope : EnvelopeView Request) → envelope.shard < length w.in_hand → w.in_flight ≡ []
+    → Settles (let went = reached {R = Reply} w to envelope None in finished envelope.shard went.0 went.1)
+begun_settles w to envelope within rest =
+    let after = (reached {R = Reply} w to envelope None).1 in
+    let P : Option (InHand Request) → Type 0 = λ hand. Settles (served counter_text after Plain envelope.shard hand) in
+    subst P (sym (get_or-set_same w.in_hand envelope.shard (Some (hand_of to envelope)) None within)) (worked_settles after envelope.shard to (record { number = envelope.number; request = envelope.request }) rest)
+
+-- what becomes of an envelope after its first delivery, where so many hops are left
+abbrev continued : ℕ → Stepped → Stepped
+continued zero went = went
+continued (suc hops) went = if is_forwarded went.0 then arrived hops went.1 else went
+
+arrived_is : (left : ℕ) (w : WorldState Request) → arrived left w ≡ continued left (stepped w (Deliver 0))
+arrived_is zero w = refl
+arrived_is (suc left) w = refl
+
+arrived_there : (left : ℕ) (went : Stepped) → is_forwarded went.0 ≡ false → continued left went ≡ went
+arrived_there zero went stays = refl
+arrived_there (suc left) went stays = rw stays refl
+
+-- the world with this envelope alone in flight
+abbrev with_flight : WorldState Request → Flight Request → WorldState Request
+with_flight w flight = record w { in_flight = flight ∷ [] }
+
+-- the steps of a request whose envelope is in flight, where so many hops are left
+abbrev arrives : ℕ → WorldState Request → Flight Request → Stepped
+arrives left w flight = let went = arrived left (with_flight w flight) in finished flight.envelope.shard went.0 went.1
+
+-- the same after the first delivery
+abbrev continues : ℕ → ℕ → Stepped → Stepped
+continues left shard went = let whole = continued left went in finished shard whole.0 whole.1
+
+stays_settles : (left shard : ℕ) (went : Stepped) → is_forwarded went.0 ≡ false → Settles (finished shard went.0 went.1) → Settles (continues left shard went)
+stays_settles left shard went stays settles = let P : Stepped → Type 0 = λ s. Settles (finished shard s.0 s.1) in subst P (sym (arrived_there left went stays)) settles
+
+reached_settles : (left : ℕ) (w : WorldState Request) (to : ℕ) (envelope : EnvelopeView Request) (fault : Option AdmitFault) → envelope.shard < length w.in_hand → w.in_flight ≡ []
+    → Settles (continues left envelope.shard (reached w to envelope fault))
+reached_settles left w to envelope (Some fault) within rest = stays_settles left envelope.shard (reached w to envelope (Some fault)) refl (record { answers = refl; rest = rest })
+reached_settles left w to envelope None within rest = stays_settles left envelope.shard (reached w to envelope None) refl (begun_settles w to envelope within rest)
+
+-- a forwarded envelope is in flight again where a hop is left
+hop_settles : (left : ℕ) (w : WorldState Request) (flight : Flight Request) (to : ℕ) → flight.envelope.hops + left ≡ most_hops
+    → ((fewer : ℕ) → left ≡ suc fewer → Settles (arrives fewer w (flight_to to (one_hop_more flight.envelope flight.to))))
+    → Settles (continues left flight.envelope.shard (hopped (record w { in_flight = [] }) (after_hop [] (sent_on flight.envelope flight.to (Some to)))))
+hop_settles zero w flight to hops again = let none : nat_lt flight.envelope.hops most_hops ≡ false = grind (arith, nat_tests) in rw none (record { answers = refl; rest = refl })
+hop_settles (suc fewer) w flight to hops again = let some : nat_lt flight.envelope.hops most_hops ≡ true = grind (arith, nat_tests) in rw some (again fewer refl)
+
+flight_settles : (left : ℕ) (w : WorldState Request) (flight : Flight Request) (next : Option ℕ) → flight.envelope.hops + left ≡ most_hops → flight.envelope.shard < length w.in_hand
+    → ((fewer : ℕ) → left ≡ suc fewer → (to : ℕ) → Settles (arrives fewer w (flight_to to (one_hop_more flight.envelope flight.to))))
+    → Settles (continues left flight.envelope.shard (arrived_at (record w { in_flight = [] }) flight.to flight.envelope next))
+flight_settles left w flight None hops within again =
+    let taken : WorldState Request = record w { in_flight = [] } in
+    reached_settles left taken flight.to flight.envelope (admit_fault taken.frame.ceiling (world_record taken flight.envelope.shard) flight.to flight.envelope.mode) within refl
+flight_settles left w flight (Some to) hops within again = hop_settles left w flight to hops (λ fewer is. again fewer is to)
+
+-- the only envelope in flight arrives in as many deliveries as hops are left
+arrives_settles : (left : ℕ) (w : WorldState Request) (flight : Flight Request) → flight.envelope.hops + left ≡ most_hops → flight.envelope.shard < length w.in_hand → Settles (arrives left w flight)
+arrives_settles zero w flight hops within = flight_settles zero w flight (forward_to (world_record w flight.envelope.shard) flight.to) hops within (λ fewer is. absurd (omega (arith, is)))
+arrives_settles (suc left) w flight hops within =
+    flight_settles (suc left) w flight (forward_to (world_record w flight.envelope.shard) flight.to) hops within
+    (λ fewer is to. let P : ℕ → Type 0 = λ n. Settles (arrives n w (flight_to to (one_hop_more flight.envelope flight.to))) in
+    subst P (omega (arith, is)) (arrives_settles left w (flight_to to (one_hop_more flight.envelope flight.to)) (omega arith) within))
+
+-- the envelope of a request to this server
+abbrev flight_of : WorldState Request → Request → ℕ → Flight Request
+flight_of w request to = record { to = to; envelope = record { number = 0; shard = shard_for w request; mode = Direct; hops = 0; request = request } }
+
+-- a request is refused where the server is unknown, and else sent, and arrives
+sent_settles : (w : WorldState Request) (in_flight : List (Flight Request)) (request : Request) (server : ℕ) (known : Bool) → in_flight ≡ [] → shard_for w request < length w.in_hand
+    → Settles (let went : Stepped = if known then (Ok Sent, record w { in_flight = in_flight ++ flight_of w request server ∷ [] }) else (Err UnknownServer, record w { in_flight = in_flight }) in
+    delivered (shard_for w request) went.0 went.1)
+sent_settles w in_flight request server true rest within =
+    let P : List (Flight Request) → Type 0 = λ flights. Settles (delivered (shard_for w request) (Ok Sent) (record w { in_flight = flights ++ flight_of w request server ∷ [] })) in
+    subst P (sym rest) (arrives_settles most_hops w (flight_of w request server) refl within)
+sent_settles w in_flight request server false rest within = record { answers = refl; rest = rest }
+
+requested_at_settles : (w : WorldState Request) (request : Request) (server : ℕ) → shard_for w request < length w.in_hand → w.in_flight ≡ []
+    → Settles (requested_at w request (shard_for w request) server)
+requested_at_settles w request server within rest = sent_settles w w.in_flight request server (is_known w.frame.servers server) rest within
+
+requested_settles : (w : WorldState Request) (request : Request) (owner : Option ℕ) → shard_for w request < length w.in_hand → w.in_flight ≡ []
+    → Settles (requested w request (shard_for w request) owner)
+requested_settles w request None within rest = record { answers = refl; rest = rest }
+requested_settles w request (Some owner) within rest = requested_at_settles w request owner within rest
+
+held_settles : (w : WorldState Request) (shard server : ℕ) (there known : Bool) (fault : Option AdmitFault) → w.in_flight ≡ []
+    → Settles (if there then (if known then held w shard server fault else (Err UnknownServer, w)) else (Err UnknownShard, w))
+held_settles w shard server true true (Some fault) rest = record { answers = refl; rest = rest }
+held_settles w shard server true true None rest = record { answers = refl; rest = rest }
+held_settles w shard server true false fault rest = record { answers = refl; rest = rest }
+held_settles w shard server false known fault rest = record { answers = refl; rest = rest }
+
+let_go_settles : (w : WorldState Request) (shard server : ℕ) (work : Option (Work Request)) → w.in_flight ≡ [] → Settles (let_go w shard server work)
+let_go_settles w shard server None rest = record { answers = refl; rest = rest }
+let_go_settles w shard server (Some work) rest = record { answers = refl; rest = rest }
+
+freed_settles : (w : WorldState Request) (shard : ℕ) (there : Bool) (hand : Option (InHand Request)) → w.in_flight ≡ []
+    → Settles (if there then freed w shard hand else (Err UnknownShard, w))
+freed_settles w shard true None rest = record { answers = refl; rest = rest }
+freed_settles w shard true (Some hand) rest = let_go_settles w shard hand.server hand.work rest
+freed_settles w shard false hand rest = record { answers = refl; rest = rest }
+
+pub settles_change : (w : WorldState Request) (shard : ℕ) (change : Change) → w.in_flight ≡ [] → Settles (changed w shard change)
+settles_change w shard change rest = control_settles w shard change _ rest
+
+pub settles_hold : (w : WorldState Request) (shard server : ℕ) → w.in_flight ≡ [] → Settles (commanded w (ask.Hold shard server))
+settles_hold w shard server rest = held_settles w shard server (nat_lt shard (count_of w)) (is_known w.frame.servers server) _ rest
+
+pub settles_free : (w : WorldState Request) (shard : ℕ) → w.in_flight ≡ [] → Settles (commanded w (ask.Free shard))
+settles_free w shard rest = freed_settles w shard (nat_lt shard (count_of w)) (slice_index_or w.in_hand shard None) rest
+
+pub settles_look : (w : WorldState Request) (shard : ℕ) → w.in_flight ≡ [] → Settles (commanded w (ask.Look shard))
+settles_look w shard rest = let P : Stepped → Type 0 = Settles in subst P (sym (look_is w shard)) (looked_settles w shard (nat_lt shard (count_of w)) rest)
+
+pub settles_request : (w : WorldState Request) (request : Request) → shard_for w request < length w.in_hand → w.in_flight ≡ [] → Settles (commanded w (ask.Request request))
+settles_request w request within rest = requested_settles w request (owner_of (world_record w (shard_for w request)).stand) within rest
+
+pub settles_request_at : (w : WorldState Request) (server : ℕ) (request : Request) → shard_for w request < length w.in_hand → w.in_flight ≡ []
+    → Settles (commanded w (ask.RequestAt server request))
+settles_request_at w server request within rest = requested_at_settles w request server within rest

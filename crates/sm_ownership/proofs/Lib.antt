@@ -1,0 +1,4 @@
+pub mod Calls
+pub mod Generations
+pub mod Reaching
+pub mod Single

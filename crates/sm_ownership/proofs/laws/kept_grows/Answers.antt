@@ -1,0 +1,5 @@
+use Rattle.sm_ownership.specs.Growth.{kept-append}
+use Rattle.sm_ownership.proofs.laws.kept_grows.Goals as goal
+
+pub returns : goal.returns
+returns g c = kept-append

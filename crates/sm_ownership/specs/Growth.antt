@@ -1,0 +1,96 @@
+-- A history that grows by one entry.
+use Rattle.std.proofs.Common.{◌≡◌, ◌≢◌, ℕ, Bool, true, false, List, [], ◌∷◌, ◌++◌, length, refl, subst, arith, ⊎_elim, ◌∙◌}
+use Rattle.std.specs.Prelude.{Some, None, reverse, replicate, slice_set, ◌==◌, if◌then◌else◌}
+use Rattle.std.proofs.lemmas.List.{reverse-append, get_or-set_same, get_or-set_other, get_or-replicate, get_or_past, length-set, length-replicate, append-nil}
+use Rattle.std.proofs.lemmas.List.Elements.{filter_map-append}
+use Rattle.std.proofs.lemmas.Bool.{and_parts, cases_lt, cond_both, eq-eqb, ltb-true}
+use Rattle.sm_ownership.specs.declared.entry.Entry.{Entry}
+use Rattle.sm_ownership.specs.declared.entry.Kind.{Kind}
+use Rattle.sm_ownership.specs.declared.record.Record.{Record}
+use Rattle.sm_ownership.specs.History.{vacant, record_at, after_kind, fits, table_of, table_of_latest, IsLegal, IsLegalLatest, kept, kept_of}
+
+-- the empty table has a vacant record for every shard
+pub record_at-empty : (count shard : ℕ) → record_at (replicate count vacant) shard ≡ vacant
+record_at-empty count shard =
+    ⊎_elim
+    (λ within. get_or-replicate count shard vacant vacant within)
+    (λ past. get_or_past (replicate count vacant) shard vacant (omega (arith, length-replicate count vacant)))
+    (cases_lt shard count)
+
+-- below, `earlier` lists the entries before one, the latest of them first
+module _ {Q : Type 0} (count ceiling : ℕ) where
+  abbrev table : List (Entry Q) → List Record
+  table earlier = table_of_latest count ceiling earlier
+
+  -- the entry fits after these
+  abbrev Fits : List (Entry Q) → Entry Q → Type 0
+  Fits earlier entry = fits ceiling earlier (table earlier) entry ≡ true
+
+  -- the record of the entry's shard after it
+  abbrev after : List (Entry Q) → Entry Q → Record
+  after earlier entry = after_kind (record_at (table earlier) entry.shard) entry.kind
+
+  length-table_of_latest : (earlier : List (Entry Q)) → length (table earlier) ≡ count
+  length-table_of_latest [] = length-replicate count vacant
+  length-table_of_latest (entry ∷ earlier) =
+      let before = length-table_of_latest earlier in
+      cond_both (fits ceiling earlier (table earlier) entry) _ _ (λ t. length t ≡ count) (λ _. length-set (table earlier) entry.shard (after earlier entry) ∙ before) (λ _. before)
+
+  -- a table has a record for each shard
+  pub length-table_of : (history : List (Entry Q)) → length (table_of count ceiling history) ≡ count
+  length-table_of history = length-table_of_latest (reverse history)
+
+  -- an entry that fits changes the record of its shard
+  pub record_at-latest : (entry : Entry Q) (earlier : List (Entry Q)) → Fits earlier entry → record_at (table (entry ∷ earlier)) entry.shard ≡ after earlier entry
+  record_at-latest entry earlier fit =
+      let there = ltb-true entry.shard (length (table earlier)) (and_parts _ _ fit).0 in
+      rw fit (get_or-set_same (table earlier) entry.shard (after earlier entry) vacant there)
+
+  -- and of no other
+  pub record_at-latest_other : (entry : Entry Q) (earlier : List (Entry Q)) (shard : ℕ) → shard ≢ entry.shard → Fits earlier entry → record_at (table (entry ∷ earlier)) shard ≡ record_at (table earlier) shard
+  record_at-latest_other entry earlier shard apart fit = rw fit (get_or-set_other (table earlier) entry.shard shard (after earlier entry) vacant apart)
+
+  -- the same of an entry at the end of a history
+  pub table_of-push : (history : List (Entry Q)) (entry : Entry Q) → Fits (reverse history) entry → table_of count ceiling (history ++ entry ∷ []) ≡ slice_set (table_of count ceiling history) entry.shard (after (reverse history) entry)
+  table_of-push history entry fit = rw (reverse-append history (entry ∷ [])) (rw fit refl)
+
+  pub record_at-push : (history : List (Entry Q)) (entry : Entry Q) → Fits (reverse history) entry → record_at (table_of count ceiling (history ++ entry ∷ [])) entry.shard ≡ after (reverse history) entry
+  record_at-push history entry fit = rw (reverse-append history (entry ∷ [])) (record_at-latest entry (reverse history) fit)
+
+  pub record_at-push_other : (history : List (Entry Q)) (entry : Entry Q) (shard : ℕ) → shard ≢ entry.shard → Fits (reverse history) entry → record_at (table_of count ceiling (history ++ entry ∷ [])) shard ≡ record_at (table_of count ceiling history) shard
+  record_at-push_other history entry shard apart fit = rw (reverse-append history (entry ∷ [])) (record_at-latest_other entry (reverse history) shard apart fit)
+
+  -- the history stays legal
+  pub legal-push : (history : List (Entry Q)) (entry : Entry Q) → IsLegal count ceiling history → Fits (reverse history) entry → IsLegal count ceiling (history ++ entry ∷ [])
+  legal-push history entry legal fit = rw (reverse-append history (entry ∷ [])) (fit, legal)
+
+  -- an entry of a legal history fits what came before it
+  pub fits-push : (history : List (Entry Q)) (entry : Entry Q) → IsLegal count ceiling (history ++ entry ∷ []) → Fits (reverse history) entry
+  fits-push history entry legal = (rw (reverse-append history (entry ∷ [])) at legal).0
+
+  legal_earlier : (later earlier : List (Entry Q)) → IsLegalLatest count ceiling (later ++ earlier) → IsLegalLatest count ceiling earlier
+  legal_earlier [] earlier legal = legal
+  legal_earlier (entry ∷ later) earlier legal = legal_earlier later earlier legal.1
+
+  -- what a legal history begins with is legal
+  pub legal_prefix : (history later : List (Entry Q)) → IsLegal count ceiling (history ++ later) → IsLegal count ceiling history
+  legal_prefix history later legal = legal_earlier (reverse later) (reverse history) (subst (IsLegalLatest count ceiling) (reverse-append history later) legal)
+
+-- what a longer history keeps begins with what the shorter one kept
+pub kept-append : {Q : Type 0} (history later : List (Entry Q)) (shard : ℕ) → kept (history ++ later) shard ≡ kept history shard ++ kept later shard
+kept-append history later shard = filter_map-append _ history later
+
+kept_entry_none : {Q : Type 0} (b : Bool) (kind : Kind Q) → kept_of kind ≡ None → (if b then kept_of kind else None) ≡ None
+kept_entry_none true kind none = none
+kept_entry_none false kind none = refl
+
+-- an entry of another shard, or one that keeps no request, leaves what a shard keeps
+pub kept-push_other : {Q : Type 0} (history : List (Entry Q)) (entry : Entry Q) (shard : ℕ) → (entry.shard == shard) ≡ false → kept (history ++ entry ∷ []) shard ≡ kept history shard
+kept-push_other history entry shard other = kept-append history (entry ∷ []) shard ∙ rw other (append-nil (kept history shard))
+
+pub kept-push_none : {Q : Type 0} (history : List (Entry Q)) (entry : Entry Q) (shard : ℕ) → kept_of entry.kind ≡ None → kept (history ++ entry ∷ []) shard ≡ kept history shard
+kept-push_none history entry shard none = kept-append history (entry ∷ []) shard ∙ rw (kept_entry_none (entry.shard == shard) entry.kind none) (append-nil (kept history shard))
+
+-- an entry that keeps a request adds it last
+pub kept-push_some : {Q : Type 0} (history : List (Entry Q)) (entry : Entry Q) (request : Q) → kept_of entry.kind ≡ Some request → kept (history ++ entry ∷ []) entry.shard ≡ kept history entry.shard ++ request ∷ []
+kept-push_some history entry request some = kept-append history (entry ∷ []) entry.shard ∙ rw (eq-eqb entry.shard entry.shard refl) (rw some refl)

@@ -1,0 +1,135 @@
+-- Histories: what the entries of one leave in the ownership table, which are legal, and what the shards keep.
+use Rattle.std.specs.Prelude.{ℕ, Bool, true, false, Option, Some, None, ◌≡◌, ◌==◌, ◌&&◌, ◌||◌, ◌+◌, nat_lt, nat_le, not, is_some, unwrap_or, if◌then◌else◌, List, [], ◌∷◌, filter, find, length, reverse, replicate, slice_get, slice_index_or, slice_set, take}
+use Rattle.std.specs.List.{filter_map, list_all}
+use Rattle.std.specs.Option.{option_map}
+use Rattle.sm_ranges.specs.declared.stand.Stand.TheVariants.{Vacant}
+use Rattle.sm_ownership.specs.declared.change.Change.{Change}
+use Rattle.sm_ownership.specs.declared.entry.Entry.{Entry}
+use Rattle.sm_ownership.specs.declared.entry.Kind.{Kind}
+use Rattle.sm_ownership.specs.declared.entry.Kind.TheVariants.{Change as Changed, Admit, Done}
+use Rattle.sm_ownership.specs.declared.mode.Mode.{Mode}
+use Rattle.sm_ownership.specs.declared.record.Record.{Record}
+use Rattle.sm_ownership.specs.Rules.{stand_after, accepts}
+
+-- the record of a shard to which nothing has happened
+abbrev pub vacant : Record
+vacant = record { stand = Vacant; admitted = false; generation = 0 }
+
+-- the record of a shard in a table
+abbrev pub record_at : List Record → ℕ → Record
+record_at table shard = slice_index_or table shard vacant
+
+-- the record after a change of its stand, an admission, and the end of one: the generation counts the entries
+abbrev pub after_change : Record → Change → Record
+after_change state change =
+    record { stand = unwrap_or (stand_after state.stand change) state.stand; admitted = state.admitted; generation = state.generation + 1 }
+
+abbrev pub after_admit : Record → Record
+after_admit state = record { stand = state.stand; admitted = true; generation = state.generation + 1 }
+
+abbrev pub after_done : Record → Record
+after_done state = record { stand = state.stand; admitted = false; generation = state.generation + 1 }
+
+abbrev pub after_kind : {Q : Type 0} → Record → Kind Q → Record
+after_kind state (Changed change) = after_change state change
+after_kind state (Admit server mode) = after_admit state
+after_kind state (Done request) = after_done state
+
+-- below, `earlier` lists the entries before one, the latest of them first
+
+-- an entry of this kind is an admission, if at all, of this server
+abbrev pub admits_only : {Q : Type 0} → ℕ → Kind Q → Bool
+admits_only server (Admit admitted mode) = admitted == server
+admits_only server _ = true
+
+-- the actor's earlier admissions are all of this server
+abbrev pub acts_as : {Q : Type 0} → List (Entry Q) → ℕ → ℕ → Bool
+acts_as earlier actor server = list_all (λ entry. not (entry.actor == actor) || admits_only server entry.kind) earlier
+
+-- the latest entry of the shard
+abbrev pub latest_of : {Q : Type 0} → List (Entry Q) → ℕ → Option (Entry Q)
+latest_of earlier shard = find (λ entry. entry.shard == shard) earlier
+
+abbrev pub is_admit : {Q : Type 0} → Kind Q → Bool
+is_admit (Admit server mode) = true
+is_admit _ = false
+
+abbrev pub is_admission_of : {Q : Type 0} → ℕ → Option (Entry Q) → Bool
+is_admission_of actor None = false
+is_admission_of actor (Some entry) = entry.actor == actor && is_admit entry.kind
+
+-- the control may change an idle record below the ceiling, where the change's line of the table of changes allows it
+abbrev pub change_fits : ℕ → Record → ℕ → Change → Bool
+change_fits ceiling state actor change =
+    actor == 0 && (not state.admitted && (nat_lt state.generation ceiling && is_some (stand_after state.stand change)))
+
+-- an actor with one server for good is admitted to an idle record that accepts it, with room for the end of its admission
+abbrev pub admit_fits : {Q : Type 0} → ℕ → List (Entry Q) → Record → ℕ → ℕ → Mode → Bool
+admit_fits ceiling earlier state actor server mode =
+    not (actor == 0) && (acts_as earlier actor server && (not state.admitted && (nat_le (state.generation + 2) ceiling && accepts state server mode)))
+
+-- an admission is ended by the actor that was admitted last
+abbrev pub done_fits : {Q : Type 0} → List (Entry Q) → Record → ℕ → ℕ → Bool
+done_fits earlier state actor shard = state.admitted && is_admission_of actor (latest_of earlier shard)
+
+abbrev pub kind_fits : {Q : Type 0} → ℕ → List (Entry Q) → Record → ℕ → ℕ → Kind Q → Bool
+kind_fits ceiling earlier state actor shard (Changed change) = change_fits ceiling state actor change
+kind_fits ceiling earlier state actor shard (Admit server mode) = admit_fits ceiling earlier state actor server mode
+kind_fits ceiling earlier state actor shard (Done request) = done_fits earlier state actor shard
+
+-- the entry may come next, after these entries with this table
+abbrev pub fits : {Q : Type 0} → ℕ → List (Entry Q) → List Record → Entry Q → Bool
+fits ceiling earlier table entry =
+    nat_lt entry.shard (length table) && kind_fits ceiling earlier (record_at table entry.shard) entry.actor entry.shard entry.kind
+
+-- the table after one more entry; an entry that doesn't fit changes nothing
+abbrev pub table_with : {Q : Type 0} → ℕ → List (Entry Q) → List Record → Entry Q → List Record
+table_with ceiling earlier table entry =
+    if fits ceiling earlier table entry
+    then slice_set table entry.shard (after_kind (record_at table entry.shard) entry.kind)
+    else table
+
+abbrev pub table_of_latest : {Q : Type 0} → ℕ → ℕ → List (Entry Q) → List Record
+table_of_latest count ceiling [] = replicate count vacant
+table_of_latest count ceiling (entry ∷ earlier) = table_with ceiling earlier (table_of_latest count ceiling earlier) entry
+
+-- the ownership table that a history makes: each shard's record, of so many shards and below this ceiling
+abbrev pub table_of : {Q : Type 0} → ℕ → ℕ → List (Entry Q) → List Record
+table_of count ceiling history = table_of_latest count ceiling (reverse history)
+
+abbrev pub IsLegalLatest : {Q : Type 0} → ℕ → ℕ → List (Entry Q) → Type 0
+IsLegalLatest count ceiling [] = Unit {0}
+IsLegalLatest count ceiling (entry ∷ earlier) =
+    (fits ceiling earlier (table_of_latest count ceiling earlier) entry ≡ true) × IsLegalLatest count ceiling earlier
+
+-- a legal history: each entry fits the table of those before it
+abbrev pub IsLegal : {Q : Type 0} → ℕ → ℕ → List (Entry Q) → Type 0
+IsLegal count ceiling history = IsLegalLatest count ceiling (reverse history)
+
+abbrev pub without_ended : {Q : Type 0} → Entry Q → Kind Q → List (Entry Q) → List (Entry Q)
+without_ended entry (Changed change) standing = standing
+without_ended entry (Admit server mode) standing = entry ∷ standing
+without_ended entry (Done request) standing = filter (λ admission. not (admission.actor == entry.actor)) standing
+
+abbrev pub admitted_latest : {Q : Type 0} → List (Entry Q) → ℕ → List (Entry Q)
+admitted_latest [] shard = []
+admitted_latest (entry ∷ earlier) shard =
+    if entry.shard == shard then without_ended entry entry.kind (admitted_latest earlier shard) else admitted_latest earlier shard
+
+-- the admissions of the shard that stand: those that no later end by the same actor has ended
+abbrev pub admitted : {Q : Type 0} → List (Entry Q) → ℕ → List (Entry Q)
+admitted history shard = admitted_latest (reverse history) shard
+
+-- the request that an entry of this kind keeps
+abbrev pub kept_of : {Q : Type 0} → Kind Q → Option Q
+kept_of (Done request) = request
+kept_of _ = None
+
+-- the requests that a history kept for a shard, in order
+abbrev pub kept : {Q : Type 0} → List (Entry Q) → ℕ → List Q
+kept history shard = filter_map (λ entry. if entry.shard == shard then kept_of entry.kind else None) history
+
+-- the reply at a place of a shard's kept requests, where `reply_of` says what a request is answered after others
+abbrev pub said : {Q R : Type 0} → (List Q → Q → R) → List (Entry Q) → ℕ → ℕ → Option R
+said reply_of history shard place =
+    option_map (λ request. reply_of (take place (kept history shard)) request) (slice_get (kept history shard) place)

@@ -1,0 +1,59 @@
+-- The ownership table: what it refuses, and what a change, an admission and the end of one leave.
+use Rattle.std.specs.Prelude.{ℕ, true, Option, Some, None, ◌≡◌, ◌<◌, ◌≤◌, nat_lt, not, if◌then◌else◌, List, length, slice_set}
+use Rattle.std.specs.Option.{option_map, option_or}
+use Rattle.sm_ownership.specs.declared.change.Change.{Change}
+use Rattle.sm_ownership.specs.declared.change.PhaseFault.{PhaseFault}
+use Rattle.sm_ownership.specs.declared.change.PhaseFault.TheVariants.{WrongPhase as NotItsPhase, SameServer as ItsOwner}
+use Rattle.sm_ownership.specs.declared.change_fault.ChangeFault.{ChangeFault}
+use Rattle.sm_ownership.specs.declared.change_fault.ChangeFault.TheVariants.{UnknownShard, WrongPhase, SameServer, Spent, Busy}
+use Rattle.sm_ownership.specs.declared.record.Record.{Record}
+use Rattle.sm_ownership.specs.declared.entry.Entry.{Entry}
+use Rattle.sm_ownership.specs.History.{record_at, table_of, after_change, after_admit, after_done}
+use Rattle.sm_ownership.specs.Rules.{phase_fault}
+
+-- the records of the shards, and the greatest generation
+pub record TableView : Type 0 where
+  pub records : List Record
+  pub ceiling : ℕ
+
+-- the table of a history
+abbrev pub table_view : {Q : Type 0} → ℕ → ℕ → List (Entry Q) → TableView
+table_view count ceiling history = record { records = table_of count ceiling history; ceiling = ceiling }
+
+-- no generation passes the ceiling, and the end of an admission has room below it
+pub record IsBelowCeiling (ceiling : ℕ) (state : Record) : Type 0 where
+  pub reached : state.generation ≤ ceiling
+  pub room : state.admitted ≡ true → state.generation < ceiling
+
+abbrev pub change_fault_of : PhaseFault → ChangeFault
+change_fault_of NotItsPhase = WrongPhase
+change_fault_of ItsOwner = SameServer
+
+-- what a record refuses of a change that its stand allows
+abbrev pub record_fault : ℕ → Record → Option ChangeFault
+record_fault ceiling state =
+    if not (nat_lt state.generation ceiling) then Some (Spent state)
+    else if state.admitted then Some (Busy state)
+    else None
+
+-- the first reason for which the table refuses a change of a shard
+abbrev pub apply_fault : TableView → ℕ → Change → Option ChangeFault
+apply_fault table shard change =
+    if not (nat_lt shard (length table.records)) then Some UnknownShard
+    else option_or (option_map change_fault_of (phase_fault (record_at table.records shard).stand change)) (record_fault table.ceiling (record_at table.records shard))
+
+-- the table with another record of a shard
+abbrev pub with_record : TableView → ℕ → Record → TableView
+with_record table shard state = record table { records = slice_set table.records shard state }
+
+-- the table after a change that it doesn't refuse
+abbrev pub table_changed : TableView → ℕ → Change → TableView
+table_changed table shard change = with_record table shard (after_change (record_at table.records shard) change)
+
+-- the table after an admission that it doesn't refuse
+abbrev pub table_admitted : TableView → ℕ → TableView
+table_admitted table shard = with_record table shard (after_admit (record_at table.records shard))
+
+-- the table after the end of an admission
+abbrev pub table_done : TableView → ℕ → TableView
+table_done table shard = with_record table shard (after_done (record_at table.records shard))

@@ -1,0 +1,136 @@
+//! Laws of the definitions: what holds of every history.
+
+ghost use Rattle.std.specs.Prelude.{◌≡◌, ◌≢◌, ℕ, ◌<◌, ◌≤◌, ◌↔◌, ◌==◌, IsTrue, Option, Some, None, List, [], ◌∷◌, ◌++◌, All, count_by, if◌then◌else◌, length, reverse};
+ghost use Rattle.sm_ownership.specs.declared.change.Change.{Change};
+ghost use Rattle.sm_ownership.specs.declared.entry.Entry.{Entry};
+ghost use Rattle.sm_ownership.specs.declared.entry.Kind.TheVariants.{Change as Changed, Admit, Done};
+ghost use Rattle.sm_ownership.specs.declared.mode.Mode.{Mode};
+ghost use Rattle.sm_ownership.specs.declared.record.Record.{Record};
+ghost use Rattle.sm_ownership.specs.History.{IsLegal, acts_as, admit_fits, admitted, change_fits, is_admission_of, kept, latest_of, record_at, table_of};
+ghost use Rattle.sm_ownership.specs.Reach.{IsApart, IsReached, IsServed};
+ghost use Rattle.sm_ownership.specs.Rules.{admit_fault, executor, phase_fault};
+ghost use Rattle.sm_ownership.specs.Tables.{apply_fault, record_fault, table_admitted, table_changed, table_done, table_view};
+
+/// The control may make exactly the changes that no fault stops. Legality says it in its own words: the record is idle,
+/// below the ceiling, and at a stand from which the change leads on.
+pub fn change_refused_exactly()
+    ensures { (ceiling : ℕ) (state : Record) (change : Change)
+        → IsTrue (change_fits ceiling state 0 change)
+        ↔ ((phase_fault state.stand change ≡ None) × (record_fault ceiling state ≡ None)) }
+{}
+
+/// An actor other than the control, with this one server for good, is admitted exactly where no fault stops it. Legality
+/// says it in its own words: the record is idle, has room for the admission and its end, and accepts the server.
+pub fn admission_refused_exactly<Q>()
+    ensures { (ceiling : ℕ) (earlier : List (Entry Q)) (state : Record) (actor server : ℕ) (mode : Mode)
+        → IsTrue (admit_fits ceiling earlier state actor server mode)
+        ↔ ((actor ≢ 0) × IsTrue (acts_as earlier actor server) × (admit_fault ceiling state server mode ≡ None)) }
+{}
+
+/// A change is the next entry of a legal history exactly where the history's table refuses it by no fault, and makes the
+/// table of the longer history.
+pub fn change_extends_history<Q>()
+    ensures { (count ceiling : ℕ) (history : List (Entry Q)) (shard : ℕ) (change : Change) → IsLegal count ceiling history
+        → let table = table_view count ceiling history in
+        let longer = history ++ record { actor = 0; shard = shard; kind = Changed change } ∷ [] in
+        (IsLegal count ceiling longer ↔ (apply_fault table shard change ≡ None))
+        × (IsLegal count ceiling longer → table_view count ceiling longer ≡ table_changed table shard change) }
+{}
+
+/// An admission of a server, by an actor other than the control which acts for this server alone, is the next entry of a
+/// legal history exactly where the shard's record refuses it by no fault, and makes the table of the longer history.
+pub fn admission_extends_history<Q>()
+    ensures { (count ceiling : ℕ) (history : List (Entry Q)) (actor shard server : ℕ) (mode : Mode)
+        → IsLegal count ceiling history → shard < count → actor ≢ 0 → IsTrue (acts_as (reverse history) actor server)
+        → let table = table_view count ceiling history in
+        let longer = history ++ record { actor = actor; shard = shard; kind = Admit server mode } ∷ [] in
+        (IsLegal count ceiling longer ↔ (admit_fault ceiling (record_at table.records shard) server mode ≡ None))
+        × (IsLegal count ceiling longer → table_view count ceiling longer ≡ table_admitted table shard) }
+{}
+
+/// The end of an admission is the next entry of a legal history exactly where the shard's record is admitted and the
+/// shard's latest entry is an admission by the same actor, and makes the table of the longer history.
+pub fn end_extends_history<Q>()
+    ensures { (count ceiling : ℕ) (history : List (Entry Q)) (actor shard : ℕ) (request : Option Q)
+        → IsLegal count ceiling history → shard < count
+        → let table = table_view count ceiling history in
+        let longer = history ++ record { actor = actor; shard = shard; kind = Done request } ∷ [] in
+        (IsLegal count ceiling longer
+        ↔ (IsTrue (record_at table.records shard).admitted × IsTrue (is_admission_of actor (latest_of (reverse history) shard))))
+        × (IsLegal count ceiling longer → table_view count ceiling longer ≡ table_done table shard) }
+{}
+
+/// What a legal history begins with is a legal history.
+pub fn legal_prefix<Q>()
+    ensures { (count ceiling : ℕ) (history later : List (Entry Q))
+        → IsLegal count ceiling (history ++ later) → IsLegal count ceiling history }
+{}
+
+/// At each point of a legal history at most one admission of a shard stands: one where the shard's record is admitted,
+/// and else none.
+pub fn one_admission<Q>()
+    ensures at_most_one { (count ceiling : ℕ) (history later : List (Entry Q)) (shard : ℕ)
+        → IsLegal count ceiling (history ++ later)
+        → length (admitted history shard) ≤ 1 }
+    ensures where_admitted { (count ceiling : ℕ) (history later : List (Entry Q)) (shard : ℕ)
+        → IsLegal count ceiling (history ++ later)
+        → let state = record_at (table_of count ceiling history) shard in
+        length (admitted history shard) ≡ (if state.admitted then 1 else 0) }
+{}
+
+/// At each point of a legal history the admission of a shard that stands is one of the shard's executor.
+pub fn executor_admitted<Q>()
+    ensures { (count ceiling : ℕ) (history later : List (Entry Q)) (shard : ℕ)
+        → IsLegal count ceiling (history ++ later)
+        → let state = record_at (table_of count ceiling history) shard in
+        let IsOfExecutor : Entry Q → Type 0 = λ entry.
+        (server : ℕ) × (mode : Mode) × (entry.kind ≡ Admit server mode) × (executor state ≡ Some server) in
+        All IsOfExecutor (admitted history shard) }
+{}
+
+/// In a legal history the generation of a shard's record is the number of the shard's entries.
+pub fn generation_counts_entries<Q>()
+    ensures { (count ceiling : ℕ) (history : List (Entry Q)) (shard : ℕ) → IsLegal count ceiling history
+        → let state = record_at (table_of count ceiling history) shard in
+        state.generation ≡ count_by (λ entry. entry.shard == shard) history }
+{}
+
+/// Where a shard has the same generation at two points of a legal history, it has the same record at both.
+pub fn same_generation_same_record<Q>()
+    ensures { (count ceiling : ℕ) (history later : List (Entry Q)) (shard : ℕ) → IsLegal count ceiling (history ++ later)
+        → let before = record_at (table_of count ceiling history) shard in
+        let after = record_at (table_of count ceiling (history ++ later)) shard in
+        before.generation ≡ after.generation → before ≡ after }
+{}
+
+/// In a legal history no generation passes the ceiling, and while a server is admitted there is room for the end of its
+/// admission.
+pub fn generation_within_ceiling<Q>()
+    ensures within { (count ceiling : ℕ) (history : List (Entry Q)) (shard : ℕ) → IsLegal count ceiling history
+        → let state = record_at (table_of count ceiling history) shard in
+        state.generation ≤ ceiling }
+    ensures room_to_end { (count ceiling : ℕ) (history : List (Entry Q)) (shard : ℕ) → IsLegal count ceiling history
+        → let state = record_at (table_of count ceiling history) shard in
+        IsTrue state.admitted → state.generation < ceiling }
+{}
+
+/// What a longer history keeps for a shard begins with what the shorter one kept.
+pub fn kept_grows<Q>()
+    ensures { (history later : List (Entry Q)) (shard : ℕ)
+        → kept (history ++ later) shard ≡ kept history shard ++ kept later shard }
+{}
+
+/// In a legal history the next or previous server of a migration is never the shard's owner.
+pub fn two_servers<Q>()
+    ensures { (count ceiling : ℕ) (history : List (Entry Q)) (shard : ℕ) → IsLegal count ceiling history
+        → IsApart (record_at (table_of count ceiling history) shard).stand }
+{}
+
+/// No phase of a migration refuses by its stand what reaches the shard's owner, or its previous owner until that one drops
+/// the shard: the server executes it, or forwards it to the executor, which executes it and forwards nothing, also where
+/// the migration has gone on meanwhile.
+pub fn no_phase_refuses<Q>()
+    ensures { (count ceiling : ℕ) (history : List (Entry Q)) (shard server : ℕ) → IsLegal count ceiling history
+        → let stand = (record_at (table_of count ceiling history) shard).stand in
+        IsReached stand server → IsServed stand server }
+{}

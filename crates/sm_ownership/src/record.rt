@@ -1,0 +1,89 @@
+ghost use Rattle.std.specs.Prelude.{◌≡◌};
+ghost use Rattle.sm_ownership.specs.Rules.{executor, accepts, forward_to, admit_fault};
+
+use crate::admit_fault::AdmitFault;
+use crate::mode::Mode;
+use sm_ranges::server_id::ServerId;
+use sm_ranges::stand::Stand;
+
+/// What the ownership table holds for a shard.
+#[derive(Clone, Copy, Debug, PartialEq, Eq, Drop)]
+pub struct Record {
+    /// Who owns the shard, and how far a migration of it has come.
+    pub stand: Stand,
+    /// Whether a server is admitted to the shard now.
+    pub admitted: bool,
+    /// How many entries the shard's history has.
+    pub generation: u64,
+}
+
+impl Record {
+    /// Who executes requests on the shard.
+    pub fn executor(&self) -> Option<ServerId>
+        ensures { result ≡ executor self.now }
+    {
+        match self.stand {
+            Stand::Vacant | Stand::Paused(_) => None,
+            Stand::Serving(owner) | Stand::Prepared { owner, .. } | Stand::Taken { owner, .. } =>
+                Some(owner),
+            Stand::Forwarding { next, .. } => Some(next),
+        }
+    }
+
+    /// Whether the server executes a request that came to it so.
+    pub fn accepts(&self, server: ServerId, mode: Mode) -> bool
+        ensures { result ≡ accepts self.now server mode }
+    {
+        match self.stand {
+            Stand::Vacant | Stand::Paused(_) => false,
+            Stand::Serving(owner) | Stand::Prepared { owner, .. } | Stand::Taken { owner, .. } =>
+                owner == server,
+            Stand::Forwarding { owner, next } => next == server && mode == Mode::Forwarded(owner),
+        }
+    }
+
+    /// The server to which this one forwards requests on the shard, if it does.
+    pub fn forward_to(&self, server: ServerId) -> Option<ServerId>
+        ensures { result ≡ forward_to self.now server }
+    {
+        match self.stand {
+            Stand::Forwarding { owner, next } => if owner == server { Some(next) } else { None },
+            Stand::Taken { owner, previous } => if previous == server {
+                Some(owner)
+            } else {
+                None
+            },
+            _ => None,
+        }
+    }
+
+    /// Why the server is not admitted for a request that came so, the first reason that applies; none where it is.
+    /// No generation passes the ceiling.
+    pub fn admit_fault(&self, server: ServerId, mode: Mode, ceiling: u64) -> Option<AdmitFault>
+        ensures { result ≡ admit_fault ceiling self.now server mode }
+    {
+        let accepts = self.accepts(server, mode);
+        // What most admissions find, first.
+        if accepts && !self.admitted && ceiling >= 2 && self.generation <= ceiling - 2 {
+            return None;
+        }
+        match self.stand {
+            Stand::Vacant => return Some(AdmitFault::Vacant),
+            Stand::Paused(_) => return Some(AdmitFault::Paused),
+            _ => {}
+        }
+        if self.executor() != Some(server) {
+            return Some(AdmitFault::NotExecutor);
+        }
+        if !accepts {
+            return Some(AdmitFault::NotYet);
+        }
+        if self.admitted {
+            return Some(AdmitFault::Admitted);
+        }
+        if ceiling < 2 || self.generation > ceiling - 2 {
+            return Some(AdmitFault::Spent);
+        }
+        None
+    }
+}

@@ -1,0 +1,118 @@
+ghost use Rattle.std.specs.Prelude.{◌≡◌, ◌<◌, ◌≤◌, length, replicate, true, None, IfOk, OnOk, OnErr};
+ghost use Rattle.std.specs.Result.{result_err};
+ghost use Rattle.sm_ownership.specs.History.{vacant, record_at};
+ghost use Rattle.sm_ownership.specs.Rules.{admit_fault};
+ghost use Rattle.sm_ownership.specs.Tables.{apply_fault, table_changed, table_admitted, table_done};
+
+use crate::admit_fault::AdmitFault;
+use crate::change::Change;
+use crate::change_fault::ChangeFault;
+use crate::mode::Mode;
+use crate::record::Record;
+use sm_ranges::server_id::ServerId;
+use sm_ranges::shard_id::ShardId;
+use sm_ranges::stand::Stand;
+use std::alloc::{AllocError, Global};
+use std::marker::Model;
+
+/// The ownership table: each shard's record, and the ceiling, which no generation passes.
+#[derive(Debug, Drop)]
+pub struct Table {
+    records: Vec<Record>,
+    ceiling: u64,
+}
+
+impl Model for Table {
+    ghost use Rattle.std.specs.Prelude.{All};
+    ghost use Rattle.sm_ownership.specs.Tables.{TableView, IsBelowCeiling};
+
+    ghost Value = { TableView };
+
+    ghost view = { λ table. record { records = table.records.items; ceiling = table.ceiling } };
+
+    ghost invariant = { λ table. All (IsBelowCeiling table.ceiling) table.records.items };
+}
+
+impl Table {
+    /// The table of so many shards to which nothing has happened: they are vacant.
+    pub fn new(alloc: Global, count: usize, ceiling: u64) -> Result<Table, AllocError>
+        ensures records { IfOk result (λ table. table.records ≡ replicate count vacant) }
+        ensures ceiling { IfOk result (λ table. table.ceiling ≡ ceiling) }
+    {
+        let vacant = Record {
+            stand: Stand::Vacant,
+            admitted: false,
+            generation: 0,
+        };
+        Ok(Table {
+            records: vec![in alloc; vacant; count]?,
+            ceiling,
+        })
+    }
+
+    /// The number of shards.
+    pub fn count(&self) -> usize
+        ensures { result ≡ length self.now.records }
+    {
+        self.records.len()
+    }
+
+    /// The record of the shard.
+    pub fn record(&self, k: ShardId) -> Record
+        requires { k < length self.now.records }
+        ensures { result ≡ record_at self.now.records k }
+    {
+        self.records[k.index()]
+    }
+
+    /// Changes the stand of the shard, or answers the first fault that applies. A refused change leaves the table as it was.
+    pub fn apply(&mut self, k: ShardId, change: Change) -> Result<(), ChangeFault>
+        ensures fault { result_err result ≡ apply_fault self.old k change }
+        ensures made { OnOk result (self.new ≡ table_changed self.old k change) }
+        ensures unchanged { OnErr result (self.new ≡ self.old) }
+    {
+        if k.index() >= self.count() {
+            return Err(ChangeFault::UnknownShard);
+        }
+        let record = &mut self.records[k.index()];
+        let stand = change.apply_to(record.stand)?;
+        if record.generation >= self.ceiling {
+            return Err(ChangeFault::Spent(*record));
+        }
+        if record.admitted {
+            return Err(ChangeFault::Busy(*record));
+        }
+        record.stand = stand;
+        record.generation += 1;
+        Ok(())
+    }
+
+    /// Admits the server to the shard, for a request that came so, or answers the first fault that applies. A refused
+    /// admission leaves the table as it was.
+    pub fn admit(&mut self, k: ShardId, server: ServerId, mode: Mode) -> Result<(), AdmitFault>
+        requires { k < length self.old.records }
+        ensures fault { result_err result
+            ≡ admit_fault self.old.ceiling (record_at self.old.records k) server mode }
+        ensures admitted { OnOk result (self.new ≡ table_admitted self.old k) }
+        ensures unchanged { OnErr result (self.new ≡ self.old) }
+    {
+        let record = &mut self.records[k.index()];
+        if let Some(fault) = record.admit_fault(server, mode, self.ceiling) {
+            return Err(fault);
+        }
+        record.admitted = true;
+        record.generation += 1;
+        Ok(())
+    }
+
+    /// Ends the shard's admission.
+    pub fn done(&mut self, k: ShardId)
+        requires known { k < length self.old.records }
+        requires admitted { (record_at self.old.records k).admitted ≡ true }
+        ensures { self.new ≡ table_done self.old k }
+    {
+        let record = &mut self.records[k.index()];
+        record.admitted = false;
+        record.generation += 1;
+    }
+}

@@ -1,0 +1,38 @@
+ghost use Rattle.std.specs.Prelude.{◌≡◌, IfOk, IsTrue, Some};
+ghost use Rattle.sm_script.specs.Grammar.{accepts};
+ghost use Rattle.sm_script.specs.Numbers.{number};
+ghost use Rattle.sm_script.specs.declared.shape.Shape.TheVariants.{Shard, Server, Key as KeyShape};
+
+use crate::number::number_between;
+use sm_ranges::key::{Key, KeyFault};
+use sm_ranges::server_id::ServerId;
+use sm_ranges::shard_id::ShardId;
+use std::alloc::{AllocError, Global};
+
+/// The shard that the word names.
+pub(crate) fn shard(word: &[u8]) -> ShardId
+    requires { IsTrue (accepts Shard word.now) }
+    ensures { result ≡ number word.now }
+{
+    ShardId::new(number_between(word, 0, 4095).unwrap() as u16).unwrap()
+}
+
+/// The server that the word names.
+pub(crate) fn server(word: &[u8]) -> ServerId
+    requires { IsTrue (accepts Server word.now) }
+    ensures { result ≡ number word.now }
+{
+    ServerId::new(number_between(word, 1, 4095).unwrap() as u16).unwrap()
+}
+
+/// The key that the word is.
+pub(crate) fn key(alloc: Global, word: &[u8]) -> Result<Key, AllocError>
+    requires { IsTrue (accepts KeyShape word.now) }
+    ensures { IfOk result (λ key. key ≡ word.now) }
+{
+    match Key::new(alloc, word) {
+        Ok(key) => Ok(key),
+        Err(KeyFault::NoMemory) => Err(AllocError),
+        Err(KeyFault::Empty | KeyFault::TooLong) => unreachable!(),
+    }
+}

@@ -1,0 +1,78 @@
+-- A server that holds a shard without a request, in the parts and in the world that they stand for.
+use Rattle.std.proofs.Common.{◌≡◌, ℕ, ◌<◌, true, false, List, length, refl, sym, ap, subst, ◌∙◌, arith}
+use Rattle.std.specs.Prelude.{Option, Some, None, Ok, Err, is_none, nat_lt, slice_index_or, slice_set}
+use Rattle.std.proofs.lemmas.Bool.{lt-ltb}
+use Rattle.sm_ownership.specs.declared.entry.Kind.TheVariants.{Done}
+use Rattle.sm_ownership.specs.declared.mode.Mode.TheVariants.{Direct}
+use Rattle.sm_ownership.specs.declared.record.Record.{Record}
+use Rattle.sm_ownership.specs.Growth.{kept-push_none, length-table_of}
+use Rattle.sm_ownership.specs.History.{record_at}
+use Rattle.sm_ownership.specs.Rules.{admit_fault}
+use Rattle.sm_ownership.specs.Tables.{TableView, table_done}
+use Rattle.sm_table.specs.declared.in_hand.InHand.{InHand}
+use Rattle.sm_table.specs.declared.in_hand.Work.{Work}
+use Rattle.sm_table.specs.declared.step.Step.TheVariants.{Hold, Free}
+use Rattle.sm_table.specs.declared.world_answer.WorldAnswer.TheVariants.{Made}
+use Rattle.sm_table.specs.declared.world_fault.WorldFault.TheVariants.{NotHeld}
+use Rattle.sm_table.specs.Desk.{is_known}
+use Rattle.sm_table.specs.Hands.{is_alone}
+use Rattle.sm_table.specs.World.{Service, WorldState, Plain, count_of, world_record, ended, let_go, freed, outcome}
+use Rattle.sm_table.specs.Standing.{WorldView, StandsFor, Follows, with_admission}
+use Rattle.sm_table.proofs.Admissions.{entered, entered_parts, entered_keeps}
+use Rattle.sm_table.proofs.Endings.{in_hand, done_parts, done_parts_of}
+use Rattle.sm_table.proofs.Entries.{hand_within}
+use Rattle.sm_table.proofs.Parts.{parts_of, parts-from_StandsFor, Follows-unchanged, Follows-changed}
+
+in_hand-alone : {Q : Type 0} (own : ℕ) (some : Option (Work Q)) → true ≡ is_none some → in_hand own some ≡ in_hand own None
+in_hand-alone own None is = refl
+in_hand-alone own (Some one) is = absurd cc
+
+-- what is in hand where a server holds the shard without a request
+pub hand-from_alone : {Q : Type 0} (hand : Option (InHand Q)) → true ≡ is_alone hand → (server : ℕ) × (hand ≡ in_hand server None)
+hand-from_alone None is = absurd cc
+hand-from_alone (Some hand) is = (hand.server, in_hand-alone hand.server hand.work is)
+
+let_go-some : {Q R : Type 0} (w : WorldState Q) (shard server : ℕ) (work : Option (Work Q)) → is_none work ≡ false → let_go {R = R} w shard server work ≡ (Err NotHeld, w)
+let_go-some w shard server None some = absurd cc
+let_go-some w shard server (Some work) some = refl
+
+freed-not_alone : {Q R : Type 0} (w : WorldState Q) (shard : ℕ) (hand : Option (InHand Q)) → is_alone hand ≡ false → freed {R = R} w shard hand ≡ (Err NotHeld, w)
+freed-not_alone w shard None alone = refl
+freed-not_alone w shard (Some hand) alone = let_go-some w shard hand.server hand.work alone
+
+module _ {Q R : Type 0} (service : Service Q R) (v now : WorldView Q) (same : v ≡ now) (w : WorldState Q) (given : StandsFor now w) (shard : ℕ) (within : shard < length v.records) where
+  stands : StandsFor v w
+  stands = subst (λ u. StandsFor u w) (sym same) given
+
+  inside : nat_lt shard (count_of w) ≡ true
+  inside = let there : shard < count_of w = omega (arith, ap length stands.records, length-table_of (count_of w) w.frame.ceiling w.history) in lt-ltb _ _ there
+
+  -- the server is admitted
+  pub held_by : (server : ℕ) (after : WorldView Q) → is_known v.desk.servers server ≡ true → None ≡ admit_fault v.ceiling (record_at v.records shard) server Direct → after ≡ with_admission v shard (record { server = server; work = None }) → Follows after (Ok Made) (outcome service w Plain (Hold shard server))
+  held_by server after knows is admitted =
+      let hand : InHand Q = record { server = server; work = None } in
+      let known : is_known w.frame.servers server ≡ true = ap (λ desk. is_known desk.servers server) (sym stands.desk) ∙ knows in
+      let by_record : admit_fault w.frame.ceiling (world_record w shard) server Direct ≡ None =
+      ap (λ ceiling. admit_fault ceiling (world_record w shard) server Direct) (sym stands.ceiling)
+      ∙ ap (λ records. admit_fault v.ceiling (record_at records shard) server Direct) (sym stands.records)
+      ∙ sym is in
+      Follows-changed service w Plain (Hold shard server) after (Ok Made) (entered w server shard Direct hand v.kept) v.kept stands.sound (rw inside (rw known (rw by_record refl)))
+      (λ sound. admitted ∙ ap (λ u. with_admission u shard hand) (parts-from_StandsFor v w stands) ∙ entered_parts w server shard Direct hand v.kept sound)
+      (λ _. entered_keeps w server shard Direct hand v.kept (record { bodies = stands.bodies; each = stands.kept }))
+
+  -- no server holds the shard so
+  pub not_freed : (hands : List (Option (InHand Q))) → false ≡ is_alone (slice_index_or v.in_hand shard None) → hands ≡ v.in_hand → Follows {R = R} (record v { in_hand = hands }) (Err NotHeld) (outcome service w Plain (Free shard))
+  not_freed hands alone stays =
+      let not_alone : is_alone (slice_index_or w.in_hand shard None) ≡ false = ap (λ all. is_alone (slice_index_or all shard None)) (sym stands.in_hand) ∙ sym alone in
+      Follows-unchanged service w Plain (Free shard) (record v { in_hand = hands }) v (Err NotHeld) stands (rw inside (freed-not_alone w shard (slice_index_or w.in_hand shard None) not_alone)) (ap (λ all. record v { in_hand = all }) stays)
+
+  -- the server lets the shard go
+  pub freed_by : (server : ℕ) (table : TableView) (hands : List (Option (InHand Q))) → slice_index_or v.in_hand shard None ≡ in_hand server None → table ≡ table_done (record { records = v.records; ceiling = v.ceiling }) shard → hands ≡ slice_set v.in_hand shard None → Follows (record v { records = table.records; ceiling = table.ceiling; in_hand = hands }) (Ok Made) (outcome service w Plain (Free shard))
+  freed_by server table hands held done let_go =
+      let in_hand_of_world : slice_index_or w.in_hand shard None ≡ in_hand server None = ap (λ all. slice_index_or all shard None) (sym stands.in_hand) ∙ held in
+      Follows-changed service w Plain (Free shard) (record v { records = table.records; ceiling = table.ceiling; in_hand = hands }) (Ok Made) (ended w shard server None) v.kept stands.sound (rw inside (rw in_hand_of_world refl))
+      (λ sound. ap (λ (t : TableView). record v { records = t.records; ceiling = t.ceiling; in_hand = hands }) done
+      ∙ ap (λ all. record v { records = (table_done (record { records = v.records; ceiling = v.ceiling }) shard).records; in_hand = all }) let_go
+      ∙ ap (done_parts w shard server None v.kept) (parts-from_StandsFor v w stands)
+      ∙ done_parts_of w shard server None v.kept v.kept sound)
+      (λ _. record { bodies = stands.bodies; each = λ other there. stands.kept other there ∙ sym (kept-push_none w.history (record { actor = server; shard = shard; kind = Done None }) other refl) })

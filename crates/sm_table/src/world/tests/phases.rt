@@ -1,0 +1,89 @@
+use super::*;
+
+// Servers 1 and 2, and shard 0.
+fn names() -> Result<(ServerId, ServerId, ShardId), Fail> {
+    Ok((server(1)?, server(2)?, shard(0)?))
+}
+
+// A request for shard 0.
+fn get(alloc: Global) -> Result<Request, Fail> {
+    Ok(Request::Get(Key::new(alloc, b"a")?))
+}
+
+// What the envelope first in flight is answered in the course of a migration of the shard.
+fn delivered_while_migrating(world: &mut World<CounterText>, k: ShardId, next: ServerId) -> Told {
+    answer(world, change(k, Change::PrepareAddShard(next)));
+    answer(world, change(k, Change::PrepareDropShard));
+    let delivered = answer(world, Step::Deliver(0));
+    answer(world, change(k, Change::AddShard));
+    answer(world, change(k, Change::DropShard));
+    delivered
+}
+
+#[test]
+fn envelope_goes_round(rt: HostRuntime) -> Result<(), Fail> {
+    let (one, two, k) = names()?;
+    let send = Step::Send(one, 0, get(rt.alloc())?);
+    let later = Step::Send(two, 1, get(rt.alloc())?);
+    let mut world = new_world(rt.alloc())?;
+    answer(&mut world, change(k, Change::Assign(one)));
+    assert!(rt; answer(&mut world, send) == Told::Sent);
+    for next in [two, one, two, one] {
+        assert!(rt; delivered_while_migrating(&mut world, k, next) == Told::Forwarded(next));
+    }
+    let last = delivered_while_migrating(&mut world, k, two);
+    assert!(rt; last == Told::Refused(Refusal::TooManyHops));
+    assert!(rt; answer(&mut world, Step::Deliver(0)) == Told::Fault(WorldFault::NoEnvelope));
+    assert!(rt; answer(&mut world, later) == Told::Sent);
+    assert!(rt; answer(&mut world, Step::Lose(0)) == Told::Made);
+    assert!(rt; answer(&mut world, Step::Deliver(0)) == Told::Fault(WorldFault::NoEnvelope));
+    Ok(())
+}
+
+#[test]
+fn holds_and_frees(rt: HostRuntime) -> Result<(), Fail> {
+    let (one, two, k) = names()?;
+    let send = Step::Send(one, 0, get(rt.alloc())?);
+    let mut world = new_world(rt.alloc())?;
+    answer(&mut world, change(k, Change::Assign(one)));
+    assert!(rt; answer(&mut world, Step::Hold(k, one)) == Told::Made);
+    let held = Record {
+        stand: Stand::Serving(one),
+        admitted: true,
+        generation: 2,
+    };
+    let busy = WorldFault::Command(CommandFault::Busy(held));
+    assert!(rt; answer(&mut world, change(k, Change::PrepareAddShard(two))) == Told::Fault(busy));
+    answer(&mut world, send);
+    let admitted = Refusal::Admit(AdmitFault::Admitted);
+    assert!(rt; answer(&mut world, Step::Deliver(0)) == Told::Refused(admitted));
+    assert!(rt; answer(&mut world, Step::Finish(k)) == Told::Fault(WorldFault::NotHeld));
+    assert!(rt; answer(&mut world, Step::Free(k)) == Told::Made);
+    assert!(rt; answer(&mut world, change(k, Change::PrepareAddShard(two))) == Told::Made);
+    assert!(rt; answer(&mut world, Step::Free(k)) == Told::Fault(WorldFault::NotHeld));
+    let prepared = Record {
+        stand: Stand::Prepared {
+            owner: one,
+            next: two,
+        },
+        admitted: false,
+        generation: 4,
+    };
+    assert!(rt; answer(&mut world, Step::Look(k)) == Told::Seen(prepared));
+    Ok(())
+}
+
+#[test]
+fn frees_no_request(rt: HostRuntime) -> Result<(), Fail> {
+    let (one, _, k) = names()?;
+    let send = Step::Send(one, 7, get(rt.alloc())?);
+    let mut world = new_world(rt.alloc())?;
+    let vacant = WorldFault::Admit(AdmitFault::Vacant);
+    assert!(rt; answer(&mut world, Step::Hold(k, one)) == Told::Fault(vacant));
+    answer(&mut world, change(k, Change::Assign(one)));
+    answer(&mut world, send);
+    assert!(rt; answer(&mut world, Step::Deliver(0)) == Told::Began(one));
+    assert!(rt; answer(&mut world, Step::Free(k)) == Told::Fault(WorldFault::NotHeld));
+    assert!(rt; answer(&mut world, Step::Finish(k)) == Told::Replied(7, one, 0));
+    Ok(())
+}
