@@ -1,0 +1,4 @@
+pub mod Digits
+pub mod Histories
+pub mod Word
+pub mod Words

@@ -1,0 +1,74 @@
+-- The word of a record. From the highest bit: the phase in 3 bits, whether it is admitted in 1, the owner in 12, the next
+-- or previous server in 12, and the generation in 36.
+use Rattle.std.specs.Prelude.{ℕ, Bool, true, false, Option, Some, None, ◌==◌, if◌then◌else◌, ◌≡◌, ◌≢◌, ◌≤◌, ◌<◌, ◌+◌, ◌*◌, ◌^◌}
+use Rattle.sm_ranges.specs.ServerId.{IsServer}
+use Rattle.sm_ranges.specs.declared.stand.Stand.{Stand}
+use Rattle.sm_ranges.specs.declared.stand.Stand.TheVariants.{Vacant, Serving, Prepared, Forwarding, Taken, Paused}
+use Rattle.sm_ownership.specs.declared.record.Record.{Record}
+
+abbrev pub phase_of : Stand → ℕ
+phase_of Vacant = 0
+phase_of (Serving owner) = 1
+phase_of (Prepared owner next) = 2
+phase_of (Forwarding owner next) = 3
+phase_of (Taken owner previous) = 4
+phase_of (Paused owner) = 5
+
+-- the number of the owner, or 0
+abbrev pub owner_of : Stand → ℕ
+owner_of Vacant = 0
+owner_of (Serving owner) = owner
+owner_of (Prepared owner next) = owner
+owner_of (Forwarding owner next) = owner
+owner_of (Taken owner previous) = owner
+owner_of (Paused owner) = owner
+
+-- the number of the next or previous server, or 0
+abbrev pub other_of : Stand → ℕ
+other_of Vacant = 0
+other_of (Serving owner) = 0
+other_of (Prepared owner next) = next
+other_of (Forwarding owner next) = next
+other_of (Taken owner previous) = previous
+other_of (Paused owner) = 0
+
+-- the server of a number, where 0 stands for none
+abbrev pub server_of : ℕ → Option ℕ
+server_of number = if number == 0 then None else Some number
+
+abbrev pub bit_of : Bool → ℕ
+bit_of true = 1
+bit_of false = 0
+
+-- the word of a record
+abbrev pub word_of : Record → ℕ
+word_of state =
+    phase_of state.stand * 2 ^ 61 + bit_of state.admitted * 2 ^ 60 + owner_of state.stand * 2 ^ 48 + other_of state.stand * 2 ^ 36 + state.generation
+
+-- a migration is between two servers
+abbrev pub AreTwoServers : ℕ → ℕ → Type 0
+AreTwoServers owner other = IsServer owner × IsServer other × (other ≢ owner)
+
+-- a stand names servers alone, and two where it names two
+abbrev pub NamesServers : Stand → Type 0
+NamesServers Vacant = Unit {0}
+NamesServers (Serving owner) = IsServer owner
+NamesServers (Prepared owner next) = AreTwoServers owner next
+NamesServers (Forwarding owner next) = AreTwoServers owner next
+NamesServers (Taken owner previous) = AreTwoServers owner previous
+NamesServers (Paused owner) = IsServer owner
+
+-- a vacant shard is idle and has had no entry, a paused one is idle, and every other has had an entry
+abbrev pub IsReachable : Stand → Bool → ℕ → Type 0
+IsReachable Vacant admitted generation = (admitted ≡ false) × (generation ≡ 0)
+IsReachable (Serving owner) admitted generation = 1 ≤ generation
+IsReachable (Prepared owner next) admitted generation = 1 ≤ generation
+IsReachable (Forwarding owner next) admitted generation = 1 ≤ generation
+IsReachable (Taken owner previous) admitted generation = 1 ≤ generation
+IsReachable (Paused owner) admitted generation = (admitted ≡ false) × (1 ≤ generation)
+
+-- a record that has a word
+pub record IsWellFormed (state : Record) : Type 0 where
+  pub servers : NamesServers state.stand
+  pub reachable : IsReachable state.stand state.admitted state.generation
+  pub generation : state.generation < 2 ^ 36

@@ -1,0 +1,272 @@
+ghost use Rattle.std.specs.Prelude.{◌≡◌, ◌↔◌, ◌≢◌, ◌<◌, ◌≤◌, ◌%◌, ◌*◌, ◌^◌, ℕ, Some, None, IfSome, IfNone, IsTrue, true, false};
+ghost use Rattle.sm_ownership.specs.declared.record.Record.{Record as RecordValue};
+ghost use Rattle.sm_ownership.specs.History.{after_admit, after_done};
+ghost use Rattle.sm_ranges.specs.declared.stand.Stand.{Stand as StandValue};
+ghost use Rattle.sm_ranges.specs.ServerId.{IsServer};
+ghost use Rattle.sm_word.specs.Word.{IsWellFormed, IsReachable, NamesServers, word_of, phase_of, owner_of, other_of, server_of};
+
+use sm_ownership::record::Record;
+use sm_ranges::server_id::ServerId;
+use sm_ranges::stand::Stand;
+
+// Where the parts of a word begin.
+const PHASE: u64 = 1 << 61;
+
+const ADMITTED: u64 = 1 << 60;
+
+const OWNER: u64 = 1 << 48;
+
+const OTHER: u64 = 1 << 36;
+
+// How many numbers of servers a part has room for.
+const SERVERS: u64 = 1 << 12;
+
+/// The word of a well-formed record.
+pub fn pack(state: Record) -> u64
+    requires { IsWellFormed state }
+    ensures { result ≡ word_of state }
+{
+    let admitted = if state.admitted { ADMITTED } else { 0 };
+    phase(state.stand) * PHASE
+        + admitted
+        + owner(state.stand) * OWNER
+        + other(state.stand) * OTHER
+        + state.generation
+}
+
+/// The well-formed record that has this word, or none where no record has it.
+pub fn unpack(word: u64) -> Option<Record>
+    ensures { (state : RecordValue) → (result ≡ Some state) ↔ (IsWellFormed state × (word_of state ≡ word)) }
+{
+    let owner = ServerId::new((word / OWNER % SERVERS) as u16);
+    let other = ServerId::new((word / OTHER % SERVERS) as u16);
+    let stand = stand_of(word / PHASE, owner, other)?;
+    let admitted = word / ADMITTED % 2 == 1;
+    let generation = word % OTHER;
+    if !is_reachable(&stand, admitted, generation) {
+        return None;
+    }
+    Some(Record {
+        stand,
+        admitted,
+        generation,
+    })
+}
+
+/// The record of a word that has one.
+pub fn record_of_word(word: u64) -> Record
+    requires { (state : RecordValue) × IsWellFormed state × (word_of state ≡ word) }
+    ensures { (state : RecordValue) → IsWellFormed state → word_of state ≡ word → result ≡ state }
+{
+    let owner = (word / OWNER % SERVERS) as u16;
+    let other = (word / OTHER % SERVERS) as u16;
+    Record {
+        stand: known_stand(word / PHASE, owner, other),
+        admitted: word / ADMITTED % 2 == 1,
+        generation: word % OTHER,
+    }
+}
+
+/// The word after an admission, of the word of an idle record.
+pub fn admit_word(word: u64) -> u64
+    requires { (state : RecordValue) × IsWellFormed state × (state.admitted ≡ false) × (word_of state ≡ word) }
+    ensures { (state : RecordValue) → state.admitted ≡ false → word_of state ≡ word → result ≡ word_of (after_admit state) }
+{
+    word + (ADMITTED + 1)
+}
+
+/// The word after the end of an admission, of the word of an admitted record.
+pub fn done_word(word: u64) -> u64
+    requires { (state : RecordValue) × IsWellFormed state × (state.admitted ≡ true) × (word_of state ≡ word) }
+    ensures { (state : RecordValue) → state.admitted ≡ true → word_of state ≡ word → result ≡ word_of (after_done state) }
+{
+    word - (ADMITTED - 1)
+}
+
+// The stand of this phase that names these servers, or as many of them as it names.
+fn known_stand(phase: u64, owner: u16, other: u16) -> Stand
+    requires owner { phase ≢ 0 → IsServer owner }
+    requires other { 2 ≤ phase → phase ≤ 4 → IsServer other }
+    ensures { (stand : StandValue) → phase_of stand ≡ phase → owner_of stand ≡ owner → other_of stand ≡ other → result ≡ stand }
+{
+    match phase {
+        0 => Stand::Vacant,
+        1 => Stand::Serving(ServerId::of(owner)),
+        2 => Stand::Prepared {
+            owner: ServerId::of(owner),
+            next: ServerId::of(other),
+        },
+        3 => Stand::Forwarding {
+            owner: ServerId::of(owner),
+            next: ServerId::of(other),
+        },
+        4 => Stand::Taken {
+            owner: ServerId::of(owner),
+            previous: ServerId::of(other),
+        },
+        _ => Stand::Paused(ServerId::of(owner)),
+    }
+}
+
+fn phase(stand: Stand) -> u64
+    ensures { result ≡ phase_of stand }
+{
+    match stand {
+        Stand::Vacant => 0,
+        Stand::Serving(_) => 1,
+        Stand::Prepared { .. } => 2,
+        Stand::Forwarding { .. } => 3,
+        Stand::Taken { .. } => 4,
+        Stand::Paused(_) => 5,
+    }
+}
+
+// The number of the owner, or 0.
+fn owner(stand: Stand) -> u64
+    ensures { result ≡ owner_of stand }
+{
+    match stand {
+        Stand::Vacant => 0,
+        Stand::Serving(owner)
+        | Stand::Prepared { owner, .. }
+        | Stand::Forwarding { owner, .. }
+        | Stand::Taken { owner, .. }
+        | Stand::Paused(owner) => u64::from(owner.number()),
+    }
+}
+
+// The number of the next or previous server, or 0.
+fn other(stand: Stand) -> u64
+    ensures { result ≡ other_of stand }
+{
+    match stand {
+        Stand::Vacant | Stand::Serving(_) | Stand::Paused(_) => 0,
+        Stand::Prepared { next: other, .. }
+        | Stand::Forwarding { next: other, .. }
+        | Stand::Taken {
+            previous: other,
+            ..
+        } => u64::from(other.number()),
+    }
+}
+
+// The stand of this phase that names these servers, where there is one.
+fn stand_of(phase: u64, owner: Option<ServerId>, other: Option<ServerId>) -> Option<Stand>
+    ensures some { IfSome result (λ stand. NamesServers stand × (phase_of stand ≡ phase) × (server_of (owner_of stand) ≡ owner) × (server_of (other_of stand) ≡ other)) }
+    ensures none { (stand : StandValue) → NamesServers stand → phase_of stand ≡ phase → server_of (owner_of stand) ≡ owner → server_of (other_of stand) ≡ other → result ≡ Some stand }
+{
+    let Some(owner) = owner else {
+        return if phase == 0 && other.is_none() {
+            Some(Stand::Vacant)
+        } else {
+            None
+        };
+    };
+    let Some(other) = other else {
+        return match phase {
+            1 => Some(Stand::Serving(owner)),
+            5 => Some(Stand::Paused(owner)),
+            _ => None,
+        };
+    };
+    if other == owner {
+        return None;
+    }
+    match phase {
+        2 => Some(Stand::Prepared { owner, next: other }),
+        3 => Some(Stand::Forwarding { owner, next: other }),
+        4 => Some(Stand::Taken {
+            owner,
+            previous: other,
+        }),
+        _ => None,
+    }
+}
+
+// Whether a history leads to a record with these parts.
+fn is_reachable(stand: &Stand, admitted: bool, generation: u64) -> bool
+    ensures { IsTrue result ↔ IsReachable stand.now admitted generation }
+{
+    match stand {
+        Stand::Vacant => !admitted && generation == 0,
+        Stand::Paused(_) => !admitted && generation >= 1,
+        _ => generation >= 1,
+    }
+}
+
+#[cfg(test)]
+mod tests {
+    use super::*;
+    use std::process::Abort;
+    use std::test::Fail;
+
+    // The record and the word are one another's.
+    fn is_word_of(rt: &impl Abort, word: u64, state: &Record)
+        requires { IsWellFormed state.now }
+    {
+        assert_eq!(rt; pack(*state), word);
+        assert_eq!(rt; unpack(word), Some(*state));
+    }
+
+    fn idle(stand: Stand, generation: u64) -> Record
+        ensures stand { result.stand ≡ stand }
+        ensures admitted { result.admitted ≡ false }
+        ensures generation { result.generation ≡ generation }
+    {
+        Record {
+            stand,
+            admitted: false,
+            generation,
+        }
+    }
+
+    #[test]
+    fn words_of_records(rt: HostRuntime) -> Result<(), Fail> {
+        let one = ServerId::new(1).ok_or("server 1")?;
+        let two = ServerId::new(2).ok_or("server 2")?;
+        let last = ServerId::new(4095).ok_or("server 4095")?;
+        let prepared = Stand::Prepared {
+            owner: one,
+            next: two,
+        };
+        let forwarding = Stand::Forwarding {
+            owner: one,
+            next: two,
+        };
+        let taken = Stand::Taken {
+            owner: two,
+            previous: one,
+        };
+        let admitted = Record {
+            stand: Stand::Serving(one),
+            admitted: true,
+            generation: 2,
+        };
+        is_word_of(&rt, 0x0000_0000_0000_0000, &idle(Stand::Vacant, 0));
+        is_word_of(&rt, 0x2001_0000_0000_0001, &idle(Stand::Serving(one), 1));
+        is_word_of(&rt, 0x3001_0000_0000_0002, &admitted);
+        is_word_of(&rt, 0x4001_0020_0000_0002, &idle(prepared, 2));
+        is_word_of(&rt, 0x6001_0020_0000_0003, &idle(forwarding, 3));
+        is_word_of(&rt, 0x8002_0010_0000_0004, &idle(taken, 4));
+        is_word_of(&rt, 0xafff_0000_0000_0005, &idle(Stand::Paused(last), 5));
+        Ok(())
+    }
+
+    #[test]
+    fn words_of_no_record(rt: HostRuntime) {
+        let vacant_at_1 = 0x0000_0000_0000_0001;
+        let no_owner = 0x2000_0000_0000_0001;
+        let owner_twice = 0x4001_0010_0000_0002;
+        let paused_and_admitted = 0xb001_0000_0000_0002;
+        let phase_6 = 0xc001_0000_0000_0001;
+        for word in &[
+            vacant_at_1,
+            no_owner,
+            owner_twice,
+            paused_and_admitted,
+            phase_6,
+        ] {
+            assert_eq!(rt; unpack(*word), None);
+        }
+    }
+}
