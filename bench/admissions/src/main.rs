@@ -1,0 +1,65 @@
+//! Times looks and admissions on a board of 4,096 shards: the proved board of crates/bench_rule, atomic words in Rust, and a
+//! lock for each shard in Rust, in alternating rounds. Each line is a row, a way, its round and its nanoseconds for each operation.
+
+mod board;
+mod choice;
+mod locks;
+mod slots;
+mod words;
+
+use std::hint::black_box;
+use std::time::Instant;
+
+type Loop = fn(u64) -> u64;
+
+/// One kind of operation, how many are made in a round, and the loop of each way.
+struct Row {
+    name: &'static str,
+    operations: u64,
+    ways: [(&'static str, Loop); 3],
+}
+
+const ROWS: [Row; 4] = [
+    Row {
+        name: "look",
+        operations: 10_000_000,
+        ways: [("board", board::looks), ("words", words::looks), ("locks", locks::looks)],
+    },
+    Row {
+        name: "look, each at what the last one tells",
+        operations: 5_000_000,
+        ways: [("board", board::chained_looks), ("words", words::chained_looks), ("locks", locks::chained_looks)],
+    },
+    Row {
+        name: "admit and finish",
+        operations: 3_000_000,
+        ways: [("board", board::admissions), ("words", words::admissions), ("locks", locks::admissions)],
+    },
+    Row {
+        name: "admit, count in the body, and finish",
+        operations: 3_000_000,
+        ways: [("board", board::executions), ("words", slots::executions), ("locks", locks::executions)],
+    },
+];
+
+/// What all loops of the row answer. It ends the program where two differ, as one of them then skips work.
+fn measure(row: &Row, round: usize) {
+    let mut answers = Vec::new();
+    for turn in 0..row.ways.len() {
+        let (way, of_way) = row.ways[(round + turn) % row.ways.len()];
+        let start = Instant::now();
+        answers.push(black_box(of_way(black_box(row.operations))));
+        let nanoseconds = start.elapsed().as_nanos() as f64 / row.operations as f64;
+        println!("{};{way};{round};{nanoseconds}", row.name);
+    }
+    assert!(answers.iter().all(|answer| *answer == answers[0]), "{}: the ways answer {answers:?}", row.name);
+}
+
+fn main() {
+    let rounds = std::env::args().nth(1).and_then(|word| word.parse().ok()).expect("a number of rounds");
+    for round in 0..rounds {
+        for row in &ROWS {
+            measure(row, round);
+        }
+    }
+}

@@ -1,0 +1,638 @@
+-- The steps on a board keep its rule.
+use Rattle.std.proofs.Common.{◌≡◌, ◌≢◌, ℕ, zero, suc, ◌+◌, ◌<◌, ◌≤◌, ◌^◌, Bool, true, false, not, ◌&&◌, List, [], ◌∷◌, ◌++◌, length, replicate, refl, sym, ap, ◌∙◌, subst, arith, le_refl, length-append, inl, inr, ◌⊎◌, ⊎_elim}
+use Rattle.std.specs.Prelude.{All, IfSome, Option, Some, None, map, nat_lt, reverse, slice_index, slice_set, ◌==◌}
+use mathlib.Core.Option as math
+use Rattle.std.specs.Option.{option_map}
+use Rattle.std.proofs.lemmas.Bool.{and_from, and_parts, cases_eq, eq-eqb, lt-ltb, ne_eqb, not-true, true≢false}
+use Rattle.std.proofs.lemmas.List.{append-nil, length-map, length-set, map-set, reverse-append, reverse-reverse, set-get_or}
+use Rattle.std.proofs.lemmas.List.Elements.{All-nil, All-cons, All-head, All-tail}
+use Rattle.std.proofs.Math.ListN.{get_or-map}
+use mathlib.Core.Option.{some, none, some-injective, some-ne-none}
+use lib.ListN.{get_elem?}
+use lib.LanesLaws.{map-replicate}
+use prog.Atomic.{either}
+use Rattle.atomic_table.specs.Table.{State, Me, Step, step, Act, keeps, takes, gives, Enters, Allows, Valid, carried_after, homes_after, rest, stepped, opening}
+use Rattle.atomic_table.specs.Seated.{TableId}
+use Rattle.atomic_table.proofs.Lists.{at_set, exchanged, set_else, set_here}
+use Rattle.sm_ownership.specs.declared.change.Change.{Change}
+use Rattle.sm_ownership.specs.declared.entry.Entry.{Entry}
+use Rattle.sm_ownership.specs.declared.entry.Kind.{Kind}
+use Rattle.sm_ownership.specs.declared.entry.Kind.TheVariants.{Change as Changed, Admit, Done}
+use Rattle.sm_ownership.specs.declared.mode.Mode.{Mode}
+use Rattle.sm_ownership.specs.declared.record.Record.{Record}
+use Rattle.sm_ownership.specs.Growth.{kept-push_none, kept-push_other, kept-push_some, length-table_of, record_at-empty, record_at-latest, record_at-latest_other}
+use Rattle.sm_ownership.specs.History.{IsLegal, IsLegalLatest, acts_as, admit_fits, admits_only, after_done, after_kind, change_fits, fits, is_admission_of, kept, kept_of, kind_fits, latest_of, record_at, table_of, table_of_latest, vacant}
+use Rattle.sm_ownership.specs.Lasting.{NoneBy, NoneBy-reverse, acts_as-none, acts_as-other, acts_as-own, admission_excludes, latest_of-other, next_record}
+use Rattle.sm_word.specs.Histories.{AreKnown, KnownKind, well_formed}
+use Rattle.sm_word.specs.Word.{IsWellFormed, word_of}
+use Rattle.sm_word.specs.Words.{word_once}
+use Rattle.sm_rule.specs.declared.limits.Limits.{Limits}
+use Rattle.sm_rule.specs.declared.view.Held.{Held}
+use Rattle.sm_rule.specs.declared.view.View.{View}
+use Rattle.sm_rule.specs.Admissions.{Holds as HoldsPermit, PermitValue, beyond, held_of}
+use Rattle.sm_rule.specs.Passes.{PassValue, pass_value, slots_of}
+use Rattle.sm_rule.specs.Rule.{AreHome, Fits, Holds, IsHeld, Rule, table_in}
+use Rattle.sm_rule.specs.Steps.{Entered, Exchanged, IsFree, IsWordOf, Loaded, MayAdd, Stored, Takes, is_end}
+use Rattle.sm_rule.specs.Views.{Adds, Grows, Looks, adding, entry_of, held_after, list_held, list_with, newcomer, record_in, seeing}
+
+-- the key of a board has its ceiling
+pub low_key : (key limits : Limits) → key ≡ limits → limits.ceiling < 2 ^ 36 → key.ceiling < 2 ^ 36
+low_key key limits same low = subst (λ (its : Limits). its.ceiling < 2 ^ 36) (sym same) low
+
+-- the views after one of them is set
+fit_set : {Q : Type 0} (P : ℕ → View Q → Type 0) (views : List (View Q)) (id : ℕ) (mine : View Q) → ((n : ℕ) (view : View Q) → n ≢ id → get_elem? views n ≡ some view → view.spent ≡ false → P n view) → P id mine → (n : ℕ) (view : View Q) → get_elem? (slice_set views id mine) n ≡ some view → view.spent ≡ false → P n view
+fit_set P views id mine others here n view at live =
+    ⊎_elim
+    (λ (same : (n ≡ id) × (mine ≡ view)). subst (λ (pair : ℕ × View _). P pair.0 pair.1) (λ i. (sym same.0 i, same.1 i)) here)
+    (λ (other : (n ≢ id) × (get_elem? views n ≡ some view)). others n view other.0 other.1 live)
+    (at_set views id n mine view at)
+
+-- a seat isn't past the end
+at_end : {Q : Type 0} (n id : ℕ) (views : List (View Q)) (view : View Q) → get_elem? views id ≡ some view → length views ≤ n → n ≡ id → ⊥
+at_end n id [] view at past is = some-ne-none view (sym at)
+at_end zero id (one ∷ views) view at past is = omega arith
+at_end (suc n) zero (one ∷ views) view at past is = absurd (cc)
+at_end (suc n) (suc id) (one ∷ views) view at past is = at_end n id views view at (omega arith) (omega arith)
+
+pub at_last : {A : Type 0} (views : List A) (mine view : A) (n : ℕ) → get_elem? (views ++ mine ∷ []) n ≡ some view → (get_elem? views n ≡ some view) ⊎ ((n ≡ length views) × (mine ≡ view))
+at_last [] mine view zero at = inr (refl, some-injective mine view at)
+at_last [] mine view (suc n) at = absurd (some-ne-none view (sym at))
+at_last (one ∷ views) mine view zero at = inl at
+at_last (one ∷ views) mine view (suc n) at = ⊎_elim inl (λ (last : (n ≡ length views) × (mine ≡ view)). inr (ap suc last.0, last.1)) (at_last views mine view n at)
+
+-- what was seen, and what came later, in order
+pub in_order : {Q : Type 0} (later seen history : List (Entry Q)) → later ++ reverse seen ≡ history → reverse history ≡ seen ++ reverse later
+in_order later seen history whole = ap reverse (sym whole) ∙ (reverse-append later (reverse seen) ∙ ap (λ entries. entries ++ reverse later) (reverse-reverse seen))
+
+pub length-table : {Q : Type 0} (limits : Limits) (history : List (Entry Q)) → length (table_in limits history) ≡ limits.count
+length-table limits history =
+    subst (λ entries. length (table_of_latest limits.count limits.ceiling entries) ≡ limits.count) (reverse-reverse history) (length-table_of limits.count limits.ceiling (reverse history))
+
+-- the word of a shard
+pub word_at : (words : List ℕ) (table : List Record) (shard : ℕ) → words ≡ map word_of table → slice_index words shard ≡ word_of (record_at table shard)
+word_at words table shard are = ap (λ all. slice_index all shard) are ∙ get_or-map word_of table shard vacant
+
+-- a view that has seen all
+module _ {Q : Type 0} (limits : Limits) (id : ℕ) (view : View Q) (history : List (Entry Q)) (fit : Fits limits id view history) where
+  fits_all : Fits limits id (seeing view (reverse history)) history
+  fits_all = record {
+    limits_are = fit.limits_are;
+    number_is = fit.number_is;
+    later = [];
+    seen = reverse-reverse history;
+    others = All-nil (λ entry. entry.actor ≢ id);
+    server = fit.server;
+    held = fit.held;
+  }
+
+  pub legal_all : IsLegalLatest limits.count limits.ceiling history → IsLegal view.limits.count view.limits.ceiling (reverse history)
+  legal_all legal =
+      let here : IsLegal limits.count limits.ceiling (reverse history) = subst (IsLegalLatest limits.count limits.ceiling) (sym (reverse-reverse history)) legal in
+      subst (λ (its : Limits). IsLegal its.count its.ceiling (reverse history)) (sym fit.limits_are) here
+
+  pub others_all : NoneBy view.number (reverse fit.later)
+  others_all = NoneBy-reverse view.number fit.later (subst (λ n. NoneBy n fit.later) (sym fit.number_is) fit.others)
+
+  looks_all : IsLegalLatest limits.count limits.ceiling history → Looks view (seeing view (reverse history))
+  looks_all legal = ((reverse fit.later, in_order fit.later view.seen history fit.seen ∙ sym (append-nil _), others_all, legal_all legal), refl)
+
+  -- the record that it sees
+  pub sees : (shard : ℕ) → record_in view.limits (reverse history) shard ≡ record_at (table_in limits history) shard
+  sees shard =
+      ap (λ (its : Limits). record_in its (reverse history) shard) fit.limits_are
+      ∙ ap (λ entries. record_at (table_of_latest limits.count limits.ceiling entries) shard) (reverse-reverse history)
+
+-- the word that a view finds which has seen all
+word_seen : {Q : Type 0} (limits : Limits) (history : List (Entry Q)) (its : Limits) (shard word : ℕ) → record_in its (reverse history) shard ≡ record_at (table_in limits history) shard → word ≡ word_of (record_at (table_in limits history) shard) → limits.ceiling < 2 ^ 36 → IsLegalLatest limits.count limits.ceiling history → AreKnown history → (word ≡ word_of (record_in its (reverse history) shard)) × IsWellFormed (record_in its (reverse history) shard)
+word_seen limits history its shard word same is low legal known = (
+  is ∙ ap word_of (sym same),
+  subst IsWellFormed (sym same) (well_formed limits.count limits.ceiling history shard low legal known),
+)
+
+-- a look changes the looking seat's view alone
+look_keeps : {S Q : Type 0} (requests : S → List Q) (limits : Limits) (id word : ℕ) (words : List ℕ) (homes : List (math.Option (Option S))) (views : List (View Q)) (history : List (Entry Q)) (view : View Q) → Holds requests limits words homes views history → get_elem? views id ≡ some view → view.spent ≡ false → Holds requests limits (slice_set words word (slice_index words word)) homes (slice_set views id (seeing view (reverse history))) history
+look_keeps requests limits id word words homes views history view holds at live =
+    let long = length-set views id (seeing view (reverse history)) in
+    record {
+      legal = holds.legal;
+      known = holds.known;
+      words_are = set-get_or words word 0 ∙ holds.words_are;
+      slots = holds.slots;
+      home = holds.home;
+      fit = fit_set (λ n one. Fits limits n one history) views id (seeing view (reverse history)) (λ n one apart there alive. holds.fit n one there alive) (fits_all limits id view history (holds.fit id view at live));
+      unused = λ n past. holds.unused n (subst (λ many. many ≤ n) long past);
+      chaired = subst (λ many. 0 < many) (sym long) holds.chaired;
+    }
+
+-- a load keeps the rule
+pub loads : {S Q : Type 0} (requests : S → List Q) (limits : Limits) (slots id word : ℕ) (me : Me (Option S) (View Q)) → limits.ceiling < 2 ^ 36 → me.0.spent ≡ false
+    → Allows (Rule requests limits) slots id me word (λ n. n) (Loaded (step {S = Option S} slots word 0 0 none) me)
+loads requests limits slots id word me low live table rule size at small =
+    let history = rule.0 in
+    let holds = rule.1 in
+    let fit = holds.fit id me.0 at live in (
+      seeing me.0 (reverse history),
+      keeps,
+      tt,
+      (history, look_keeps requests limits id word table.words table.homes table.views history me.0 holds at live),
+      (
+        looks_all limits id me.0 history fit holds.legal,
+        word_seen limits history me.0.limits word _ (sees limits id me.0 history fit word) (word_at table.words (table_in limits history) word holds.words_are) low holds.legal holds.known,
+        refl,
+      ),
+    )
+
+-- the table and its words after an entry that fits
+module _ {Q : Type 0} (limits : Limits) (entry : Entry Q) (history : List (Entry Q)) (fit : fits limits.ceiling history (table_in limits history) entry ≡ true) where
+  abbrev after : Record
+  after = after_kind (record_at (table_in limits history) entry.shard) entry.kind
+
+  table_adds : table_in limits (entry ∷ history) ≡ slice_set (table_in limits history) entry.shard after
+  table_adds = rw fit refl
+
+  words_add : (words : List ℕ) (word : ℕ) → words ≡ map word_of (table_in limits history) → word ≡ word_of after → slice_set words entry.shard word ≡ map word_of (table_in limits (entry ∷ history))
+  words_add words word are is =
+      (λ i. slice_set (are i) entry.shard (is i))
+      ∙ (sym (map-set word_of (table_in limits history) entry.shard after) ∙ ap (map word_of) (sym table_adds))
+
+  record_adds : record_at (table_in limits (entry ∷ history)) entry.shard ≡ after
+  record_adds = record_at-latest limits.count limits.ceiling entry history fit
+
+-- what a seat holds stays held while others add entries
+held_stays : {Q : Type 0} (limits : Limits) (number : ℕ) (held : Held Q) (entry : Entry Q) (history : List (Entry Q)) → IsLegalLatest limits.count limits.ceiling (entry ∷ history) → held.shard ≢ entry.shard → IsHeld limits number held history → IsHeld limits number held (entry ∷ history)
+held_stays limits number held entry history legal apart is =
+    let same : record_at (table_in limits (entry ∷ history)) held.shard ≡ record_at (table_in limits history) held.shard =
+    ⊎_elim
+    (λ (other : (held.shard ≢ entry.shard) × (record_at (table_in limits (entry ∷ history)) held.shard ≡ record_at (table_in limits history) held.shard)). other.1)
+    (λ (here : (held.shard ≡ entry.shard) × (record_at (table_in limits (entry ∷ history)) held.shard ≡ after_kind (record_at (table_in limits history) held.shard) entry.kind)). absurd (apart here.0))
+    (next_record limits.count limits.ceiling entry history held.shard legal.0) in
+    let differs : (entry.shard == held.shard) ≡ false = ne_eqb entry.shard held.shard (λ equal. apart (sym equal)) in
+    record {
+      known = is.known;
+      state = same ∙ is.state;
+      admitted = is.admitted;
+      own = ap (is_admission_of number) (latest_of-other entry history held.shard apart) ∙ is.own;
+      list = ap (λ entries. kept entries held.shard) (reverse-append (entry ∷ []) history) ∙ (kept-push_other (reverse history) entry held.shard differs ∙ is.list);
+    }
+
+-- another's view after an entry
+fits_other : {Q : Type 0} (limits : Limits) (number : ℕ) (view : View Q) (entry : Entry Q) (history : List (Entry Q)) → IsLegalLatest limits.count limits.ceiling (entry ∷ history) → number ≢ entry.actor → Fits limits number view history → Fits limits number view (entry ∷ history)
+fits_other limits number view entry history legal apart fit = record {
+  limits_are = fit.limits_are;
+  number_is = fit.number_is;
+  later = entry ∷ fit.later;
+  seen = ap (λ entries. entry ∷ entries) fit.seen;
+  others = All-cons (λ one. one.actor ≢ number) entry fit.later (λ is. apart (sym is)) fit.others;
+  server = λ server is. acts_as-other entry history number server (λ same. apart (sym same)) (fit.server server is);
+  held = λ held is.
+      let before = fit.held held is in
+      let busy = ap (λ (state : Record). state.admitted) before.state ∙ before.admitted in
+      held_stays limits number held entry history legal (admission_excludes limits.count limits.ceiling entry history held.shard number legal.0 (λ same. apart (sym same)) busy before.own) before;
+}
+
+none_some : {X : Type 0} (x : X) → None ≡ Some x → ⊥
+none_some x is = absurd (cc)
+
+pub same_some : {X : Type 0} (x y : X) → Some x ≡ Some y → x ≡ y
+same_some x y is = cc
+
+-- what is held of a shard after these entries, the latest first, which are this history
+abbrev held_now : {Q : Type 0} → Limits → ℕ → List (Entry Q) → List (Entry Q) → Held Q
+held_now limits shard entries history = record { shard = shard; state = record_at (table_in limits entries) shard; list = kept history shard }
+
+admits_here : {Q : Type 0} (limits : Limits) (number shard server : ℕ) (mode : Mode) (history : List (Entry Q)) → fits limits.ceiling history (table_in limits history) (entry_of number shard (Admit server mode)) ≡ true → shard < limits.count
+    → IsHeld limits number (held_now limits shard (entry_of number shard (Admit server mode) ∷ history) (reverse (entry_of number shard (Admit server mode) ∷ history))) (entry_of number shard (Admit server mode) ∷ history)
+admits_here limits number shard server mode history fit known =
+    let here : (shard == shard) ≡ true = eq-eqb shard shard refl in
+    let mine : (number == number) ≡ true = eq-eqb number number refl in
+    record {
+      known = known;
+      state = refl;
+      admitted = ap (λ (state : Record). state.admitted) (record_adds limits (entry_of number shard (Admit server mode)) history fit);
+      own = rw (here, mine) refl;
+      list = refl;
+    }
+
+-- the view of the one who adds an entry
+module _ {Q : Type 0} (limits : Limits) (number shard : ℕ) (view : View Q) (history : List (Entry Q)) (before : Fits limits number view history) (known : shard < limits.count) where
+  abbrev longer : Kind Q → List (Entry Q)
+  longer kind = entry_of number shard kind ∷ history
+
+  abbrev mine : Kind Q → View Q
+  mine kind = adding view shard kind (reverse (longer kind))
+
+  -- what it then holds, as its limits say it
+  held_is : (kind : Kind Q) → held_after view.limits shard kind (reverse (longer kind)) view.held ≡ held_after limits shard kind (reverse (longer kind)) view.held
+  held_is kind = ap (λ (its : Limits). held_after its shard kind (reverse (longer kind)) view.held) before.limits_are
+
+  holds_own : (kind : Kind Q) → IsFree view kind → IsLegalLatest limits.count limits.ceiling (longer kind) → (held : Held Q) → held_after limits shard kind (reverse (longer kind)) view.held ≡ Some held → IsHeld limits number held (longer kind)
+  holds_own (Changed change) free legal held is = absurd (none_some held (sym free ∙ is))
+  holds_own (Admit server mode) free legal held is =
+      let kind : Kind Q = Admit server mode in
+      let turned = reverse-reverse (longer kind) in
+      let here = admits_here limits number shard server mode history legal.0 known in
+      let same : held_now limits shard (longer kind) (reverse (longer kind)) ≡ held =
+      ap (λ entries. held_now limits shard entries (reverse (longer kind))) (sym turned) ∙ same_some (held_now limits shard (reverse (reverse (longer kind))) (reverse (longer kind))) held is in
+      subst (λ its. IsHeld limits number its (longer kind)) same here
+  holds_own (Done request) free legal held is = absurd (cc)
+
+  fits_own : (kind : Kind Q) → IsFree view kind → ((server : ℕ) → view.server ≡ Some server → admits_only server kind ≡ true) → IsLegalLatest limits.count limits.ceiling (longer kind) → Fits limits number (mine kind) (longer kind)
+  fits_own kind free only legal = record {
+    limits_are = before.limits_are;
+    number_is = before.number_is;
+    later = [];
+    seen = reverse-reverse (longer kind);
+    others = All-nil (λ one. one.actor ≢ number);
+    server = λ server is. acts_as-own (entry_of number shard kind) history number server (only server is) (before.server server is);
+    held = λ held is. holds_own kind free legal held (sym (held_is kind) ∙ is);
+  }
+
+  -- its own entry is the last that it has seen
+  adds_all : (kind : Kind Q) → IsLegalLatest limits.count limits.ceiling (longer kind) → Adds view shard kind (mine kind)
+  adds_all kind legal =
+      let entry = entry_of number shard kind in
+      let turned : reverse (longer kind) ≡ reverse history ++ entry ∷ [] = reverse-append (entry ∷ []) history in
+      let order = ap (λ entries. entries ++ entry ∷ []) (in_order before.later view.seen history before.seen) in
+      let named = ap (λ n. (view.seen ++ reverse before.later) ++ entry_of n shard kind ∷ []) (sym before.number_is) in
+      let others = NoneBy-reverse view.number before.later (subst (λ n. NoneBy n before.later) (sym before.number_is) before.others) in
+      let here : IsLegal limits.count limits.ceiling (reverse (longer kind)) = subst (IsLegalLatest limits.count limits.ceiling) (sym (reverse-reverse (longer kind))) legal in
+      let legal' = subst (λ (its : Limits). IsLegal its.count its.ceiling (reverse (longer kind))) (sym before.limits_are) here in
+      ((reverse before.later, turned ∙ (order ∙ named), others, legal'), refl)
+
+  sees_own : (kind : Kind Q) → record_in view.limits (reverse (longer kind)) shard ≡ record_at (table_in limits (longer kind)) shard
+  sees_own kind =
+      ap (λ (its : Limits). record_in its (reverse (longer kind)) shard) before.limits_are
+      ∙ ap (λ entries. record_at (table_of_latest limits.count limits.ceiling entries) shard) (reverse-reverse (longer kind))
+
+-- the bodies of the other shards stay at home
+home_other : {S Q : Type 0} (requests : S → List Q) (limits : Limits) (homes : List (math.Option (Option S))) (slot : math.Option (Option S)) (entry : Entry Q) (history : List (Entry Q))
+    → AreHome requests limits homes history → fits limits.ceiling history (table_in limits history) entry ≡ true
+    → (shard : ℕ) → shard < limits.count → shard ≢ entry.shard → (record_at (table_in limits (entry ∷ history)) shard).admitted ≡ false
+    → (body : S) × (get_elem? (slice_set homes entry.shard slot) shard ≡ some (some (Some body))) × (requests body ≡ kept (reverse (entry ∷ history)) shard)
+home_other requests limits homes slot entry history home fit shard within apart idle =
+    let same : record_at (table_in limits (entry ∷ history)) shard ≡ record_at (table_in limits history) shard = record_at-latest_other limits.count limits.ceiling entry history shard apart fit in
+    let before = home shard within (ap (λ (state : Record). state.admitted) (sym same) ∙ idle) in
+    let differs : (entry.shard == shard) ≡ false = ne_eqb entry.shard shard (λ equal. apart (sym equal)) in
+    let list : kept (reverse (entry ∷ history)) shard ≡ kept (reverse history) shard =
+    ap (λ entries. kept entries shard) (reverse-append (entry ∷ []) history) ∙ kept-push_other (reverse history) entry shard differs in
+    (before.0, set_else homes entry.shard shard slot apart ∙ before.1, before.2 ∙ sym list)
+
+list_pushed : {Q : Type 0} (history : List (Entry Q)) (entry : Entry Q) (request : Option Q) → kept_of entry.kind ≡ request → kept (history ++ entry ∷ []) entry.shard ≡ list_with (kept history entry.shard) request
+list_pushed history entry None is = kept-push_none history entry entry.shard is
+list_pushed history entry (Some request) is = kept-push_some history entry request is
+
+-- what the requests of a shard become by an entry of it
+list_here : {Q : Type 0} (entry : Entry Q) (history : List (Entry Q)) → kept (reverse (entry ∷ history)) entry.shard ≡ list_with (kept (reverse history) entry.shard) (kept_of entry.kind)
+list_here entry history = ap (λ entries. kept entries entry.shard) (reverse-append (entry ∷ []) history) ∙ list_pushed (reverse history) entry (kept_of entry.kind) refl
+
+-- a change and an admission fit an idle record alone
+idle_changed : (ceiling : ℕ) (state : Record) (number : ℕ) (change : Change) → change_fits ceiling state number change ≡ true → state.admitted ≡ false
+idle_changed ceiling state number change fit = not-true state.admitted (and_parts (not state.admitted) _ (and_parts (number == 0) _ fit).1).0
+
+idle_admitted : {Q : Type 0} (ceiling : ℕ) (earlier : List (Entry Q)) (state : Record) (number server : ℕ) (mode : Mode) → admit_fits ceiling earlier state number server mode ≡ true → state.admitted ≡ false
+idle_admitted ceiling earlier state number server mode fit =
+    not-true state.admitted (and_parts (not state.admitted) _ (and_parts (acts_as earlier number server) _ (and_parts (not (number == 0)) _ fit).1).1).0
+
+-- an admission takes its shard's body from home
+module _ {S Q : Type 0} (requests : S → List Q) (limits : Limits) (homes : List (math.Option (Option S))) (history : List (Entry Q)) (home : AreHome requests limits homes history) where
+  abbrev at_home_after : Entry Q → List (math.Option (Option S)) → Type 0
+  at_home_after entry later = AreHome requests limits later (entry ∷ history)
+
+  home_admitted : (entry : Entry Q) (server : ℕ) (mode : Mode) → entry.kind ≡ Admit server mode → fits limits.ceiling history (table_in limits history) entry ≡ true → at_home_after entry (slice_set homes entry.shard none)
+  home_admitted entry server mode admits fit shard within idle =
+      ⊎_elim
+      (λ (same : shard ≡ entry.shard).
+      let busy : (record_at (table_in limits (entry ∷ history)) entry.shard).admitted ≡ true =
+      ap (λ (state : Record). state.admitted) (record_at-latest limits.count limits.ceiling entry history fit) ∙ ap (λ kind. (after_kind (record_at (table_in limits history) entry.shard) kind).admitted) admits in
+      absurd (true≢false (sym busy ∙ subst (λ k. (record_at (table_in limits (entry ∷ history)) k).admitted ≡ false) same idle)))
+      (λ (apart : shard ≢ entry.shard). home_other requests limits homes none entry history home fit shard within apart idle)
+      (cases_eq shard entry.shard)
+
+  -- a change moves no body
+  home_changed : (entry : Entry Q) (change : Change) → entry.kind ≡ Changed change → (record_at (table_in limits history) entry.shard).admitted ≡ false → fits limits.ceiling history (table_in limits history) entry ≡ true → at_home_after entry homes
+  home_changed entry change changes free fit shard within idle =
+      ⊎_elim
+      (λ (same : shard ≡ entry.shard).
+      let before = home shard within (subst (λ k. (record_at (table_in limits history) k).admitted ≡ false) (sym same) free) in
+      let list : kept (reverse (entry ∷ history)) entry.shard ≡ kept (reverse history) entry.shard = list_here entry history ∙ ap (λ kind. list_with (kept (reverse history) entry.shard) (kept_of kind)) changes in
+      (before.0, before.1, before.2 ∙ subst (λ k. kept (reverse history) k ≡ kept (reverse (entry ∷ history)) k) (sym same) (sym list)))
+      (λ (apart : shard ≢ entry.shard).
+      let there = home_other requests limits homes none entry history home fit shard within apart idle in
+      (there.0, sym (set_else homes entry.shard shard none apart) ∙ there.1, there.2))
+      (cases_eq shard entry.shard)
+
+  -- the end of an admission brings the body home, with what it has gained
+  home_ended : (entry : Entry Q) (request : Option Q) (body : S) → entry.kind ≡ Done request → entry.shard < length homes → requests body ≡ list_with (kept (reverse history) entry.shard) request → fits limits.ceiling history (table_in limits history) entry ≡ true → at_home_after entry (slice_set homes entry.shard (some (Some body)))
+  home_ended entry request body ends within_homes gains fit shard within idle =
+      ⊎_elim
+      (λ (same : shard ≡ entry.shard).
+      let list : requests body ≡ kept (reverse (entry ∷ history)) entry.shard = gains ∙ (ap (λ kind. list_with (kept (reverse history) entry.shard) (kept_of kind)) (sym ends) ∙ sym (list_here entry history)) in (
+        body,
+        subst (λ k. get_elem? (slice_set homes entry.shard (some (Some body))) k ≡ some (some (Some body))) (sym same) (set_here homes entry.shard (some (Some body)) within_homes),
+        list ∙ ap (kept (reverse (entry ∷ history))) (sym same),
+      ))
+      (λ (apart : shard ≢ entry.shard). home_other requests limits homes (some (Some body)) entry history home fit shard within apart idle)
+      (cases_eq shard entry.shard)
+
+-- the whole board after an entry
+adds_keep : {S Q : Type 0} (requests : S → List Q) (limits : Limits) (id word new : ℕ) (words : List ℕ) (homes later : List (math.Option (Option S))) (views : List (View Q)) (history : List (Entry Q)) (view : View Q) (kind : Kind Q)
+    → Holds requests limits words homes views history → word < limits.count → get_elem? views id ≡ some view → view.spent ≡ false
+    → length later ≡ limits.count → AreHome requests limits later (entry_of id word kind ∷ history)
+    → IsFree view kind → ((server : ℕ) → view.server ≡ Some server → admits_only server kind ≡ true) → KnownKind kind
+    → fits limits.ceiling history (table_in limits history) (entry_of id word kind) ≡ true
+    → new ≡ word_of (after_kind (record_at (table_in limits history) word) kind)
+    → Holds requests limits (slice_set words word new) later (slice_set views id (adding view word kind (reverse (entry_of id word kind ∷ history)))) (entry_of id word kind ∷ history)
+adds_keep requests limits id word new words homes later views history view kind holds within at live many home free only known fit is =
+    let entry = entry_of id word kind in
+    let mine = adding view word kind (reverse (entry ∷ history)) in
+    let legal : IsLegalLatest limits.count limits.ceiling (entry ∷ history) = (fit, holds.legal) in
+    let long = length-set views id mine in
+    record {
+      legal = legal;
+      known = All-cons (λ one. KnownKind one.kind) entry history known holds.known;
+      words_are = words_add limits entry history fit words new holds.words_are is;
+      slots = many;
+      home = home;
+      fit = fit_set (λ n one. Fits limits n one (entry ∷ history)) views id mine (λ n one apart there alive. fits_other limits n one entry history legal apart (holds.fit n one there alive)) (fits_own limits id word view history (holds.fit id view at live) within kind free only legal);
+      unused = λ n past.
+          let before : length views ≤ n = subst (λ many. many ≤ n) long past in
+          All-cons (λ one. one.actor ≢ n) entry history (λ is. at_end n id views view at before (sym is)) (holds.unused n before);
+      chaired = subst (λ many. 0 < many) (sym long) holds.chaired;
+    }
+
+-- a seat's fit, as its own view says it
+fit_by_view : {Q : Type 0} (limits : Limits) (id : ℕ) (view : View Q) (history : List (Entry Q)) → Fits limits id view history → Fits view.limits view.number view history
+fit_by_view limits id view history fit =
+    subst (λ (pair : Limits × ℕ). Fits pair.0 pair.1 view history) (λ i. (sym fit.limits_are i, sym fit.number_is i)) fit
+
+-- an entry of a shard of the board fits where its kind does
+fits_kind : {Q : Type 0} (limits : Limits) (id word : ℕ) (history : List (Entry Q)) (kind : Kind Q) → word < limits.count → kind_fits limits.ceiling history (record_at (table_in limits history) word) id word kind ≡ true → fits limits.ceiling history (table_in limits history) (entry_of id word kind) ≡ true
+fits_kind limits id word history kind within fit =
+    and_from _ _ (lt-ltb word (length (table_in limits history)) (let long = length-table limits history in omega arith)) fit
+
+-- an entry that may come by an exchange, and the record that it is made of
+module _ {S Q : Type 0} (requests : S → List Q) (limits : Limits) (homes : List (math.Option (Option S))) (history : List (Entry Q)) (number word : ℕ) (view : View Q) (carried : List (ℕ × Option S)) (within : word < limits.count) (long : length homes ≡ limits.count) (home : AreHome requests limits homes history) where
+  -- what the slots become by it
+  pub record Moves (kind : Kind Q) : Type 0 where
+    pub act : Act (Option S)
+    pub valid : Valid homes carried act
+    pub slots : length (homes_after homes carried act) ≡ limits.count
+    pub at_home : AreHome requests limits (homes_after homes carried act) (entry_of number word kind ∷ history)
+    pub takes : Takes requests kind word carried (adding view word kind (reverse (entry_of number word kind ∷ history))) (carried_after carried act)
+
+  moves : (kind : Kind Q) → is_end kind ≡ false → kind_fits limits.ceiling history (record_at (table_in limits history) word) number word kind ≡ true → fits limits.ceiling history (table_in limits history) (entry_of number word kind) ≡ true → Moves kind
+  moves (Changed change) begins fit fitting =
+      let entry : Entry Q = entry_of number word (Changed change) in
+      let free = idle_changed limits.ceiling (record_at (table_in limits history) word) number change fit in
+      record { act = keeps; valid = tt; slots = long; at_home = home_changed requests limits homes history home entry change refl free fitting; takes = refl }
+  moves (Admit server mode) begins fit fitting =
+      let entry : Entry Q = entry_of number word (Admit server mode) in
+      let free = idle_admitted limits.ceiling history (record_at (table_in limits history) word) number server mode fit in
+      let body = home word within free in
+      record {
+        act = takes word (Some body.0);
+        valid = body.1;
+        slots = length-set homes word none ∙ long;
+        at_home = home_admitted requests limits homes history home entry server mode refl fitting;
+        takes = (body.0, refl, body.2 ∙ sym (list_here entry history));
+      }
+  moves (Done request) begins fit fitting = absurd (true≢false begins)
+
+-- an exchange that adds an entry where the record is the one read, and else looks
+pub exchanges : {S Q : Type 0} (requests : S → List Q) (limits : Limits) (slots id word old new : ℕ) (me : Me (Option S) (View Q)) (read : Record) (kind : Kind Q)
+    → limits.ceiling < 2 ^ 36 → word < limits.count → me.0.spent ≡ false → IsWellFormed read → old ≡ word_of read → new ≡ word_of (after_kind read kind)
+    → MayAdd me.0 word read kind
+    → Allows (Rule requests limits) slots id me word (λ n. either (n == old) new n) (Exchanged requests kind (step {S = Option S} slots word old new none) me)
+exchanges {S} {Q} requests limits slots id word old new me read kind low within live formed packed written may table rule size at small =
+    let history = rule.0 in
+    let holds : Holds requests limits table.words table.homes table.views history = rule.1 in
+    let fit = holds.fit id me.0 at live in
+    let here = record_at (table_in limits history) word in
+    let is : slice_index table.words word ≡ word_of here = word_at table.words (table_in limits history) word holds.words_are in
+    let P : ℕ → Type 0 = λ n. (w : View Q) × (a : Act (Option S)) × Valid table.homes me.1 a × Rule requests limits (stepped table word n id me.1 w a) × Exchanged requests kind (step {S = Option S} slots word old new none) me (slice_index table.words word) (w, carried_after me.1 a) in
+    exchanged (slice_index table.words word) old new P
+    (λ hit.
+    let same : here ≡ read = word_once here read (well_formed limits.count limits.ceiling history word low holds.legal holds.known) formed (sym is ∙ (hit ∙ packed)) in
+    let by_view = may.fits history (fit_by_view limits id me.0 history fit) in
+    let at_limits : kind_fits limits.ceiling history read id word kind ≡ true =
+    subst (λ (pair : Limits × ℕ). kind_fits pair.0.ceiling history read pair.1 word kind ≡ true) (λ i. (fit.limits_are i, fit.number_is i)) by_view in
+    let fits_here : kind_fits limits.ceiling history here id word kind ≡ true = subst (λ (state : Record). kind_fits limits.ceiling history state id word kind ≡ true) (sym same) at_limits in
+    let fitting = fits_kind limits id word history kind within fits_here in
+    let entry = entry_of id word kind in
+    let legal : IsLegalLatest limits.count limits.ceiling (entry ∷ history) = (fitting, holds.legal) in
+    let known = All-cons (λ one. KnownKind one.kind) entry history may.known holds.known in
+    let made : new ≡ word_of (after_kind here kind) = written ∙ ap (λ (state : Record). word_of (after_kind state kind)) (sym same) in
+    let move = moves requests limits table.homes history id word me.0 me.1 within holds.slots holds.home kind may.begins fits_here fitting in (
+      adding me.0 word kind (reverse (entry ∷ history)),
+      move.act,
+      move.valid,
+      (entry ∷ history, adds_keep requests limits id word new table.words table.homes (homes_after table.homes me.1 move.act) table.views history me.0 kind holds within at live move.slots move.at_home may.free may.own_server may.known fitting made),
+      (
+        (λ _. (
+          adds_all limits id word me.0 history fit within kind legal,
+          word_seen limits (entry ∷ history) me.0.limits word new (sees_own limits id word me.0 history fit within kind) (made ∙ ap word_of (sym (record_adds limits entry history fitting))) low legal known,
+          move.takes,
+        )),
+        (λ miss. absurd (miss hit)),
+      ),
+    ))
+    (λ miss. (
+      seeing me.0 (reverse history),
+      keeps,
+      tt,
+      (history, look_keeps requests limits id word table.words table.homes table.views history me.0 holds at live),
+      (
+        (λ hit. absurd (miss hit)),
+        (λ _. (
+          looks_all limits id me.0 history fit holds.legal,
+          word_seen limits history me.0.limits word _ (sees limits id me.0 history fit word) is low holds.legal holds.known,
+          refl,
+        )),
+      ),
+    ))
+
+pub exchange_allowed : {S Q : Type 0} (requests : S → List Q) (limits : Limits) (slots id shard word old new : ℕ) (me : Me (Option S) (View Q)) (read : Record) (kind : Kind Q)
+    → word ≡ shard → limits.ceiling < 2 ^ 36 → shard < limits.count → me.0.spent ≡ false → IsWellFormed read → old ≡ word_of read → new ≡ word_of (after_kind read kind)
+    → MayAdd me.0 shard read kind
+    → Allows (Rule requests limits) slots id me word (λ n. either (n == old) new n) (Exchanged requests kind (step {S = Option S} slots word old new none) me)
+exchange_allowed requests limits slots id shard word old new me read kind at low within live formed packed written may =
+    exchanges requests limits slots id word old new me read kind low (subst (λ k. k < limits.count) (sym at) within) live formed packed written (subst (λ k. MayAdd me.0 k read kind) (sym at) may)
+
+-- the store of the one who holds the shard, whose body has come back to the slot that it carries
+pub stores : {S Q : Type 0} (requests : S → List Q) (limits : Limits) (slots id word new : ℕ) (view : View Q) (body : S) (held : Held Q) (request : Option Q)
+    → limits.ceiling < 2 ^ 36 → view.spent ≡ false → view.held ≡ Some held → held.shard ≡ word → new ≡ word_of (after_done held.state) → requests body ≡ list_with held.list request
+    → Allows (Rule requests limits) slots id (view, (word, Some body) ∷ []) word (λ _. new) (λ _. Stored (Done request) (step {S = Option S} slots word new 0 none) (view, (word, Some body) ∷ []) new)
+stores {S} {Q} requests limits slots id word new view body held request low live holding shard written gains table rule size at small =
+    let history = rule.0 in
+    let holds : Holds requests limits table.words table.homes table.views history = rule.1 in
+    let fit = holds.fit id view at live in
+    let is = fit.held held holding in
+    let kind : Kind Q = Done request in
+    let here = record_at (table_in limits history) word in
+    let within : word < limits.count = subst (λ k. k < limits.count) shard is.known in
+    let state : here ≡ held.state = subst (λ k. record_at (table_in limits history) k ≡ held.state) shard is.state in
+    let own = subst (λ k. is_admission_of id (latest_of history k) ≡ true) shard is.own in
+    let fitting = fits_kind limits id word history kind within (and_from _ _ (ap (λ (one : Record). one.admitted) state ∙ is.admitted) own) in
+    let entry = entry_of id word kind in
+    let legal : IsLegalLatest limits.count limits.ceiling (entry ∷ history) = (fitting, holds.legal) in
+    let known = All-cons (λ one. KnownKind one.kind) entry history tt holds.known in
+    let made : new ≡ word_of (after_kind here kind) = written ∙ ap (λ (one : Record). word_of (after_done one)) (sym state) in
+    let list : kept (reverse history) word ≡ held.list = subst (λ k. kept (reverse history) k ≡ held.list) shard is.list in
+    let gained : requests body ≡ list_with (kept (reverse history) word) request = gains ∙ ap (λ entries. list_with entries request) (sym list) in
+    let at_home = home_ended requests limits table.homes history holds.home entry request body refl (subst (λ many. word < many) (sym holds.slots) within) gained fitting in (
+      adding view word kind (reverse (entry ∷ history)),
+      gives,
+      tt,
+      (entry ∷ history, adds_keep requests limits id word new table.words table.homes (slice_set table.homes word (some (Some body))) table.views history view kind holds within at live (length-set table.homes word (some (Some body)) ∙ holds.slots) at_home tt (λ server _. refl) tt fitting made),
+      (
+        adds_all limits id word view history fit within kind legal,
+        word_seen limits (entry ∷ history) view.limits word new (sees_own limits id word view history fit within kind) (made ∙ ap word_of (sym (record_adds limits entry history fitting))) low legal known,
+        list_here entry history ∙ ap (λ entries. list_with entries request) (list ∙ sym (ap list_held holding)),
+        refl,
+      ),
+    )
+
+above : (n : ℕ) → 0 < n → n ≢ 0
+above n more is = omega arith
+
+-- the first load of a new seat
+pub enters : {S Q : Type 0} (requests : S → List Q) (limits : Limits) (slots word : ℕ) (server : Option ℕ) (first : Me (Option S) (View Q)) → first.0.limits ≡ limits
+    → Enters {S = Option S} (Rule requests limits) slots word (λ n view. Entered server (step {S = Option S} slots word 0 0 none) first n (view, []))
+enters {S} {Q} requests limits slots word server first same table rule size small =
+    let history = rule.0 in
+    let holds : Holds requests limits table.words table.homes table.views history = rule.1 in
+    let n = length table.views in
+    let nobody : NoneBy n history = holds.unused n (le_refl n) in
+    let mine : View Q = newcomer limits n server (reverse history) in
+    let long = length-append table.views (mine ∷ []) in
+    let fit : Fits limits n mine history = record {
+      limits_are = refl;
+      number_is = refl;
+      later = [];
+      seen = reverse-reverse history;
+      others = All-nil (λ one. one.actor ≢ n);
+      server = λ server is. acts_as-none history n server nobody;
+      held = λ held is. absurd (cc);
+    } in
+    let chaired = holds.chaired in
+    let legal : IsLegal limits.count limits.ceiling (reverse history) = subst (IsLegalLatest limits.count limits.ceiling) (sym (reverse-reverse history)) holds.legal in (
+      mine,
+      (
+        history,
+        record {
+          legal = holds.legal;
+          known = holds.known;
+          words_are = holds.words_are;
+          slots = holds.slots;
+          home = holds.home;
+          fit = λ m one there alive.
+              ⊎_elim
+              (λ (before : get_elem? table.views m ≡ some one). holds.fit m one before alive)
+              (λ (last : (m ≡ n) × (mine ≡ one)). subst (λ (pair : ℕ × View Q). Fits limits pair.0 pair.1 history) (λ i. (sym last.0 i, last.1 i)) fit)
+              (at_last table.views mine one m there);
+          unused = λ m past. holds.unused m (omega arith);
+          chaired = omega arith;
+        },
+      ),
+      (
+        above n chaired,
+        NoneBy-reverse n history nobody,
+        subst (λ (its : Limits). IsLegal its.count its.ceiling (reverse history)) (sym same) legal,
+        ap (λ (its : Limits). newcomer its n server (reverse history)) (sym same),
+      ),
+    )
+
+-- the body at a place of a list of bodies
+nth : {S : Type 0} (bodies : List S) (shard : ℕ) → shard < length bodies → (body : S) × (get_elem? (map some (map Some bodies)) shard ≡ some (some (Some body))) × (get_elem? bodies shard ≡ some body)
+nth [] shard within = absurd (omega arith)
+nth (body ∷ bodies) zero within = (body, refl, refl)
+nth (body ∷ bodies) (suc shard) within = nth bodies shard (omega arith)
+
+all_at : {S : Type 0} (P : S → Type 0) (bodies : List S) (shard : ℕ) (body : S) → All P bodies → get_elem? bodies shard ≡ some body → P body
+all_at P [] shard body all at = absurd (some-ne-none body (sym at))
+all_at P (one ∷ bodies) zero body all at = subst P (some-injective one body at) (All-head P one bodies all)
+all_at P (one ∷ bodies) (suc shard) body all at = all_at P bodies shard body (All-tail P one bodies all) at
+
+-- a board to which nothing has happened, with bodies that keep nothing
+pub begins : {S Q : Type 0} (requests : S → List Q) (limits : Limits) (words : List ℕ) (bodies : List S) (slots : List (Option S)) → words ≡ replicate limits.count 0 → limits.count ≡ length bodies → slots ≡ map Some bodies → All (λ body. requests body ≡ []) bodies → Rule requests limits (opening words slots (newcomer limits 0 None []))
+begins {S} {Q} requests limits words bodies slots are many put empty = (
+  [],
+  record {
+    legal = tt;
+    known = All-nil (λ one. KnownKind one.kind);
+    words_are = are ∙ sym (map-replicate word_of limits.count vacant);
+    slots = length-map slots some ∙ (ap length put ∙ (length-map bodies Some ∙ sym many));
+    home = λ shard within idle.
+        let body = nth bodies shard (subst (λ n. shard < n) many within) in
+        (body.0, ap (λ (all : List (Option S)). get_elem? (map some all) shard) put ∙ body.1, all_at (λ one. requests one ≡ []) bodies shard body.0 empty body.2);
+    fit = λ n view at live. first n view at;
+    unused = λ n past. All-nil (λ one. one.actor ≢ n);
+    chaired = omega arith;
+  },
+)
+  where
+    first : (n : ℕ) (view : View Q) → get_elem? (newcomer limits 0 None [] ∷ []) n ≡ some view → Fits limits n view []
+    first zero view at = subst (λ (one : View Q). Fits limits 0 one []) (some-injective _ _ at) (record {
+      limits_are = refl;
+      number_is = refl;
+      later = [];
+      seen = refl;
+      others = All-nil (λ one. one.actor ≢ 0);
+      server = λ server is. absurd (cc);
+      held = λ held is. absurd (cc);
+    })
+    first (suc n) view at = absurd (some-ne-none view (sym at))
+
+-- the request that a list has beyond another is the one that it has gained
+pub beyond_with : {Q : Type 0} (list : List Q) (request : Option Q) → beyond list (list_with list request) ≡ request
+beyond_with [] None = refl
+beyond_with [] (Some request) = refl
+beyond_with (one ∷ list) None = beyond_with list None
+beyond_with (one ∷ list) (Some request) = beyond_with list (Some request)
+
+-- a list that has at most one request more is the first with that
+pub beyond_with_gained : {Q : Type 0} (list longer : List Q) → ((request : Option Q) × (longer ≡ list_with list request)) → list_with list (beyond list longer) ≡ longer
+beyond_with_gained list longer gains =
+    let same : beyond list longer ≡ gains.0 = ap (beyond list) gains.1 ∙ beyond_with list gains.0 in
+    ap (list_with list) same ∙ sym gains.1
+
+-- the store that spends a permit
+held_some : {Q : Type 0} (held : Option (Held Q)) (shard : ℕ) (state : Record) → option_map {U = ℕ × Record} (λ (one : Held Q). (one.shard, one.state)) held ≡ Some (shard, state) → (one : Held Q) × (held ≡ Some one) × (one.shard ≡ shard) × (one.state ≡ state)
+held_some None shard state is = absurd (none_some (shard, state) is)
+held_some (Some one) shard state is =
+    let same = same_some (one.shard, one.state) (shard, state) is in
+    (one, refl, ap (λ (it : ℕ × Record). it.0) same, ap (λ (it : ℕ × Record). it.1) same)
+
+module _ {S Q : Type 0} (id : TableId) (view : View Q) (pass : PassValue Q) (permit : PermitValue S) (of_pass : pass_value id view ≡ pass) (holds : HoldsPermit pass permit) where
+  held_view : (one : Held Q) × (view.held ≡ Some one) × (one.shard ≡ permit.shard) × (one.state ≡ permit.state)
+  held_view =
+      let is = held_some pass.held permit.shard permit.state holds in
+      (is.0, ap (λ (it : PassValue Q). it.held) of_pass ∙ is.1, is.2, is.3)
+
+  pub held_within : IfSome view.held (λ held. held.shard < view.limits.count) → permit.shard < view.limits.count
+  held_within within =
+      let is = held_view in
+      let at : is.0.shard < view.limits.count = subst (λ (held : Option (Held Q)). IfSome held (λ one. one.shard < view.limits.count)) is.1 within in
+      subst (λ shard. shard < view.limits.count) is.2 at
+
+  -- the slot that the pass carries is that of the permit's shard, and empty
+  pub slot_held : slots_of {S = S} view.held ≡ (permit.shard, None) ∷ []
+  slot_held =
+      let is = held_view in
+      ap slots_of is.1 ∙ ap (λ shard. (shard, None) ∷ []) is.2
+
+  pub list_is : list_held view.held ≡ list_held pass.held
+  list_is = ap (λ (it : PassValue Q). list_held it.held) of_pass
+
+  pub store_allowed : (requests : S → List Q) (limits : Limits) (slots seat word new : ℕ) (body : S) (me : Me (Option S) (View Q))
+      → me ≡ (view, (word, Some body) ∷ []) → limits.ceiling < 2 ^ 36 → view.spent ≡ false → permit.shard ≡ word → new ≡ word_of (after_done permit.state)
+      → ((request : Option Q) × (requests body ≡ list_with (list_held pass.held) request))
+      → Allows (Rule requests limits) slots seat me word (λ _. new) (λ _. Stored (Done (beyond (list_held pass.held) (requests body))) (step {S = Option S} slots word new 0 none) me new)
+  store_allowed requests limits slots seat word new body me carries low live shard written gains =
+      let is = held_view in
+      let request = gains.0 in
+      let list : is.0.list ≡ list_held pass.held = sym (ap list_held is.1) ∙ list_is in
+      let kept_list : requests body ≡ list_with is.0.list request = gains.1 ∙ ap (λ entries. list_with entries request) (sym list) in
+      let done : request ≡ beyond (list_held pass.held) (requests body) = sym (ap (beyond (list_held pass.held)) gains.1 ∙ beyond_with (list_held pass.held) request) in
+      let allowed = stores requests limits slots seat word new view body is.0 request low live is.1 (is.2 ∙ shard) (written ∙ ap (λ (state : Record). word_of (after_done state)) (sym is.3)) kept_list in
+      subst (λ (pair : Option Q × Me (Option S) (View Q)). Allows (Rule requests limits) slots seat pair.1 word (λ _. new) (λ _. Stored (Done pair.0) (step {S = Option S} slots word new 0 none) pair.1 new)) (λ i. (done i, sym carries i)) allowed

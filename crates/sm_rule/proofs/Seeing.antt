@@ -1,0 +1,282 @@
+-- What the steps of one call tell together, and what they ask.
+use Rattle.std.proofs.Common.{◌≡◌, ◌≢◌, ℕ, ◌+◌, ◌<◌, ◌≤◌, ◌^◌, Bool, true, false, not, ◌&&◌, List, [], ◌∷◌, ◌++◌, refl, sym, ap, ◌∙◌, subst, arith, append_assoc, ⊎_elim}
+use Rattle.std.specs.Prelude.{IfSome, Option, Some, None, is_none, is_some, length, nat_le, nat_lt, slice_index_or, slice_set, ◌==◌}
+use Rattle.std.proofs.lemmas.Bool.{and_from, and_parts, cases_eq, eq-eqb, leb-true, lt-ltb, ne_eqb, not-true, true≢false}
+use Rattle.std.proofs.lemmas.List.{append-nil, get_or-set_other, get_or-set_same, length-set}
+use Rattle.atomic_table.specs.Seated.{TableId}
+use Rattle.sm_ranges.specs.ServerId.{IsServer}
+use Rattle.sm_ranges.specs.declared.stand.Stand.{Stand}
+use Rattle.sm_ranges.specs.declared.stand.Stand.TheVariants.{Vacant, Serving, Prepared, Forwarding, Taken, Paused}
+use Rattle.sm_ownership.specs.declared.admit_fault.AdmitFault.{AdmitFault}
+use Rattle.sm_ownership.specs.declared.admit_fault.AdmitFault.TheVariants.{NotExecutor}
+use Rattle.sm_ownership.specs.declared.change.Change.{Change}
+use Rattle.sm_ownership.specs.declared.entry.Entry.{Entry}
+use Rattle.sm_ownership.specs.declared.entry.Kind.{Kind}
+use Rattle.sm_ownership.specs.declared.entry.Kind.TheVariants.{Change as Changed, Admit, Done}
+use Rattle.sm_ownership.specs.declared.mode.Mode.{Mode}
+use Rattle.sm_ownership.specs.declared.record.Record.{Record}
+use Rattle.sm_ownership.specs.Ceilings.{within_ceiling}
+use Rattle.sm_ownership.specs.Faults.{admit_fault-none, phase_fault-none}
+use Rattle.sm_ownership.specs.Growth.{fits-push, legal_prefix, record_at-push_other}
+use Rattle.sm_ownership.specs.History.{IsLegal, acts_as, after_admit, after_done, kept}
+use Rattle.sm_ownership.specs.Lasting.{IsSameOrLater, NoneBy, same_or_later, stand_stays}
+use Rattle.sm_ownership.specs.Rules.{accepts, admit_fault, fault_at, phase_fault, stand_after}
+use Rattle.sm_word.specs.Histories.{NamesKnown, formed_admit, formed_done}
+use Rattle.sm_word.specs.Word.{IsWellFormed}
+use Rattle.sm_rule.specs.declared.limits.Limits.{Limits}
+use Rattle.sm_rule.specs.declared.view.View.{View}
+use Rattle.sm_rule.specs.Admissions.{Races, fault_of}
+use Rattle.sm_rule.specs.Boards.{BoardValue}
+use Rattle.sm_rule.specs.Changes.{ChairAdds, ChairLooks, ChairValue, IsChairView, chair_value}
+use Rattle.sm_rule.specs.Passes.{IsPassView, PassAdds, PassLooks, PassValue, pass_value, slots_of}
+use Rattle.sm_rule.specs.Passing.{grows_grows}
+use Rattle.sm_rule.specs.Rule.{Fits}
+use Rattle.sm_rule.specs.Steps.{MayAdd, Takes}
+use Rattle.sm_rule.specs.Views.{Adds, Grows, Looks, adding, entry_of, held_after, record_in, seeing}
+use Rattle.sm_rule.proofs.Keeping.{same_some}
+
+module _ {Q : Type 0} (u v w : View Q) (first : Looks u v) where
+  limits_stay : v.limits ≡ u.limits
+  limits_stay = ap (λ (view : View Q). view.limits) first.1
+
+  number_stays : v.number ≡ u.number
+  number_stays = ap (λ (view : View Q). view.number) first.1
+
+  -- a look, and then another
+  pub looks_looks : Looks v w → Looks u w
+  looks_looks second =
+      let grows = subst (λ (pair : Limits × ℕ). Grows pair.0 pair.1 v.seen w.seen []) (λ i. (limits_stay i, number_stays i)) second.0 in
+      (grows_grows u.limits u.number u.seen v.seen w.seen [] first.0 grows, second.1 ∙ ap (λ (view : View Q). seeing view w.seen) first.1)
+
+  -- a look, and then an entry of one's own
+  pub looks_adds : (shard : ℕ) (kind : Kind Q) → Adds v shard kind w → Adds u shard kind w
+  looks_adds shard kind second =
+      let grows = subst (λ (pair : Limits × ℕ). Grows pair.0 pair.1 v.seen w.seen (entry_of pair.1 shard kind ∷ [])) (λ i. (limits_stay i, number_stays i)) second.0 in
+      (grows_grows u.limits u.number u.seen v.seen w.seen _ first.0 grows, second.1 ∙ ap (λ (view : View Q). adding view shard kind w.seen) first.1)
+
+  -- a look, and then a lost exchange, which found another record
+  pub races : (shard : ℕ) (read found : Record) → Looks v w → read ≡ record_in v.limits v.seen shard → found ≡ record_in w.limits w.seen shard → found ≢ read → Races u.limits u.seen w.seen shard read found
+  races shard read found second is later differs =
+      let longer : w.seen ≡ v.seen ++ second.0.0 = second.0.1 ∙ append-nil (v.seen ++ second.0.0) in
+      let at : read ≡ record_in u.limits v.seen shard = is ∙ ap (λ (its : Limits). record_in its v.seen shard) limits_stay in
+      let limits : w.limits ≡ u.limits = ap (λ (view : View Q). view.limits) second.1 ∙ limits_stay in
+      let there : found ≡ record_in u.limits w.seen shard = later ∙ ap (λ (its : Limits). record_in its w.seen shard) limits in
+      let legal : IsLegal u.limits.count u.limits.ceiling (v.seen ++ second.0.0) =
+      subst (λ entries. IsLegal u.limits.count u.limits.ceiling entries) longer (subst (λ (its : Limits). IsLegal its.count its.ceiling w.seen) limits_stay second.0.3) in
+      let grown : IsSameOrLater (record_in u.limits v.seen shard) (record_in u.limits (v.seen ++ second.0.0) shard) = same_or_later u.limits.count u.limits.ceiling v.seen second.0.0 shard legal in
+      let grown' : IsSameOrLater read found =
+      subst (λ (pair : Record × Record). IsSameOrLater pair.0 pair.1) (λ i. (sym at i, sym (there ∙ ap (λ entries. record_in u.limits entries shard) longer) i)) grown in
+      let greater : read.generation < found.generation = ⊎_elim (λ (same : found ≡ read). absurd (differs same)) (λ (less : read.generation < found.generation). less) grown' in (
+        v.seen,
+        (first.0.0, first.0.1 ∙ append-nil (u.seen ++ first.0.0)),
+        (second.0.0, longer),
+        at,
+        there,
+        greater,
+      )
+
+fault_some : (stand : Stand) → fault_at stand (Some NotExecutor) ≡ None → ⊥
+fault_some Vacant none = absurd (cc)
+fault_some (Serving owner) none = absurd (cc)
+fault_some (Prepared owner next) none = absurd (cc)
+fault_some (Forwarding owner next) none = absurd (cc)
+fault_some (Taken owner previous) none = absurd (cc)
+fault_some (Paused owner) none = absurd (cc)
+
+-- no fault applies to a server alone
+pub of_server : (ceiling : ℕ) (state : Record) (server : Option ℕ) (mode : Mode) → fault_of ceiling state server mode ≡ None → (one : ℕ) × (server ≡ Some one) × (admit_fault ceiling state one mode ≡ None)
+of_server ceiling state None mode none = absurd (fault_some state.stand none)
+of_server ceiling state (Some server) mode none = (server, refl, none)
+
+-- a record that admits a server
+module _ (ceiling : ℕ) (state : Record) (server : ℕ) (mode : Mode) (none : admit_fault ceiling state server mode ≡ None) where
+  admitting : (not state.admitted && (nat_le (state.generation + 2) ceiling && accepts state server mode)) ≡ true
+  admitting = sym (admit_fault-none ceiling state server mode) ∙ ap is_none none
+
+  pub accepting : accepts state server mode ≡ true
+  accepting = (and_parts (nat_le (state.generation + 2) ceiling) _ (and_parts (not state.admitted) _ admitting).1).1
+
+  pub idle : state.admitted ≡ false
+  idle = not-true state.admitted (and_parts (not state.admitted) _ admitting).0
+
+  pub room : state.generation + 2 ≤ ceiling
+  room = leb-true _ _ (and_parts (nat_le (state.generation + 2) ceiling) _ (and_parts (not state.admitted) _ admitting).1).0
+
+  -- the record after the admission, and after its end
+  pub next_formed : ceiling < 2 ^ 36 → IsWellFormed state → IsWellFormed (after_admit state)
+  next_formed low formed = let fits = room in formed_admit state server mode formed accepting (omega arith)
+
+  pub end_formed : ceiling < 2 ^ 36 → IsWellFormed state → IsWellFormed (after_done (after_admit state))
+  end_formed low formed = let fits = room in formed_done (after_admit state) (next_formed low formed) refl (omega arith)
+
+  pub may_admit : {Q : Type 0} (view : View Q) (shard : ℕ) → IsServer server → view.number ≢ 0 → view.server ≡ Some server → view.limits.ceiling ≡ ceiling → MayAdd view shard state (Admit server mode)
+  may_admit view shard known other is same = record {
+    known = known;
+    begins = refl;
+    free = tt;
+    own_server = λ one its. eq-eqb server one (same_some server one (sym is ∙ its));
+    fits = λ history fit.
+        let apart : not (view.number == 0) ≡ true = ap not (ne_eqb view.number 0 other) in
+        let here = subst (λ top. (not state.admitted && (nat_le (state.generation + 2) top && accepts state server mode)) ≡ true) (sym same) admitting in
+        and_from _ _ apart (and_from _ _ (fit.server server is) here);
+  }
+
+-- the chair may make a change that the record allows
+pub may_change : {Q : Type 0} (view : View Q) (shard : ℕ) (state : Record) (change : Change) → NamesKnown change → view.number ≡ 0 → view.held ≡ None → state.admitted ≡ false → state.generation < view.limits.ceiling → is_some (stand_after state.stand change) ≡ true → MayAdd view shard state (Changed change)
+may_change view shard state change known chair free idle below leads = record {
+  known = known;
+  begins = refl;
+  free = free;
+  own_server = λ one its. refl;
+  fits = λ history fit.
+      and_from _ _ (eq-eqb view.number 0 chair) (and_from _ _ (ap not idle) (and_from _ _ (lt-ltb state.generation view.limits.ceiling below) leads));
+}
+
+-- a change without a fault leads on
+pub leads_on : (stand : Stand) (change : Change) → phase_fault stand change ≡ None → is_some (stand_after stand change) ≡ true
+leads_on stand change none = phase_fault-none stand change ∙ ap is_none none
+
+-- a pass that has looked
+module _ {Q : Type 0} (server : Option ℕ) (u w : View Q) where
+  pub pass_looks : Looks u w → IsPassView server u → IsPassView server w
+  pass_looks looked is = subst (IsPassView server) (sym looked.1) is
+
+  held_added : (shard : ℕ) (kind : Kind Q) (history : List (Entry Q)) → shard < u.limits.count → IsPassView server u → IfSome (held_after u.limits shard kind history u.held) (λ held. held.shard < u.limits.count)
+  held_added shard (Changed change) history within is = is.3
+  held_added shard (Admit server mode) history within is = within
+  held_added shard (Done request) history within is = tt
+
+  -- and one that has added an entry
+  pub pass_adds : (shard : ℕ) (kind : Kind Q) → Adds u shard kind w → shard < u.limits.count → IsPassView server u → IsPassView server w
+  pass_adds shard kind added within is = subst (IsPassView server) (sym added.1) (is.0, is.1, is.2, held_added shard kind w.seen within is)
+
+  -- one that was admitted, and whose body is out
+  pub pass_holds : {S : Type 0} (shard one : ℕ) (mode : Mode) (me : View Q × List (ℕ × Option S)) → Adds u shard (Admit one mode) w → shard < u.limits.count → IsPassView server u → me ≡ (w, (shard, None) ∷ [])
+      → IsPassView server me.0 × (me.1 ≡ slots_of me.0.held)
+  pass_holds {S} shard one mode me added within is out =
+      let holds : w.held ≡ held_after u.limits shard (Admit one mode) w.seen u.held = ap (λ (view : View Q). view.held) added.1 in
+      subst (λ (it : View Q × List (ℕ × Option S)). IsPassView server it.0 × (it.1 ≡ slots_of it.0.held)) (sym out) (pass_adds shard (Admit one mode) added within is, sym (ap slots_of holds))
+
+-- room for as many rows as the board has shards
+pub room_stays : {Q : Type 0} (u w : View Q) → Looks u w → (room : ℕ) → u.limits.count ≤ room → w.limits.count ≤ room
+room_stays u w looked room enough = subst (λ (view : View _). view.limits.count ≤ room) (sym looked.1) enough
+
+pub room_adds : {Q : Type 0} (u v w : View Q) → Looks u v → (shard : ℕ) (change : Change) → Adds v shard (Changed change) w → (room : ℕ) → u.limits.count ≤ room → w.limits.count ≤ room
+room_adds u v w looked shard change added room enough =
+    subst (λ (its : Limits). its.count ≤ room) (sym (ap (λ (view : View _). view.limits) added.1 ∙ ap (λ (view : View _). view.limits) looked.1)) enough
+
+-- a change takes no slot
+pub changed_slots : {S Q : Type 0} (requests : S → List Q) (kind : Kind Q) (change : Change) (shard : ℕ) (before after : List (ℕ × Option S)) (view : View Q) → kind ≡ Changed change → Takes requests kind shard before view after → after ≡ before
+changed_slots requests kind change shard before after view is takes = subst (λ (one : Kind _). Takes requests one shard before view after) is takes
+
+-- an admission takes its shard's slot, which is then the only one
+pub admitted_slots : {S Q : Type 0} (requests : S → List Q) (kind : Kind Q) (server : ℕ) (mode : Mode) (shard : ℕ) (before after : List (ℕ × Option S)) (view : View Q) → kind ≡ Admit server mode → before ≡ [] → Takes requests kind shard before view after
+    → (body : S) × (after ≡ (shard, Some body) ∷ []) × (requests body ≡ kept view.seen shard)
+admitted_slots {S} {Q} requests kind server mode shard before after view is none takes =
+    let here : Takes requests (Admit server mode) shard before view after = subst (λ (one : Kind Q). Takes requests one shard before view after) is takes in
+    (here.0, here.1 ∙ ap (λ carried. (shard, Some here.0) ∷ carried) none, here.2)
+
+-- the slots of a pass that holds nothing
+pub no_slots : {S Q : Type 0} (id : TableId) (view : View Q) (pass : PassValue Q) (carried : List (ℕ × Option S)) → pass_value id view ≡ pass → pass.held ≡ None → carried ≡ slots_of view.held → carried ≡ []
+no_slots id view pass carried of_pass free slots = slots ∙ ap slots_of (ap (λ (it : PassValue _). it.held) of_pass ∙ free)
+
+abbrev alone : {S : Type 0} → ℕ → S → List (ℕ × Option S)
+alone shard body = (shard, Some body) ∷ []
+
+abbrev first_body : {S : Type 0} → S → List (ℕ × Option S) → S
+first_body other [] = other
+first_body other ((shard, None) ∷ more) = other
+first_body other ((shard, Some body) ∷ more) = body
+
+pub same_body : {S : Type 0} (shard : ℕ) (one two : S) → alone shard one ≡ alone shard two → one ≡ two
+same_body shard one two same = ap (first_body one) same
+
+-- the same of their values
+module _ {Q : Type 0} (before : PassValue Q) (id later : TableId) (u w : View Q) (of_pass : pass_value id u ≡ before) (same : later ≡ id) where
+  pub looks_of_pass : Looks u w → PassLooks before (pass_value later w)
+  looks_of_pass looked =
+      let here : PassLooks (pass_value id u) (pass_value id w) = (looked.0, ap (pass_value id) looked.1) in
+      subst (λ (pair : PassValue Q × TableId). PassLooks pair.0 (pass_value pair.1 w)) (λ i. (of_pass i, sym same i)) here
+
+  pub adds_of_pass : (shard : ℕ) (kind : Kind Q) → Adds u shard kind w → PassAdds before shard kind (pass_value later w)
+  adds_of_pass shard kind added =
+      let here : PassAdds (pass_value id u) shard kind (pass_value id w) = (added.0, ap (pass_value id) added.1) in
+      subst (λ (pair : PassValue Q × TableId). PassAdds pair.0 shard kind (pass_value pair.1 w)) (λ i. (of_pass i, sym same i)) here
+
+abbrev board_with : TableId → Limits → BoardValue
+board_with id limits = record { id = id; limits = limits }
+
+module _ {Q : Type 0} (before : ChairValue Q) (id later : TableId) (u w : View Q) (of_chair : chair_value id u ≡ before) (same : later ≡ id) (chair : u.number ≡ 0) where
+  at_chair : (added : List (Entry Q)) → Grows u.limits u.number u.seen w.seen added → w.limits ≡ u.limits → Grows before.board.limits 0 before.seen w.seen added × ((chair_value later w).board ≡ before.board)
+  at_chair added grows limits =
+      let zero = subst (λ n. Grows u.limits n u.seen w.seen added) chair grows in (
+        subst (λ (it : ChairValue Q). Grows it.board.limits 0 it.seen w.seen added) of_chair zero,
+        ap (λ one. board_with one w.limits) same ∙ (ap (λ its. board_with id its) limits ∙ ap (λ (it : ChairValue Q). it.board) of_chair),
+      )
+
+  pub looks_of_chair : Looks u w → ChairLooks before (chair_value later w)
+  looks_of_chair looked = at_chair [] looked.0 (ap (λ (view : View Q). view.limits) looked.1)
+
+  pub adds_of_chair : (shard : ℕ) (change : Change) → Adds u shard (Changed change) w → ChairAdds before shard change (chair_value later w)
+  adds_of_chair shard change added =
+      let grows = subst (λ n. Grows u.limits u.number u.seen w.seen (entry_of n shard (Changed change) ∷ [])) chair added.0 in
+      at_chair (entry_of 0 shard (Changed change) ∷ []) grows (ap (λ (view : View Q). view.limits) added.1)
+
+-- the stands that the chair keeps
+module _ {Q : Type 0} (stands : List Stand) (u w : View Q) (is : IsChairView stands u) where
+  -- others change none
+  stand_kept : (others : List (Entry Q)) (shard : ℕ) → IsLegal u.limits.count u.limits.ceiling (u.seen ++ others) → NoneBy u.number others → slice_index_or stands shard Vacant ≡ (record_in u.limits (u.seen ++ others) shard).stand
+  stand_kept others shard legal none =
+      is.3.1 shard ∙ sym (stand_stays u.limits.count u.limits.ceiling u.seen others shard legal (subst (λ n. NoneBy n others) is.1 none))
+
+  pub chair_looks : Looks u w → IsChairView stands w
+  chair_looks looked =
+      let more = looked.0.1 ∙ append-nil (u.seen ++ looked.0.0) in
+      let legal = subst (λ entries. IsLegal u.limits.count u.limits.ceiling entries) more looked.0.3 in
+      subst (IsChairView stands) (sym looked.1)
+      (is.0, is.1, is.2, (is.3.0, λ shard. stand_kept looked.0.0 shard legal looked.0.2 ∙ ap (λ entries. (record_in u.limits entries shard).stand) (sym more)))
+
+  pub chair_adds : (shard : ℕ) (change : Change) (next : Record) → shard < u.limits.count → Adds u shard (Changed change) w → next ≡ record_in w.limits w.seen shard → IsChairView (slice_set stands shard next.stand) w
+  chair_adds shard change next within added at =
+      let kind : Kind Q = Changed change in
+      let entry = entry_of u.number shard kind in
+      let before = u.seen ++ added.0.0 in
+      let limits = u.limits in
+      let legal : IsLegal limits.count limits.ceiling (before ++ entry ∷ []) = subst (λ entries. IsLegal limits.count limits.ceiling entries) added.0.1 added.0.3 in
+      let fit = fits-push limits.count limits.ceiling before entry legal in
+      let kept_legal = legal_prefix limits.count limits.ceiling before (entry ∷ []) legal in
+      let here : next ≡ record_in limits w.seen shard = at ∙ ap (λ (view : View Q). record_in view.limits w.seen shard) added.1 in
+      let known : (one : ℕ) → slice_index_or (slice_set stands shard next.stand) one Vacant ≡ (record_in limits w.seen one).stand =
+      λ one.
+      ⊎_elim
+      (λ (same : one ≡ shard).
+      let there : shard < length stands = subst (λ many. shard < many) (sym is.3.0) within in
+      let mine = get_or-set_same stands shard next.stand Vacant there ∙ ap (λ (state : Record). state.stand) here in
+      subst (λ k. slice_index_or (slice_set stands shard next.stand) k Vacant ≡ (record_in limits w.seen k).stand) (sym same) mine)
+      (λ (apart : one ≢ shard).
+      get_or-set_other stands shard one next.stand Vacant apart
+      ∙ (stand_kept added.0.0 one kept_legal added.0.2
+      ∙ (ap (λ (state : Record). state.stand) (sym (record_at-push_other limits.count limits.ceiling before entry one apart fit))
+      ∙ ap (λ entries. (record_in limits entries one).stand) (sym added.0.1))))
+      (cases_eq one shard) in
+      subst (IsChairView (slice_set stands shard next.stand)) (sym added.1)
+      (is.0, is.1, is.2, (length-set stands shard next.stand ∙ is.3.0, known))
+
+-- what the chair has read
+module _ {Q : Type 0} (stands : List Stand) (u w : View Q) (is : IsChairView stands u) (looked : Looks u w) (shard : ℕ) (read : Record) (change : Change) (state : read ≡ record_in w.limits w.seen shard) where
+  stand_read : read.stand ≡ (record_in u.limits u.seen shard).stand
+  stand_read = ap (λ (one : Record). one.stand) state ∙ (sym ((chair_looks stands u w is looked).3.1 shard) ∙ is.3.1 shard)
+
+  pub fits_read : phase_fault (record_in u.limits u.seen shard).stand change ≡ None → phase_fault read.stand change ≡ None
+  fits_read allowed = subst (λ stand. phase_fault stand change ≡ None) (sym stand_read) allowed
+
+  pub below_read : read.generation ≤ u.limits.ceiling
+  below_read =
+      let at : read ≡ record_in u.limits w.seen shard = state ∙ ap (λ (view : View Q). record_in view.limits w.seen shard) looked.1 in
+      subst (λ (one : Record). one.generation ≤ u.limits.ceiling) (sym at) (within_ceiling u.limits.count u.limits.ceiling w.seen shard looked.0.3).0
+
+  pub may_read : NamesKnown change → phase_fault (record_in u.limits u.seen shard).stand change ≡ None → read.admitted ≡ false → read.generation < u.limits.ceiling → MayAdd w shard read (Changed change)
+  may_read known allowed idle below =
+      let chair = chair_looks stands u w is looked in
+      let top : read.generation < w.limits.ceiling = subst (λ (its : Limits). read.generation < its.ceiling) (sym (ap (λ (view : View Q). view.limits) looked.1)) below in
+      may_change w shard read change known chair.1 chair.2 idle top (leads_on read.stand change (fits_read allowed))

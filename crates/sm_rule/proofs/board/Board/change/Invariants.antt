@@ -1,0 +1,5 @@
+use Rattle.sm_ownership.specs.declared.entry.Kind.TheVariants.{Change as Changed}
+use Rattle.sm_rule.proofs.board.Board.change.Given as goal
+
+abbrev pub ghosts-change_as : goal.ghosts-change_as
+ghosts-change_as g a = record { kind = Changed a.change }

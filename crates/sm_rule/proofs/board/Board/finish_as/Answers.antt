@@ -1,0 +1,50 @@
+use Rattle.std.proofs.Common.{◌≡◌, ◌<◌, List, [], ◌∷◌, sym, ap, ◌∙◌, subst, arith}
+use Rattle.std.specs.Prelude.{Option, Some, None}
+use mathlib.Core.Option.{none}
+use Rattle.atomic_table.specs.Table.{Allows, rest, step}
+use Rattle.sm_ownership.specs.declared.entry.Kind.TheVariants.{Done}
+use Rattle.sm_ownership.specs.History.{after_done, kept, kept_of}
+use Rattle.sm_word.specs.Word.{word_of}
+use Rattle.sm_rule.specs.Admissions.{beyond}
+use Rattle.sm_rule.specs.Rule.{Rule}
+use Rattle.sm_rule.specs.Steps.{Stored}
+use Rattle.sm_rule.specs.Views.{list_held, list_with}
+use Rattle.sm_rule.proofs.Keeping.{beyond_with_gained, held_within, list_is, low_key, slot_held, store_allowed}
+use Rattle.sm_rule.proofs.board.Board.finish_as.Goals as goal
+
+pub store-requires : goal.store-requires
+store-requires g c =
+    let board = c.requires.board ∙ sym c.self.view_is in
+    let view = c.pass.inside.seat.me.0 in
+    let of_pass = c.pass.view_is in
+    let id = c.pass.inside.seat.table_id in
+    let shard = ap (λ p. p.shard) c.permit.view_is in
+    let state = ap (λ p. p.state) c.permit.view_is in
+    let body = ap (λ p. p.body) c.permit.view_is in
+    let within = held_within id view c.args.pass.now c.args.permit of_pass c.requires.permit c.pass.invariant.0.3 in
+    let at = c.index-at.ensures.value in
+    let words = c.self.invariant.1 in
+    let same = ap (λ p. p.board.limits.count) of_pass ∙ ap (λ b. b.limits.count) board in
+    let slots = c.pass.invariant.1 ∙ slot_held id view c.args.pass.now c.args.permit of_pass c.requires.permit in
+    let out = c.exchange.ensures in
+    let carries = out.3 ∙ ap (λ carried. (view, (c.index-at.result, Some c.permit.inside.body) ∷ rest carried)) slots in
+    let key = c.self.inside.table.shared.key in
+    let gains : (request : Option g.row.S-Request.Denot) × (g.S.Service.requests c.permit.inside.body ≡ list_with (list_held c.args.pass.now.held) request) = (c.requires.body.0, ap g.S.Service.requests body ∙ c.requires.body.1) in
+    let allowed = store_allowed id view c.args.pass.now c.args.permit of_pass c.requires.permit g.S.Service.requests key c.self.inside.table.shared.table_id.slots c.exchange.new.seat.id c.index-at.result c.done_word-word.result c.permit.inside.body c.exchange.new.seat.me
+    carries (low_key key c.self.inside.limits c.self.invariant.0 c.self.invariant.5) c.pass.invariant.0.0 (sym shard ∙ sym at)
+    (c.done_word-word.ensures c.permit.inside.state c.permit.invariant.2 (sym c.permit.invariant.3) ∙ ap (λ one. word_of (after_done one)) state) gains in
+    let kind = c.requires.kind ∙ ap (λ one. Done (beyond (list_held c.args.pass.now.held) (g.S.Service.requests one))) (sym body) in (
+      out.0 ∙ (ap (λ p. p.board.id) of_pass ∙ ap (λ b. b.id) board),
+      omega arith,
+      subst (λ one. Allows (Rule g.S.Service.requests key) c.self.inside.table.shared.table_id.slots c.exchange.new.seat.id c.exchange.new.seat.me c.index-at.result (λ _. c.done_word-word.result) (λ _. Stored one (step c.self.inside.table.shared.table_id.slots c.index-at.result c.done_word-word.result 0 none) c.exchange.new.seat.me c.done_word-word.result)) (sym kind) allowed,
+    )
+
+pub returns-clause-kept : goal.returns-clause-kept
+returns-clause-kept g c =
+    let of_pass = c.pass.view_is in
+    let shard = ap (λ p. p.shard) c.permit.view_is in
+    let held = ap (λ me. list_held me.0.held) c.exchange.ensures.3 ∙ list_is c.pass.inside.seat.table_id c.pass.inside.seat.me.0 c.args.pass.now c.args.permit of_pass c.requires.permit in
+    ap (λ k. kept c.store.new.seat.me.0.seen k) (sym shard ∙ sym c.index-at.ensures.value)
+    ∙ (c.store.ensures.2.2
+    ∙ ((λ i. list_with (held i) (kept_of (c.requires.kind i)))
+    ∙ beyond_with_gained (list_held c.args.pass.now.held) (g.S.Service.requests c.args.permit.body) c.requires.body))

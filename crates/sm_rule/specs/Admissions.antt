@@ -1,0 +1,69 @@
+-- What an admission on a board is refused for.
+use Rattle.std.specs.Prelude.{ℕ, ◌≡◌, ◌<◌, List, [], ◌∷◌, ◌++◌, Option, Some, None}
+use Rattle.std.specs.Option.{option_map}
+use Rattle.sm_ownership.specs.declared.admit_fault.AdmitFault.{AdmitFault}
+use Rattle.sm_ownership.specs.declared.admit_fault.AdmitFault.TheVariants.{NotExecutor}
+use Rattle.sm_ownership.specs.declared.entry.Entry.{Entry}
+use Rattle.sm_ownership.specs.declared.entry.Kind.TheVariants.{Admit}
+use Rattle.sm_ownership.specs.declared.mode.Mode.{Mode}
+use Rattle.sm_ownership.specs.declared.record.Record.{Record}
+use Rattle.sm_ownership.specs.Rules.{admit_fault, fault_at}
+use Rattle.sm_rule.specs.declared.admit_refusal.AdmitRefusal.{AdmitRefusal}
+use Rattle.sm_rule.specs.declared.admit_refusal.AdmitRefusal.TheVariants.{Refused, Raced}
+use Rattle.sm_rule.specs.declared.limits.Limits.{Limits}
+use Rattle.sm_rule.specs.declared.view.Held.{Held}
+use Rattle.sm_rule.specs.Passes.{PassAdds, PassValue, record_of}
+use Rattle.sm_rule.specs.Views.{record_in}
+
+-- the first reason for which a record doesn't admit a server, or who has none
+abbrev pub fault_of : ℕ → Record → Option ℕ → Mode → Option AdmitFault
+fault_of ceiling state None mode = fault_at state.stand (Some NotExecutor)
+fault_of ceiling state (Some server) mode = admit_fault ceiling state server mode
+
+-- the second history begins with the first
+abbrev pub Begins : {Q : Type 0} → List (Entry Q) → List (Entry Q) → Type 0
+Begins earlier later = (more : List (Entry _)) × (later ≡ earlier ++ more)
+
+-- an exchange was lost: `read` stood at a point between what had been seen and what is seen now, and `found`, of a
+-- greater generation, stands now
+abbrev pub Races : {Q : Type 0} → Limits → List (Entry Q) → List (Entry Q) → ℕ → Record → Record → Type 0
+Races limits before after shard read found =
+    (point : List (Entry _)) × Begins before point × Begins point after
+    × (read ≡ record_in limits point shard) × (found ≡ record_in limits after shard) × (read.generation < found.generation)
+
+-- the pass has seen more, and its own admission last
+abbrev pub PassAdmitted : {Q : Type 0} → PassValue Q → ℕ → Mode → PassValue Q → Type 0
+PassAdmitted before shard mode after =
+    (server : ℕ) × (before.server ≡ Some server) × PassAdds before shard (Admit server mode) after
+
+-- why a pass isn't admitted, by the record that it has then seen; or it was overtaken, and no fault applies to the record read
+abbrev pub RefusedBy : {Q : Type 0} → PassValue Q → PassValue Q → ℕ → Mode → AdmitRefusal → Type 0
+RefusedBy before after shard mode (Refused fault state) =
+    (state ≡ record_of after shard) × (fault_of before.board.limits.ceiling state before.server mode ≡ Some fault)
+RefusedBy before after shard mode (Raced read found) =
+    (fault_of before.board.limits.ceiling read before.server mode ≡ None)
+    × Races before.board.limits before.seen after.seen shard read found
+
+-- a permit: the shard, its record since the admission, and its body
+pub record PermitValue (S : Type 0) : Type 0 where
+  pub shard : ℕ
+  pub state : Record
+  pub body : S
+
+abbrev pub with_body : {S : Type 0} → PermitValue S → S → PermitValue S
+with_body permit body = record { shard = permit.shard; state = permit.state; body = body }
+
+-- the shard that a pass holds, with its record since the admission
+abbrev pub held_of : {Q : Type 0} → PassValue Q → Option (ℕ × Record)
+held_of pass = option_map (λ held. (held.shard, held.state)) pass.held
+
+-- the permit is the one that the pass holds
+abbrev pub Holds : {S Q : Type 0} → PassValue Q → PermitValue S → Type 0
+Holds pass permit = held_of pass ≡ Some (permit.shard, permit.state)
+
+-- the request that a list has beyond another, if any
+abbrev pub beyond : {Q : Type 0} → List Q → List Q → Option Q
+beyond [] [] = None
+beyond [] (request ∷ more) = Some request
+beyond (one ∷ list) [] = None
+beyond (one ∷ list) (other ∷ more) = beyond list more

@@ -1,0 +1,43 @@
+-- What the end of a board gives.
+use Rattle.std.specs.Prelude.{ℕ, true, false, ◌≡◌, ◌<◌, List, ◌++◌, Option, Some, None, length, if◌then◌else◌}
+use mathlib.Core.Option.{some}
+use lib.ListN.{get_elem?}
+use Rattle.sm_ownership.specs.declared.entry.Entry.{Entry}
+use Rattle.sm_ownership.specs.declared.record.Record.{Record}
+use Rattle.sm_ownership.specs.History.{IsLegal, kept}
+use Rattle.sm_ownership.specs.Lasting.{NoneBy}
+use Rattle.sm_word.specs.Word.{IsWellFormed, word_of}
+use Rattle.sm_rule.specs.declared.limits.Limits.{Limits}
+use Rattle.sm_rule.specs.Changes.{ChairValue}
+use Rattle.sm_rule.specs.Views.{record_in}
+
+-- what is left of a shard after a history: its record, and its body where it isn't admitted, with what was kept for it
+abbrev pub IsLeft : {S Q : Type 0} → (S → List Q) → Limits → List (Entry Q) → ℕ → Record × Option S → Type 0
+IsLeft {S} requests limits history shard row =
+    (row.0 ≡ record_in limits history shard)
+    × (row.0.admitted ≡ true → row.1 ≡ None)
+    × (row.0.admitted ≡ false → (body : S) × (row.1 ≡ Some body) × (requests body ≡ kept history shard))
+
+-- the rows are those of all shards after one legal history, to which passes alone have added since the chair last looked
+abbrev pub WasClosed : {S Q : Type 0} → (S → List Q) → ChairValue Q → List (Record × Option S) → Type 0
+WasClosed {S} {Q} requests chair rows =
+    (later : List (Entry Q))
+    × IsLegal chair.board.limits.count chair.board.limits.ceiling (chair.seen ++ later)
+    × NoneBy 0 later
+    × (length rows ≡ chair.board.limits.count)
+    × ((shard : ℕ) (row : Record × Option S) → get_elem? rows shard ≡ some row → IsLeft requests chair.board.limits (chair.seen ++ later) shard row)
+
+-- each word is that of a record
+abbrev pub AreWords : List ℕ → Type 0
+AreWords words =
+    (shard word : ℕ) → get_elem? words shard ≡ some word → (state : Record) × IsWellFormed state × (word_of state ≡ word)
+
+-- a row has the record of its shard's word, and what lies in its slot where that isn't admitted
+abbrev pub IsTaken : {S : Type 0} → List ℕ → List (Option S) → ℕ → Record × Option S → Type 0
+IsTaken {S} words slots shard row =
+    IsWellFormed row.0
+    × (get_elem? words shard ≡ some (word_of row.0))
+    × ((slot : Option S) × (get_elem? slots shard ≡ some slot) × (row.1 ≡ (if row.0.admitted then None else slot)))
+
+abbrev pub AreTaken : {S : Type 0} → List ℕ → List (Option S) → List (Record × Option S) → Type 0
+AreTaken {S} words slots rows = (shard : ℕ) (row : Record × Option S) → get_elem? rows shard ≡ some row → IsTaken words slots shard row

@@ -1,0 +1,9 @@
+pub mod Admissions
+pub mod Boards
+pub mod Changes
+pub mod Closing
+pub mod Passes
+pub mod Passing
+pub mod Rule
+pub mod Steps
+pub mod Views

@@ -1,0 +1,67 @@
+-- What several calls with one pass tell together.
+use Rattle.std.proofs.Common.{◌≡◌, ◌≢◌, ℕ, ◌<◌, List, [], ◌∷◌, ◌++◌, refl, sym, ap, ◌∙◌, subst, append_assoc}
+use Rattle.std.specs.Prelude.{Option, Some, None}
+use Rattle.std.proofs.lemmas.List.{append-nil}
+use Rattle.std.proofs.lemmas.List.Elements.{All-append}
+use Rattle.sm_ownership.specs.declared.entry.Entry.{Entry}
+use Rattle.sm_ownership.specs.declared.entry.Kind.{Kind}
+use Rattle.sm_ownership.specs.declared.mode.Mode.{Mode}
+use Rattle.sm_ownership.specs.declared.record.Record.{Record}
+use Rattle.sm_rule.specs.declared.admit_refusal.AdmitRefusal.{AdmitRefusal}
+use Rattle.sm_rule.specs.declared.admit_refusal.AdmitRefusal.TheVariants.{Refused, Raced}
+use Rattle.sm_rule.specs.declared.limits.Limits.{Limits}
+use Rattle.sm_rule.specs.Admissions.{Begins, PassAdmitted, Races, RefusedBy, fault_of}
+use Rattle.sm_rule.specs.Boards.{BoardValue}
+use Rattle.sm_rule.specs.Passes.{PassAdds, PassLooks, PassValue, pass_adding, pass_seeing, record_of}
+use Rattle.sm_rule.specs.Views.{Grows, entry_of, record_in}
+
+-- what grows by entries of others, and then grows on
+pub grows_grows : {Q : Type 0} (limits : Limits) (number : ℕ) (one two three added : List (Entry Q)) → Grows limits number one two [] → Grows limits number two three added → Grows limits number one three added
+grows_grows limits number one two three added first second = (
+  first.0 ++ second.0,
+  second.1 ∙ (ap (λ entries. (entries ++ second.0) ++ added) (first.1 ∙ append-nil (one ++ first.0)) ∙ ap (λ entries. entries ++ added) (append_assoc one first.0 second.0)),
+  All-append (λ entry. entry.actor ≢ number) first.0 second.0 first.2 second.2,
+  second.3,
+)
+
+pub grows_begins : {Q : Type 0} (limits : Limits) (number : ℕ) (before after added : List (Entry Q)) → Grows limits number before after added → Begins before after
+grows_begins limits number before after added grows = (grows.0 ++ added, grows.1 ∙ append_assoc before grows.0 added)
+
+pub begins_begins : {Q : Type 0} (one two three : List (Entry Q)) → Begins one two → Begins two three → Begins one three
+begins_begins one two three first second =
+    (first.0 ++ second.0, second.1 ∙ (ap (λ entries. entries ++ second.0) first.1 ∙ append_assoc one first.0 second.0))
+
+module _ {Q : Type 0} (p q r : PassValue Q) (first : PassLooks p q) where
+  board_stays : q.board ≡ p.board
+  board_stays = ap (λ (pass : PassValue Q). pass.board) first.1
+
+  number_stays : q.number ≡ p.number
+  number_stays = ap (λ (pass : PassValue Q). pass.number) first.1
+
+  server_stays : q.server ≡ p.server
+  server_stays = ap (λ (pass : PassValue Q). pass.server) first.1
+
+  -- a look, and then another
+  pub looks_looks : PassLooks q r → PassLooks p r
+  looks_looks second =
+      let grows = subst (λ (pair : BoardValue × ℕ). Grows pair.0.limits pair.1 q.seen r.seen []) (λ i. (board_stays i, number_stays i)) second.0 in
+      (grows_grows p.board.limits p.number p.seen q.seen r.seen [] first.0 grows, second.1 ∙ ap (λ (pass : PassValue Q). pass_seeing pass r.seen) first.1)
+
+  -- a look, and then an entry of one's own
+  pub looks_adds : (shard : ℕ) (kind : Kind Q) → PassAdds q shard kind r → PassAdds p shard kind r
+  looks_adds shard kind second =
+      let grows = subst (λ (pair : BoardValue × ℕ). Grows pair.0.limits pair.1 q.seen r.seen (entry_of pair.1 shard kind ∷ [])) (λ i. (board_stays i, number_stays i)) second.0 in
+      (grows_grows p.board.limits p.number p.seen q.seen r.seen _ first.0 grows, second.1 ∙ ap (λ (pass : PassValue Q). pass_adding pass shard kind r.seen) first.1)
+
+  -- a look, and then an admission
+  pub looks_admits : (shard : ℕ) (mode : Mode) → PassAdmitted q shard mode r → PassAdmitted p shard mode r
+  looks_admits shard mode second = (second.0, sym server_stays ∙ second.1, looks_adds shard _ second.2)
+
+  -- a look, and then a refusal
+  pub looks_refused : (shard : ℕ) (mode : Mode) (refusal : AdmitRefusal) → RefusedBy q r shard mode refusal → RefusedBy p r shard mode refusal
+  looks_refused shard mode (Refused fault state) second =
+      (second.0, subst (λ (pair : BoardValue × Option ℕ). fault_of pair.0.limits.ceiling state pair.1 mode ≡ Some fault) (λ i. (board_stays i, server_stays i)) second.1)
+  looks_refused shard mode (Raced read found) second =
+      let free = subst (λ (pair : BoardValue × Option ℕ). fault_of pair.0.limits.ceiling read pair.1 mode ≡ None) (λ i. (board_stays i, server_stays i)) second.0 in
+      let race : Races p.board.limits q.seen r.seen shard read found = subst (λ (board : BoardValue). Races board.limits q.seen r.seen shard read found) board_stays second.1 in
+      (free, (race.0, begins_begins p.seen q.seen race.0 (grows_begins p.board.limits p.number p.seen q.seen [] first.0) race.1, race.2, race.3, race.4, race.5))

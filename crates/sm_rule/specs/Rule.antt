@@ -1,0 +1,61 @@
+-- The rule of a board: what its words are, where the bodies are, and what each seat knows.
+use Rattle.std.specs.Prelude.{ℕ, true, false, ◌≡◌, ◌<◌, ◌≤◌, List, ◌++◌, Option, Some, length, map, reverse}
+use mathlib.Core.Option as math
+use mathlib.Core.Option.{some}
+use lib.ListN.{get_elem?}
+use Rattle.atomic_table.specs.Table.{State}
+use Rattle.sm_ownership.specs.declared.entry.Entry.{Entry}
+use Rattle.sm_ownership.specs.declared.record.Record.{Record}
+use Rattle.sm_ownership.specs.History.{IsLegalLatest, acts_as, is_admission_of, kept, latest_of, record_at, table_of_latest}
+use Rattle.sm_ownership.specs.Lasting.{NoneBy}
+use Rattle.sm_word.specs.Histories.{AreKnown}
+use Rattle.sm_word.specs.Word.{word_of}
+use Rattle.sm_rule.specs.declared.limits.Limits.{Limits}
+use Rattle.sm_rule.specs.declared.view.Held.{Held}
+use Rattle.sm_rule.specs.declared.view.View.{View}
+
+-- below, histories have the latest entry first
+
+-- the table of a history of a board with these limits
+abbrev pub table_in : {Q : Type 0} → Limits → List (Entry Q) → List Record
+table_in limits history = table_of_latest limits.count limits.ceiling history
+
+-- a seat holds a shard: it is admitted, by this seat's number, and since then nothing happened to it
+pub record IsHeld {Q : Type 0} (limits : Limits) (number : ℕ) (held : Held Q) (history : List (Entry Q)) : Type 0 where
+  pub known : held.shard < limits.count
+  pub state : record_at (table_in limits history) held.shard ≡ held.state
+  pub admitted : held.state.admitted ≡ true
+  pub own : is_admission_of number (latest_of history held.shard) ≡ true
+  pub list : kept (reverse history) held.shard ≡ held.list
+
+-- what a seat knows is so: the history begins with what it has seen, and has no more entries of its number
+pub record Fits {Q : Type 0} (limits : Limits) (number : ℕ) (view : View Q) (history : List (Entry Q)) : Type 0 where
+  pub limits_are : view.limits ≡ limits
+  pub number_is : view.number ≡ number
+  pub later : List (Entry Q)
+  pub seen : later ++ reverse view.seen ≡ history
+  pub others : NoneBy number later
+  pub server : (server : ℕ) → view.server ≡ Some server → acts_as history number server ≡ true
+  pub held : (held : Held Q) → view.held ≡ Some held → IsHeld limits number held history
+
+-- the bodies of the idle shards are at home, and each keeps what the history kept for its shard
+abbrev pub AreHome : {S Q : Type 0} → (S → List Q) → Limits → List (math.Option (Option S)) → List (Entry Q) → Type 0
+AreHome {S} requests limits homes history =
+    (shard : ℕ) → shard < limits.count → (record_at (table_in limits history) shard).admitted ≡ false
+    → (body : S) × (get_elem? homes shard ≡ some (some (Some body))) × (requests body ≡ kept (reverse history) shard)
+
+-- the words are those of the table of a legal history of known servers; the bodies of its idle shards are at home; each seat
+-- knows it as far as it has looked, and a number that no seat has yet has no entry in it
+pub record Holds {S Q : Type 0} (requests : S → List Q) (limits : Limits) (words : List ℕ) (homes : List (math.Option (Option S))) (views : List (View Q)) (history : List (Entry Q)) : Type 0 where
+  pub legal : IsLegalLatest limits.count limits.ceiling history
+  pub known : AreKnown history
+  pub words_are : words ≡ map word_of (table_in limits history)
+  pub slots : length homes ≡ limits.count
+  pub home : AreHome requests limits homes history
+  pub fit : (number : ℕ) (view : View Q) → get_elem? views number ≡ some view → view.spent ≡ false → Fits limits number view history
+  pub unused : (number : ℕ) → length views ≤ number → NoneBy number history
+  pub chaired : 0 < length views
+
+-- there is one history
+abbrev pub Rule : {S Q : Type 0} → (S → List Q) → Limits → State (Option S) (View Q) → Type 0
+Rule requests limits table = (history : List (Entry _)) × Holds requests limits table.words table.homes table.views history

@@ -1,0 +1,70 @@
+-- What each kind of step on a board tells its caller.
+use Rattle.std.specs.Prelude.{ℕ, ◌≡◌, ◌≢◌, Bool, List, ◌∷◌, true, false, Option, Some, None}
+use Rattle.atomic_table.specs.Table.{Me, Step, rest}
+use Rattle.sm_ownership.specs.declared.entry.Entry.{Entry}
+use Rattle.sm_ownership.specs.declared.entry.Kind.{Kind}
+use Rattle.sm_ownership.specs.declared.entry.Kind.TheVariants.{Change as Changed, Admit, Done}
+use Rattle.sm_ownership.specs.declared.record.Record.{Record}
+use Rattle.sm_ownership.specs.History.{IsLegal, admits_only, after_kind, kept, kept_of, kind_fits}
+use Rattle.sm_ownership.specs.Lasting.{NoneBy}
+use Rattle.sm_word.specs.Histories.{KnownKind}
+use Rattle.sm_word.specs.Word.{IsWellFormed, word_of}
+use Rattle.sm_rule.specs.declared.view.View.{View}
+use Rattle.sm_rule.specs.Rule.{Fits}
+use Rattle.sm_rule.specs.Views.{Adds, Looks, list_held, list_with, newcomer, record_in}
+
+-- the word is that of the shard's record in all that the view has seen
+abbrev pub IsWordOf : {Q : Type 0} → ℕ → View Q → ℕ → Type 0
+IsWordOf word view shard =
+    (word ≡ word_of (record_in view.limits view.seen shard)) × IsWellFormed (record_in view.limits view.seen shard)
+
+-- a load: more was seen, and the word found is that of the shard's record
+abbrev pub Loaded : {S Q : Type 0} → Step S → Me S (View Q) → ℕ → Me S (View Q) → Type 0
+Loaded step before found after = Looks before.0 after.0 × IsWordOf found after.0 step.word × (after.1 ≡ before.1)
+
+-- a new seat with its first load: a number that isn't the control's and has no entries, and this server
+abbrev pub Entered : {S Q : Type 0} → Option ℕ → Step S → Me S (View Q) → ℕ → Me S (View Q) → Type 0
+Entered server step first found after =
+    (after.0.number ≢ 0)
+    × NoneBy after.0.number after.0.seen
+    × IsLegal first.0.limits.count first.0.limits.ceiling after.0.seen
+    × (after.0 ≡ newcomer first.0.limits after.0.number server after.0.seen)
+
+-- an admission takes the shard's slot, with a body that keeps what was kept for the shard; a change takes none
+abbrev pub Takes : {S Q : Type 0} → (S → List Q) → Kind Q → ℕ → List (ℕ × Option S) → View Q → List (ℕ × Option S) → Type 0
+Takes {S} requests (Admit server mode) shard before view after =
+    (body : S) × (after ≡ (shard, Some body) ∷ before) × (requests body ≡ kept view.seen shard)
+Takes requests _ shard before view after = after ≡ before
+
+-- an exchange that is won adds an admission or a change to all that was seen; one that is lost is a load
+abbrev pub Exchanged : {S Q : Type 0} → (S → List Q) → Kind Q → Step (Option S) → Me (Option S) (View Q) → ℕ → Me (Option S) (View Q) → Type 0
+Exchanged requests kind step before found after =
+    (found ≡ step.first → Adds before.0 step.word kind after.0 × IsWordOf step.second after.0 step.word × Takes requests kind step.word before.1 after.0 after.1)
+    × (found ≢ step.first → Loaded step before found after)
+
+-- a store adds the end of an admission to all that was seen, which then keeps the request of the end after what was kept at the
+-- admission, and gives the slot back that was taken last
+abbrev pub Stored : {S Q : Type 0} → Kind Q → Step S → Me S (View Q) → ℕ → Me S (View Q) → Type 0
+Stored kind step before found after =
+    Adds before.0 step.word kind after.0
+    × IsWordOf found after.0 step.word
+    × (kept after.0.seen step.word ≡ list_with (list_held before.0.held) (kept_of kind))
+    × (after.1 ≡ rest before.1)
+
+-- the control holds nothing when it changes a stand
+abbrev pub IsFree : {Q : Type 0} → View Q → Kind Q → Type 0
+IsFree view (Changed change) = view.held ≡ None
+IsFree view (Admit server mode) = Unit {0}
+IsFree view (Done request) = Unit {0}
+
+abbrev pub is_end : {Q : Type 0} → Kind Q → Bool
+is_end (Done request) = true
+is_end _ = false
+
+-- a seat with this view may add an entry of this kind, which ends no admission, where it finds the shard's record as it was read
+pub record MayAdd {Q : Type 0} (view : View Q) (shard : ℕ) (state : Record) (kind : Kind Q) : Type 0 where
+  pub known : KnownKind kind
+  pub begins : is_end kind ≡ false
+  pub free : IsFree view kind
+  pub own_server : (server : ℕ) → view.server ≡ Some server → admits_only server kind ≡ true
+  pub fits : (history : List (Entry Q)) → Fits view.limits view.number view history → kind_fits view.limits.ceiling history state view.number shard kind ≡ true

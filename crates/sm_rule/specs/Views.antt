@@ -1,0 +1,62 @@
+-- What the view of a seat becomes, and how what was seen grows.
+use Rattle.std.specs.Prelude.{ℕ, true, false, ◌≡◌, List, [], ◌∷◌, ◌++◌, Option, Some, None}
+use Rattle.sm_ownership.specs.declared.entry.Entry.{Entry}
+use Rattle.sm_ownership.specs.declared.entry.Kind.{Kind}
+use Rattle.sm_ownership.specs.declared.entry.Kind.TheVariants.{Change as Changed, Admit, Done}
+use Rattle.sm_ownership.specs.declared.record.Record.{Record}
+use Rattle.sm_ownership.specs.History.{IsLegal, kept, record_at, table_of}
+use Rattle.sm_ownership.specs.Lasting.{NoneBy}
+use Rattle.sm_rule.specs.declared.limits.Limits.{Limits}
+use Rattle.sm_rule.specs.declared.view.Held.{Held}
+use Rattle.sm_rule.specs.declared.view.View.{View}
+
+-- a shard's record after a history of a board with these limits
+abbrev pub record_in : {Q : Type 0} → Limits → List (Entry Q) → ℕ → Record
+record_in limits history shard = record_at (table_of limits.count limits.ceiling history) shard
+
+abbrev pub entry_of : {Q : Type 0} → ℕ → ℕ → Kind Q → Entry Q
+entry_of actor shard kind = record { actor = actor; shard = shard; kind = kind }
+
+-- what was seen grows by entries of others, and then by these
+abbrev pub Grows : {Q : Type 0} → Limits → ℕ → List (Entry Q) → List (Entry Q) → List (Entry Q) → Type 0
+Grows limits number before after added =
+    (others : List (Entry _)) × (after ≡ (before ++ others) ++ added) × NoneBy number others × IsLegal limits.count limits.ceiling after
+
+-- what is held after an entry of one's own, the last of a history: an admission holds its shard, and its end nothing
+abbrev pub held_after : {Q : Type 0} → Limits → ℕ → Kind Q → List (Entry Q) → Option (Held Q) → Option (Held Q)
+held_after limits shard (Changed change) history held = held
+held_after limits shard (Admit server mode) history held =
+    Some (record { shard = shard; state = record_in limits history shard; list = kept history shard })
+held_after limits shard (Done request) history held = None
+
+-- what the body of the shard that is held kept at the admission
+abbrev pub list_held : {Q : Type 0} → Option (Held Q) → List Q
+list_held None = []
+list_held (Some held) = held.list
+
+-- a list of requests, and one more or none
+abbrev pub list_with : {Q : Type 0} → List Q → Option Q → List Q
+list_with list None = list
+list_with list (Some request) = list ++ request ∷ []
+
+-- the view of a new seat
+abbrev pub newcomer : {Q : Type 0} → Limits → ℕ → Option ℕ → List (Entry Q) → View Q
+newcomer limits number server history =
+    record { limits = limits; number = number; server = server; held = None; seen = history; spent = false; named = true; parent = 0; told = None }
+
+-- a view that has seen this history
+abbrev pub seeing : {Q : Type 0} → View Q → List (Entry Q) → View Q
+seeing view history = record view { seen = history }
+
+-- a view that has seen this history, whose last entry is its own, of this kind
+abbrev pub adding : {Q : Type 0} → View Q → ℕ → Kind Q → List (Entry Q) → View Q
+adding view shard kind history = record view { seen = history; held = held_after view.limits shard kind history view.held }
+
+-- the view has seen more, made by others alone
+abbrev pub Looks : {Q : Type 0} → View Q → View Q → Type 0
+Looks before after = Grows before.limits before.number before.seen after.seen [] × (after ≡ seeing before after.seen)
+
+-- the view has seen more, and its own entry last
+abbrev pub Adds : {Q : Type 0} → View Q → ℕ → Kind Q → View Q → Type 0
+Adds before shard kind after =
+    Grows before.limits before.number before.seen after.seen (entry_of before.number shard kind ∷ []) × (after ≡ adding before shard kind after.seen)

@@ -1,0 +1,57 @@
+use crate::view::View;
+use atomic_table::Seat;
+use sm_ownership::record::Record;
+use sm_ranges::shard_id::ShardId;
+use sm_ranges::stand::Stand;
+use sm_service::service::Service;
+use std::marker::Model;
+
+/// The control's own pass on a board, which alone changes stands. Its number is 0.
+#[derive(Drop)]
+pub struct Chair<S: Service> {
+    pub(crate) seat: Seat<Option<S>, View<S::Request>>,
+    pub(crate) stands: Vec<Stand>,
+    // Room for what the end of the board gives.
+    pub(crate) room: Vec<(Record, Option<S>)>,
+}
+
+impl<S: Service> Model for Chair<S> {
+    ghost use Rattle.std.specs.Prelude.{◌≡◌, ◌≤◌, [], vec_capacity};
+    ghost use Rattle.sm_rule.specs.Changes.{ChairValue, IsChairView, chair_value};
+
+    ghost Value = { ChairValue S.Request };
+
+    ghost view = { λ chair. chair_value chair.seat.table_id chair.seat.me.0 };
+
+    ghost invariant = { λ chair. IsChairView chair.stands.items chair.seat.me.0 × (chair.seat.me.1 ≡ [])
+        × (chair.room.items ≡ []) × (chair.seat.me.0.limits.count ≤ vec_capacity chair.room) };
+}
+
+impl<S: Service> Chair<S> {
+    ghost use Rattle.std.specs.Prelude.{◌≡◌, ◌<◌, ◌++◌, List};
+    ghost use Rattle.sm_ownership.specs.declared.entry.Entry.{Entry};
+    ghost use Rattle.sm_ownership.specs.History.{IsLegal};
+    ghost use Rattle.sm_ownership.specs.Lasting.{NoneBy};
+    ghost use Rattle.sm_rule.specs.Changes.{record_at_chair};
+    ghost use Rattle.sm_rule.specs.Views.{record_in};
+
+    /// The shard's stand, which nobody else changes: it is the shard's in every history to which the one that the chair
+    /// has seen may grow by entries of passes.
+    pub fn stand(&self, k: ShardId) -> Stand
+        requires { k < self.now.board.limits.count }
+        ensures seen { result ≡ (record_at_chair self.now k).stand }
+        ensures stays { (later : List (Entry S.Request))
+            → let history = self.now.seen ++ later in
+            IsLegal self.now.board.limits.count self.now.board.limits.ceiling history → NoneBy 0 later
+            → result ≡ (record_in self.now.board.limits history k).stand }
+    {
+        self.kept_stand(k)
+    }
+
+    fn kept_stand(&self, k: ShardId) -> Stand
+        requires { k < self.now.board.limits.count }
+        ensures { result ≡ (record_at_chair self.now k).stand }
+    {
+        self.stands[k.index()]
+    }
+}

@@ -1,0 +1,39 @@
+//! Taking a closed table apart.
+ghost use Rattle.core.specs.Mem.Slots.{IsFull, slots_items, slots_len};
+ghost use Rattle.std.specs.Prelude.{◌≡◌, ◌≤◌, [], None, length, vec_capacity, if◌then◌else◌};
+ghost use Rattle.sm_rule.specs.Closing.{AreTaken, AreWords};
+
+use atomic_table::Closed;
+use sm_ownership::record::Record;
+use sm_word::word::record_of_word;
+use std::alloc::Global;
+
+/// Each shard's record, and its body where it isn't admitted.
+pub(crate) fn emptied<S: Drop>(
+    mut closed: Closed<Option<S>, Global>,
+    mut rows: Vec<(Record, Option<S>)>,
+) -> Vec<(Record, Option<S>)>
+    requires room { (rows.items ≡ []) × (slots_len closed.slots ≤ vec_capacity rows) }
+    requires full { IsFull closed.words × IsFull closed.slots × (slots_len closed.words ≡ slots_len closed.slots) }
+    requires words { AreWords (slots_items closed.words) }
+    ensures length { length result.items ≡ slots_len closed.slots }
+    ensures rows { AreTaken (slots_items closed.words) (slots_items closed.slots) result.items }
+{
+    for shard in 0..closed.slot_count() {
+        let state = record_of_word(closed.word(shard));
+        let slot = closed.take(shard);
+        let body = at_home(slot, &state);
+        let Ok(()) = rows.push((state, body)) else {
+            unreachable!()
+        };
+    }
+    closed.free();
+    rows
+}
+
+// What the slot of a shard with this record has at home.
+fn at_home<S: Drop>(slot: Option<S>, state: &Record) -> Option<S>
+    ensures { result ≡ (if state.now.admitted then None else slot) }
+{
+    if state.admitted { None } else { slot }
+}

@@ -1,0 +1,34 @@
+use crate::view::View;
+use atomic_table::Seat;
+use sm_ranges::server_id::ServerId;
+use sm_service::service::Service;
+use std::marker::Model;
+
+/// What a thread acts on a board with: a number and a server for good, and what it has seen of the history.
+#[derive(Drop)]
+pub struct Pass<S: Service> {
+    pub(crate) seat: Seat<Option<S>, View<S::Request>>,
+    pub(crate) server: Option<ServerId>,
+}
+
+impl<S: Service> Model for Pass<S> {
+    ghost use Rattle.std.specs.Prelude.{◌≡◌};
+    ghost use Rattle.sm_rule.specs.Passes.{IsPassView, PassValue, pass_value, slots_of};
+
+    ghost Value = { PassValue S.Request };
+
+    ghost view = { λ pass. pass_value pass.seat.table_id pass.seat.me.0 };
+
+    ghost invariant = { λ pass. IsPassView pass.server pass.seat.me.0 × (pass.seat.me.1 ≡ slots_of pass.seat.me.0.held) };
+}
+
+impl<S: Service> Pass<S> {
+    ghost use Rattle.std.specs.Prelude.{◌≡◌};
+
+    /// The server that the pass is admitted as; none admits nothing.
+    pub fn server(&self) -> Option<ServerId>
+        ensures { result ≡ self.now.server }
+    {
+        self.server
+    }
+}

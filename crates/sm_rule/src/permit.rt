@@ -1,0 +1,50 @@
+ghost use Rattle.std.specs.Borrow.{sem, Lends};
+ghost use Rattle.std.specs.Prelude.{◌≡◌};
+ghost use Rattle.sm_rule.specs.contracts.permit.Permit.{the_row};
+ghost use Rattle.sm_rule.specs.Admissions.{with_body};
+
+use sm_ownership::record::Record;
+use sm_ranges::shard_id::ShardId;
+use std::marker::Model;
+
+/// The leave to execute for a shard, which an admission gives, with the shard's body. It must be spent by the end of the
+/// admission: it can't be dropped.
+pub struct Permit<S> {
+    pub(crate) shard: ShardId,
+    pub(crate) state: Record,
+    // The shard's word since the admission.
+    pub(crate) word: u64,
+    pub(crate) body: S,
+}
+
+impl<S> Model for Permit<S> {
+    ghost use Rattle.std.specs.Prelude.{◌≡◌, true};
+    ghost use Rattle.sm_ownership.specs.History.{after_done};
+    ghost use Rattle.sm_word.specs.Word.{IsWellFormed, word_of};
+    ghost use Rattle.sm_rule.specs.Admissions.{PermitValue};
+
+    ghost Value = { PermitValue S };
+
+    ghost view = { λ permit. record { shard = permit.shard; state = permit.state; body = permit.body } };
+
+    ghost invariant = { λ permit. IsWellFormed (after_done permit.state) × IsWellFormed permit.state
+        × (permit.state.admitted ≡ true) × (permit.word ≡ word_of permit.state) };
+}
+
+impl<S> Permit<S> {
+    /// The shard's body. What is written through the loan is in the permit once the loan ends.
+    pub fn body(&mut self) -> &mut S
+        ensures* writes_back { sem 𝓛 (Lends (the_row S.row) S.row self.entry result (λ body. with_body self.old body)) }
+        ensures value { result.now ≡ self.old.body }
+    {
+        &mut self.body
+    }
+}
+
+/// Where the end of an admission left its shard.
+#[derive(Clone, Copy, Debug, PartialEq, Eq, Drop)]
+pub struct Front {
+    pub shard: ShardId,
+    /// The shard's generation since then.
+    pub generation: u64,
+}
