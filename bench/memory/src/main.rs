@@ -1,0 +1,117 @@
+//! Times whole runs of crates/bench_map against the same runs over Rust's own memory and maps, in turn, and compares the answers. Each
+//! line names a run, and has the nanoseconds of an operation on both sides in one round.
+
+mod ours;
+mod theirs;
+
+use std::hint::black_box;
+use std::time::Instant;
+
+const KEY_BYTES: usize = 16;
+const TEXT_BYTES: usize = 32;
+const READS: usize = 300_000;
+const SCANS: usize = 10_000;
+const PLACED_BYTES: usize = 64 << 20;
+
+/// What both sides work on: keys in their order, their texts, and the numbers of the keys that come in turn.
+pub struct Rows {
+    pub keys: Vec<u8>,
+    pub texts: Vec<u8>,
+    pub order: Vec<u32>,
+}
+
+type Run = fn(&Rows) -> u64;
+
+/// The next state of a pseudo-random choice (xorshift64).
+fn next(state: u64) -> u64 {
+    let state = state ^ (state << 13);
+    let state = state ^ (state >> 7);
+    state ^ (state << 17)
+}
+
+fn rows_of(count: u32) -> Rows {
+    let keys = (0..count).flat_map(|at| format!("account-{:08}", 7 * at).into_bytes()).collect();
+    let texts = (0..count).flat_map(|at| format!("{:>32}", next(u64::from(at) + 1)).into_bytes()).collect();
+    Rows { keys, texts, order: Vec::new() }
+}
+
+fn at_random(count: u32, length: usize) -> Vec<u32> {
+    let mut choice = 88_172_645_463_325_252;
+    let mut choose = || {
+        choice = next(choice);
+        ((choice >> 32) % u64::from(count)) as u32
+    };
+    (0..length).map(|_| choose()).collect()
+}
+
+fn shuffled(count: u32) -> Vec<u32> {
+    let mut order: Vec<u32> = (0..count).collect();
+    let mut choice = 88_172_645_463_325_252;
+    for last in (1..count as usize).rev() {
+        choice = next(choice);
+        order.swap(last, (choice >> 32) as usize % (last + 1));
+    }
+    order
+}
+
+/// The time of the run, without that of the same run with nothing in turn, and its answer.
+fn timed(run: impl Fn(&Rows) -> u64, rows: &Rows, empty: &Rows) -> (f64, u64) {
+    let start = Instant::now();
+    black_box(run(black_box(empty)));
+    let idle = start.elapsed();
+    let start = Instant::now();
+    let answer = run(black_box(rows));
+    (start.elapsed().as_nanos() as f64 - idle.as_nanos() as f64, answer)
+}
+
+/// One round of both sides, of which the other one begins in each odd round.
+fn compare(name: &str, round: usize, operations: usize, mut ours: impl FnMut() -> (f64, u64), mut theirs: impl FnMut() -> (f64, u64)) {
+    let (our, their) = if round % 2 == 0 {
+        let our = ours();
+        (our, theirs())
+    } else {
+        let their = theirs();
+        (ours(), their)
+    };
+    assert_eq!(our.1, their.1, "{name}: the answers differ");
+    println!("{name}\t{}\t{}", our.0 / operations as f64, their.0 / operations as f64);
+}
+
+fn place(round: usize, length: usize) {
+    let piece: Vec<u8> = (0..length).map(|at| at as u8).collect();
+    let count = PLACED_BYTES / length;
+    let run = |side: fn(&[u8], usize) -> u64| {
+        let start = Instant::now();
+        let answer = side(black_box(&piece), count);
+        (start.elapsed().as_nanos() as f64, answer)
+    };
+    compare(&format!("place of {length} bytes"), round, count, || run(ours::place), || run(theirs::place));
+}
+
+fn map_runs(round: usize, count: u32) {
+    let empty = rows_of(count);
+    let runs: [(&str, Run, Run, Vec<u32>); 7] = [
+        ("get", ours::get, theirs::get, at_random(count, READS)),
+        ("put over a key, against insert", ours::put, theirs::insert_over, at_random(count, READS)),
+        ("put over a key, with rebuilds, against insert", ours::put_and_rebuild, theirs::insert_over, at_random(count, READS)),
+        ("put over a key, against a copy in place", ours::put, theirs::copy_over, at_random(count, READS)),
+        ("scan of 100", ours::scan, theirs::scan, at_random(count, SCANS)),
+        ("append", ours::append, theirs::append, at_random(count, 10 * count as usize)),
+        ("put of a new key", ours::insert, theirs::insert, shuffled(count)),
+    ];
+    for (name, ours, theirs, order) in runs {
+        let operations = order.len();
+        let rows = Rows { order, ..rows_of(count) };
+        compare(&format!("{name}, {count} keys"), round, operations, || timed(ours, &rows, &empty), || timed(theirs, &rows, &empty));
+    }
+}
+
+fn main() {
+    let rounds = std::env::args().nth(1).map_or(9, |word| word.parse().expect("a number of rounds"));
+    for round in 0..rounds {
+        place(round, 64);
+        place(round, 65_535);
+        map_runs(round, 1_000);
+        map_runs(round, 10_000);
+    }
+}

@@ -1,0 +1,346 @@
+-- Pieces by their spans: what lies at one, and what placing or forgetting one changes in the two sums.
+use Rattle.std.proofs.Common.{◌≡◌, ℕ, suc, Bool, true, false, cond, ◌+◌, ◌-◌, eqb, ◌<◌, ◌≤◌, List, [], ◌∷◌, ◌++◌, length, get_or, count_by, unwrap_or, Option, Some, None, IsSome, All, refl, sym, ap, subst, ◌∙◌, arith, inl, inr, ◌⊎◌}
+use mathlib.Core.Bool.{false≢true}
+use Rattle.std.specs.List.{sum_by}
+use Rattle.std.proofs.lemmas.Bool.{cases_lt}
+use Rattle.std.proofs.lemmas.Bool.Decides.{nat_tests}
+use Rattle.std.proofs.lemmas.List.Sums.{sum_by-cons, sum_by_push}
+use Rattle.std.proofs.lemmas.List.Elements.{All-push}
+use Rattle.sm_arena.specs.declared.span.Span.{Span}
+use Rattle.sm_arena.specs.Pieces.{same_span, piece_of, IsPlaced, bytes_of}
+use Rattle.sm_arena.specs.Blocks.{bytes_at, total, IsWriting, IsWritingPair}
+use Rattle.sm_arena.specs.Value.{ArenaValue, IsPlacing, IsPlacingPair, times_forgotten, dead_of, live_of, forgetting}
+use Rattle.sm_arena.specs.Kept.{Lies, times_placed, IsHeld}
+use Rattle.sm_arena.proofs.Chunks.{is_nil}
+
+abbrev Places : Type 0
+Places = List (Span × List ℕ)
+
+chunk_of_same : (a b : Span) → same_span a b ≡ true → a.chunk ≡ b.chunk
+chunk_of_same a b e = grind (arith)
+
+start_of_same : (a b : Span) → same_span a b ≡ true → a.start ≡ b.start
+start_of_same a b e = grind (arith)
+
+length_of_same : (a b : Span) → same_span a b ≡ true → a.length ≡ b.length
+length_of_same a b e = grind (arith)
+
+span_of_same : (a b : Span) → same_span a b ≡ true → a ≡ b
+span_of_same a b e = λ i. record { chunk = chunk_of_same a b e i; start = start_of_same a b e i; length = length_of_same a b e i }
+
+same_itself : (a : Span) → same_span a a ≡ true
+same_itself a = grind (arith)
+
+flipped : (a b : Span) → same_span a b ≡ false → same_span b a ≡ false
+flipped a b e = by (same_span b a) refl
+  where
+    by : (y : Bool) → same_span b a ≡ y → y ≡ false
+    by true f = absurd (false≢true (sym e ∙ (ap (λ (s : Span). same_span s b) (sym (span_of_same b a f)) ∙ same_itself b)))
+    by false f = refl
+
+abbrev once : Bool → ℕ
+once b = cond b 1 0
+
+-- ---- what lies at a span
+
+found : (cs : List (List ℕ)) (e : Span × List ℕ) (rest : Option (List ℕ)) (s : Span) (y : Bool) → same_span e.0 s ≡ y → Lies cs e → (IsSome rest → (rest ≡ Some (bytes_at cs s)) × (length (bytes_at cs s) ≡ s.length))
+    → IsSome (cond y (Some e.1) rest) → (cond y (Some e.1) rest ≡ Some (bytes_at cs s)) × (length (bytes_at cs s) ≡ s.length)
+found cs e rest s true same lies more is = subst (λ (t : Span). (Some e.1 ≡ Some (bytes_at cs t)) × (length (bytes_at cs t) ≡ t.length)) (span_of_same e.0 s same) (ap Some (sym lies.0), ap length lies.0 ∙ lies.1)
+found cs e rest s false same lies more is = more is
+
+-- where a piece was placed, it lies
+pub lies_at : (cs : List (List ℕ)) (es : Places) (s : Span) → All (Lies cs) es → IsPlaced es s → (piece_of es s ≡ Some (bytes_at cs s)) × (length (bytes_at cs s) ≡ s.length)
+lies_at cs [] s all is = absurd (false≢true is)
+lies_at cs (e ∷ es) s all is = found cs e (piece_of es s) s (same_span e.0 s) refl (all 0 e (omega arith)) (lies_at cs es s (λ k d lt. all (suc k) d (omega (arith, lt)))) is
+
+placed_or_none : (es : Places) (s : Span) → (piece_of es s ≡ None) ⊎ IsPlaced es s
+placed_or_none es s = by (piece_of es s) refl
+  where
+    by : (o : Option (List ℕ)) → piece_of es s ≡ o → (piece_of es s ≡ None) ⊎ IsPlaced es s
+    by None e = inl e
+    by (Some x) e = inr (rw e refl)
+
+-- what was placed stays
+placed_stays : (es : Places) (e : Span × List ℕ) (s : Span) → IsPlaced es s → piece_of (es ++ e ∷ []) s ≡ piece_of es s
+placed_stays [] e s is = absurd (false≢true is)
+placed_stays (x ∷ es) e s is = by (same_span x.0 s) is (placed_stays es e s)
+  where
+    by : (b : Bool) → IsSome (cond b (Some x.1) (piece_of es s)) → (IsPlaced es s → piece_of (es ++ e ∷ []) s ≡ piece_of es s) → cond b (Some x.1) (piece_of (es ++ e ∷ []) s) ≡ cond b (Some x.1) (piece_of es s)
+    by true is again = refl
+    by false is again = again is
+
+-- a new span reads what is placed at it
+new_reads : (es : Places) (s : Span) (piece : List ℕ) → piece_of es s ≡ None → piece_of (es ++ (s, piece) ∷ []) s ≡ Some piece
+new_reads [] s piece none = rw (same_itself s) refl
+new_reads (x ∷ es) s piece none = by (same_span x.0 s) none (new_reads es s piece)
+  where
+    by : (b : Bool) → cond b (Some x.1) (piece_of es s) ≡ None → (piece_of es s ≡ None → piece_of (es ++ (s, piece) ∷ []) s ≡ Some piece) → cond b (Some x.1) (piece_of (es ++ (s, piece) ∷ []) s) ≡ Some piece
+    by true none again = cc
+    by false none again = again none
+
+-- a new span was never placed
+never_placed : (es : Places) (s : Span) → piece_of es s ≡ None → times_placed es s ≡ 0
+never_placed [] s none = refl
+never_placed (x ∷ es) s none = by (same_span x.0 s) refl none (never_placed es s)
+  where
+    by : (b : Bool) → same_span x.0 s ≡ b → cond b (Some x.1) (piece_of es s) ≡ None → (piece_of es s ≡ None → times_placed es s ≡ 0) → times_placed (x ∷ es) s ≡ 0
+    by true e none again = cc
+    by false e none again = let zero_here : once (same_span x.0 s) ≡ once false = ap once e in omega (arith, again none, zero_here, sum_by-cons (λ (e : Span × List ℕ). cond (same_span e.0 s) 1 0) x es)
+
+-- ---- the lengths that are forgotten
+
+-- they stay where each span of the list reads the same
+same_sum : (old new : Places) (l : List Span) → ((s : Span) → 0 < count_by (λ t. same_span t s) l → piece_of new s ≡ piece_of old s) → sum_by (λ s. length (bytes_of new s)) l ≡ sum_by (λ s. length (bytes_of old s)) l
+same_sum old new [] keeps = refl
+same_sum old new (x ∷ l) keeps =
+    let one : once (same_span x x) ≡ once true = ap once (same_itself x) in
+    let here : piece_of new x ≡ piece_of old x = keeps x (omega (arith, one, sum_by-cons (λ t. cond (same_span t x) 1 0) x l)) in
+    let long : length (bytes_of new x) ≡ length (bytes_of old x) = ap (λ (o : Option (List ℕ)). length (unwrap_or o [])) here in
+    let there : sum_by (λ s. length (bytes_of new s)) l ≡ sum_by (λ s. length (bytes_of old s)) l = same_sum old new l (λ s lt. keeps s (omega (arith, sum_by-cons (λ t. cond (same_span t s) 1 0) x l))) in
+    omega (arith, long, there, sum_by-cons (λ s. length (bytes_of new s)) x l, sum_by-cons (λ s. length (bytes_of old s)) x l)
+
+cond_none : (b : Bool) (n : ℕ) → n ≤ 0 → cond b n 0 ≡ n
+cond_none true n none = refl
+cond_none false n none = omega (arith, none)
+
+-- ---- placing: v and w are the arena before and after
+
+module _ (cs more : List (List ℕ)) (here away : ℕ) (v w : ArenaValue) (held : IsHeld cs here away v) (span : Span) (piece : List ℕ) (placed : w.placed ≡ v.placed ++ (span, piece) ∷ []) (forgotten : w.forgotten ≡ v.forgotten)
+    (moves : (e : Span × List ℕ) → Lies cs e → Lies more e) (there : Lies more (span, piece)) (fresh : 0 < length piece → piece_of v.placed span ≡ None) (room : total more ≡ total cs + length piece) where
+  same_times : (s : Span) → times_forgotten w s ≡ times_forgotten v s
+  same_times s = ap (λ (l : List Span). count_by (λ t. same_span t s) l) forgotten
+
+  stays : (s : Span) → IsPlaced v.placed s → piece_of w.placed s ≡ piece_of v.placed s
+  stays s is = ap (λ (es : Places). piece_of es s) placed ∙ placed_stays v.placed (span, piece) s is
+
+  same_dead : dead_of w ≡ dead_of v
+  same_dead = same_sum v.placed w.placed w.forgotten (λ s lt. stays s (held.placed s (omega (arith, lt, same_times s)))) ∙ ap (λ (l : List Span). sum_by (λ s. length (bytes_of v.placed s)) l) forgotten
+
+  -- a new span isn't forgotten
+  not_forgotten : piece_of v.placed span ≡ None → times_forgotten v span ≡ 0
+  not_forgotten none = by (cases_lt 0 (times_forgotten v span))
+    where
+      by : (0 < times_forgotten v span) ⊎ (times_forgotten v span ≤ 0) → times_forgotten v span ≡ 0
+      by (inl lt) = absurd (false≢true (rw none at (held.placed span lt)))
+      by (inr le) = omega (arith, le)
+
+  counts : cond (eqb (times_forgotten v span) 0) (length piece) 0 ≡ length piece
+  counts = by (cases_lt 0 (length piece))
+    where
+      by : (0 < length piece) ⊎ (length piece ≤ 0) → cond (eqb (times_forgotten v span) 0) (length piece) 0 ≡ length piece
+      by (inl some) = rw (not_forgotten (fresh some)) refl
+      by (inr none) = cond_none (eqb (times_forgotten v span) 0) (length piece) none
+
+  live_now : live_of w ≡ live_of v + length piece
+  live_now =
+      let f = λ (e : Span × List ℕ). cond (eqb (times_forgotten v e.0) 0) (length e.1) 0 in
+      let at : live_of w ≡ sum_by f (v.placed ++ (span, piece) ∷ []) = (λ i. sum_by (λ (e : Span × List ℕ). cond (eqb (count_by (λ t. same_span t e.0) (forgotten i)) 0) (length e.1) 0) (placed i)) in
+      omega (arith, at, sum_by_push f v.placed (span, piece), counts)
+
+  distinct : (s : Span) → 0 < s.length → times_placed w.placed s ≤ 1
+  distinct s some =
+      let more_once : times_placed w.placed s ≡ times_placed v.placed s + once (same_span span s) = ap (λ (es : Places). times_placed es s) placed ∙ sum_by_push (λ (e : Span × List ℕ). cond (same_span e.0 s) 1 0) v.placed (span, piece) in
+      by (same_span span s) refl more_once
+    where
+      by : (b : Bool) → same_span span s ≡ b → times_placed w.placed s ≡ times_placed v.placed s + once b → times_placed w.placed s ≤ 1
+      by false e more_once = omega (arith, more_once, held.distinct s some)
+      by true e more_once =
+          let same : span ≡ s = span_of_same span s e in
+          let long : 0 < length piece = omega (arith, some, there.1, ap (λ (t : Span). t.length) same) in
+          let none : times_placed v.placed s ≡ 0 = subst (λ (t : Span). times_placed v.placed t ≡ 0) same (never_placed v.placed span (fresh long)) in
+          omega (arith, more_once, none)
+
+  pub held_placed : IsHeld more (here + length piece) away w
+  held_placed = record {
+    lies = subst (λ (es : Places). All (Lies more) es) (sym placed) (All-push (Lies more) v.placed (span, piece) (λ k d lt. moves (get_or v.placed k d) (held.lies k d lt)) there);
+    distinct = distinct;
+    placed = λ s lt. let is = held.placed s (omega (arith, lt, same_times s)) in rw (stays s is) is;
+    live = omega (arith, held.live, live_now);
+    dead = held.dead ∙ sym same_dead;
+    bounded = omega (arith, held.bounded, room);
+  }
+
+  pub is_placing : IsPlacing v piece span w
+  is_placing = record {
+    placed = placed;
+    forgotten = forgotten;
+    reads = by (placed_or_none v.placed span) (cases_lt 0 (length piece));
+    fresh = fresh;
+  }
+    where
+      by : (piece_of v.placed span ≡ None) ⊎ IsPlaced v.placed span → (0 < length piece) ⊎ (length piece ≤ 0) → piece_of w.placed span ≡ Some piece
+      by (inl none) size = ap (λ (es : Places). piece_of es span) placed ∙ new_reads v.placed span piece none
+      by (inr is) (inl long) = absurd (false≢true (rw (fresh long) at is))
+      by (inr is) (inr empty) =
+          let lies = lies_at cs v.placed span held.lies is in
+          let nothing : bytes_at cs span ≡ [] = is_nil (bytes_at cs span) (omega (arith, lies.1, there.1, empty)) in
+          stays span is ∙ (lies.0 ∙ (ap (λ (x : List ℕ). Some x) nothing ∙ ap (λ (x : List ℕ). Some x) (sym (is_nil piece empty))))
+
+-- a piece that was written
+module _ (cs more : List (List ℕ)) (here away : ℕ) (v w : ArenaValue) (held : IsHeld cs here away v) (span : Span) (piece : List ℕ) (placed : w.placed ≡ v.placed ++ (span, piece) ∷ []) (forgotten : w.forgotten ≡ v.forgotten) (written : IsWriting cs piece span more) where
+  moved : (e : Span × List ℕ) → Lies cs e → Lies more e
+  moved e lies = (written.keeps e.0 (ap length lies.0 ∙ lies.1) ∙ lies.0, lies.1)
+
+  is_new : 0 < length piece → piece_of v.placed span ≡ None
+  is_new some = by (placed_or_none v.placed span)
+    where
+      by : (piece_of v.placed span ≡ None) ⊎ IsPlaced v.placed span → piece_of v.placed span ≡ None
+      by (inl none) = none
+      by (inr is) = absurd (omega (arith, some, written.whole, (lies_at cs v.placed span held.lies is).1, ap length written.fresh))
+
+  pub held_written : IsHeld more (here + length piece) away w
+  held_written = held_placed cs more here away v w held span piece placed forgotten moved (written.reads, sym written.whole) is_new written.total
+
+  pub is_placing_written : IsPlacing v piece span w
+  is_placing_written = is_placing cs more here away v w held span piece placed forgotten moved (written.reads, sym written.whole) is_new written.total
+
+-- two pieces that were written
+module _ (cs more : List (List ℕ)) (here away : ℕ) (v w : ArenaValue) (held : IsHeld cs here away v) (s t : Span) (first second : List ℕ) (placed : w.placed ≡ (v.placed ++ (s, first) ∷ []) ++ (t, second) ∷ []) (forgotten : w.forgotten ≡ v.forgotten) (written : IsWritingPair cs first second (s, t) more) where
+  abbrev between : ArenaValue
+  between = record { placed = v.placed ++ (s, first) ∷ []; forgotten = v.forgotten }
+
+  held_between : IsHeld written.middle (here + length first) away between
+  held_between = held_written cs written.middle here away v between held s first refl refl written.one
+
+  pub held_pair : IsHeld more (here + length first + length second) away w
+  held_pair = held_written written.middle more (here + length first) away between w held_between t second placed forgotten written.other
+
+  pub is_placing_pair : IsPlacingPair v first second (s, t) w
+  is_placing_pair = record {
+    middle = between;
+    one = is_placing_written cs written.middle here away v between held s first refl refl written.one;
+    other = is_placing_written written.middle more (here + length first) away between w held_between t second placed forgotten written.other;
+  }
+
+-- ---- forgetting
+
+-- what is forgotten was live, exactly
+module _ (times more : Span → ℕ) (s : Span) (none : times s ≡ 0) (up : (t : Span) → more t ≡ times t + once (same_span s t)) where
+  abbrev before : Span × List ℕ → ℕ
+  before e = cond (eqb (times e.0) 0) (length e.1) 0
+
+  abbrev after : Span × List ℕ → ℕ
+  after e = cond (eqb (more e.0) 0) (length e.1) 0
+
+  abbrev there : Span × List ℕ → ℕ
+  there e = cond (same_span e.0 s) (length e.1) 0
+
+  one : (x : Span × List ℕ) → after x + there x ≡ before x
+  one x = by (same_span x.0 s) refl
+    where
+      by : (b : Bool) → same_span x.0 s ≡ b → after x + cond b (length x.1) 0 ≡ before x
+      by true e =
+          let same = span_of_same x.0 s e in
+          let t : times x.0 ≡ 0 = ap times same ∙ none in
+          let m : more x.0 ≡ 1 = ap more same ∙ (up s ∙ omega (arith, none, ap once (same_itself s))) in
+          grind (arith, nat_tests, t, m)
+      by false e =
+          let other : same_span s x.0 ≡ false = flipped x.0 s e in
+          let m : more x.0 ≡ times x.0 = omega (arith, up x.0, ap once other) in
+          rw m (omega arith)
+
+  live_less : (es : Places) → sum_by after es + sum_by there es ≡ sum_by before es
+  live_less [] = refl
+  live_less (x ∷ es) = omega (arith, sum_by-cons after x es, sum_by-cons before x es, sum_by-cons there x es, one x, live_less es)
+
+-- the pieces at a span, where there is at most one
+no_lengths : (es : Places) (s : Span) → times_placed es s ≡ 0 → sum_by (λ (e : Span × List ℕ). cond (same_span e.0 s) (length e.1) 0) es ≡ 0
+no_lengths [] s none = refl
+no_lengths (x ∷ es) s none = by (same_span x.0 s) refl (no_lengths es s)
+  where
+    by : (b : Bool) → same_span x.0 s ≡ b → (times_placed es s ≡ 0 → sum_by (λ (e : Span × List ℕ). cond (same_span e.0 s) (length e.1) 0) es ≡ 0) → sum_by (λ (e : Span × List ℕ). cond (same_span e.0 s) (length e.1) 0) (x ∷ es) ≡ 0
+    by true e again = absurd (omega (arith, none, sum_by-cons (λ (e : Span × List ℕ). cond (same_span e.0 s) 1 0) x es, ap once e))
+    by false e again =
+        let nothing : cond (same_span x.0 s) (length x.1) 0 ≡ 0 = ap (λ (b : Bool). cond b (length x.1) 0) e in
+        omega (arith, nothing, sum_by-cons (λ (e : Span × List ℕ). cond (same_span e.0 s) (length e.1) 0) x es, again (omega (arith, none, sum_by-cons (λ (e : Span × List ℕ). cond (same_span e.0 s) 1 0) x es)))
+
+one_length : (es : Places) (s : Span) → IsPlaced es s → times_placed es s ≤ 1 → sum_by (λ (e : Span × List ℕ). cond (same_span e.0 s) (length e.1) 0) es ≡ length (bytes_of es s)
+one_length [] s is few = absurd (false≢true is)
+one_length (x ∷ es) s is few = by (same_span x.0 s) refl is (one_length es s)
+  where
+    by : (b : Bool) → same_span x.0 s ≡ b → IsSome (cond b (Some x.1) (piece_of es s)) → (IsPlaced es s → times_placed es s ≤ 1 → sum_by (λ (e : Span × List ℕ). cond (same_span e.0 s) (length e.1) 0) es ≡ length (bytes_of es s)) → sum_by (λ (e : Span × List ℕ). cond (same_span e.0 s) (length e.1) 0) (x ∷ es) ≡ length (unwrap_or (cond b (Some x.1) (piece_of es s)) [])
+    by true e is again =
+        let whole : cond (same_span x.0 s) (length x.1) 0 ≡ length x.1 = ap (λ (b : Bool). cond b (length x.1) 0) e in
+        let rest : times_placed es s ≡ 0 = omega (arith, few, sum_by-cons (λ (e : Span × List ℕ). cond (same_span e.0 s) 1 0) x es, ap once e) in
+        omega (arith, whole, no_lengths es s rest, sum_by-cons (λ (e : Span × List ℕ). cond (same_span e.0 s) (length e.1) 0) x es)
+    by false e is again =
+        let nothing : cond (same_span x.0 s) (length x.1) 0 ≡ 0 = ap (λ (b : Bool). cond b (length x.1) 0) e in
+        let rest : times_placed es s ≤ 1 = omega (arith, few, sum_by-cons (λ (e : Span × List ℕ). cond (same_span e.0 s) 1 0) x es) in
+        omega (arith, nothing, again is rest, sum_by-cons (λ (e : Span × List ℕ). cond (same_span e.0 s) (length e.1) 0) x es)
+
+module _ (cs : List (List ℕ)) (here away : ℕ) (v : ArenaValue) (held : IsHeld cs here away v) (span : Span) (is : IsPlaced v.placed span) (kept : 0 < length (bytes_of v.placed span) → times_forgotten v span ≡ 0) (long : 0 < span.length) where
+  pub size : length (bytes_of v.placed span) ≡ span.length
+  size = ap (λ (o : Option (List ℕ)). length (unwrap_or o [])) (lies_at cs v.placed span held.lies is).0 ∙ (lies_at cs v.placed span held.lies is).1
+
+  none : times_forgotten v span ≡ 0
+  none = kept (omega (arith, size, long))
+
+  abbrev now : ArenaValue
+  now = record { placed = v.placed; forgotten = v.forgotten ++ span ∷ [] }
+
+  times_now : (s : Span) → times_forgotten now s ≡ times_forgotten v s + once (same_span span s)
+  times_now s = sum_by_push (λ t. cond (same_span t s) 1 0) v.forgotten span
+
+  live_after : live_of now + span.length ≡ live_of v
+  live_after = omega (arith, live_less (times_forgotten v) (times_forgotten now) span none times_now v.placed, one_length v.placed span is (held.distinct span long), size)
+
+  dead_after : dead_of now ≡ dead_of v + span.length
+  dead_after = omega (arith, sum_by_push (λ s. length (bytes_of v.placed s)) v.forgotten span, size)
+
+  pub was_live : span.length ≤ here
+  was_live = omega (arith, held.live, live_after)
+
+  held_now : IsHeld cs (here - span.length) (away + span.length) now
+  held_now = record {
+    lies = held.lies;
+    distinct = held.distinct;
+    placed = λ s lt. there s lt (same_span span s) refl;
+    live = omega (arith, held.live, live_after);
+    dead = omega (arith, held.dead, dead_after);
+    bounded = omega (arith, held.bounded, was_live);
+  }
+    where
+      there : (s : Span) → 0 < times_forgotten now s → (b : Bool) → same_span span s ≡ b → IsPlaced v.placed s
+      there s lt true e = subst (λ (t : Span). IsPlaced v.placed t) (span_of_same span s e) is
+      there s lt false e = let nothing : once (same_span span s) ≡ once false = ap once e in held.placed s (omega (arith, lt, times_now s, nothing))
+
+  module _ (w : ArenaValue) (placed : w.placed ≡ v.placed) (forgotten : w.forgotten ≡ v.forgotten ++ span ∷ []) where
+    is_now : w ≡ now
+    is_now = λ i. record { placed = placed i; forgotten = forgotten i }
+
+    pub held_forgotten : IsHeld cs (here - span.length) (away + span.length) w
+    held_forgotten = subst (λ (u : ArenaValue). IsHeld cs (here - span.length) (away + span.length) u) (sym is_now) held_now
+
+    pub forgets : w ≡ forgetting v span
+    forgets =
+        let some : eqb (length (bytes_of v.placed span)) 0 ≡ false = grind (arith, nat_tests, size, long) in
+        rw some is_now
+
+-- an empty piece is never forgotten
+pub forgets_nothing : (cs : List (List ℕ)) (here away : ℕ) (v : ArenaValue) → IsHeld cs here away v → (span : Span) → IsPlaced v.placed span → span.length ≤ 0 → v ≡ forgetting v span
+forgets_nothing cs here away v held span is none =
+    let lies = lies_at cs v.placed span held.lies is in
+    let size : length (bytes_of v.placed span) ≡ span.length = ap (λ (o : Option (List ℕ)). length (unwrap_or o [])) lies.0 ∙ lies.1 in
+    let nothing : eqb (length (bytes_of v.placed span)) 0 ≡ true = grind (arith, nat_tests, size, none) in
+    rw nothing refl
+
+-- ---- for callers: what was placed stays placed
+
+pub placed_now : (old : ArenaValue) (piece : List ℕ) (span : Span) (new : ArenaValue) → IsPlacing old piece span new → IsPlaced new.placed span
+placed_now old piece span new placing = rw placing.reads refl
+
+pub placed_later : (old : ArenaValue) (piece : List ℕ) (span : Span) (new : ArenaValue) → IsPlacing old piece span new → (s : Span) → IsPlaced old.placed s → IsPlaced new.placed s
+placed_later old piece span new placing s is = rw (placing.placed, placed_stays old.placed (span, piece) s is) is
+
+pub pair_now : (old : ArenaValue) (first second : List ℕ) (s t : Span) (new : ArenaValue) → IsPlacingPair old first second (s, t) new → IsPlaced new.placed s × IsPlaced new.placed t
+pair_now old first second s t new pair = (placed_later pair.middle second t new pair.other s (placed_now old first s pair.middle pair.one), placed_now pair.middle second t new pair.other)
+
+pub pair_later : (old : ArenaValue) (first second : List ℕ) (s t : Span) (new : ArenaValue) → IsPlacingPair old first second (s, t) new → (u : Span) → IsPlaced old.placed u → IsPlaced new.placed u
+pair_later old first second s t new pair u is = placed_later pair.middle second t new pair.other u (placed_later old first s pair.middle pair.one u is)
+
+pub placed_after : (v : ArenaValue) (span s : Span) → IsPlaced v.placed s → IsPlaced (forgetting v span).placed s
+placed_after v span s is = by (eqb (length (bytes_of v.placed span)) 0)
+  where
+    by : (b : Bool) → IsPlaced (cond b v (record { placed = v.placed; forgotten = v.forgotten ++ span ∷ [] })).placed s
+    by true = is
+    by false = is

@@ -1,0 +1,23 @@
+use Rattle.std.proofs.Common.{arith}
+use Rattle.sm_arena.specs.Blocks.{chunks_of}
+use Rattle.sm_arena.specs.Kept.{value_of}
+use Rattle.sm_arena.proofs.Chunks.{total_fits}
+use Rattle.sm_arena.proofs.Placing.{held_written, is_placing_written}
+use Rattle.sm_arena.proofs.arena.Arena.place.Goals as goal
+
+pub overflow_add-self : goal.overflow_add-self
+overflow_add-self c =
+    let written = c.in_ok-span.ensures.written in
+    record { fits = omega (arith, c.self.invariant.bounded, written.total, total_fits c.write.new.self) }
+
+pub invariant_of-self-2 : goal.invariant_of-self-2
+invariant_of-self-2 c =
+    held_written (chunks_of c.self.inside.blocks) (chunks_of c.write.new.self) c.self.inside.live c.self.inside.gone (value_of c.self.inside) (record { placed = c.and_placed-self-inside.result.placed; forgotten = c.and_placed-self-inside.result.forgotten })
+    c.self.invariant c.in_ok-span.span c.args.piece.now c.and_placed-self-inside.ensures.placed c.and_placed-self-inside.ensures.forgotten c.in_ok-span.ensures.written
+
+pub returns-clause-placed : goal.returns-clause-placed
+returns-clause-placed c =
+    rw (← c.self.view_is) (
+    is_placing_written (chunks_of c.self.inside.blocks) (chunks_of c.write.new.self) c.self.inside.live c.self.inside.gone (value_of c.self.inside) (record { placed = c.and_placed-self-inside.result.placed; forgotten = c.and_placed-self-inside.result.forgotten })
+    c.self.invariant c.in_ok-span.span c.args.piece.now c.and_placed-self-inside.ensures.placed c.and_placed-self-inside.ensures.forgotten c.in_ok-span.ensures.written
+    )

@@ -1,0 +1,7 @@
+use Rattle.std.proofs.Common.{sym}
+use Rattle.sm_arena.proofs.Chunks.{fills}
+use Rattle.sm_arena.proofs.blocks.Blocks.fill.Goals as goal
+
+pub returns-clause-filled : goal.returns-clause-filled
+returns-clause-filled c =
+    fills c.args.self.now.blocks.items c.args.place c.args.piece.now c.requires.0 c.index_mut.result.now c.write.new.self (sym c.index_mut.ensures.value) c.write.ensures.bytes c.write.ensures.same

@@ -1,0 +1,54 @@
+-- Chunks of bytes, which are the blocks' bytes, and the writing of a piece into one of them.
+use Rattle.std.specs.Prelude.{◌≡◌, ◌+◌, ◌<◌, ◌≤◌, ◌++◌, ℕ, List, [], map, length, take, drop, replicate, slice_index_or, slice_set}
+use Rattle.std.specs.List.{sum_by}
+use Rattle.sm_arena.specs.declared.span.Span.{Span}
+use Rattle.sm_arena.specs.declared.block.Block.{Block}
+use Rattle.sm_arena.specs.declared.blocks.Blocks.{Blocks}
+
+-- the bytes of each block
+abbrev pub chunks_in : List Block → List (List ℕ)
+chunks_in blocks = map (λ block. block.chunk.bytes) blocks
+
+abbrev pub chunks_of : Blocks → List (List ℕ)
+chunks_of b = chunks_in b.blocks.items
+
+-- what lies at a span of these chunks
+abbrev pub bytes_at : List (List ℕ) → Span → List ℕ
+bytes_at chunks s = take s.length (drop s.start (slice_index_or chunks s.chunk []))
+
+-- how many bytes are written in all
+abbrev pub total : List (List ℕ) → ℕ
+total chunks = sum_by length chunks
+
+-- the same chunks, and then empty ones
+abbrev pub IsGrown : List (List ℕ) → List (List ℕ) → Type 0
+IsGrown old new = (n : ℕ) × (new ≡ old ++ replicate n [])
+
+-- so many bytes can still be written into the block at that place
+abbrev pub HasRoom : List Block → ℕ → ℕ → Type 0
+HasRoom blocks place count =
+    (place < length blocks) ×
+    ((d : Block) → let block = slice_index_or blocks place d in length block.chunk.bytes + count ≤ block.size)
+
+-- where so many bytes more would lie in the chunk at that place
+abbrev pub next_span : List (List ℕ) → ℕ → ℕ → Span
+next_span chunks place count = record { chunk = place; start = length (slice_index_or chunks place []); length = count }
+
+-- new is old with the piece written behind the bytes of the block at that place
+pub record IsFilled (old : List Block) (place : ℕ) (piece : List ℕ) (new : List Block) : Type 0 where
+  pub chunks : chunks_in new ≡ slice_set (chunks_in old) place (slice_index_or (chunks_in old) place [] ++ piece)
+  pub room : (count : ℕ) → HasRoom old place (length piece + count) → HasRoom new place count
+
+-- new is old with the piece written at the span, where nothing was written before
+pub record IsWriting (old : List (List ℕ)) (piece : List ℕ) (span : Span) (new : List (List ℕ)) : Type 0 where
+  pub keeps : (s : Span) → length (bytes_at old s) ≡ s.length → bytes_at new s ≡ bytes_at old s
+  pub reads : bytes_at new span ≡ piece
+  pub whole : span.length ≡ length piece
+  pub fresh : bytes_at old span ≡ []
+  pub total : total new ≡ total old + length piece
+
+-- new is old with both pieces written, one after the other, each where nothing was written before
+pub record IsWritingPair (old : List (List ℕ)) (first second : List ℕ) (spans : Span × Span) (new : List (List ℕ)) : Type 0 where
+  pub middle : List (List ℕ)
+  pub one : IsWriting old first spans.0 middle
+  pub other : IsWriting middle second spans.1 new

@@ -1,0 +1,5 @@
+pub mod Pieces
+pub mod Value
+pub mod Blocks
+pub mod Kept
+pub mod Ownership

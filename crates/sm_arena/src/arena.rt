@@ -1,0 +1,138 @@
+ghost use Rattle.std.specs.Prelude.{◌≡◌, ◌<◌, ◌++◌, [], length, OnErr, IfOk};
+ghost use Rattle.sm_arena.specs.Pieces.{IsPlaced, bytes_of};
+ghost use Rattle.sm_arena.specs.Value.{IsPlacing, IsPlacingPair, forgetting, times_forgotten, dead_of, live_of};
+
+use crate::blocks::Blocks;
+use crate::placements::Placements;
+use crate::span::Span;
+use std::alloc::{AllocError, Global};
+use std::marker::Model;
+
+/// Memory for pieces of bytes: a piece stays where it was placed, and reads the same, until the arena is dropped.
+///
+/// Contracts see an arena as the pieces that were placed, by their spans, and the list of the spans that were
+/// forgotten.
+#[derive(Drop)]
+pub struct Arena {
+    blocks: Blocks,
+    live: u128,
+    gone: u128,
+    placements: Placements,
+}
+
+impl Model for Arena {
+    ghost use Rattle.sm_arena.specs.Value.{ArenaValue};
+
+    ghost Value = { ArenaValue };
+
+    ghost use Rattle.sm_arena.specs.Kept.{value_of, IsKept};
+
+    ghost view = { value_of };
+
+    ghost invariant = { IsKept };
+}
+
+impl Arena {
+    /// An arena in which nothing was placed. It takes no memory yet.
+    pub fn new(alloc: Global) -> Arena
+        ensures { (result.placed ≡ []) × (result.forgotten ≡ []) }
+    {
+        Arena {
+            blocks: Blocks::new(alloc),
+            live: 0,
+            gone: 0,
+            placements: Placements::none(),
+        }
+    }
+
+    /// Places a copy of the piece, and answers the span that reads it from now on. The span of a piece that isn't empty
+    /// is a new one.
+    ///
+    /// # Errors
+    ///
+    /// `AllocError` where memory is refused; the arena is then as it was.
+    pub fn place(&mut self, piece: &[u8]) -> Result<Span, AllocError>
+        ensures placed { IfOk result (λ span. IsPlacing self.old piece.now span self.new) }
+        ensures err { OnErr result (self.new ≡ self.old) }
+    {
+        let span = self.blocks.write(piece)?;
+        self.live += piece.len() as u128;
+        self.placements = self.placements.and_placed(&span, piece);
+        Ok(span)
+    }
+
+    /// Places copies of both pieces as [`Arena::place`] does, or neither, and answers their spans.
+    ///
+    /// # Errors
+    ///
+    /// `AllocError` where memory is refused; the arena is then as it was.
+    pub fn place_pair(&mut self, first: &[u8], second: &[u8]) -> Result<(Span, Span), AllocError>
+        ensures placed { IfOk result (λ spans. IsPlacingPair self.old first.now second.now spans self.new) }
+        ensures err { OnErr result (self.new ≡ self.old) }
+    {
+        let (first_span, second_span) = self.blocks.write_pair(first, second)?;
+        self.live += first.len() as u128;
+        self.live += second.len() as u128;
+        self.placements = self
+            .placements
+            .and_placed(&first_span, first)
+            .and_placed(&second_span, second);
+        Ok((first_span, second_span))
+    }
+
+    /// Places a copy of the piece at the span followed by the tail, as one piece, and answers the span that reads it from
+    /// now on. The span of a piece that isn't empty is a new one, and the piece at the old one stays. No memory is taken
+    /// but for the new piece.
+    ///
+    /// # Errors
+    ///
+    /// `AllocError` where memory is refused; the arena is then as it was.
+    pub fn concat(&mut self, head: Span, tail: &[u8]) -> Result<Span, AllocError>
+        requires { IsPlaced self.old.placed head }
+        ensures placed { IfOk result (λ span. IsPlacing self.old (bytes_of self.old.placed head ++ tail.now) span self.new) }
+        ensures err { OnErr result (self.new ≡ self.old) }
+    {
+        let span = self.blocks.write_joined(head, tail)?;
+        self.live += span.length as u128;
+        self.placements = self.placements.and_placed(&span, self.blocks.piece(span));
+        Ok(span)
+    }
+
+    /// The bytes of the piece at the span, also where it was forgotten.
+    pub fn get(&self, span: Span) -> &[u8]
+        requires { IsPlaced self.now.placed span }
+        ensures { result.now ≡ bytes_of self.now.placed span }
+    {
+        self.blocks.piece(span)
+    }
+
+    /// Counts the piece at the span as dead; its bytes stay. An empty piece is never dead.
+    pub fn forget(&mut self, span: Span)
+        requires placed { IsPlaced self.old.placed span }
+        requires kept { 0 < length (bytes_of self.old.placed span) → times_forgotten self.old span ≡ 0 }
+        ensures { self.new ≡ forgetting self.old span }
+    {
+        if span.length > 0 {
+            self.live -= span.length as u128;
+            self.gone += span.length as u128;
+            self.placements = self.placements.and_forgotten(&span);
+        }
+    }
+
+    /// The sum of the lengths of the pieces that were placed and not forgotten.
+    pub fn bytes(&self) -> u128
+        ensures { result ≡ live_of self.now }
+    {
+        self.live
+    }
+
+    /// The sum of the lengths of the pieces that were forgotten.
+    pub fn dead(&self) -> u128
+        ensures { result ≡ dead_of self.now }
+    {
+        self.gone
+    }
+}
+
+#[cfg(test)]
+mod tests;

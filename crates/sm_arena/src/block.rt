@@ -1,0 +1,57 @@
+ghost use Rattle.std.specs.Prelude.{◌≡◌, ◌+◌, ◌<◌, ◌≤◌, ◌^◌, [], ◌++◌, length, IfOk};
+
+use crate::chunk::Chunk;
+use std::alloc::{AllocError, Global};
+
+/// A chunk with the allocator that frees it when it is dropped.
+pub(crate) struct Block {
+    alloc: Global,
+    size: usize,
+    chunk: Chunk<Global>,
+    ghost tied: { (chunk.alloc ≡ alloc) × (chunk.size ≡ size) },
+}
+
+impl Drop for Block {
+    fn drop(self) {
+        let Block {
+            alloc,
+            size: _,
+            chunk,
+        } = self;
+        chunk.free(&alloc);
+    }
+}
+
+impl Block {
+    /// A block of so many bytes with nothing written.
+    pub(crate) fn new(alloc: Global, size: usize) -> Result<Block, AllocError>
+        requires { size < 2 ^ 63 }
+        ensures { IfOk result (λ block. (block.size ≡ size) × (block.chunk.bytes ≡ [])) }
+    {
+        let chunk = Chunk::make(&alloc, size).ok_or(AllocError)?;
+        Ok(Block { alloc, size, chunk })
+    }
+
+    /// The bytes written so far.
+    pub(crate) fn bytes(&self) -> &[u8]
+        ensures { result.now ≡ self.now.chunk.bytes }
+    {
+        self.chunk.bytes()
+    }
+
+    /// How many bytes can still be written.
+    pub(crate) fn room(&self) -> usize
+        ensures { length self.now.chunk.bytes + result ≡ self.now.size }
+    {
+        self.size - self.bytes().len()
+    }
+
+    /// Writes the piece after what is written so far.
+    pub(crate) fn write(&mut self, piece: &[u8])
+        requires { length self.old.chunk.bytes + length piece.now ≤ self.old.size }
+        ensures bytes { self.new.chunk.bytes ≡ self.old.chunk.bytes ++ piece.now }
+        ensures same { self.new.size ≡ self.old.size }
+    {
+        self.chunk.write(piece);
+    }
+}

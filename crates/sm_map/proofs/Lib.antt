@@ -1,0 +1,6 @@
+pub mod Cuts
+pub mod KeyMaps
+pub mod Ranges
+pub mod Spans
+pub mod Entries
+pub mod Edits

@@ -1,0 +1,217 @@
+-- Spans in use: what placing and forgetting leave.
+use Rattle.std.proofs.Common.{◌≡◌, ℕ, ◌<◌, ◌≤◌, ◌+◌, Bool, true, false, cond, eqb, List, [], ◌∷◌, ◌++◌, length, Option, Some, None, IsSome, count_by, unwrap_or, refl, sym, ap, subst, ◌∙◌, arith, inl, inr, ◌⊎◌}
+use mathlib.Core.Bool.{false≢true}
+use Rattle.std.specs.List.{sum_by}
+use Rattle.std.proofs.lemmas.Bool.{cases_lt, cond_both}
+use Rattle.std.proofs.lemmas.Bool.Decides.{nat_tests}
+use Rattle.std.proofs.lemmas.List.Sums.{sum_by_push, sum_by-cons}
+use Rattle.sm_arena.specs.declared.span.Span.{Span}
+use Rattle.sm_arena.specs.Pieces.{same_span, piece_of, IsPlaced, bytes_of}
+use Rattle.sm_arena.specs.Value.{ArenaValue, IsPlacing, times_forgotten, forgetting, dead_of}
+use Rattle.sm_map.specs.KeyMap.{text_of}
+use Rattle.sm_map.specs.Stored.{Places, IsTidy, IsStored}
+use Rattle.sm_map.specs.Slot.{held_in, uses_piece, uses_slot, IsForgettable, forgetting_slot}
+use Rattle.sm_map.specs.declared.slot.Slot.{Slot}
+use Rattle.sm_map.specs.declared.slot.Slot.TheVariants.{Text, Count}
+
+chunk_of_same : (a b : Span) → same_span a b ≡ true → a.chunk ≡ b.chunk
+chunk_of_same a b e = grind (arith)
+
+start_of_same : (a b : Span) → same_span a b ≡ true → a.start ≡ b.start
+start_of_same a b e = grind (arith)
+
+length_of_same : (a b : Span) → same_span a b ≡ true → a.length ≡ b.length
+length_of_same a b e = grind (arith)
+
+span_of_same : (a b : Span) → same_span a b ≡ true → a ≡ b
+span_of_same a b e = λ i. record { chunk = chunk_of_same a b e i; start = start_of_same a b e i; length = length_of_same a b e i }
+
+same_itself : (a : Span) → same_span a a ≡ true
+same_itself a = grind (arith)
+
+-- a span that a piece uses is the piece's
+used_is : (span s : Span) → 0 < uses_piece span s → span ≡ s
+used_is span s lt = by (same_span span s) refl lt
+  where
+    by : (b : Bool) → same_span span s ≡ b → 0 < cond b 1 0 → span ≡ s
+    by true e lt = span_of_same span s e
+    by false e lt = absurd (omega arith)
+
+pub uses_itself : (s : Span) → uses_piece s s ≡ 1
+uses_itself s = rw (same_itself s) refl
+
+piece_le : (span s : Span) → uses_piece span s ≤ 1
+piece_le span s = by (same_span span s)
+  where
+    by : (b : Bool) → cond b 1 0 ≤ 1
+    by true = omega arith
+    by false = omega arith
+
+placed_or_none : (es : Places) (s : Span) → (piece_of es s ≡ None) ⊎ IsPlaced es s
+placed_or_none es s = by (piece_of es s) refl
+  where
+    by : (o : Option (List ℕ)) → piece_of es s ≡ o → (piece_of es s ≡ None) ⊎ IsPlaced es s
+    by None e = inl e
+    by (Some x) e = inr (rw e refl)
+
+-- what was placed stays
+placed_stays : (es : Places) (e : Span × List ℕ) (s : Span) → IsPlaced es s → piece_of (es ++ e ∷ []) s ≡ piece_of es s
+placed_stays [] e s is = absurd (false≢true is)
+placed_stays (x ∷ es) e s is = by (same_span x.0 s) is (placed_stays es e s)
+  where
+    by : (b : Bool) → IsSome (cond b (Some x.1) (piece_of es s)) → (IsPlaced es s → piece_of (es ++ e ∷ []) s ≡ piece_of es s) → cond b (Some x.1) (piece_of (es ++ e ∷ []) s) ≡ cond b (Some x.1) (piece_of es s)
+    by true is again = refl
+    by false is again = again is
+
+-- a placed piece is stored for its span
+pub piece_stored : (old : ArenaValue) (piece : List ℕ) (span : Span) (new : ArenaValue) → IsPlacing old piece span new → IsStored old (uses_piece span) new
+piece_stored old piece span new p = record {
+  keeps = λ s is. ap (λ (es : Places). piece_of es s) p.placed ∙ placed_stays old.placed (span, piece) s is;
+  forgotten = p.forgotten;
+  placed = λ s used. subst (λ (t : Span). IsPlaced new.placed t) (used_is span s used) (rw p.reads refl);
+  fresh = λ s used long. subst (λ (t : Span). 0 < length (bytes_of new.placed t) → piece_of old.placed t ≡ None) (used_is span s used) (λ l. p.fresh (rw p.reads at l)) long;
+  once = λ s long. piece_le span s;
+}
+
+-- a piece reads what was placed, and still does once more is stored
+pub piece_reads : (old : ArenaValue) (piece : List ℕ) (span : Span) (middle : ArenaValue) → IsPlacing old piece span middle → (uses : Span → ℕ) (new : ArenaValue) → IsStored middle uses new → bytes_of new.placed span ≡ piece
+piece_reads old piece span middle p uses new st = ap (λ (o : Option (List ℕ)). unwrap_or o []) (st.keeps span (rw p.reads refl) ∙ p.reads)
+
+-- nothing is stored for a count
+pub nothing_stored : (v : ArenaValue) → IsStored v (λ s. 0) v
+nothing_stored v = record {
+  keeps = λ s is. refl;
+  forgotten = refl;
+  placed = λ s used. absurd (omega arith);
+  fresh = λ s used. absurd (omega arith);
+  once = λ s long. omega arith;
+}
+
+-- one after the other
+module _ (old middle new : ArenaValue) (one other : Span → ℕ) (first : IsStored old one middle) (second : IsStored middle other new) where
+  still_there : (s : Span) → IsPlaced old.placed s → IsPlaced middle.placed s
+  still_there s is = rw (first.keeps s is) is
+
+  long_before : (s : Span) → IsPlaced middle.placed s → 0 < length (bytes_of new.placed s) → 0 < length (bytes_of middle.placed s)
+  long_before s is long = subst (λ (o : Option (List ℕ)). 0 < length (unwrap_or o [])) (second.keeps s is) long
+
+  new_to_second : (s : Span) → 0 < other s → 0 < length (bytes_of new.placed s) → IsPlaced middle.placed s → ⊥
+  new_to_second s used long is = false≢true (rw (second.fresh s used long) at is)
+
+  none_before : (s : Span) → 0 < one s + other s → 0 < length (bytes_of new.placed s) → piece_of old.placed s ≡ None
+  none_before s used long = elim (cases_lt 0 (other s)) [
+    | inl here ↦ by here (placed_or_none old.placed s)
+    | inr none ↦ first.fresh s (omega arith) (long_before s (first.placed s (omega arith)) long)
+  ]
+    where
+      by : 0 < other s → (piece_of old.placed s ≡ None) ⊎ IsPlaced old.placed s → piece_of old.placed s ≡ None
+      by here (inl none) = none
+      by here (inr is) = absurd (new_to_second s here long (still_there s is))
+
+  once_in_all : (s : Span) → 0 < length (bytes_of new.placed s) → one s + other s ≤ 1
+  once_in_all s long = elim (cases_lt 0 (one s)) [
+    | inl here ↦ by here (cases_lt 0 (other s))
+    | inr none ↦ omega (arith, second.once s long)
+  ]
+    where
+      by : 0 < one s → (0 < other s) ⊎ (other s ≤ 0) → one s + other s ≤ 1
+      by here (inl there) = absurd (new_to_second s there long (first.placed s here))
+      by here (inr none) = omega (arith, first.once s (long_before s (first.placed s here) long))
+
+  pub both_stored : IsStored old (λ s. one s + other s) new
+  both_stored = record {
+    keeps = λ s is. second.keeps s (still_there s is) ∙ first.keeps s is;
+    forgotten = second.forgotten ∙ first.forgotten;
+    placed = λ s used. elim (cases_lt 0 (other s)) [
+      | inl here ↦ second.placed s here
+      | inr none ↦ (let is = first.placed s (omega arith) in rw (second.keeps s is) is)
+    ];
+    fresh = none_before;
+    once = once_in_all;
+  }
+
+-- the lengths stay where each span of the list reads the same
+same_sum : (old new : Places) (l : List Span) → ((s : Span) → 0 < count_by (λ t. same_span t s) l → piece_of new s ≡ piece_of old s) → sum_by (λ s. length (bytes_of new s)) l ≡ sum_by (λ s. length (bytes_of old s)) l
+same_sum old new [] keeps = refl
+same_sum old new (x ∷ l) keeps =
+    let one : uses_piece x x ≡ 1 = uses_itself x in
+    let here : piece_of new x ≡ piece_of old x = keeps x (omega (arith, one, sum_by-cons (λ t. cond (same_span t x) 1 0) x l)) in
+    let long : length (bytes_of new x) ≡ length (bytes_of old x) = ap (λ (o : Option (List ℕ)). length (unwrap_or o [])) here in
+    let there : sum_by (λ s. length (bytes_of new s)) l ≡ sum_by (λ s. length (bytes_of old s)) l = same_sum old new l (λ s lt. keeps s (omega (arith, sum_by-cons (λ t. cond (same_span t s) 1 0) x l))) in
+    omega (arith, long, there, sum_by-cons (λ s. length (bytes_of new s)) x l, sum_by-cons (λ s. length (bytes_of old s)) x l)
+
+module _ (old : ArenaValue) (uses : Span → ℕ) (new : ArenaValue) (st : IsStored old uses new) (used : Span → ℕ) (tidy : IsTidy old used) where
+  same_times : (s : Span) → times_forgotten new s ≡ times_forgotten old s
+  same_times s = ap (λ (l : List Span). count_by (λ t. same_span t s) l) st.forgotten
+
+  still_placed : (s : Span) → IsPlaced old.placed s → IsPlaced new.placed s
+  still_placed s is = rw (st.keeps s is) is
+
+  pub tidy_stored : IsTidy new (λ s. used s + uses s)
+  tidy_stored = record {
+    placed = λ s lt. elim (cases_lt 0 (uses s)) [
+      | inl here ↦ st.placed s here
+      | inr none ↦ still_placed s (tidy.placed s (omega (arith, same_times s)))
+    ];
+    once = λ s long. elim (cases_lt 0 (used s + times_forgotten old s)) [
+      | inr none ↦ omega (arith, same_times s, st.once s long)
+      | inl before ↦ once_before s long before (cases_lt 0 (uses s))
+    ];
+  }
+    where
+      once_before : (s : Span) → 0 < length (bytes_of new.placed s) → 0 < used s + times_forgotten old s → (0 < uses s) ⊎ (uses s ≤ 0) → used s + uses s + times_forgotten new s ≤ 1
+      once_before s long before (inl here) = absurd (false≢true (rw (st.fresh s here long) at (tidy.placed s before)))
+      once_before s long before (inr none) =
+          let kept = st.keeps s (tidy.placed s before) in
+          let long_old : 0 < length (bytes_of old.placed s) = subst (λ (o : Option (List ℕ)). 0 < length (unwrap_or o [])) kept long in
+          omega (arith, same_times s, tidy.once s long_old)
+
+  -- what is in use reads the same
+  pub keeps_used : (s : Span) → 0 < used s → piece_of new.placed s ≡ piece_of old.placed s
+  keeps_used s lt = st.keeps s (tidy.placed s (omega arith))
+
+  pub dead_stored : dead_of new ≡ dead_of old
+  dead_stored =
+      same_sum old.placed new.placed new.forgotten (λ s lt. st.keeps s (tidy.placed s (omega (arith, same_times s)))) ∙ ap (λ (l : List Span). sum_by (λ s. length (bytes_of old.placed s)) l) st.forgotten
+
+-- what forgetting a piece leaves
+record Forgot (v : ArenaValue) (span : Span) (w : ArenaValue) : Type 0 where
+  placed : w.placed ≡ v.placed
+  times : (s : Span) → times_forgotten w s ≤ times_forgotten v s + uses_piece span s
+  dead : dead_of w ≡ dead_of v + length (bytes_of v.placed span)
+
+forgot : (v : ArenaValue) (span : Span) → Forgot v span (forgetting v span)
+forgot v span = cond_both (eqb (length (bytes_of v.placed span)) 0) v (record { placed = v.placed; forgotten = v.forgotten ++ span ∷ [] }) (Forgot v span)
+    (λ e. record { placed = refl; times = λ s. omega arith; dead = let none : length (bytes_of v.placed span) ≡ 0 = grind (arith, nat_tests) in omega (arith, none) })
+    (λ e. record {
+      placed = refl;
+      times = λ s. omega (arith, sum_by_push (λ t. cond (same_span t s) 1 0) v.forgotten span);
+      dead = sum_by_push (λ s. length (bytes_of v.placed s)) v.forgotten span;
+    })
+
+-- what forgetting a slot's text leaves
+pub record Forgets (v : ArenaValue) (slot : Slot) (w : ArenaValue) : Type 0 where
+  pub placed : w.placed ≡ v.placed
+  pub times : (s : Span) → times_forgotten w s ≤ times_forgotten v s + uses_slot slot s
+  pub dead : dead_of w ≡ dead_of v + length (text_of (Some (held_in v.placed slot)))
+
+pub forgets : (v : ArenaValue) (slot : Slot) → Forgets v slot (forgetting_slot v slot)
+forgets v (Text span) = let f = forgot v span in record { placed = f.placed; times = f.times; dead = f.dead }
+forgets v (Count count) = record { placed = refl; times = λ s. omega arith; dead = omega arith }
+
+module _ (v : ArenaValue) (used rest : Span → ℕ) (slot : Slot) (parts : (s : Span) → rest s + uses_slot slot s ≡ used s) (tidy : IsTidy v used) where
+  pub may_forget : IsForgettable v slot
+  may_forget = record {
+    placed = λ s lt. tidy.placed s (omega (arith, parts s));
+    kept = λ s lt long. omega (arith, parts s, tidy.once s long);
+  }
+
+  pub tidy_forgot : IsTidy (forgetting_slot v slot) rest
+  tidy_forgot =
+      let f = forgets v slot in
+      record {
+        placed = λ s lt. subst (λ (es : Places). IsPlaced es s) (sym f.placed) (tidy.placed s (omega (arith, parts s, f.times s)));
+        once = λ s long.
+            let long_before : 0 < length (bytes_of v.placed s) = subst (λ (es : Places). 0 < length (bytes_of es s)) f.placed long in
+            omega (arith, parts s, f.times s, tidy.once s long_before);
+      }

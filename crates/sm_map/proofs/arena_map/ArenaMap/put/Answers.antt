@@ -1,0 +1,18 @@
+use Rattle.sm_map.specs.KeyMap.{Pair}
+use Rattle.sm_map.specs.Slot.{held_of}
+use Rattle.sm_map.proofs.KeyMaps.{rewrite_holds, rewrite_dead, addition_holds, addition_dead}
+use Rattle.sm_map.proofs.arena_map.ArenaMap.put.Goals as goal
+
+-- the key was there
+pub returns-in-Ok-clause-ok : goal.returns-in-Ok-clause-ok
+returns-in-Ok-clause-ok c = rewrite_holds _ _ _ c.find.ensures.rising _ _ c.in-Ok.ensures.found (λ (pair : Pair). held_of c.args.value) (record { key = c.args.key.now; value = held_of c.args.value }) c.write_at.ensures.ok
+
+pub returns-in-Ok-clause-dead : goal.returns-in-Ok-clause-dead
+returns-in-Ok-clause-dead c = rewrite_dead _ _ _ c.find.ensures.rising _ _ c.in-Ok.ensures.found (λ (pair : Pair). held_of c.args.value) (record { key = c.args.key.now; value = held_of c.args.value }) c.write_at.ensures.ok
+
+-- the key is new
+pub returns-in-Err-clause-ok : goal.returns-in-Err-clause-ok
+returns-in-Err-clause-ok c = addition_holds _ _ _ c.find.ensures.rising _ _ c.in-Err.ensures.absent _ c.insert_at.ensures.ok
+
+pub returns-in-Err-clause-dead : goal.returns-in-Err-clause-dead
+returns-in-Err-clause-dead c = addition_dead _ _ _ c.find.ensures.rising _ _ c.in-Err.ensures.absent _ c.insert_at.ensures.ok

@@ -1,0 +1,7 @@
+pub mod KeyMap
+pub mod ArenaMap
+pub mod Stored
+pub mod Slot
+pub mod Entry
+pub mod Index
+pub mod Kept

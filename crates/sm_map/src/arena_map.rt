@@ -1,0 +1,239 @@
+ghost use Rattle.std.specs.Prelude.{◌≡◌, ◌<◌, ◌≤◌, ◌+◌, ◌++◌, [], Some, length, map, take, is_some, IfOk, IfErr, OnOk, OnErr};
+ghost use Rattle.std.specs.List.{HoldsAt};
+ghost use Rattle.std.specs.Option.{option_map};
+ghost use Rattle.sm_map.specs.KeyMap.{IsKeyMap, IsText, HoldsText, IsPlaceOf, IsGapFor, IsEdgeOf};
+ghost use Rattle.sm_map.specs.KeyMap.{held_at, holding, without, within, text_of, text_at, size_at};
+ghost use Rattle.sm_map.specs.KeyMap.{Text as HeldText};
+ghost use Rattle.sm_map.specs.ArenaMap.{IsRewrite, IsRemoval, IsAddition};
+ghost use Rattle.sm_map.specs.Slot.{held_of};
+ghost use Rattle.sm_map.specs.Entry.{row_of};
+
+use crate::entry::Entry;
+use crate::index::Index;
+use crate::slot::Slot;
+use crate::val::Val;
+use sm_arena::arena::Arena;
+use std::alloc::{AllocError, Global};
+use std::marker::Model;
+
+/// A map from keys to texts and counts, in the order of the keys. Keys are compared byte by byte as numbers, and a
+/// proper prefix comes first. The bytes of keys and texts lie in an arena, where those that are written over or removed
+/// stay as dead ones until a rebuild.
+#[derive(Drop)]
+pub struct ArenaMap {
+    alloc: Global,
+    arena: Arena,
+    index: Index,
+}
+
+impl Model for ArenaMap {
+    ghost use Rattle.sm_map.specs.ArenaMap.{MapValue};
+
+    ghost Value = { MapValue };
+
+    ghost use Rattle.sm_map.specs.Kept.{value_of, IsKept};
+
+    ghost view = { value_of };
+
+    ghost invariant = { IsKept };
+}
+
+impl ArenaMap {
+    /// The map that holds nothing. It takes no memory yet.
+    pub fn new(alloc: Global) -> ArenaMap
+        ensures { (result.pairs ≡ []) × (result.dead ≡ 0) }
+    {
+        ArenaMap {
+            alloc,
+            arena: Arena::new(alloc),
+            index: Index::new(alloc),
+        }
+    }
+
+    /// How many keys hold something.
+    pub fn len(&self) -> u128
+        ensures value { result ≡ length self.now.pairs }
+        ensures is_key_map { IsKeyMap self.now.pairs }
+    {
+        self.index.len() as u128
+    }
+
+    /// How many bytes of keys and texts are dead: those that were removed or written over.
+    pub fn dead(&self) -> u128
+        ensures { result ≡ self.now.dead }
+    {
+        self.arena.dead()
+    }
+
+    /// What the key holds, or none where it holds nothing. The search halves, and takes no memory.
+    pub fn get(&self, key: &[u8]) -> Option<Val<'_>>
+        ensures { option_map held_of result ≡ held_at self.now.pairs key.now }
+    {
+        match self.find(key) {
+            Ok(at) => Some(self.pair_at(at).1),
+            Err(_) => None,
+        }
+    }
+
+    /// Makes the key hold the value, in place of what it held. Where memory is refused, nothing has changed.
+    pub fn put(&mut self, key: &[u8], value: Val<'_>) -> Result<(), AllocError>
+        ensures ok { OnOk result (self.new.pairs ≡ holding self.old.pairs key.now (held_of value.entry)) }
+        ensures dead { OnOk result (self.new.dead ≡ self.old.dead + length (text_at self.old.pairs key.now)) }
+        ensures err { OnErr result (self.new ≡ self.old) }
+    {
+        match self.find(key) {
+            Ok(at) => self.write_at(at, value),
+            Err(at) => self.insert_at(at, key, value),
+        }
+    }
+
+    /// Makes the key, which holds a text, hold that text followed by the tail. Where memory is refused, nothing has changed.
+    pub fn append(&mut self, key: &[u8], tail: &[u8]) -> Result<(), AllocError>
+        requires { HoldsText self.old.pairs key.now }
+        ensures ok { OnOk result (self.new.pairs ≡ holding self.old.pairs key.now (HeldText (text_at self.old.pairs key.now ++ tail.now))) }
+        ensures dead { OnOk result (self.new.dead ≡ self.old.dead + length (text_at self.old.pairs key.now)) }
+        ensures err { OnErr result (self.new ≡ self.old) }
+    {
+        match self.find(key) {
+            Ok(at) => self.append_at(at, tail),
+            Err(_) => Ok(()),
+        }
+    }
+
+    /// Makes the key hold nothing, and tells whether it held something. It takes no memory.
+    pub fn remove(&mut self, key: &[u8]) -> bool
+        ensures pairs { self.new.pairs ≡ without self.old.pairs key.now }
+        ensures dead { self.new.dead ≡ self.old.dead + size_at self.old.pairs key.now }
+        ensures held { result ≡ is_some (held_at self.old.pairs key.now) }
+    {
+        match self.find(key) {
+            Ok(at) => {
+                self.remove_at(at);
+                true
+            }
+            Err(_) => false,
+        }
+    }
+
+    /// The pairs with keys from low on and below high, in the order of their keys, and of these the first `max`.
+    pub fn scan(
+        &self,
+        low: &[u8],
+        high: &[u8],
+        max: usize,
+    ) -> Result<Vec<(&[u8], Val<'_>)>, AllocError>
+        ensures { IfOk result (λ rows. map row_of rows.items ≡ take max (within self.now.pairs low.now high.now)) }
+    {
+        let start = self.edge(low);
+        let count = self.edge(high).saturating_sub(start).min(max);
+        let mut rows = Vec::with_capacity(self.alloc, count)?;
+        for at in start..start + count {
+            rows.push(self.pair_at(at))?;
+        }
+        Ok(rows)
+    }
+
+    /// The same pairs in fresh memory, where nothing is dead. Where memory is refused, the map as it was.
+    /// The time is linear in the pairs and their bytes.
+    pub fn rebuild(self) -> Result<ArenaMap, (ArenaMap, AllocError)>
+        ensures ok { IfOk result (λ map. (map.pairs ≡ self.pairs) × (map.dead ≡ 0)) }
+        ensures err { IfErr result (λ refused. refused.0 ≡ self) }
+    {
+        match self.copied() {
+            Ok(map) => Ok(map),
+            Err(refused) => Err((self, refused)),
+        }
+    }
+
+    // The same pairs in fresh memory. They come in order, so each goes to the end.
+    fn copied(&self) -> Result<ArenaMap, AllocError>
+        ensures { IfOk result (λ map. (map.pairs ≡ self.now.pairs) × (map.dead ≡ 0)) }
+    {
+        let mut map = ArenaMap::new(self.alloc);
+        for at in 0..self.index.len() {
+            let (key, value) = self.pair_at(at);
+            map.insert_at(at, key, value)?;
+        }
+        Ok(map)
+    }
+
+    // The place of the key's pair, or the place where it would go.
+    fn find(&self, key: &[u8]) -> Result<usize, usize>
+        ensures rising { IsKeyMap self.now.pairs }
+        ensures found { IfOk result (IsPlaceOf self.now.pairs key.now) }
+        ensures absent { IfErr result (IsGapFor self.now.pairs key.now) }
+    {
+        self.index.find(&self.arena, key)
+    }
+
+    // The number of pairs below the key.
+    fn edge(&self, key: &[u8]) -> usize
+        ensures { IsEdgeOf self.now.pairs key.now result }
+    {
+        match self.find(key) {
+            Ok(at) => at,
+            Err(at) => at,
+        }
+    }
+
+    // The pair at a place.
+    fn pair_at(&self, at: usize) -> (&[u8], Val<'_>)
+        requires { at < length self.now.pairs }
+        ensures { HoldsAt (λ pair. row_of result ≡ pair) self.now.pairs at }
+    {
+        let entry = self.index.entry(at);
+        (self.arena.get(entry.key), entry.slot.read(&self.arena))
+    }
+
+    // Writes the value over that of the pair at a place.
+    fn write_at(&mut self, at: usize, value: Val<'_>) -> Result<(), AllocError>
+        requires { at < length self.old.pairs }
+        ensures ok { OnOk result (HoldsAt (λ pair. IsRewrite self.old at pair (held_of value.entry) self.new) self.old.pairs at) }
+        ensures err { OnErr result (self.new ≡ self.old) }
+    {
+        let Entry { key, slot: before } = self.index.entry(at);
+        let slot = Slot::place(&mut self.arena, value)?;
+        self.index.set(at, Entry { key, slot });
+        before.forget(&mut self.arena);
+        Ok(())
+    }
+
+    // Writes its text followed by the tail over the text of the pair at a place.
+    fn append_at(&mut self, at: usize, tail: &[u8]) -> Result<(), AllocError>
+        requires place { at < length self.old.pairs }
+        requires text { HoldsAt (λ pair. IsText pair.value) self.old.pairs at }
+        ensures ok { OnOk result (HoldsAt (λ pair. IsRewrite self.old at pair (HeldText (text_of (Some pair.value) ++ tail.now)) self.new) self.old.pairs at) }
+        ensures err { OnErr result (self.new ≡ self.old) }
+    {
+        let Entry { key, slot: before } = self.index.entry(at);
+        let slot = before.concat(&mut self.arena, tail)?;
+        self.index.set(at, Entry { key, slot });
+        before.forget(&mut self.arena);
+        Ok(())
+    }
+
+    // Puts a new pair in at the place where its key goes.
+    fn insert_at(&mut self, at: usize, key: &[u8], value: Val<'_>) -> Result<(), AllocError>
+        requires { IsGapFor self.old.pairs key.now at }
+        ensures ok { OnOk result (IsAddition self.old at (record { key = key.now; value = held_of value.entry }) self.new) }
+        ensures err { OnErr result (self.new ≡ self.old) }
+    {
+        self.index.reserve()?;
+        let entry = Entry::place(&mut self.arena, key, value)?;
+        self.index.insert(at, entry);
+        Ok(())
+    }
+
+    // Removes the pair at a place.
+    fn remove_at(&mut self, at: usize)
+        requires { at < length self.old.pairs }
+        ensures { HoldsAt (λ pair. IsRemoval self.old at pair self.new) self.old.pairs at }
+    {
+        let Entry { key, slot } = self.index.remove(at);
+        self.arena.forget(key);
+        slot.forget(&mut self.arena);
+    }
+}
+
+#[cfg(test)]
+mod tests;

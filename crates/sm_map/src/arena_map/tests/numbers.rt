@@ -1,0 +1,37 @@
+ghost use Rattle.std.specs.Prelude.{◌<◌};
+
+use std::alloc::{AllocError, Global};
+
+// A small generator of numbers: a linear congruence, of which the high bits are taken.
+#[derive(Drop)]
+pub struct Numbers {
+    state: u64,
+}
+
+impl Numbers {
+    pub fn new(seed: u64) -> Numbers {
+        Numbers { state: seed }
+    }
+
+    pub fn below(&mut self, bound: u64) -> u64
+        requires { 0 < bound }
+        ensures { result < bound }
+    {
+        self.state = self
+            .state
+            .wrapping_mul(6_364_136_223_846_793_005)
+            .wrapping_add(1_442_695_040_888_963_407);
+        (self.state >> 33) % bound
+    }
+
+    // Up to `most` bytes, of four different values.
+    pub fn bytes(&mut self, alloc: Global, most: u64) -> Result<Vec<u8>, AllocError>
+        requires { most < 1000 }
+    {
+        let mut bytes = Vec::new(alloc);
+        for _ in 0..self.below(most + 1) {
+            bytes.push(b'a' + self.below(4) as u8)?;
+        }
+        Ok(bytes)
+    }
+}

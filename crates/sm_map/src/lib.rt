@@ -1,0 +1,8 @@
+//! A sorted map from keys to texts and counts, whose bytes lie in an arena.
+#![tactic(auto)]
+
+pub mod arena_map;
+mod entry;
+mod index;
+mod slot;
+pub mod val;
