@@ -1,5 +1,6 @@
 -- What a stand adds at the cells of its group and its servers' domains.
-use Rattle.std.proofs.Common.{ℕ, ◌+◌, ◌*◌, ◌<◌, ◌≤◌, ◌≡◌, Bool, true, false, cond, eqb, List, length, Option, Some, None, sym, refl, ap, ◌∙◌, inl, inr, arith, ◌||◌, ◌&&◌}
+use Rattle.std.proofs.Common.{ℕ, ◌+◌, ◌*◌, ◌<◌, ◌≤◌, ◌≡◌, Bool, true, false, cond, eqb, List, length, Option}
+use Rattle.std.proofs.Common.{Some, None, sym, refl, ap, ◌∙◌, inl, inr, arith, ◌||◌, ◌&&◌}
 use Rattle.std.specs.Prelude.{option_map, remove, slice_index}
 use Rattle.std.proofs.lemmas.Bool.{eqb-true, eq-eqb}
 use Rattle.std.proofs.lemmas.Bool.Decides.{eqb_tells}
@@ -13,40 +14,27 @@ use Rattle.sm_place.specs.Counters.{AreBelow, HasCells, HasCounts}
 use Rattle.sm_place.specs.Cells.{amount_at, is_hit, cell_of, AreInside, IsIn}
 use Rattle.sm_place.specs.Books.{no_shard, IsKnown, HasRow, NamesKnown, domain_of, shard_at, with_stand}
 use Rattle.sm_place.specs.Room.{names_domain, is_in, count_in}
+use Rattle.sm_place.proofs.Naming.{and_both, and_none}
 use Rattle.sm_place.proofs.Sharing.{moved}
 
 -- two cells are one where the groups and the domains are
 pub eqb-cell : (w g b g' d : ℕ) → b < w → d < w → eqb (g * w + b) (g' * w + d) ≡ (eqb g g' && eqb b d)
 eqb-cell w g b g' d hb hd =
     elim (eqb_tells (g * w + b) (g' * w + d)) [
-      | inl p ↦ let e = same_from_place g b g' d w hb hd p.1 in p.0 ∙ sym (and_true _ _ (eq-eqb g g' e.0) (eq-eqb b d e.1))
+      | inl p ↦ let e = same_from_place g b g' d w hb hd p.1 in p.0 ∙ sym (and_both _ _ (eq-eqb g g' e.0) (eq-eqb b d e.1))
       | inr p ↦ elim (eqb_tells g g') [
         | inl q ↦ elim (eqb_tells b d) [
           | inl r ↦ absurd (p.1 (ap (λ (n : ℕ). n * w + b) q.1 ∙ ap (λ (n : ℕ). g' * w + n) r.1))
-          | inr r ↦ p.0 ∙ sym (and_false _ _ (inr_ r.0))
+          | inr r ↦ p.0 ∙ sym (and_none _ _ r.0)
         ]
         | inr q ↦ p.0 ∙ sym (ap (λ v. v && eqb b d) q.0)
       ]
     ]
-  where
-    and_true : (u v : Bool) → u ≡ true → v ≡ true → (u && v) ≡ true
-    and_true u v hu hv = rw (hu, hv) refl
-
-    inr_ : {v : Bool} → v ≡ false → v ≡ false
-    inr_ h = h
-
-    and_false : (u v : Bool) → v ≡ false → (u && v) ≡ false
-    and_false true v h = h
-    and_false false v h = refl
 
 pub passes-cell : (servers : List ServerRow) (w g g' d : ℕ) (x : Option ℕ) → AreBelow servers w → HasRow servers x → d < w
     → passes (λ at. eqb at (g' * w + d)) (option_map (cell_of servers w g) x)
     ≡ (eqb g g' && passes (λ a. eqb (domain_of servers a) d) x)
-passes-cell servers w g g' d None below row h = sym (and_no (eqb g g'))
-  where
-    and_no : (u : Bool) → (u && false) ≡ false
-    and_no true = refl
-    and_no false = refl
+passes-cell servers w g g' d None below row h = sym (and_none (eqb g g') false refl)
 passes-cell servers w g g' d (Some a) below row h = eqb-cell w g (domain_of servers a) g' d (below.at a row) h
 
 -- the cell of a group and a domain gets one where the stand's shard is in it
@@ -57,8 +45,10 @@ gets_one servers w g g' d stand x y at below known h =
     let i = g' * w + d in
     let ox = passes-cell servers w g g' d (owner_of stand) below known.0 h in
     let oy = passes-cell servers w g g' d (other_of stand) below known.1 h in
-    let fx : passes (λ v. eqb v i) x ≡ (eqb g g' && passes (λ a. eqb (domain_of servers a) d) (owner_of stand)) = ap (passes (λ v. eqb v i)) at.owner ∙ ox in
-    let fy : passes (λ v. eqb v i) y ≡ (eqb g g' && passes (λ a. eqb (domain_of servers a) d) (other_of stand)) = ap (passes (λ v. eqb v i)) at.other ∙ oy in
+    let fx : passes (λ v. eqb v i) x ≡ (eqb g g' && passes (λ a. eqb (domain_of servers a) d) (owner_of stand)) =
+    ap (passes (λ v. eqb v i)) at.owner ∙ ox in
+    let fy : passes (λ v. eqb v i) y ≡ (eqb g g' && passes (λ a. eqb (domain_of servers a) d) (other_of stand)) =
+    ap (passes (λ v. eqb v i)) at.other ∙ oy in
     ap (λ (p : Bool). cond (p || passes (λ v. eqb v i) y) 1 0) fx
     ∙ ap (λ (p : Bool). cond ((eqb g g' && passes (λ a. eqb (domain_of servers a) d) (owner_of stand)) || p) 1 0) fy
     ∙ ap (λ (p : Bool). cond p 1 0) (and_or (eqb g g') _ _)
@@ -101,10 +91,12 @@ count_in-remove servers shards k g d h = sum_by-remove (λ s. cond (is_in server
 pub count_in-with_stand : (servers : List ServerRow) (shards : List Shard) (k g d : ℕ) (stand : Stand) → k < length shards
     → count_in servers (with_stand shards k stand) g d + cond (is_in servers g d (shard_at shards k)) 1 0
     ≡ count_in servers shards g d + cond (is_in servers g d (moved (shard_at shards k) stand)) 1 0
-count_in-with_stand servers shards k g d stand h = sum_by-set (λ s. cond (is_in servers g d s) 1 0) shards k (moved (shard_at shards k) stand) no_shard h
+count_in-with_stand servers shards k g d stand h =
+    sum_by-set (λ s. cond (is_in servers g d s) 1 0) shards k (moved (shard_at shards k) stand) no_shard h
 
 -- the counters, after the domains of one stand lost the shard and those of another gained it
-pub HasCounts-moved : (servers : List ServerRow) (w : ℕ) (shards : List Shard) (k : ℕ) (stand : Stand) (counts0 counts1 counts2 : List ℕ) (x y x' y' : Option ℕ)
+pub HasCounts-moved : (servers : List ServerRow) (w : ℕ) (shards : List Shard) (k : ℕ) (stand : Stand)
+    (counts0 counts1 counts2 : List ℕ) (x y x' y' : Option ℕ)
     → k < length shards → AreBelow servers w
     → NamesKnown servers (shard_at shards k).stand → NamesKnown servers stand
     → HasCounts servers shards counts0 w
@@ -113,16 +105,26 @@ pub HasCounts-moved : (servers : List ServerRow) (w : ℕ) (shards : List Shard)
     → ((i : ℕ) → i < length counts0 → slice_index counts1 i + amount_at x y 1 i ≡ slice_index counts0 i)
     → ((i : ℕ) → i < length counts1 → slice_index counts2 i ≡ slice_index counts1 i + amount_at x' y' 1 i)
     → HasCounts servers (with_stand shards k stand) counts2 w
-HasCounts-moved servers w shards k stand counts0 counts1 counts2 x y x' y' inside below before after has at at' e1 e2 lowered raised = record {
-  at = λ g d hd hi.
-      let here : g * w + d < length counts0 = rw (← e2) hi in
-      let here1 : g * w + d < length counts1 = rw e1 here in
-      let lost = gets_one servers w (shard_at shards k).row.group g d (shard_at shards k).stand x y at below before hd in
-      let gained = gets_one servers w (shard_at shards k).row.group g d stand x' y' at' below after hd in
-      omega (arith, lowered (g * w + d) here, raised (g * w + d) here1, lost, gained, has.at g d hd here, count_in-with_stand servers shards k g d stand inside);
-}
+HasCounts-moved servers w shards k stand counts0 counts1 counts2 x y x' y' inside below before after has at at' e1 e2 lowered raised =
+    record {
+      at = λ g d hd hi.
+          let here : g * w + d < length counts0 = rw (← e2) hi in
+          let here1 : g * w + d < length counts1 = rw e1 here in
+          let lost = gets_one servers w (shard_at shards k).row.group g d (shard_at shards k).stand x y at below before hd in
+          let gained = gets_one servers w (shard_at shards k).row.group g d stand x' y' at' below after hd in
+          omega (
+            arith,
+            lowered (g * w + d) here,
+            raised (g * w + d) here1,
+            lost,
+            gained,
+            has.at g d hd here,
+            count_in-with_stand servers shards k g d stand inside,
+          );
+    }
 
-pub AreInside-cell : (servers : List ServerRow) (counts : List ℕ) (w g : ℕ) (x : Option ℕ) → HasCells counts g w → AreBelow servers w → HasRow servers x
+pub AreInside-cell : (servers : List ServerRow) (counts : List ℕ) (w g : ℕ) (x : Option ℕ) → HasCells counts g w
+    → AreBelow servers w → HasRow servers x
     → AreInside (length counts) (option_map (cell_of servers w g) x)
 AreInside-cell servers counts w g None cells below row = tt
 AreInside-cell servers counts w g (Some a) cells below row = cells.at (domain_of servers a) (below.at a row)
@@ -150,11 +152,13 @@ lower_one servers w shards k counts x y inside below cells before has at i hit =
     let once : amount_at x y 1 i ≡ 1 = ap (λ (p : Bool). cond p 1 0) hit in
     let there : amount_at x y 1 (g * w + d) ≡ amount_at x y 1 i = ap (amount_at x y 1) found.1.1 in
     let lost = gets_one servers w g g d (shard_at shards k).stand x y at below before found.1.0 in
-    let goal : 1 ≤ slice_index counts (g * w + d) = omega (arith, once, there, lost, has.at g d found.1.0 (cells.at d found.1.0), count_in-remove servers shards k g d inside) in
+    let goal : 1 ≤ slice_index counts (g * w + d) =
+    omega (arith, once, there, lost, has.at g d found.1.0 (cells.at d found.1.0), count_in-remove servers shards k g d inside) in
     rw (← found.1.1) goal
 
 -- what a counter gains fits, since the new count does
-pub raise_one : (servers : List ServerRow) (w : ℕ) (shards : List Shard) (k : ℕ) (stand : Stand) (counts0 counts1 : List ℕ) (x y x' y' : Option ℕ) (m : ℕ)
+pub raise_one : (servers : List ServerRow) (w : ℕ) (shards : List Shard) (k : ℕ) (stand : Stand) (counts0 counts1 : List ℕ)
+    (x y x' y' : Option ℕ) (m : ℕ)
     → k < length shards → AreBelow servers w → HasCells counts0 (shard_at shards k).row.group w
     → NamesKnown servers (shard_at shards k).stand → NamesKnown servers stand
     → HasCounts servers shards counts0 w
@@ -171,7 +175,18 @@ raise_one servers w shards k stand counts0 counts1 x y x' y' m inside below cell
     let there : amount_at x' y' 1 (g * w + d) ≡ amount_at x' y' 1 i = ap (amount_at x' y' 1) found.1.1 in
     let lost = gets_one servers w g g d (shard_at shards k).stand x y at below before found.1.0 in
     let gained = gets_one servers w g g d stand x' y' at' below after found.1.0 in
-    let goal : slice_index counts1 (g * w + d) + 1 < m = omega (arith, once, there, lost, gained, lowered (g * w + d) here, fits d, has.at g d found.1.0 here, count_in-with_stand servers shards k g d stand inside) in
+    let goal : slice_index counts1 (g * w + d) + 1 < m =
+    omega (
+      arith,
+      once,
+      there,
+      lost,
+      gained,
+      lowered (g * w + d) here,
+      fits d,
+      has.at g d found.1.0 here,
+      count_in-with_stand servers shards k g d stand inside,
+    ) in
     rw (← found.1.1) goal
 
 -- the other shards' count at the server's cell, where the counter and what the shard has in it are known

@@ -17,7 +17,8 @@ pub take-all : (xs ys : List ℕ) (n : ℕ) → n ≡ length xs → take n (xs +
 take-all [] ys n e = rw e refl
 take-all (x ∷ xs) ys n e = rw e (ap (λ v. x ∷ v) (take-all xs ys (length xs) refl))
 
-pub shard_at-same : (shards : List Shard) (k : ℕ) (stand : Stand) → k < length shards → shard_at (with_stand shards k stand) k ≡ moved (shard_at shards k) stand
+pub shard_at-same : (shards : List Shard) (k : ℕ) (stand : Stand) → k < length shards
+    → shard_at (with_stand shards k stand) k ≡ moved (shard_at shards k) stand
 shard_at-same shards k stand h = get_or-set_same shards k (moved (shard_at shards k) stand) no_shard h
 
 pub shard_at-other : (shards : List Shard) (k j : ℕ) (stand : Stand) → j ≢ k → shard_at (with_stand shards k stand) j ≡ shard_at shards j
@@ -31,30 +32,37 @@ pub HasRows-with_stand : (servers : List ServerRow) (groups : List GroupRow) (sh
 HasRows-with_stand servers groups shards k stand inside known rows = record {
   count = rw (length-with_stand shards k stand) rows.count;
   group = λ j h. elim (eqb_tells j k) [
-    | inl p ↦ let e : shard_at (with_stand shards k stand) j ≡ moved (shard_at shards k) stand = ap (shard_at (with_stand shards k stand)) p.1 ∙ shard_at-same shards k stand inside in rw e (rows.group k inside)
-    | inr p ↦ let e = shard_at-other shards k j stand p.1 in let h' : j < length shards = omega (arith, length-with_stand shards k stand) in rw e (rows.group j h')
+    | inl p ↦ let e : shard_at (with_stand shards k stand) j ≡ moved (shard_at shards k) stand =
+        ap (shard_at (with_stand shards k stand)) p.1 ∙ shard_at-same shards k stand inside in rw e (rows.group k inside)
+    | inr p ↦ let e = shard_at-other shards k j stand p.1 in let h' : j < length shards =
+        omega (arith, length-with_stand shards k stand) in rw e (rows.group j h')
   ];
   known = λ j h. elim (eqb_tells j k) [
-    | inl p ↦ let e : shard_at (with_stand shards k stand) j ≡ moved (shard_at shards k) stand = ap (shard_at (with_stand shards k stand)) p.1 ∙ shard_at-same shards k stand inside in subst (λ (s : Shard). NamesKnown servers s.stand) (sym e) known
-    | inr p ↦ let e = shard_at-other shards k j stand p.1 in let h' : j < length shards = omega (arith, length-with_stand shards k stand) in subst (λ (s : Shard). NamesKnown servers s.stand) (sym e) (rows.known j h')
+    | inl p ↦ let e : shard_at (with_stand shards k stand) j ≡ moved (shard_at shards k) stand =
+        ap (shard_at (with_stand shards k stand)) p.1
+        ∙ shard_at-same shards k stand inside in subst (λ (s : Shard). NamesKnown servers s.stand) (sym e) known
+    | inr p ↦ let e = shard_at-other shards k j stand p.1 in let h' : j < length shards =
+        omega (arith, length-with_stand shards k stand) in subst (λ (s : Shard). NamesKnown servers s.stand) (sym e) (rows.known j h')
   ];
 }
 
-pub IsTallied-with_stand : (servers : List ServerRow) (groups : List GroupRow) (shards : List Shard) (states : List ServerState) (loads counts loads' counts' : List ℕ) (w k : ℕ) (stand : Stand)
+pub IsTallied-with_stand : (servers : List ServerRow) (groups : List GroupRow) (shards : List Shard) (states : List ServerState)
+    (loads counts loads' counts' : List ℕ) (w k : ℕ) (stand : Stand)
     → k < length shards → NamesKnown servers stand → HasRoom servers groups (with_stand shards k stand)
     → IsTallied servers groups shards states loads counts w
     → HasLoads servers (with_stand shards k stand) loads'
     → HasCounts servers (with_stand shards k stand) counts' w
     → length counts' ≡ length counts
     → IsTallied servers groups (with_stand shards k stand) states loads' counts' w
-IsTallied-with_stand servers groups shards states loads counts loads' counts' w k stand inside known room tallied has_loads has_counts e = record {
-  has_ranges = tallied.has_ranges;
-  has_rows = HasRows-with_stand servers groups shards k stand inside known tallied.has_rows;
-  has_room = room;
-  has_loads = has_loads;
-  counts_len = e ∙ tallied.counts_len;
-  has_counts = has_counts;
-}
+IsTallied-with_stand servers groups shards states loads counts loads' counts' w k stand inside known room tallied has_loads has_counts e =
+    record {
+      has_ranges = tallied.has_ranges;
+      has_rows = HasRows-with_stand servers groups shards k stand inside known tallied.has_rows;
+      has_room = room;
+      has_loads = has_loads;
+      counts_len = e ∙ tallied.counts_len;
+      has_counts = has_counts;
+    }
 
 -- the counts of a group within its limit fit their type
 pub count_fits : (servers : List ServerRow) (groups : List GroupRow) (shards shards' : List Shard) (states : List ServerState) (w k : ℕ)

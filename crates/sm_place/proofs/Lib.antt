@@ -1,9 +1,10 @@
 pub mod Counting
 pub mod Leaving
-pub mod Fitting
 pub mod Keeping
+pub mod Naming
 pub mod Placing
 pub mod Planning
+pub mod Rooms
 pub mod Sharing
 pub mod Starting
 pub mod Turns

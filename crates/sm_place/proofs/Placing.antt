@@ -1,5 +1,6 @@
 -- How the table of places is filled.
-use Rattle.std.proofs.Common.{ℕ, zero, suc, ◌+◌, ◌<◌, ◌≤◌, ◌≡◌, ◌≢◌, false, not, cond, eqb, ltb, List, length, get_or, set, sym, refl, ap, ◌∙◌, inl, inr, ◌⊎◌, arith}
+use Rattle.std.proofs.Common.{ℕ, zero, suc, ◌+◌, ◌<◌, ◌≤◌, ◌≡◌, ◌≢◌, false, not, cond, eqb, ltb, List, length}
+use Rattle.std.proofs.Common.{get_or, set, sym, refl, ap, ◌∙◌, inl, inr, ◌⊎◌, arith}
 use Rattle.std.specs.Prelude.{replicate}
 use Rattle.std.proofs.lemmas.Bool.{lt-ltb, le-ltb, eq-eqb}
 use Rattle.std.proofs.lemmas.Bool.Decides.{eqb_tells}
@@ -30,11 +31,13 @@ pub record IsFilled (servers : List ServerRow) (m : ℕ) (places : List ℕ) (co
 pub IsFilled-new : (servers : List ServerRow) (m n : ℕ) → n ≡ length servers → IsFilled servers m (replicate m n) 0
 IsFilled-new servers m n e = record {
   len = length-replicate m n;
-  at = λ a h. get_or-replicate m a n 0 h ∙ e ∙ sym (ap (λ b. cond b (place_of servers a) (length servers)) (le-ltb (place_of servers a) 0 (omega arith)));
+  at = λ a h. get_or-replicate m a n 0 h ∙ e
+      ∙ sym (ap (λ b. cond b (place_of servers a) (length servers)) (le-ltb (place_of servers a) 0 (omega arith)));
 }
 
 -- the first row with a number is the one that has it
-pub place_of-row : (servers : List ServerRow) (i : ℕ) → AreRising servers → i < length servers → place_of servers (get_or servers i no_server).id ≡ i
+pub place_of-row : (servers : List ServerRow) (i : ℕ) → AreRising servers → i < length servers
+    → place_of servers (get_or servers i no_server).id ≡ i
 place_of-row servers i rise h =
     position_or_len_is (λ row. eqb row.id (get_or servers i no_server).id) servers i no_server (omega arith)
     (λ k below. other k below)
@@ -47,7 +50,8 @@ place_of-row servers i rise h =
     ]
 
 -- the next row has its place written
-pub IsFilled-next : (servers : List ServerRow) (m : ℕ) (places : List ℕ) (i a : ℕ) → AreRising servers → i < length servers → a ≡ (get_or servers i no_server).id → a < m
+pub IsFilled-next : (servers : List ServerRow) (m : ℕ) (places : List ℕ) (i a : ℕ) → AreRising servers → i < length servers
+    → a ≡ (get_or servers i no_server).id → a < m
     → IsFilled servers m places i → IsFilled servers m (set places a i) (i + 1)
 IsFilled-next servers m places i a rise h e small filled = record {
   len = length-set places a i ∙ filled.len;
@@ -56,27 +60,33 @@ IsFilled-next servers m places i a rise h e small filled = record {
         let here : place_of servers b ≡ i = ap (place_of servers) (p.1 ∙ e) ∙ place_of-row servers i rise h in
         let wide : a < length places = omega (arith, filled.len) in
         ap (λ v. get_or (set places a i) v 0) p.1 ∙ get_or-set_same places a i 0 wide
-        ∙ sym (ap (λ v. cond (ltb v (i + 1)) v (length servers)) here ∙ ap (λ v. cond v i (length servers)) (lt-ltb i (i + 1) (omega arith)))
+        ∙ sym (ap (λ v. cond (ltb v (i + 1)) v (length servers)) here
+        ∙ ap (λ v. cond v i (length servers)) (lt-ltb i (i + 1) (omega arith)))
     | inr p ↦
         get_or-set_other places a b i 0 p.1 ∙ filled.at b hb ∙ same b p.1 (split (place_of servers b) i)
   ];
 }
   where
     same : (b : ℕ) → b ≢ a → (place_of servers b < i) ⊎ (i ≤ place_of servers b)
-        → cond (ltb (place_of servers b) i) (place_of servers b) (length servers) ≡ cond (ltb (place_of servers b) (i + 1)) (place_of servers b) (length servers)
+        → cond (ltb (place_of servers b) i) (place_of servers b) (length servers)
+        ≡ cond (ltb (place_of servers b) (i + 1)) (place_of servers b) (length servers)
     same b ne (inl q) =
-        ap (λ v. cond v (place_of servers b) (length servers)) (lt-ltb (place_of servers b) i q ∙ sym (lt-ltb (place_of servers b) (i + 1) (omega arith)))
+        ap (λ v. cond v (place_of servers b) (length servers))
+        (lt-ltb (place_of servers b) i q ∙ sym (lt-ltb (place_of servers b) (i + 1) (omega arith)))
     same b ne (inr q) =
         let apart : place_of servers b ≢ i = λ s.
         let known : IsKnown servers b = omega (arith, s, h) in
         ne (sym (id-at_place servers b known) ∙ ap (λ v. (get_or servers v no_server).id) s ∙ sym e) in
-        ap (λ v. cond v (place_of servers b) (length servers)) (le-ltb (place_of servers b) i q ∙ sym (le-ltb (place_of servers b) (i + 1) (omega (arith, apart))))
+        ap (λ v. cond v (place_of servers b) (length servers))
+        (le-ltb (place_of servers b) i q ∙ sym (le-ltb (place_of servers b) (i + 1) (omega (arith, apart))))
 
 -- after the last row each server has its place
-pub HasPlaces-filled : (servers : List ServerRow) (places : List ℕ) (n : ℕ) → n ≡ length servers → IsFilled servers 4096 places n → HasPlaces servers places
+pub HasPlaces-filled : (servers : List ServerRow) (places : List ℕ) (n : ℕ) → n ≡ length servers
+    → IsFilled servers 4096 places n → HasPlaces servers places
 HasPlaces-filled servers places n e filled = record {
   len = filled.len;
-  at = λ a h. filled.at a h ∙ ap (λ v. cond (ltb (place_of servers a) v) (place_of servers a) (length servers)) e ∙ whole a (split (place_of servers a) (length servers));
+  at = λ a h. filled.at a h ∙ ap (λ v. cond (ltb (place_of servers a) v) (place_of servers a) (length servers)) e
+      ∙ whole a (split (place_of servers a) (length servers));
 }
   where
     whole : (a : ℕ) → (place_of servers a < length servers) ⊎ (length servers ≤ place_of servers a)

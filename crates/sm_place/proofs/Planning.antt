@@ -1,5 +1,7 @@
 -- How a plan goes on from shard to shard.
-use Rattle.std.proofs.Common.{ℕ, ◌+◌, ◌<◌, ◌≤◌, ◌≡◌, Bool, true, false, cond, eqb, List, [], ◌∷◌, length, get_or, drop, Option, Some, None, suc, refl, ap, sym, ◌∙◌, arith, drop-cons, add-one, All}
+use Rattle.std.proofs.Common.{ℕ, ◌+◌, ◌<◌, ◌≤◌, ◌≡◌, Bool, true, false, cond, eqb, List, [], ◌∷◌, length}
+use Rattle.std.proofs.Common.{get_or, drop, Option, Some, None, suc, refl, ap, sym, ◌∙◌, arith, drop-cons}
+use Rattle.std.proofs.Common.{add-one, All}
 use Rattle.std.specs.Prelude.{is_ok}
 use Rattle.std.proofs.lemmas.List.Elements.{All-nil, All-cons}
 use Rattle.sm_ranges.specs.declared.stand.Stand.TheVariants.{Serving}
@@ -28,12 +30,15 @@ first_fit-no books k servers i a all h e inv fails =
     rw add-one (sym step ∙ inv)
 
 -- a plan goes on with the next shard
-pub planned-next : (p : PlanView) (books : BooksView) (shards servers : List ℕ) (i k : ℕ) (all : PlanView) → i < length shards → k ≡ get_or shards i k
+pub planned-next : (p : PlanView) (books : BooksView) (shards servers : List ℕ) (i k : ℕ) (all : PlanView)
+    → i < length shards → k ≡ get_or shards i k
     → planned p books (drop i shards) servers ≡ all
-    → planned (plan_after p k (first_fit books k servers)) (books_after books k (first_fit books k servers)) (drop (i + 1) shards) servers ≡ all
+    → planned (plan_after p k (first_fit books k servers)) (books_after books k (first_fit books k servers))
+    (drop (i + 1) shards) servers ≡ all
 planned-next p books shards servers i k all h e inv =
     let d : drop i shards ≡ k ∷ drop (suc i) shards = rw (← e) at (drop-cons shards i k h) in
-    let step : planned p books (drop i shards) servers ≡ planned p books (k ∷ drop (suc i) shards) servers = ap (λ ks. planned p books ks servers) d in
+    let step : planned p books (drop i shards) servers ≡ planned p books (k ∷ drop (suc i) shards) servers =
+    ap (λ ks. planned p books ks servers) d in
     rw add-one (sym step ∙ inv)
 
 -- a plan begins with the books as they are
@@ -69,6 +74,7 @@ pub inside_shards : (from : Option ℕ) (n k : ℕ) (shards : List Shard) → k 
 inside_shards from n k [] h = All-nil (λ j. j < n)
 inside_shards from n k (s ∷ shards) h = step (stands_to_move from s.stand) (inside_shards from n (k + 1) shards (omega arith))
   where
-    step : (b : Bool) → All (λ j. j < n) (shards_from from (k + 1) shards) → All (λ j. j < n) (cond b (k ∷ shards_from from (k + 1) shards) (shards_from from (k + 1) shards))
+    step : (b : Bool) → All (λ j. j < n) (shards_from from (k + 1) shards)
+        → All (λ j. j < n) (cond b (k ∷ shards_from from (k + 1) shards) (shards_from from (k + 1) shards))
     step true rest = All-cons (λ j. j < n) k (shards_from from (k + 1) shards) (omega arith) rest
     step false rest = rest

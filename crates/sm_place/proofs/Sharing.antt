@@ -1,5 +1,6 @@
 -- What a stand adds at the places of its servers.
-use Rattle.std.proofs.Common.{ℕ, ◌+◌, ◌<◌, ◌≤◌, ◌≡◌, zero, suc, Bool, true, false, cond, eqb, List, [], ◌∷◌, length, get_or, Option, Some, None, sym, refl, ap, ◌∙◌, inl, inr, arith, ◌||◌}
+use Rattle.std.proofs.Common.{ℕ, ◌+◌, ◌<◌, ◌≤◌, ◌≡◌, zero, suc, Bool, true, false, cond, eqb, List, [], ◌∷◌}
+use Rattle.std.proofs.Common.{length, get_or, Option, Some, None, sym, refl, ap, ◌∙◌, inl, inr, arith, ◌||◌}
 use Rattle.std.specs.Prelude.{option_map, remove, slice_index}
 use Rattle.std.proofs.lemmas.Bool.{eqb-true, eq-eqb}
 use Rattle.std.proofs.lemmas.Bool.Decides.{eqb_tells}
@@ -12,6 +13,7 @@ use Rattle.sm_place.specs.Counters.{HasLoads}
 use Rattle.sm_place.specs.Cells.{amount_at, is_hit, AreInside, IsAt}
 use Rattle.sm_place.specs.Books.{no_server, no_shard, place_of, IsKnown, HasRow, NamesKnown, shard_at, with_stand}
 use Rattle.sm_place.specs.Room.{load_on, load_by}
+use Rattle.sm_place.proofs.Naming.{or_right}
 
 -- the row at a server's place is its own
 pub id-at_place : (servers : List ServerRow) (a : ℕ) → IsKnown servers a → (get_or servers (place_of servers a) no_server).id ≡ a
@@ -46,7 +48,8 @@ pub amount_at-place : (servers : List ServerRow) (a : ℕ) → IsKnown servers a
     → amount_at (option_map (place_of servers) x) (option_map (place_of servers) y) n (place_of servers a)
     ≡ cond (passes (λ b. eqb b a) x || passes (λ b. eqb b a) y) n 0
 amount_at-place servers a known x y n =
-    ap (λ (p : Bool). cond (p || passes (λ at. eqb at (place_of servers a)) (option_map (place_of servers) y)) n 0) (passes-place servers a known x)
+    ap (λ (p : Bool). cond (p || passes (λ at. eqb at (place_of servers a)) (option_map (place_of servers) y)) n 0)
+    (passes-place servers a known x)
     ∙ ap (λ (p : Bool). cond (passes (λ b. eqb b a) x || p) n 0) (passes-place servers a known y)
 
 -- the server gets the shard's load at its place where the stand names it
@@ -56,7 +59,8 @@ pub amount_at-load : (servers : List ServerRow) (a : ℕ) → IsKnown servers a 
 amount_at-load servers a known stand n = amount_at-place servers a known (owner_of stand) (other_of stand) n
 
 -- without one shard, a server has that much less to bear
-pub load_on-remove : (shards : List Shard) (k a : ℕ) → k < length shards → load_on (remove shards k) a + load_by a (shard_at shards k) ≡ load_on shards a
+pub load_on-remove : (shards : List Shard) (k a : ℕ) → k < length shards
+    → load_on (remove shards k) a + load_by a (shard_at shards k) ≡ load_on shards a
 load_on-remove shards k a h = sum_by-remove (load_by a) shards k no_shard h
 
 pub load_on-with_stand : (shards : List Shard) (k a : ℕ) (stand : Stand) → k < length shards
@@ -64,7 +68,8 @@ pub load_on-with_stand : (shards : List Shard) (k a : ℕ) (stand : Stand) → k
     ≡ load_on shards a + load_by a (record { row = (shard_at shards k).row; stand = stand })
 load_on-with_stand shards k a stand h = sum_by-set (load_by a) shards k (record { row = (shard_at shards k).row; stand = stand }) no_shard h
 
-pub AreInside-place : (servers : List ServerRow) (x : Option ℕ) → HasRow servers x → AreInside (length servers) (option_map (place_of servers) x)
+pub AreInside-place : (servers : List ServerRow) (x : Option ℕ) → HasRow servers x
+    → AreInside (length servers) (option_map (place_of servers) x)
 AreInside-place servers None h = tt
 AreInside-place servers (Some a) h = h
 
@@ -91,10 +96,6 @@ hit_place servers (Some a) (Some b) i hx hy e =
         | inr q ↦ let f : false ≡ true = rw (p.0, q.0) at e in absurd (cc)
       ]
     ]
-  where
-    or_right : (u v : Bool) → v ≡ true → (u || v) ≡ true
-    or_right true v h = refl
-    or_right false v h = h
 
 -- a shard's load counts at each server that it names
 pub load_by-named : (a : ℕ) (shard : Shard) → names shard.stand a ≡ true → load_by a shard ≡ shard.row.load
@@ -107,7 +108,8 @@ gets servers stand x y n a at known =
     ∙ ap (λ v. amount_at (option_map (place_of servers) (owner_of stand)) v n (place_of servers a)) at.other
     ∙ amount_at-load servers a known stand n
 
-pub hit_named : (servers : List ServerRow) (stand : Stand) (x y : Option ℕ) (i : ℕ) → IsAt servers stand x y → NamesKnown servers stand → is_hit x y i ≡ true
+pub hit_named : (servers : List ServerRow) (stand : Stand) (x y : Option ℕ) (i : ℕ) → IsAt servers stand x y
+    → NamesKnown servers stand → is_hit x y i ≡ true
     → (a : ℕ) × (IsKnown servers a × (place_of servers a ≡ i) × (names stand a ≡ true))
 hit_named servers stand x y i at known hit =
     hit_place servers (owner_of stand) (other_of stand) i known.0 known.1
@@ -118,7 +120,8 @@ abbrev pub moved : Shard → Stand → Shard
 moved shard stand = record { row = shard.row; stand = stand }
 
 -- the counters of loads, after the servers of one stand lost the shard's load and those of another gained it
-pub HasLoads-moved : (servers : List ServerRow) (shards : List Shard) (k : ℕ) (stand : Stand) (loads0 loads1 loads2 : List ℕ) (x y x' y' : Option ℕ) (n : ℕ)
+pub HasLoads-moved : (servers : List ServerRow) (shards : List Shard) (k : ℕ) (stand : Stand) (loads0 loads1 loads2 : List ℕ)
+    (x y x' y' : Option ℕ) (n : ℕ)
     → k < length shards
     → HasLoads servers shards loads0
     → IsAt servers (shard_at shards k).stand x y → IsAt servers stand x' y' → n ≡ (shard_at shards k).row.load
@@ -131,13 +134,24 @@ HasLoads-moved servers shards k stand loads0 loads1 loads2 x y x' y' n inside ha
   at = λ a known.
       let here : place_of servers a < length loads0 = rw has.len known in
       let here1 : place_of servers a < length loads1 = rw e1 here in
-      let lost : amount_at x y n (place_of servers a) ≡ load_by a (shard_at shards k) = gets servers (shard_at shards k).stand x y n a at known ∙ ap (λ m. cond (names (shard_at shards k).stand a) m 0) en in
-      let gained : amount_at x' y' n (place_of servers a) ≡ load_by a (moved (shard_at shards k) stand) = gets servers stand x' y' n a at' known ∙ ap (λ m. cond (names stand a) m 0) en in
-      omega (arith, lowered (place_of servers a) here, raised (place_of servers a) here1, lost, gained, has.at a known, load_on-with_stand shards k a stand inside);
+      let lost : amount_at x y n (place_of servers a) ≡ load_by a (shard_at shards k) =
+      gets servers (shard_at shards k).stand x y n a at known ∙ ap (λ m. cond (names (shard_at shards k).stand a) m 0) en in
+      let gained : amount_at x' y' n (place_of servers a) ≡ load_by a (moved (shard_at shards k) stand) =
+      gets servers stand x' y' n a at' known ∙ ap (λ m. cond (names stand a) m 0) en in
+      omega (
+        arith,
+        lowered (place_of servers a) here,
+        raised (place_of servers a) here1,
+        lost,
+        gained,
+        has.at a known,
+        load_on-with_stand shards k a stand inside,
+      );
 }
 
 -- what is raised fits, since the new sum does
-pub raise_fits : (servers : List ServerRow) (shards : List Shard) (k : ℕ) (stand : Stand) (loads0 loads1 : List ℕ) (x y x' y' : Option ℕ) (n m : ℕ)
+pub raise_fits : (servers : List ServerRow) (shards : List Shard) (k : ℕ) (stand : Stand) (loads0 loads1 : List ℕ)
+    (x y x' y' : Option ℕ) (n m : ℕ)
     → k < length shards
     → NamesKnown servers stand
     → HasLoads servers shards loads0
@@ -149,9 +163,19 @@ raise_fits servers shards k stand loads0 loads1 x y x' y' n m inside known has a
     let found = hit_named servers stand x' y' i at' known hit in
     let a = found.0 in
     let here : place_of servers a < length loads0 = rw has.len found.1.0 in
-    let lost : amount_at x y n (place_of servers a) ≡ load_by a (shard_at shards k) = gets servers (shard_at shards k).stand x y n a at found.1.0 ∙ ap (λ m. cond (names (shard_at shards k).stand a) m 0) en in
+    let lost : amount_at x y n (place_of servers a) ≡ load_by a (shard_at shards k) =
+    gets servers (shard_at shards k).stand x y n a at found.1.0 ∙ ap (λ m. cond (names (shard_at shards k).stand a) m 0) en in
     let gained : load_by a (moved (shard_at shards k) stand) ≡ n = load_by-named a (moved (shard_at shards k) stand) found.1.2 ∙ sym en in
-    let goal : slice_index loads1 (place_of servers a) + n < m = omega (arith, lowered (place_of servers a) here, lost, gained, has.at a found.1.0, fits a found.1.0, load_on-with_stand shards k a stand inside) in
+    let goal : slice_index loads1 (place_of servers a) + n < m =
+    omega (
+      arith,
+      lowered (place_of servers a) here,
+      lost,
+      gained,
+      has.at a found.1.0,
+      fits a found.1.0,
+      load_on-with_stand shards k a stand inside,
+    ) in
     rw (← found.1.1) goal
 
 -- the counter of a server that the stand names has the shard's load in it

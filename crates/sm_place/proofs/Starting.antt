@@ -1,5 +1,6 @@
 -- Why rows that keep their rules make books.
-use Rattle.std.proofs.Common.{ℕ, zero, suc, ◌+◌, ◌*◌, ◌<◌, ◌≤◌, ◌≡◌, Bool, true, false, cond, eqb, ltb, List, [], ◌∷◌, length, get_or, map, sym, refl, ◌∙◌, arith, ◌&&◌, Option, Some, None}
+use Rattle.std.proofs.Common.{ℕ, zero, suc, ◌+◌, ◌*◌, ◌<◌, ◌≤◌, ◌≡◌, Bool, true, false, cond, eqb, ltb, List}
+use Rattle.std.proofs.Common.{[], ◌∷◌, length, get_or, map, sym, refl, ◌∙◌, arith, ◌&&◌, Option, Some, None}
 use Rattle.std.specs.Prelude.{replicate}
 use Rattle.std.specs.List.{list_all}
 use Rattle.std.proofs.lemmas.Bool.{ltb-true}
@@ -11,17 +12,12 @@ use Rattle.sm_place.specs.declared.shard_row.ShardRow.{ShardRow}
 use Rattle.sm_place.specs.declared.server_state.ServerState.TheVariants.{Up}
 use Rattle.sm_place.specs.declared.books_fault.BooksFault.{BooksFault}
 use Rattle.sm_place.specs.declared.books_fault.BooksFault.TheVariants.{BadServers, BadGroups, BadShards}
-use Rattle.sm_place.specs.Books.{no_server, no_group, no_shard, place_of, rises_above, is_server, is_group, is_shard, are_servers, are_groups, are_shards, is_count, first_books_fault, vacant, shard_at}
+use Rattle.sm_place.specs.Books.{no_server, no_group, no_shard, place_of, rises_above, is_server, is_group}
+use Rattle.sm_place.specs.Books.{is_shard, are_servers, are_groups, are_shards, is_count, first_books_fault}
+use Rattle.sm_place.specs.Books.{vacant, shard_at}
 use Rattle.sm_place.specs.Room.{load_on, is_in, count_in}
 use Rattle.sm_place.specs.Counters.{AreRising, AreInRange, AreBelow, IsTallied}
-
-pub and_first : (u v : Bool) → (u && v) ≡ true → u ≡ true
-and_first true v e = refl
-and_first false v e = e
-
-pub and_second : (u v : Bool) → (u && v) ≡ true → v ≡ true
-and_second true v e = e
-and_second false v e = absurd (cc)
+use Rattle.sm_place.proofs.Naming.{and_first, and_second}
 
 -- rows without a fault keep their rules
 pub record AreBooks (servers : List ServerRow) (groups : List GroupRow) (shards : List ShardRow) : Type 0 where
@@ -29,12 +25,14 @@ pub record AreBooks (servers : List ServerRow) (groups : List GroupRow) (shards 
   pub groups_ok : are_groups groups ≡ true
   pub shards_ok : are_shards (length groups) shards ≡ true
 
-pub AreBooks-no_fault : (servers : List ServerRow) (groups : List GroupRow) (shards : List ShardRow) → first_books_fault servers groups shards ≡ None → AreBooks servers groups shards
+pub AreBooks-no_fault : (servers : List ServerRow) (groups : List GroupRow) (shards : List ShardRow)
+    → first_books_fault servers groups shards ≡ None → AreBooks servers groups shards
 AreBooks-no_fault servers groups shards e =
     let t = three (are_servers servers) (are_groups groups) (are_shards (length groups) shards) e in
     record { servers_ok = t.0; groups_ok = t.1.0; shards_ok = t.1.1 }
   where
-    three : (p q r : Bool) → ◌≡◌ {A = Option BooksFault} (cond p (cond q (cond r None (Some BadShards)) (Some BadGroups)) (Some BadServers)) None
+    three : (p q r : Bool)
+        → ◌≡◌ {A = Option BooksFault} (cond p (cond q (cond r None (Some BadShards)) (Some BadGroups)) (Some BadServers)) None
         → (p ≡ true) × ((q ≡ true) × (r ≡ true))
     three true true true e = (refl, (refl, refl))
     three true true false e = absurd (cc)
@@ -42,13 +40,15 @@ AreBooks-no_fault servers groups shards e =
     three false q r e = absurd (cc)
 
 -- each element passes a test that all pass
-pub list_all-each : {X : Type 0} (p : X → Bool) (xs : List X) (d : X) → list_all p xs ≡ true → (i : ℕ) → i < length xs → p (get_or xs i d) ≡ true
+pub list_all-each : {X : Type 0} (p : X → Bool) (xs : List X) (d : X) → list_all p xs ≡ true → (i : ℕ)
+    → i < length xs → p (get_or xs i d) ≡ true
 list_all-each p [] d e i h = absurd (omega arith)
 list_all-each p (x ∷ xs) d e zero h = and_first (p x) (list_all p xs) e
 list_all-each p (x ∷ xs) d e (suc i) h = list_all-each p xs d (and_second (p x) (list_all p xs) e) i (omega arith)
 
 -- rising numbers are all above the one that they rise from
-ids_above : (low : ℕ) (rows : List ServerRow) → rises_above low (map (λ row. row.id) rows) ≡ true → (j : ℕ) → j < length rows → low < (get_or rows j no_server).id
+ids_above : (low : ℕ) (rows : List ServerRow) → rises_above low (map (λ row. row.id) rows) ≡ true → (j : ℕ) → j < length rows
+    → low < (get_or rows j no_server).id
 ids_above low [] e j h = absurd (omega arith)
 ids_above low (row ∷ rows) e zero h = ltb-true low row.id (and_first (ltb low row.id) _ e)
 ids_above low (row ∷ rows) e (suc j) h =
@@ -65,7 +65,8 @@ ids_rise low (row ∷ rows) e zero (suc j) hi hj = ids_above row.id rows (and_se
 ids_rise low (row ∷ rows) e (suc i) (suc j) hi hj = ids_rise row.id rows (and_second (ltb low row.id) _ e) i j (omega arith) (omega arith)
 
 -- the rules of servers, but for their count
-rules_of : (rows : List ServerRow) → are_servers rows ≡ true → (rises_above 0 (map (λ row. row.id) rows) ≡ true) × (list_all is_server rows ≡ true)
+rules_of : (rows : List ServerRow) → are_servers rows ≡ true
+    → (rises_above 0 (map (λ row. row.id) rows) ≡ true) × (list_all is_server rows ≡ true)
 rules_of rows e =
     let rising = rises_above 0 (map (λ row. row.id) rows) in
     let both = and_first (is_count 4095 (length rows) && rising) (list_all is_server rows) e in
@@ -82,8 +83,12 @@ pub AreInRange-are_servers : (rows : List ServerRow) → are_servers rows ≡ tr
 AreInRange-are_servers rows e =
     let all = (rules_of rows e).1 in
     record {
-      domain = λ i h. let row = get_or rows i no_server in ltb-true row.domain 4096 (and_first (ltb row.domain 4096) (ltb row.capacity 4294967296) (list_all-each is_server rows no_server all i h));
-      capacity = λ i h. let row = get_or rows i no_server in ltb-true row.capacity 4294967296 (and_second (ltb row.domain 4096) (ltb row.capacity 4294967296) (list_all-each is_server rows no_server all i h));
+      domain = λ i h. let row =
+          get_or rows i no_server in ltb-true row.domain 4096
+          (and_first (ltb row.domain 4096) (ltb row.capacity 4294967296) (list_all-each is_server rows no_server all i h));
+      capacity = λ i h. let row =
+          get_or rows i no_server in ltb-true row.capacity 4294967296
+          (and_second (ltb row.domain 4096) (ltb row.capacity 4294967296) (list_all-each is_server rows no_server all i h));
     }
 
 -- vacant shards load no server
@@ -95,7 +100,12 @@ load_on-vacant (row ∷ rows) a = load_on-vacant rows a
 count_in-vacant : (servers : List ServerRow) (rows : List ShardRow) (g d : ℕ) → count_in servers (map vacant rows) g d ≡ 0
 count_in-vacant servers [] g d = refl
 count_in-vacant servers (row ∷ rows) g d =
-    omega (arith, sum_by-cons (λ s. cond (is_in servers g d s) 1 0) (vacant row) (map vacant rows), nowhere (eqb row.group g), count_in-vacant servers rows g d)
+    omega (
+      arith,
+      sum_by-cons (λ s. cond (is_in servers g d s) 1 0) (vacant row) (map vacant rows),
+      nowhere (eqb row.group g),
+      count_in-vacant servers rows g d,
+    )
   where
     nowhere : (b : Bool) → ◌≡◌ {A = ℕ} (cond (b && false) 1 0) 0
     nowhere true = refl
@@ -114,12 +124,16 @@ shard_at-vacant (row ∷ rows) (suc k) h = shard_at-vacant rows k (omega arith)
 -- rows by the rule of their count are at most 4,096
 few_of : {X : Type 0} (rows : List X) (all : Bool) → (is_count 4096 (length rows) && all) ≡ true → length rows ≤ 4096
 few_of rows all e =
-    let few : length rows < 4097 = ltb-true (length rows) 4097 (and_second (ltb 0 (length rows)) (ltb (length rows) 4097) (and_first (is_count 4096 (length rows)) all e)) in
+    let few : length rows < 4097 =
+    ltb-true (length rows) 4097
+    (and_second (ltb 0 (length rows)) (ltb (length rows) 4097) (and_first (is_count 4096 (length rows)) all e)) in
     omega arith
 
 -- new counters agree with new books
-pub IsTallied-new : (servers : List ServerRow) (groups : List GroupRow) (shards : List ShardRow) (w : ℕ) → AreBooks servers groups shards → AreBelow servers w
-    → IsTallied servers groups (map vacant shards) (replicate (length servers) Up) (replicate (length servers) 0) (replicate (length groups * w) 0) w
+pub IsTallied-new : (servers : List ServerRow) (groups : List GroupRow) (shards : List ShardRow) (w : ℕ)
+    → AreBooks servers groups shards → AreBelow servers w
+    → IsTallied servers groups (map vacant shards) (replicate (length servers) Up) (replicate (length servers) 0)
+    (replicate (length groups * w) 0) w
 IsTallied-new servers groups shards w ok below = record {
   has_ranges = record {
     states_len = length-replicate (length servers) Up;
@@ -129,7 +143,11 @@ IsTallied-new servers groups shards w ok below = record {
         few_of groups (list_all is_group groups) ok.groups_ok;
     limits = λ g h.
         let row = get_or groups g no_group in
-        let low : row.limit < 4097 = ltb-true row.limit 4097 (and_first (ltb row.limit 4097) (ltb row.down 4097) (list_all-each is_group groups no_group (and_second (is_count 4096 (length groups)) (list_all is_group groups) ok.groups_ok) g h)) in omega arith;
+        let low : row.limit < 4097 =
+        ltb-true row.limit 4097
+        (and_first (ltb row.limit 4097) (ltb row.down 4097)
+        (list_all-each is_group groups no_group
+        (and_second (is_count 4096 (length groups)) (list_all is_group groups) ok.groups_ok) g h)) in omega arith;
   };
   has_rows = record {
     count =
@@ -138,7 +156,11 @@ IsTallied-new servers groups shards w ok below = record {
     group = λ k h.
         let inside : k < length shards = omega (arith, length-vacant shards) in
         let row = get_or shards k no_shard.row in
-        let low : row.group < length groups = ltb-true row.group (length groups) (and_first (ltb row.group (length groups)) (ltb row.cap 2) (list_all-each (is_shard (length groups)) shards no_shard.row (and_second (is_count 4096 (length shards)) (list_all (is_shard (length groups)) shards) ok.shards_ok) k inside)) in
+        let low : row.group < length groups =
+        ltb-true row.group (length groups)
+        (and_first (ltb row.group (length groups)) (ltb row.cap 2)
+        (list_all-each (is_shard (length groups)) shards no_shard.row
+        (and_second (is_count 4096 (length shards)) (list_all (is_shard (length groups)) shards) ok.shards_ok) k inside)) in
         rw (shard_at-vacant shards k inside) low;
     known = λ k h.
         let inside : k < length shards = omega (arith, length-vacant shards) in

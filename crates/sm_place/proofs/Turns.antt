@@ -1,5 +1,6 @@
 -- Each turn of a plan keeps room.
-use Rattle.std.proofs.Common.{ℕ, ◌≡◌, ◌≢◌, inl, inr, cond, List, [], ◌∷◌, ◌++◌, All, Option, Some, None, Result, Ok, Err, refl, ap, ◌∙◌, append_assoc}
+use Rattle.std.proofs.Common.{ℕ, ◌≡◌, ◌≢◌, inl, inr, cond, List, [], ◌∷◌, ◌++◌, All, Option, Some, None}
+use Rattle.std.proofs.Common.{Result, Ok, Err, refl, ap, ◌∙◌, append_assoc}
 use Rattle.std.specs.Prelude.{is_ok}
 use Rattle.std.proofs.lemmas.List.Elements.{All-nil, All-cons}
 use Rattle.sm_place.specs.declared.plan.Move.{Move}
@@ -9,11 +10,13 @@ use Rattle.sm_place.specs.Room.{fit}
 use Rattle.sm_place.specs.Plans.{PlanView, no_plan, books_after, first_fit, plan_after, plan, planned, KeepsRoom}
 
 -- where there is no first fit, none of the servers fits
-pub first_fit-none : (books : BooksView) (k : ℕ) (servers : List ℕ) → first_fit books k servers ≡ None → All (λ a. fit books k a ≢ Ok tt) servers
+pub first_fit-none : (books : BooksView) (k : ℕ) (servers : List ℕ) → first_fit books k servers ≡ None
+    → All (λ a. fit books k a ≢ Ok tt) servers
 first_fit-none books k [] e = All-nil (λ a. fit books k a ≢ Ok tt)
 first_fit-none books k (a ∷ servers) e = step (fit books k a) refl (first_fit-none books k servers) e
   where
-    step : (r : Result (Unit {0}) PlaceFault) → fit books k a ≡ r → (first_fit books k servers ≡ None → All (λ b. fit books k b ≢ Ok tt) servers)
+    step : (r : Result (Unit {0}) PlaceFault) → fit books k a ≡ r
+        → (first_fit books k servers ≡ None → All (λ b. fit books k b ≢ Ok tt) servers)
         → ◌≡◌ {A = Option ℕ} (cond (is_ok r) (Some a) (first_fit books k servers)) None
         → All (λ b. fit books k b ≢ Ok tt) (a ∷ servers)
     step (Ok x) same again e' = absurd (cc)
@@ -44,12 +47,17 @@ append_nil [] = refl
 append_nil (x ∷ xs) = ap (λ ys. x ∷ ys) (append_nil xs)
 
 -- a plan that goes on adds what keeps room
-pub planned-adds : (p : PlanView) (books : BooksView) (shards servers : List ℕ) → Adds p books shards servers (planned p books shards servers)
-planned-adds p books [] servers = record { moves = []; left = []; moves_are = append_nil p.moves; left_are = append_nil p.left; keeps = (refl, refl) }
-planned-adds p books (k ∷ shards) servers = step (first_fit books k servers) refl (λ to. planned-adds (plan_after p k to) (books_after books k to) shards servers)
+pub planned-adds : (p : PlanView) (books : BooksView) (shards servers : List ℕ)
+    → Adds p books shards servers (planned p books shards servers)
+planned-adds p books [] servers =
+    record { moves = []; left = []; moves_are = append_nil p.moves; left_are = append_nil p.left; keeps = (refl, refl) }
+planned-adds p books (k ∷ shards) servers =
+    step (first_fit books k servers) refl (λ to. planned-adds (plan_after p k to) (books_after books k to) shards servers)
   where
     step : (to : Option ℕ) → first_fit books k servers ≡ to
-        → ((to : Option ℕ) → Adds (plan_after p k to) (books_after books k to) shards servers (planned (plan_after p k to) (books_after books k to) shards servers))
+        → ((to : Option ℕ)
+        → Adds (plan_after p k to) (books_after books k to) shards servers
+        (planned (plan_after p k to) (books_after books k to) shards servers))
         → Adds p books (k ∷ shards) servers (planned (plan_after p k to) (books_after books k to) shards servers)
     step None e again =
         let rest = again None in
@@ -71,7 +79,8 @@ planned-adds p books (k ∷ shards) servers = step (first_fit books k servers) r
         }
 
 -- a whole plan keeps room
-pub KeepsRoom-plan : (books : BooksView) (shards servers : List ℕ) → KeepsRoom books shards servers (plan books shards servers).moves (plan books shards servers).left
+pub KeepsRoom-plan : (books : BooksView) (shards servers : List ℕ)
+    → KeepsRoom books shards servers (plan books shards servers).moves (plan books shards servers).left
 KeepsRoom-plan books shards servers =
     let all = planned-adds no_plan books shards servers in
     rw (all.moves_are, all.left_are) all.keeps

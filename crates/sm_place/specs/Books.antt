@@ -1,5 +1,6 @@
 -- What the books hold, how a server's row is found, and which rows make books.
-use Rattle.std.specs.Prelude.{ℕ, ◌+◌, Bool, true, Option, Some, None, List, [], ◌∷◌, ◌<◌, ◌==◌, ◌&&◌, nat_lt, if◌then◌else◌, length, map, replicate, slice_index_or, slice_set}
+use Rattle.std.specs.Prelude.{ℕ, ◌+◌, Bool, true, Option, Some, None, List, [], ◌∷◌, ◌<◌, ◌==◌, ◌&&◌, nat_lt}
+use Rattle.std.specs.Prelude.{if◌then◌else◌, length, map, replicate, slice_index_or, slice_set}
 use Rattle.std.specs.List.{position_or_len, list_all}
 use Rattle.sm_ranges.specs.declared.stand.Stand.{Stand}
 use Rattle.sm_ranges.specs.declared.stand.Stand.TheVariants.{Vacant}
@@ -68,6 +69,10 @@ with_stand shards k stand = slice_set shards k (record { row = (shard_at shards 
 -- the server's state
 abbrev pub state_of : BooksView → ℕ → ServerState
 state_of books a = slice_index_or books.states (place_of books.servers a) Up
+
+-- the books where the server is in this state
+abbrev pub with_state : BooksView → ℕ → ServerState → BooksView
+with_state books a state = record books { states = slice_set books.states (place_of books.servers a) state }
 
 -- the numbers rise strictly, the first above low
 abbrev pub rises_above : ℕ → List ℕ → Bool

@@ -3,4 +3,5 @@ pub mod Cells
 pub mod Counters
 pub mod Plans
 pub mod Room
+pub mod Sound
 pub mod Stands

@@ -25,7 +25,8 @@ first_fit books k (a ∷ servers) = if is_ok (fit books k a) then Some a else fi
 -- the books after the server, where there is one, came to serve shard k
 abbrev pub books_after : BooksView → ℕ → Option ℕ → BooksView
 books_after books k None = books
-books_after books k (Some a) = record { servers = books.servers; groups = books.groups; shards = with_stand books.shards k (Serving a); states = books.states }
+books_after books k (Some a) =
+    record { servers = books.servers; groups = books.groups; shards = with_stand books.shards k (Serving a); states = books.states }
 
 -- the plan with the move of shard k to the server; where there is none, shard k is left
 abbrev pub plan_after : PlanView → ℕ → Option ℕ → PlanView
@@ -45,7 +46,8 @@ plan books shards servers = planned no_plan books shards servers
 -- the numbers, from k on, of the shards that stand to be moved
 abbrev pub shards_from : Option ℕ → ℕ → List Shard → List ℕ
 shards_from from k [] = []
-shards_from from k (s ∷ shards) = if stands_to_move from s.stand then k ∷ shards_from from (k + 1) shards else shards_from from (k + 1) shards
+shards_from from k (s ∷ shards) =
+    if stands_to_move from s.stand then k ∷ shards_from from (k + 1) shards else shards_from from (k + 1) shards
 
 -- the servers' numbers, but for the one that shards are moved from
 abbrev pub servers_but : Option ℕ → List ServerRow → List ℕ
@@ -60,9 +62,11 @@ assign_plan books = plan books (shards_from None 0 books.shards) (servers_but No
 abbrev pub drain_plan : BooksView → ℕ → PlanView
 drain_plan books a = plan books (shards_from (Some a) 0 books.shards) (servers_but (Some a) books.servers)
 
--- what each turn does: the next move is of the turn's shard to a server that it fits; or the shard is the next one left, and fits none of the servers
+-- what each turn does: the next move is of the turn's shard to a server that it fits; or the shard is the next one left, and
+-- fits none of the servers
 abbrev pub KeepsRoom : BooksView → List ℕ → List ℕ → List Move → List ℕ → Type 0
 KeepsRoom books [] servers moves left = (moves ≡ []) × (left ≡ [])
 KeepsRoom books (k ∷ shards) servers moves left =
-    ((a : ℕ) × (rest : List Move) × (moves ≡ record { shard = k; to = a } ∷ rest) × (fit books k a ≡ Ok tt) × KeepsRoom (books_after books k (Some a)) shards servers rest left)
+    ((a : ℕ) × (rest : List Move) × (moves ≡ record { shard = k; to = a } ∷ rest) × (fit books k a ≡ Ok tt)
+    × KeepsRoom (books_after books k (Some a)) shards servers rest left)
     ⊎ ((rest : List ℕ) × (left ≡ k ∷ rest) × All (λ a. fit books k a ≢ Ok tt) servers × KeepsRoom books shards servers moves rest)

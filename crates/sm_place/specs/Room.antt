@@ -1,5 +1,6 @@
 -- Room on servers and in fault domains, by sums and counts over all shards.
-use Rattle.std.specs.Prelude.{ℕ, Bool, Result, Ok, Err, List, ◌+◌, ◌<◌, ◌≤◌, ◌==◌, ◌&&◌, if◌then◌else◌, length, slice_index_or, sum_by, nat_lt, remove}
+use Rattle.std.specs.Prelude.{ℕ, Bool, Result, Ok, Err, List, ◌+◌, ◌<◌, ◌≤◌, ◌==◌, ◌&&◌, if◌then◌else◌}
+use Rattle.std.specs.Prelude.{length, slice_index_or, sum_by, nat_lt, remove}
 use Rattle.std.specs.List.{count_by}
 use Rattle.sm_ranges.specs.declared.stand.Stand.{Stand}
 use Rattle.sm_place.specs.declared.server_row.ServerRow.{ServerRow}

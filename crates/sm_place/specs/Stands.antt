@@ -1,5 +1,5 @@
 -- The servers that a stand names, and the servers that are leaving.
-use Rattle.std.specs.Prelude.{ℕ, Bool, true, false, Option, Some, None, ◌==◌, ◌||◌}
+use Rattle.std.specs.Prelude.{ℕ, Bool, true, false, Option, Some, None, IfSome, ◌==◌, ◌||◌}
 use Rattle.sm_ranges.specs.declared.stand.Stand.{Stand}
 use Rattle.sm_ranges.specs.declared.stand.Stand.TheVariants.{Vacant, Serving, Prepared, Forwarding, Taken, Paused}
 use Rattle.sm_place.specs.declared.server_state.ServerState.{ServerState}
@@ -35,6 +35,10 @@ names_one test stand = passes test (owner_of stand) || passes test (other_of sta
 -- whether the stand names the server
 abbrev pub names : Stand → ℕ → Bool
 names stand a = names_one (λ b. b == a) stand
+
+-- each server that the stand names is such
+abbrev pub AllNamed : (ℕ → Type 0) → Stand → Type 0
+AllNamed IsSuch stand = IfSome (owner_of stand) IsSuch × IfSome (other_of stand) IsSuch
 
 -- whether a plan moves a shard of this stand: one that the server serves, or without a server a vacant one
 abbrev pub stands_to_move : Option ℕ → Stand → Bool

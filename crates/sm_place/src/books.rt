@@ -1,11 +1,16 @@
-ghost use Rattle.std.specs.Prelude.{All, ◌≡◌, ◌<◌, ◌↔◌, IfOk, IfSome, IfNone, IsOkUnless, IsTrue, Err, Ok, Some, None, length, OnOk, slice_set};
-ghost use Rattle.sm_place.specs.Books.{first_books_fault, new_books, IsKnown, NamesKnown, place_of, shard_at, state_of, with_stand};
-ghost use Rattle.sm_place.specs.Room.{fit, HasRoom};
-ghost use Rattle.sm_place.specs.Plans.{KeepsRoom, assign_plan, books_after, drain_plan, first_fit, plan, plan_after, servers_but, shards_from};
+ghost use Rattle.std.specs.Prelude.{All, ◌≡◌, ◌+◌, ◌<◌, ◌↔◌, IfOk, IfSome, IfNone, IsOkUnless, IsTrue, Err, Ok, Some, None, OnOk};
+ghost use Rattle.std.specs.Prelude.{length, nat_lt, remove, slice_index_or};
+ghost use Rattle.sm_place.specs.Books.{first_books_fault, new_books, IsKnown, NamesKnown};
+ghost use Rattle.sm_place.specs.Books.{domain_of, no_group, server_of, shard_at, state_of, with_stand, with_state};
+ghost use Rattle.sm_place.specs.Room.{count_in, fit, load_on, HasRoom};
+ghost use Rattle.sm_place.specs.Sound.{AreSound};
+ghost use Rattle.sm_place.specs.Plans.{KeepsRoom, assign_plan, books_after, drain_plan, first_fit, plan, plan_after};
+ghost use Rattle.sm_place.specs.Plans.{servers_but, shards_from};
 
 use crate::books_fault::BooksFault;
 use crate::candidates::{servers_but, shards_to_move};
 use crate::group_row::GroupRow;
+use crate::laws::fit_leaves_room;
 use crate::place_fault::PlaceFault;
 use crate::plan::Plan;
 use crate::roster::Roster;
@@ -103,6 +108,21 @@ impl Books {
         self.shards.as_slice()
     }
 
+    /// The states, in the order of the servers.
+    pub fn states(&self) -> &[ServerState]
+        ensures { result.now ≡ self.now.states }
+    {
+        self.states.as_slice()
+    }
+
+    /// Says, for proofs alone, what holds of all books. It does nothing.
+    pub fn soundness(&self)
+        ensures { AreSound self.now }
+    {
+        // This opens the value, whose invariant the proof cites.
+        let _ = &self.width;
+    }
+
     /// The stand of the shard.
     pub fn stand(&self, k: ShardId) -> Stand
         requires { k < length self.now.shards }
@@ -122,7 +142,7 @@ impl Books {
     /// Sets the state of the server.
     pub fn set_state(&mut self, a: ServerId, state: ServerState)
         requires { IsKnown self.old.servers a }
-        ensures { self.new ≡ record self.old { states = slice_set self.old.states (place_of self.old.servers a) state } }
+        ensures { self.new ≡ with_state self.old a state }
     {
         let at = self.roster.place(a);
         self.states[at] = state;
@@ -156,27 +176,50 @@ impl Books {
         requires known { IsKnown self.now.servers a }
         ensures { result ≡ fit self.now k a }
     {
-        let at = k.index();
-        let row = self.shards[at].row;
         if self.state(a).is_leaving() {
             return Err(PlaceFault::Leaving);
         }
-        let load = other_load(&self.loads, &self.roster, &self.shards, at, a);
-        if load as u64 + row.load as u64 > self.roster.row(a).capacity as u64 {
+        if self.exceeds_capacity(k, a) {
             return Err(PlaceFault::NoCapacity);
         }
-        let count = other_count(&self.counts, &self.roster, self.width, &self.shards, at, a);
-        if count as u64 + 1 > self.groups[row.group as usize].limit as u64 {
+        if self.exceeds_limit(k, a) {
             return Err(PlaceFault::DomainLimit);
         }
         Ok(())
+    }
+
+    // Whether the shard and the others that name the server exceed its capacity.
+    fn exceeds_capacity(&self, k: ShardId, a: ServerId) -> bool
+        requires shard { k < length self.now.shards }
+        requires known { IsKnown self.now.servers a }
+        ensures { result ≡ nat_lt (server_of self.now.servers a).capacity
+            (load_on (remove self.now.shards k) a + (shard_at self.now.shards k).row.load) }
+    {
+        let others = other_load(&self.loads, &self.roster, &self.shards, k.index(), a);
+        let own = self.shards[k.index()].row.load;
+        u64::from(others) + u64::from(own) > u64::from(self.roster.row(a).capacity)
+    }
+
+    // Whether the shard and the others of its group in the server's domain exceed the group's limit.
+    fn exceeds_limit(&self, k: ShardId, a: ServerId) -> bool
+        requires shard { k < length self.now.shards }
+        requires known { IsKnown self.now.servers a }
+        ensures { let group = (shard_at self.now.shards k).row.group in
+            result ≡ nat_lt (slice_index_or self.now.groups group no_group).limit
+            (count_in self.now.servers (remove self.now.shards k) group (domain_of self.now.servers a) + 1) }
+    {
+        let at = k.index();
+        let others = other_count(&self.counts, &self.roster, self.width, &self.shards, at, a);
+        let group = self.shards[at].row.group;
+        others >= u32::from(self.groups[usize::from(group)].limit)
     }
 
     /// Each Vacant shard by number goes to the lowest-numbered server that it fits, earlier moves counted as made.
     /// The shards that fit no server in their turn are left.
     pub fn plan_assign(&self, alloc: Global) -> Result<Plan, AllocError>
         ensures plan { IfOk result (λ plan. plan ≡ assign_plan self.now) }
-        ensures keeps_room { IfOk result (λ plan. KeepsRoom self.now (shards_from None 0 self.now.shards) (servers_but None self.now.servers) plan.moves plan.left) }
+        ensures keeps_room { IfOk result (λ plan. KeepsRoom self.now (shards_from None 0 self.now.shards)
+            (servers_but None self.now.servers) plan.moves plan.left) }
     {
         self.plan(alloc, &None)
     }
@@ -185,15 +228,18 @@ impl Books {
     /// earlier moves counted as wholly migrated. A shard that names the server in another stand is not in the plan.
     pub fn plan_drain(&self, alloc: Global, a: ServerId) -> Result<Plan, AllocError>
         ensures plan { IfOk result (λ plan. plan ≡ drain_plan self.now a) }
-        ensures keeps_room { IfOk result (λ plan. KeepsRoom self.now (shards_from (Some a) 0 self.now.shards) (servers_but (Some a) self.now.servers) plan.moves plan.left) }
+        ensures keeps_room { IfOk result (λ plan. KeepsRoom self.now (shards_from (Some a) 0 self.now.shards)
+            (servers_but (Some a) self.now.servers) plan.moves plan.left) }
     {
         self.plan(alloc, &Some(a))
     }
 
     // The plan for the shards that the server serves, or without a server for the Vacant ones. The moves are made in a copy.
     fn plan(&self, alloc: Global, from: &Option<ServerId>) -> Result<Plan, AllocError>
-        ensures plan { IfOk result (λ found. found ≡ plan self.now (shards_from from.now 0 self.now.shards) (servers_but from.now self.now.servers)) }
-        ensures keeps_room { IfOk result (λ found. KeepsRoom self.now (shards_from from.now 0 self.now.shards) (servers_but from.now self.now.servers) found.moves found.left) }
+        ensures plan { IfOk result (λ found. found ≡ plan self.now (shards_from from.now 0 self.now.shards)
+            (servers_but from.now self.now.servers)) }
+        ensures keeps_room { IfOk result (λ found. KeepsRoom self.now (shards_from from.now 0 self.now.shards)
+            (servers_but from.now self.now.servers) found.moves found.left) }
     {
         let shards = shards_to_move(alloc, &self.shards, from)?;
         let servers = servers_but(alloc, self.servers(), from)?;
@@ -229,8 +275,8 @@ impl Books {
         requires fits { fit self.old k a ≡ Ok tt }
         ensures { self.new ≡ books_after self.old k (Some a) }
     {
-        // The proof takes the room of the other stands from the invariant, which this opens.
-        let _ = &self.width;
+        self.soundness();
+        fit_leaves_room();
         self.set_stand(k, Stand::Serving(a));
     }
 
@@ -267,176 +313,4 @@ impl Books {
 }
 
 #[cfg(test)]
-mod tests {
-    use super::*;
-    use std::process::Abort;
-    use std::test::Fail;
-
-    fn server(id: u16, domain: u16, capacity: u32) -> Result<ServerRow, Fail> {
-        let id = ServerId::new(id).ok_or("a server")?;
-        Ok(ServerRow {
-            id,
-            domain,
-            capacity,
-        })
-    }
-
-    // Three servers in two domains, one group, and two shards of load 1.
-    fn books(alloc: Global, limit: u16, second_capacity: u32) -> Result<Books, Fail> {
-        let servers = [
-            server(1, 0, 2)?,
-            server(2, 1, second_capacity)?,
-            server(3, 1, 2)?,
-        ];
-        let groups = [GroupRow { limit, down: 1 }];
-        let shards = [
-            ShardRow {
-                group: 0,
-                load: 1,
-                cap: 0,
-            },
-            ShardRow {
-                group: 0,
-                load: 1,
-                cap: 1,
-            },
-        ];
-        Ok(Books::new(alloc, &servers, &groups, &shards)?)
-    }
-
-    // Has the server serve the shard, where it fits.
-    fn assign(
-        rt: &impl Abort,
-        books: &mut Books,
-        k: u16,
-        a: u16,
-    ) -> Result<Result<(), PlaceFault>, Fail> {
-        let k = ShardId::new(k).ok_or("a shard")?;
-        let a = ServerId::new(a).ok_or("a server")?;
-        assert!(rt; k.index() < books.rows().len());
-        assert!(rt; books.knows(a));
-        let fits = books.fits(k, a);
-        if let Ok(()) = fits {
-            books.serve(k, a);
-        }
-        Ok(fits)
-    }
-
-    // The moves of a plan as pairs of numbers, and the shards left.
-    fn text_of(alloc: Global, plan: &Plan) -> Result<String, Fail> {
-        let mut text = String::new(alloc);
-        for to in plan.moves() {
-            text.push_str(&format!(in alloc; "{}>{} ", to.shard, to.to)?)?;
-        }
-        text.push_str("left")?;
-        for k in plan.left() {
-            text.push_str(&format!(in alloc; " {k}")?)?;
-        }
-        Ok(text)
-    }
-
-    #[test]
-    fn plans_where_all_fits(rt: HostRuntime) -> Result<(), Fail> {
-        let books = books(rt.alloc(), 2, 2)?;
-        let plan = books.plan_assign(rt.alloc())?;
-        assert_eq!(rt; text_of(rt.alloc(), &plan)?.as_str(), "0>1 1>1 left");
-        assert_eq!(rt; books.servers().len(), 3);
-        assert_eq!(rt; books.groups().len(), 1);
-        Ok(())
-    }
-
-    #[test]
-    fn drains_within_limits(rt: HostRuntime) -> Result<(), Fail> {
-        let mut books = books(rt.alloc(), 1, 1)?;
-        assert_eq!(rt; assign(&rt, &mut books, 0, 1)?, Ok(()));
-        assert_eq!(rt;
-            assign(&rt, &mut books, 1, 1)?,
-            Err(PlaceFault::DomainLimit)
-        );
-        assert_eq!(rt; assign(&rt, &mut books, 1, 2)?, Ok(()));
-        let second = ServerId::new(2).ok_or("a server")?;
-        let plan = books.plan_drain(rt.alloc(), second)?;
-        assert_eq!(rt; text_of(rt.alloc(), &plan)?.as_str(), "1>3 left");
-        let first = ServerId::new(1).ok_or("a server")?;
-        let plan = books.plan_drain(rt.alloc(), first)?;
-        assert_eq!(rt; text_of(rt.alloc(), &plan)?.as_str(), "left 0");
-        assert_eq!(rt; assign(&rt, &mut books, 1, 3)?, Ok(()));
-        assert_eq!(rt;
-            assign(&rt, &mut books, 0, 2)?,
-            Err(PlaceFault::DomainLimit)
-        );
-
-        assert!(rt; books.knows(second));
-        assert_eq!(rt; books.state(second), ServerState::Up);
-        books.set_state(second, ServerState::Approved);
-        assert_eq!(rt; assign(&rt, &mut books, 0, 2)?, Err(PlaceFault::Leaving));
-        Ok(())
-    }
-
-    #[test]
-    fn fills_a_server_to_its_capacity(rt: HostRuntime) -> Result<(), Fail> {
-        let mut books = books(rt.alloc(), 2, 1)?;
-        assert_eq!(rt; assign(&rt, &mut books, 1, 2)?, Ok(()));
-        assert_eq!(rt; assign(&rt, &mut books, 0, 2)?, Err(PlaceFault::NoCapacity));
-        assert_eq!(rt; assign(&rt, &mut books, 1, 2)?, Ok(()));
-
-        let second = ShardId::new(1).ok_or("a shard")?;
-        assert!(rt; second.index() < books.rows().len());
-        let server = ServerId::new(2).ok_or("a server")?;
-        assert_eq!(rt; books.stand(second), Stand::Serving(server));
-        Ok(())
-    }
-
-    #[test]
-    fn names_the_first_fault(rt: HostRuntime) -> Result<(), Fail> {
-        let servers = [server(1, 0, 2)?, server(4095, 4095, 0)?];
-        let equal = [server(2, 0, 2)?, server(2, 1, 2)?];
-        let far = [server(1, 4096, 2)?];
-        let groups = [GroupRow {
-            limit: 4096,
-            down: 0,
-        }];
-        let wide = [GroupRow {
-            limit: 4097,
-            down: 0,
-        }];
-        let deep = [GroupRow {
-            limit: 0,
-            down: 4097,
-        }];
-        let shards = [ShardRow {
-            group: 0,
-            load: 1,
-            cap: 1,
-        }];
-        let capped = [ShardRow {
-            group: 0,
-            load: 1,
-            cap: 2,
-        }];
-        let astray = [ShardRow {
-            group: 1,
-            load: 1,
-            cap: 0,
-        }];
-        let cases: [(&[ServerRow], &[GroupRow], &[ShardRow], Option<BooksFault>); 10] = [
-            (&servers, &groups, &shards, None),
-            (&[], &[], &[], Some(BooksFault::BadServers)),
-            (&equal, &wide, &shards, Some(BooksFault::BadServers)),
-            (&far, &groups, &shards, Some(BooksFault::BadServers)),
-            (&servers, &[], &capped, Some(BooksFault::BadGroups)),
-            (&servers, &wide, &shards, Some(BooksFault::BadGroups)),
-            (&servers, &deep, &shards, Some(BooksFault::BadGroups)),
-            (&servers, &groups, &[], Some(BooksFault::BadShards)),
-            (&servers, &groups, &capped, Some(BooksFault::BadShards)),
-            (&servers, &groups, &astray, Some(BooksFault::BadShards)),
-        ];
-        for (servers, groups, shards, fault) in &cases {
-            assert_eq!(rt;
-                Books::new(rt.alloc(), servers, groups, shards).err(),
-                *fault
-            );
-        }
-        Ok(())
-    }
-}
+mod tests;

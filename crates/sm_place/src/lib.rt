@@ -7,6 +7,7 @@ pub mod books_fault;
 mod candidates;
 mod counters;
 pub mod group_row;
+pub mod laws;
 pub mod named;
 pub mod place_fault;
 pub mod plan;

@@ -1,5 +1,5 @@
 ghost use Rattle.std.specs.Prelude.{◌≡◌};
-ghost use Rattle.sm_place.specs.Stands.{owner_of, other_of, stands_to_move};
+ghost use Rattle.sm_place.specs.Stands.{names, owner_of, other_of, stands_to_move};
 
 use sm_ranges::server_id::ServerId;
 use sm_ranges::stand::Stand;
@@ -27,6 +27,13 @@ pub fn other_of(stand: &Stand) -> Option<ServerId>
         Stand::Taken { previous, .. } => Some(previous),
         Stand::Vacant | Stand::Serving(_) | Stand::Paused(_) => None,
     }
+}
+
+/// Whether the stand names the server.
+pub fn names(stand: &Stand, a: ServerId) -> bool
+    ensures { result ≡ names stand.now a }
+{
+    owner_of(stand) == Some(a) || other_of(stand) == Some(a)
 }
 
 /// Whether a plan moves a shard of this stand: one that the server serves, or without a server a Vacant one.

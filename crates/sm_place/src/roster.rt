@@ -39,7 +39,7 @@ impl Roster {
     {
         let mut places = vec![in alloc; rows.len() as u16; 4096]?;
         for (at, row) in rows.iter().enumerate() {
-            places[row.id.number() as usize] = at as u16;
+            places[usize::from(row.id.number())] = at as u16;
         }
         Ok(Roster {
             rows: Vec::from_slice(alloc, rows)?,
@@ -68,7 +68,7 @@ impl Roster {
     pub fn place(&self, a: ServerId) -> usize
         ensures { result ≡ place_of self.now a }
     {
-        self.places[a.number() as usize] as usize
+        usize::from(self.places[usize::from(a.number())])
     }
 
     /// The row of the server.
@@ -83,7 +83,7 @@ impl Roster {
     pub fn knows(&self, a: ServerId) -> bool
         ensures { IsTrue result ↔ IsKnown self.now a }
     {
-        (self.places[a.number() as usize] as usize) < self.rows.len()
+        usize::from(self.places[usize::from(a.number())]) < self.rows.len()
     }
 
     /// The places of the servers that the stand names.
@@ -112,7 +112,7 @@ impl Roster {
         requires fits { width ≤ 4096 }
         ensures { result ≡ cell_of self.now width group a }
     {
-        group as usize * width + self.rows[self.place(a)].domain as usize
+        usize::from(group) * width + usize::from(self.rows[self.place(a)].domain)
     }
 
     /// The counters of the group and the domains of the servers that the stand names.

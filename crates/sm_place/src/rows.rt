@@ -1,6 +1,7 @@
-ghost use Rattle.std.specs.Prelude.{◌≡◌, ◌<◌, ℕ, IfOk, length, map, slice_index_or};
+ghost use Rattle.std.specs.Prelude.{◌≡◌, IfOk, map};
 ghost use Rattle.std.specs.List.{list_all};
-ghost use Rattle.sm_place.specs.Books.{are_groups, are_servers, are_shards, first_books_fault, is_group, is_server, is_shard, rises_above, vacant};
+ghost use Rattle.sm_place.specs.Books.{are_groups, are_servers, are_shards, first_books_fault};
+ghost use Rattle.sm_place.specs.Books.{is_group, is_server, is_shard, rises_above, vacant};
 ghost use Rattle.sm_place.specs.Counters.{AreBelow, AreInRange};
 
 use crate::books_fault::BooksFault;
@@ -91,7 +92,7 @@ fn shards_in_range(groups: usize, rows: &[ShardRow]) -> bool
     ensures { result ≡ list_all (is_shard groups) rows.now }
 {
     for row in rows {
-        if row.group as usize >= groups || row.cap >= 2 {
+        if usize::from(row.group) >= groups || row.cap >= 2 {
             return false;
         }
     }
@@ -105,7 +106,7 @@ pub(crate) fn width_of(rows: &[ServerRow]) -> usize
 {
     let mut width = 0;
     for row in rows {
-        width = width.max(row.domain as usize + 1);
+        width = width.max(usize::from(row.domain) + 1);
     }
     width
 }

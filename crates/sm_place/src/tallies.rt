@@ -1,4 +1,4 @@
-ghost use Rattle.std.specs.Prelude.{◌≡◌, ◌+◌, ◌*◌, ◌^◌, ◌<◌, ◌≤◌, ℕ, length, remove};
+ghost use Rattle.std.specs.Prelude.{◌≡◌, ◌^◌, ◌<◌, ℕ, length, remove};
 ghost use Rattle.sm_place.specs.Books.{domain_of, IsKnown, NamesKnown, shard_at, with_stand};
 ghost use Rattle.sm_place.specs.Room.{count_in, load_on};
 ghost use Rattle.sm_place.specs.Counters.{AreBelow, HasCells, HasCounts, HasLoads};

@@ -10,7 +10,8 @@ use Rattle.sm_place.proofs.books.Books.plan.Goals as goal
 pub loop-k-init : goal.loop-k-init
 loop-k-init c =
     record {
-      going_on = planned_from c.new-plan.result c.in_ok-books.books c.args.self.now c.deref-k-items.result.now c.in_ok-servers.servers.items c.new-plan.ensures c.in_ok-books.ensures;
+      going_on = planned_from c.new-plan.result c.in_ok-books.books c.args.self.now c.deref-k-items.result.now c.in_ok-servers.servers.items
+          c.new-plan.ensures c.in_ok-books.ensures;
       servers_stay = ap (λ (b : BooksView). b.servers) c.in_ok-books.ensures;
       count_stays = ap (λ (b : BooksView). length b.shards) c.in_ok-books.ensures;
     }
@@ -22,7 +23,8 @@ place-requires-clause-shard c =
     let inside : All (λ j. j < length c.self.inside.shards.items) c.deref-k-items.result.now =
     rw all (inside_shards c.args.from.now (length c.self.inside.shards.items) 0 c.self.inside.shards.items (omega arith)) in
     let k : get_or c.deref-k-items.result.now c.loop-k.k-index c.k-item.result < length c.self.inside.shards.items =
-    All-get_or (λ j. j < length c.self.inside.shards.items) c.deref-k-items.result.now c.loop-k.k-index c.k-item.result c.loop-k-test.true inside in
+    All-get_or (λ j. j < length c.self.inside.shards.items) c.deref-k-items.result.now c.loop-k.k-index
+    c.k-item.result c.loop-k-test.true inside in
     let same : length c.self.inside.shards.items ≡ length c.args.self.now.shards = ap (λ (b : BooksView). length b.shards) c.self.view_is in
     omega (arith, k, c.k-item.is, same, c.loop-k.invariant.count_stays)
 
@@ -37,13 +39,19 @@ loop-k-preserved c =
     let shards = c.deref-k-items.result.now in
     let servers = c.in_ok-servers.servers.items in
     let same = c.deref-in-loop-k.ensures.value in
-    let moved : c.place.new.self ≡ books_after c.loop-k.books c.k-item.result (first_fit c.loop-k.books c.k-item.result servers) = rw same at c.in_ok-place.ensures.books in
-    let told : c.place.new.plan ≡ plan_after c.loop-k.plan c.k-item.result (first_fit c.loop-k.books c.k-item.result servers) = rw same at c.in_ok-place.ensures.plan in
+    let moved : c.place.new.self ≡ books_after c.loop-k.books c.k-item.result (first_fit c.loop-k.books c.k-item.result servers) =
+    rw same at c.in_ok-place.ensures.books in
+    let told : c.place.new.plan ≡ plan_after c.loop-k.plan c.k-item.result (first_fit c.loop-k.books c.k-item.result servers) =
+    rw same at c.in_ok-place.ensures.plan in
     let to = first_fit c.loop-k.books c.k-item.result servers in
     record {
-      going_on = rw (moved, told) (planned-next c.loop-k.plan c.loop-k.books shards servers c.loop-k.k-index c.k-item.result (plan c.args.self.now shards servers) c.loop-k-test.true c.k-item.is c.loop-k.invariant.going_on);
-      servers_stay = ap (λ (b : BooksView). b.servers) moved ∙ servers-books_after c.loop-k.books c.k-item.result to ∙ c.loop-k.invariant.servers_stay;
-      count_stays = ap (λ (b : BooksView). length b.shards) moved ∙ count-books_after c.loop-k.books c.k-item.result to ∙ c.loop-k.invariant.count_stays;
+      going_on = rw (moved, told)
+          (planned-next c.loop-k.plan c.loop-k.books shards servers c.loop-k.k-index c.k-item.result (plan c.args.self.now shards servers)
+          c.loop-k-test.true c.k-item.is c.loop-k.invariant.going_on);
+      servers_stay = ap (λ (b : BooksView). b.servers) moved ∙ servers-books_after c.loop-k.books c.k-item.result to
+          ∙ c.loop-k.invariant.servers_stay;
+      count_stays = ap (λ (b : BooksView). length b.shards) moved ∙ count-books_after c.loop-k.books c.k-item.result to
+          ∙ c.loop-k.invariant.count_stays;
     }
 
 pub returns-clause-plan : goal.returns-clause-plan
@@ -54,7 +62,8 @@ returns-clause-plan c =
     let done : c.loop-k.plan ≡ plan c.args.self.now shards servers =
     sym (ap (λ ks. planned c.loop-k.plan c.loop-k.books ks servers) none) ∙ c.loop-k.invariant.going_on in
     let from_shards : shards ≡ shards_from c.args.from.now 0 c.args.self.now.shards =
-    c.deref-k-items.ensures.value ∙ c.in_ok-shards.ensures ∙ ap (shards_from c.args.from.now 0) (c.deref.ensures.value ∙ ap (λ (b : BooksView). b.shards) c.self.view_is) in
+    c.deref-k-items.ensures.value ∙ c.in_ok-shards.ensures
+    ∙ ap (shards_from c.args.from.now 0) (c.deref.ensures.value ∙ ap (λ (b : BooksView). b.shards) c.self.view_is) in
     let from_servers : servers ≡ servers_but c.args.from.now c.args.self.now.servers =
     c.in_ok-servers.ensures ∙ ap (servers_but c.args.from.now) c.servers.ensures in
     done ∙ ap (λ ks. plan c.args.self.now ks servers) from_shards
@@ -68,10 +77,12 @@ returns-clause-keeps_room c =
     let done : c.loop-k.plan ≡ plan c.args.self.now shards servers =
     sym (ap (λ ks. planned c.loop-k.plan c.loop-k.books ks servers) none) ∙ c.loop-k.invariant.going_on in
     let from_shards : shards ≡ shards_from c.args.from.now 0 c.args.self.now.shards =
-    c.deref-k-items.ensures.value ∙ c.in_ok-shards.ensures ∙ ap (shards_from c.args.from.now 0) (c.deref.ensures.value ∙ ap (λ (b : BooksView). b.shards) c.self.view_is) in
+    c.deref-k-items.ensures.value ∙ c.in_ok-shards.ensures
+    ∙ ap (shards_from c.args.from.now 0) (c.deref.ensures.value ∙ ap (λ (b : BooksView). b.shards) c.self.view_is) in
     let from_servers : servers ≡ servers_but c.args.from.now c.args.self.now.servers =
     c.in_ok-servers.ensures ∙ ap (servers_but c.args.from.now) c.servers.ensures in
     let found =
     done ∙ ap (λ ks. plan c.args.self.now ks servers) from_shards
     ∙ ap (plan c.args.self.now (shards_from c.args.from.now 0 c.args.self.now.shards)) from_servers in
-    rw found (KeepsRoom-plan c.args.self.now (shards_from c.args.from.now 0 c.args.self.now.shards) (servers_but c.args.from.now c.args.self.now.servers))
+    rw found (KeepsRoom-plan c.args.self.now (shards_from c.args.from.now 0 c.args.self.now.shards)
+    (servers_but c.args.from.now c.args.self.now.servers))

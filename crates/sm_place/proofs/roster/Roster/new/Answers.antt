@@ -18,7 +18,9 @@ loop-at-preserved c =
     c.index-rows-at.is ∙ get_or_default rows i c.index-rows-at.result no_server c.loop-at-test.true in
     let id : c.number.result ≡ (get_or rows i no_server).id = c.number.ensures.value ∙ ap (λ (r : ServerRow). r.id) row in
     let small : c.number.result < 4096 = omega (arith, c.number.ensures.value, c.number.ensures.in_range) in
-    IsFilled-next rows 4096 c.loop-at.places.items i c.number.result c.requires.rise c.loop-at-test.true id small c.loop-at.invariant
+    let here : c.from.result ≡ c.number.result = cc in
+    rw here (IsFilled-next rows 4096 c.loop-at.places.items i c.number.result c.requires.rise c.loop-at-test.true
+    id small c.loop-at.invariant)
 
 pub invariant_of-result : goal.invariant_of-result
 invariant_of-result c =

@@ -1,0 +1,151 @@
+-- Steps of restarts keep the caps.
+use Rattle.std.proofs.Common.{ℕ, ◌<◌, ◌≤◌, ◌≡◌, Bool, true, false, cond, eqb, length, Ok, ap, sym, ◌∙◌, arith, inl, inr, ◌&&◌}
+use Rattle.std.specs.Prelude.{count_by, nat_lt}
+use Rattle.std.proofs.lemmas.Bool.{eq-eqb, ltb-false}
+use Rattle.std.proofs.lemmas.List.Sums.{sum_by-set}
+use Rattle.sm_ranges.specs.declared.stand.Stand.{Stand}
+use Rattle.sm_place.specs.declared.server_state.ServerState.{ServerState}
+use Rattle.sm_place.specs.declared.server_state.ServerState.TheVariants.{Up, Asked, Approved, Stopped, Failed}
+use Rattle.sm_place.specs.declared.shard.Shard.{Shard}
+use Rattle.sm_place.specs.Books.{BooksView, IsKnown, place_of, shard_at, state_of, with_state}
+use Rattle.sm_place.specs.Stands.{is_leaving, names, names_one}
+use Rattle.sm_place.proofs.Naming.{and_both, and_first, and_second, cond_within, names_one-found, names_one-named, or_left, or_right}
+use Rattle.sm_tasks.specs.Approvals.{approvable, leaving_count, names_down, stoppable, would_be_down}
+use Rattle.sm_tasks.specs.Caps.{MeetsCaps, names_away}
+use Rattle.sm_tasks.specs.Groups.{count_of, down_of, is_of}
+use Rattle.sm_tasks.specs.States.{is_away, is_paused, is_stopped}
+use Rattle.sm_tasks.proofs.Restarts.{false_within, or_no, count_by-within, count_by-within_but}
+use Rattle.sm_tasks.proofs.Restarts.{IsApprovable-approvable, IsStoppable-stoppable, is_away-approved}
+use Rattle.sm_tasks.proofs.Restarts.{is_leaving-away, state_of-set}
+
+-- a test of states that the new state passes only if the old one does passes at no further server
+calm : (books : BooksView) (a : ℕ) (state : ServerState) → length books.states ≡ length books.servers → IsKnown books.servers a
+    → (test : ServerState → Bool) → (test state ≡ true → test (state_of books a) ≡ true)
+    → (b : ℕ) → test (state_of (with_state books a state) b) ≡ true → test (state_of books b) ≡ true
+calm books a state len known test h b e =
+    elim (state_of-set books a b state len known) [
+      | inl p ↦ let t : test state ≡ true = sym (ap test p.1) ∙ e in ap (λ i. test (state_of books i)) p.0 ∙ h t
+      | inr p ↦ sym (ap test p.1) ∙ e
+    ]
+
+-- a test of servers that passes only where another does
+one_within : (p q : ℕ → Bool) (stand : Stand) → ((b : ℕ) → p b ≡ true → q b ≡ true) → names_one p stand ≡ true → names_one q stand ≡ true
+one_within p q stand h e =
+    let found = names_one-found p stand e in
+    names_one-named q stand found.0 found.1.0 (h found.0 found.1.1)
+
+of_within : (p q : Stand → Bool) (g : ℕ) (shard : Shard) → (p shard.stand ≡ true → q shard.stand ≡ true)
+    → is_of p g shard ≡ true → is_of q g shard ≡ true
+of_within p q g shard h e =
+    and_both (eqb shard.row.group g) (q shard.stand) (and_first (eqb shard.row.group g) (p shard.stand) e)
+    (h (and_second (eqb shard.row.group g) (p shard.stand) e))
+
+-- a step to a state that is away only if the old one is, and that is stopped only where the shards are paused, keeps the caps
+pub MeetsCaps-calm : (ops : ℕ) (books : BooksView) (a : ℕ) (state : ServerState)
+    → length books.states ≡ length books.servers → IsKnown books.servers a
+    → (is_away state ≡ true → is_away (state_of books a) ≡ true)
+    → (is_stopped state ≡ true → (k : ℕ) → k < length books.shards → names (shard_at books.shards k).stand a ≡ true
+    → is_paused (shard_at books.shards k).stand ≡ true)
+    → MeetsCaps ops books → MeetsCaps ops (with_state books a state)
+MeetsCaps-calm ops books a state len known away stopped caps =
+    let inside : place_of books.servers a < length books.states = rw len known in
+    let within : (stand : Stand) → names_away (with_state books a state) stand ≡ true → names_away books stand ≡ true =
+    λ stand. one_within (λ b. is_away (state_of (with_state books a state) b)) (λ b. is_away (state_of books b)) stand
+    (calm books a state len known is_away away) in
+    record {
+      servers =
+          let set = sum_by-set (λ s. cond (is_away s) 1 0) books.states (place_of books.servers a) state Up inside in
+          let less : cond (is_away state) 1 0 ≤ cond (is_away (state_of books a)) 1 0 =
+          cond_within (is_away state) (is_away (state_of books a)) 1 away in
+          omega (arith, set, less, caps.servers);
+      shards = λ k h cap. false_within _ _ (within (shard_at books.shards k).stand) (caps.shards k h cap);
+      groups = λ g h.
+          let fewer : count_of (names_away (with_state books a state)) books.shards g ≤ count_of (names_away books) books.shards g =
+          count_by-within (is_of (names_away (with_state books a state)) g) (is_of (names_away books) g) books.shards
+          (λ shard. of_within (names_away (with_state books a state)) (names_away books) g shard (within shard.stand)) in
+          omega (arith, fewer, caps.groups g h);
+      stopped = λ k h e.
+          let found = names_one-found (λ b. is_stopped (state_of (with_state books a state) b)) (shard_at books.shards k).stand e in
+          elim (state_of-set books a found.0 state len known) [
+            | inl p ↦ stopped (sym (ap is_stopped p.1) ∙ found.1.1) k h (sym (ap (names (shard_at books.shards k).stand) p.0) ∙ found.1.0)
+            | inr p ↦ caps.stopped k h
+                (names_one-named (λ b. is_stopped (state_of books b)) (shard_at books.shards k).stand found.0 found.1.0
+                (sym (ap is_stopped p.1) ∙ found.1.1))
+          ];
+    }
+
+-- a server that is asked for, comes back or fails
+pub MeetsCaps-ask : (ops : ℕ) (books : BooksView) (a : ℕ) → length books.states ≡ length books.servers → IsKnown books.servers a
+    → MeetsCaps ops books → MeetsCaps ops (with_state books a Asked)
+MeetsCaps-ask ops books a len known caps = MeetsCaps-calm ops books a Asked len known (λ e. absurd (cc)) (λ e k h n. absurd (cc)) caps
+
+pub MeetsCaps-back : (ops : ℕ) (books : BooksView) (a : ℕ) → length books.states ≡ length books.servers → IsKnown books.servers a
+    → MeetsCaps ops books → MeetsCaps ops (with_state books a Up)
+MeetsCaps-back ops books a len known caps = MeetsCaps-calm ops books a Up len known (λ e. absurd (cc)) (λ e k h n. absurd (cc)) caps
+
+pub MeetsCaps-fail : (ops : ℕ) (books : BooksView) (a : ℕ) → length books.states ≡ length books.servers → IsKnown books.servers a
+    → MeetsCaps ops books → MeetsCaps ops (with_state books a Failed)
+MeetsCaps-fail ops books a len known caps = MeetsCaps-calm ops books a Failed len known (λ e. absurd (cc)) (λ e k h n. absurd (cc)) caps
+
+-- a server that is stopped
+pub MeetsCaps-stopped : (ops : ℕ) (books : BooksView) (a : ℕ) → length books.states ≡ length books.servers → IsKnown books.servers a
+    → stoppable books a ≡ Ok tt → MeetsCaps ops books → MeetsCaps ops (with_state books a Stopped)
+MeetsCaps-stopped ops books a len known e caps =
+    let may = IsStoppable-stoppable books a e in
+    MeetsCaps-calm ops books a Stopped len known (λ _. is_away-approved (state_of books a) may.approved) (λ _. may.paused) caps
+
+-- a server that is approved
+pub MeetsCaps-approve : (ops : ℕ) (books : BooksView) (a : ℕ) → length books.states ≡ length books.servers → IsKnown books.servers a
+    → approvable ops books a ≡ Ok tt → MeetsCaps ops books → MeetsCaps ops (with_state books a Approved)
+MeetsCaps-approve ops books a len known e caps =
+    let may = IsApprovable-approvable ops books a e in
+    let new = with_state books a Approved in
+    let inside : place_of books.servers a < length books.states = rw len known in
+    let unnamed : (stand : Stand) → names stand a ≡ false → names_away new stand ≡ true → names_away books stand ≡ true = λ stand no t.
+    let found = names_one-found (λ b. is_away (state_of new b)) stand t in
+    elim (state_of-set books a found.0 Approved len known) [
+      | inl p ↦ let named : names stand a ≡ true = sym (ap (names stand) p.0) ∙ found.1.0 in absurd (cc)
+      | inr p ↦ names_one-named (λ b. is_away (state_of books b)) stand found.0 found.1.0 (sym (ap is_away p.1) ∙ found.1.1)
+    ] in
+    let down : (stand : Stand) → names_away new stand ≡ true → names_down books a stand ≡ true = λ stand.
+    one_within (λ b. is_away (state_of new b)) (would_be_down books a) stand (λ b t. elim (state_of-set books a b Approved len known) [
+      | inl p ↦ or_left (eqb b a) (is_leaving (state_of books b)) (eq-eqb b a p.0)
+      | inr p ↦ or_right (eqb b a) (is_leaving (state_of books b)) (is_leaving-away (state_of books b) (sym (ap is_away p.1) ∙ t))
+    ]) in
+    record {
+      servers =
+          let one = sum_by-set (λ s. cond (is_away s) 1 0) books.states (place_of books.servers a) Approved Up inside in
+          let less : count_by is_away books.states ≤ leaving_count books =
+          count_by-within is_away is_leaving books.states is_leaving-away in
+          omega (arith, one, less, may.few);
+      shards = λ k h cap. false_within _ _ (unnamed (shard_at books.shards k).stand (may.uncapped k h cap)) (caps.shards k h cap);
+      groups = λ g h.
+          elim (or_no (nat_lt 0 (count_of (λ stand. names stand a) books.shards g))
+          (nat_lt (down_of books g) (count_of (names_down books a) books.shards g)) (may.groups g h)) [
+            | inl p ↦
+                let none : count_of (λ stand. names stand a) books.shards g ≤ 0 =
+                ltb-false 0 (count_of (λ stand. names stand a) books.shards g) p in
+                let fewer : count_of (names_away new) books.shards g ≤ count_of (names_away books) books.shards g =
+                count_by-within_but (is_of (names_away new) g) (is_of (names_away books) g)
+                (is_of (λ stand. names stand a) g) books.shards none
+                (λ shard no t. of_within (names_away new) (names_away books) g shard
+                (unnamed shard.stand
+                (not_named (eqb shard.row.group g) (names shard.stand a)
+                (and_first (eqb shard.row.group g) (names_away new shard.stand) t) no)) t) in
+                omega (arith, fewer, caps.groups g h)
+            | inr p ↦
+                let few : count_of (names_down books a) books.shards g ≤ down_of books g =
+                ltb-false (down_of books g) (count_of (names_down books a) books.shards g) p in
+                let fewer : count_of (names_away new) books.shards g ≤ count_of (names_down books a) books.shards g =
+                count_by-within (is_of (names_away new) g) (is_of (names_down books a) g) books.shards
+                (λ shard. of_within (names_away new) (names_down books a) g shard (down shard.stand)) in
+                omega (arith, fewer, few)
+          ];
+      stopped = λ k h t. caps.stopped k h
+          (one_within (λ b. is_stopped (state_of new b)) (λ b. is_stopped (state_of books b)) (shard_at books.shards k).stand
+          (calm books a Approved len known is_stopped (λ s. absurd (cc))) t);
+    }
+  where
+    not_named : (u v : Bool) → u ≡ true → (u && v) ≡ false → v ≡ false
+    not_named true v h e = e
+    not_named false v h e = absurd (cc)

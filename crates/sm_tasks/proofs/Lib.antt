@@ -1,0 +1,4 @@
+pub mod Keeping
+pub mod Restarts
+pub mod Standing
+pub mod Tallies

@@ -1,0 +1,180 @@
+-- What a step of a restart that is made shows, and how counts compare.
+use Rattle.std.proofs.Common.{ℕ, ◌+◌, ◌<◌, ◌≤◌, ◌≡◌, Bool, true, false, cond, eqb, List, [], ◌∷◌, length}
+use Rattle.std.proofs.Common.{get_or, set, Option, Some, None, Result, Ok, Err, refl, ap, sym, ◌∙◌, arith}
+use Rattle.std.proofs.Common.{inl, inr, ◌⊎◌, ◌&&◌, get_or-set_same, get_or-set_other, zero-add}
+use Rattle.std.specs.Prelude.{not, nat_lt, position, count_by}
+use Rattle.std.specs.List.{position_or_len, range_with_len}
+use Rattle.std.specs.Option.{option_map, option_or}
+use Rattle.std.proofs.lemmas.Bool.{eq-eqb, ltb-false}
+use Rattle.std.proofs.lemmas.Bool.Decides.{eqb_tells, nat_tests}
+use Rattle.std.proofs.lemmas.List.FromFn.{length-range_with_len, get_or-range_with_len}
+use Rattle.std.proofs.lemmas.List.Sums.{fails_before_first, sum_by-cons}
+use Rattle.sm_place.specs.declared.server_state.ServerState.{ServerState}
+use Rattle.sm_place.specs.declared.server_state.ServerState.TheVariants.{Up, Asked, Approved, Stopped, Failed}
+use Rattle.sm_place.specs.Books.{BooksView, IsKnown, no_shard, place_of, shard_at, state_of, with_state}
+use Rattle.sm_place.specs.Stands.{is_leaving, names}
+use Rattle.sm_place.proofs.Naming.{cond_within}
+use Rattle.sm_place.proofs.Sharing.{same_place}
+use Rattle.sm_tasks.specs.declared.approve_fault.ApproveFault.{ApproveFault}
+use Rattle.sm_tasks.specs.declared.approve_fault.ApproveFault.TheVariants.{NotAsked, GlobalCap, ShardCap, GroupCap}
+use Rattle.sm_tasks.specs.declared.stopped_fault.StoppedFault.{StoppedFault}
+use Rattle.sm_tasks.specs.declared.stopped_fault.StoppedFault.TheVariants.{NotApproved, StillServing}
+use Rattle.sm_tasks.specs.Approvals.{approvable, capped_shard, full_group, is_full, leaving_count, ok_unless, serving_shard, stoppable}
+use Rattle.sm_tasks.specs.States.{is_approved, is_asked, is_away, is_paused, is_stopped}
+
+no_place : (n len : ℕ) → cond (nat_lt n len) (Some n) None ≡ None → len ≤ n
+no_place n len h = grind (arith, nat_tests)
+
+-- where no place is the first that passes, every element fails
+pub fails_everywhere : {X : Type 0} (p : X → Bool) (xs : List X) (k : ℕ) (d : X) → position p xs ≡ None
+    → k < length xs → p (get_or xs k d) ≡ false
+fails_everywhere p xs k d h lt =
+    let past : length xs ≤ position_or_len p xs = no_place (position_or_len p xs) (length xs) h in
+    fails_before_first p xs k d (omega arith)
+
+pub false_within : (p q : Bool) → (p ≡ true → q ≡ true) → q ≡ false → p ≡ false
+false_within false q h e = refl
+false_within true q h e = let t = h refl in absurd (cc)
+
+pub or_no : (u v : Bool) → (u && v) ≡ false → (u ≡ false) ⊎ (v ≡ false)
+or_no true v e = inr e
+or_no false v e = inl refl
+
+-- a test that passes only where another does passes no more often, also where it does so only at elements that a third test
+-- refuses, which refuses all
+pub count_by-within : {X : Type 0} (p q : X → Bool) (xs : List X) → ((x : X) → p x ≡ true → q x ≡ true) → count_by p xs ≤ count_by q xs
+count_by-within p q [] h = omega arith
+count_by-within p q (x ∷ xs) h =
+    omega (
+      arith,
+      sum_by-cons (λ y. cond (p y) 1 0) x xs,
+      sum_by-cons (λ y. cond (q y) 1 0) x xs,
+      cond_within (p x) (q x) 1 (h x),
+      count_by-within p q xs h,
+    )
+
+pub count_by-within_but : {X : Type 0} (p q r : X → Bool) (xs : List X) → count_by r xs ≤ 0
+    → ((x : X) → r x ≡ false → p x ≡ true → q x ≡ true) → count_by p xs ≤ count_by q xs
+count_by-within_but p q r [] none h = omega arith
+count_by-within_but p q r (x ∷ xs) none h =
+    let all = sum_by-cons (λ y. cond (r y) 1 0) x xs in
+    let first : r x ≡ false = no_one (r x) (count_by r xs) (omega arith) in
+    let rest : count_by r xs ≤ 0 = omega arith in
+    omega (
+      arith,
+      sum_by-cons (λ y. cond (p y) 1 0) x xs,
+      sum_by-cons (λ y. cond (q y) 1 0) x xs,
+      cond_within (p x) (q x) 1 (h x first),
+      count_by-within_but p q r xs rest h,
+    )
+  where
+    no_one : (u : Bool) (n : ℕ) → cond u 1 0 + n ≤ 0 → u ≡ false
+    no_one false n e = refl
+    no_one true n e = absurd (omega arith)
+
+-- what an approval shows
+pub record IsApprovable (ops : ℕ) (books : BooksView) (a : ℕ) : Type 0 where
+  pub asked : is_asked (state_of books a) ≡ true
+  pub few : leaving_count books + 1 ≤ ops
+  pub uncapped : (k : ℕ) → k < length books.shards → (shard_at books.shards k).row.cap ≡ 0 → names (shard_at books.shards k).stand a ≡ false
+  pub groups : (g : ℕ) → g < length books.groups → is_full books a g ≡ false
+
+pub IsApprovable-approvable : (ops : ℕ) (books : BooksView) (a : ℕ) → approvable ops books a ≡ Ok tt → IsApprovable ops books a
+IsApprovable-approvable ops books a e =
+    let t = four (is_asked (state_of books a)) (nat_lt ops (leaving_count books + 1)) (capped_shard books a) (full_group books a) e in
+    record {
+      asked = t.0;
+      few = ltb-false ops (leaving_count books + 1) t.1.0;
+      uncapped = λ k h cap. unnamed (eqb (shard_at books.shards k).row.cap 0) (names (shard_at books.shards k).stand a) (eq-eqb _ _ cap)
+          (fails_everywhere (λ shard. eqb shard.row.cap 0 && names shard.stand a) books.shards k no_shard t.1.1.0 h);
+      groups = λ g h.
+          let inside : g < length (range_with_len 0 (length books.groups)) = rw (length-range_with_len 0 (length books.groups)) h in
+          let at : get_or (range_with_len 0 (length books.groups)) g 0 ≡ g =
+          get_or-range_with_len 0 (length books.groups) g 0 h ∙ zero-add g in
+          sym (ap (is_full books a) at) ∙ fails_everywhere (is_full books a) (range_with_len 0 (length books.groups)) g 0 t.1.1.1 inside;
+    }
+  where
+    four : (p q : Bool) (x y : Option ℕ)
+        → ◌≡◌ {A = Result (Unit {0}) ApproveFault}
+        (cond (not p) (Err NotAsked) (cond q (Err GlobalCap) (ok_unless (option_or (option_map ShardCap x) (option_map GroupCap y)))))
+        (Ok tt)
+        → (p ≡ true) × ((q ≡ false) × ((x ≡ None) × (y ≡ None)))
+    four false q x y e = absurd (cc)
+    four true true x y e = absurd (cc)
+    four true false (Some k) y e = absurd (cc)
+    four true false None (Some g) e = absurd (cc)
+    four true false None None e = (refl, (refl, (refl, refl)))
+
+    unnamed : (u v : Bool) → u ≡ true → (u && v) ≡ false → v ≡ false
+    unnamed true v h e = e
+    unnamed false v h e = absurd (cc)
+
+-- what a stop shows
+pub record IsStoppable (books : BooksView) (a : ℕ) : Type 0 where
+  pub approved : is_approved (state_of books a) ≡ true
+  pub paused : (k : ℕ) → k < length books.shards → names (shard_at books.shards k).stand a ≡ true
+      → is_paused (shard_at books.shards k).stand ≡ true
+
+pub IsStoppable-stoppable : (books : BooksView) (a : ℕ) → stoppable books a ≡ Ok tt → IsStoppable books a
+IsStoppable-stoppable books a e =
+    let t = two (is_approved (state_of books a)) (serving_shard books a) e in
+    record {
+      approved = t.0;
+      paused = λ k h named. held (names (shard_at books.shards k).stand a) (is_paused (shard_at books.shards k).stand) named
+          (fails_everywhere (λ shard. names shard.stand a && not (is_paused shard.stand)) books.shards k no_shard t.1 h);
+    }
+  where
+    two : (p : Bool) (x : Option ℕ)
+        → ◌≡◌ {A = Result (Unit {0}) StoppedFault} (cond (not p) (Err NotApproved) (ok_unless (option_map StillServing x)))
+        (Ok tt) → (p ≡ true) × (x ≡ None)
+    two false x e = absurd (cc)
+    two true (Some k) e = absurd (cc)
+    two true None e = (refl, refl)
+
+    held : (u v : Bool) → u ≡ true → (u && not v) ≡ false → v ≡ true
+    held false v h e = absurd (cc)
+    held true true h e = refl
+    held true false h e = absurd (cc)
+
+-- servers away are leaving
+pub is_leaving-away : (state : ServerState) → is_away state ≡ true → is_leaving state ≡ true
+is_leaving-away Up e = absurd (cc)
+is_leaving-away Asked e = absurd (cc)
+is_leaving-away Approved e = refl
+is_leaving-away Stopped e = refl
+is_leaving-away Failed e = absurd (cc)
+
+pub is_away-approved : (state : ServerState) → is_approved state ≡ true → is_away state ≡ true
+is_away-approved Up e = absurd (cc)
+is_away-approved Asked e = absurd (cc)
+is_away-approved Approved e = refl
+is_away-approved Stopped e = absurd (cc)
+is_away-approved Failed e = absurd (cc)
+
+pub is_away-stopped : (state : ServerState) → is_stopped state ≡ true → is_away state ≡ true
+is_away-stopped Up e = absurd (cc)
+is_away-stopped Asked e = absurd (cc)
+is_away-stopped Approved e = absurd (cc)
+is_away-stopped Stopped e = refl
+is_away-stopped Failed e = absurd (cc)
+
+-- the state of a server, after that of a was set: its own new one, or another's old one
+pub state_of-set : (books : BooksView) (a b : ℕ) (state : ServerState)
+    → length books.states ≡ length books.servers → IsKnown books.servers a
+    → ((b ≡ a) × (state_of (with_state books a state) b ≡ state))
+    ⊎ ((eqb b a ≡ false) × (state_of (with_state books a state) b ≡ state_of books b))
+state_of-set books a b state len known =
+    elim (eqb_tells b a) [
+      | inl p ↦
+          let inside : place_of books.servers a < length books.states = rw len known in
+          inl (
+            p.1,
+            ap (λ i. get_or (set books.states (place_of books.servers a) state) (place_of books.servers i) Up) p.1
+                ∙ get_or-set_same books.states (place_of books.servers a) state Up inside,
+          )
+      | inr p ↦ inr (
+        p.0,
+        get_or-set_other books.states (place_of books.servers a) (place_of books.servers b) state Up
+            (λ same. p.1 (same_place books.servers a b known same)),
+      )
+    ]

@@ -1,0 +1,77 @@
+-- When a step of a restart succeeds, or the first fault that applies, by counts over all servers and shards.
+use Rattle.std.specs.Prelude.{ℕ, Bool, Option, Some, None, Result, Ok, Err, ◌+◌, ◌==◌, ◌&&◌, ◌||◌, not}
+use Rattle.std.specs.Prelude.{nat_lt, if◌then◌else◌, length, count_by, position}
+use Rattle.std.specs.List.{range_with_len}
+use Rattle.std.specs.Option.{option_map, option_or}
+use Rattle.sm_ranges.specs.declared.stand.Stand.{Stand}
+use Rattle.sm_place.specs.Books.{BooksView, state_of}
+use Rattle.sm_place.specs.Stands.{is_leaving, names, names_one}
+use Rattle.sm_tasks.specs.declared.already_failed.AlreadyFailed.{AlreadyFailed}
+use Rattle.sm_tasks.specs.declared.already_up.AlreadyUp.{AlreadyUp}
+use Rattle.sm_tasks.specs.declared.not_up.NotUp.{NotUp}
+use Rattle.sm_tasks.specs.declared.approve_fault.ApproveFault.{ApproveFault}
+use Rattle.sm_tasks.specs.declared.approve_fault.ApproveFault.TheVariants.{NotAsked, GlobalCap, ShardCap, GroupCap}
+use Rattle.sm_tasks.specs.declared.stopped_fault.StoppedFault.{StoppedFault}
+use Rattle.sm_tasks.specs.declared.stopped_fault.StoppedFault.TheVariants.{NotApproved, StillServing}
+use Rattle.sm_tasks.specs.States.{is_up, is_asked, is_approved, is_failed, is_paused}
+use Rattle.sm_tasks.specs.Groups.{count_of, down_of}
+
+-- success, unless there is a fault
+abbrev pub ok_unless : {E : Type 0} → Option E → Result (Unit {0}) E
+ok_unless None = Ok tt
+ok_unless (Some fault) = Err fault
+
+-- whether a restart of the server may be asked for
+abbrev pub askable : BooksView → ℕ → Result (Unit {0}) NotUp
+askable books a = if is_up (state_of books a) then Ok tt else Err (record {})
+
+-- how many servers are approved to restart, stopped or failed
+abbrev pub leaving_count : BooksView → ℕ
+leaving_count books = count_by is_leaving books.states
+
+-- the lowest shard of cap 0 that names the server
+abbrev pub capped_shard : BooksView → ℕ → Option ℕ
+capped_shard books a = position (λ shard. (shard.row.cap == 0) && names shard.stand a) books.shards
+
+-- whether server b would be down if a restarted: it is a, or is leaving
+abbrev pub would_be_down : BooksView → ℕ → ℕ → Bool
+would_be_down books a b = (b == a) || is_leaving (state_of books b)
+
+-- whether the stand names a server that would be down if a restarted
+abbrev pub names_down : BooksView → ℕ → Stand → Bool
+names_down books a stand = names_one (would_be_down books a) stand
+
+-- whether a shard of the group names the server, and more of its shards than may be would name a server that is down
+abbrev pub is_full : BooksView → ℕ → ℕ → Bool
+is_full books a g =
+    nat_lt 0 (count_of (λ stand. names stand a) books.shards g)
+    && nat_lt (down_of books g) (count_of (names_down books a) books.shards g)
+
+-- the lowest group that is full
+abbrev pub full_group : BooksView → ℕ → Option ℕ
+full_group books a = position (is_full books a) (range_with_len 0 (length books.groups))
+
+-- whether the restart of the server is approved, where at most `ops` servers may be leaving
+abbrev pub approvable : ℕ → BooksView → ℕ → Result (Unit {0}) ApproveFault
+approvable ops books a =
+    if not (is_asked (state_of books a)) then Err NotAsked
+    else (if nat_lt ops (leaving_count books + 1) then Err GlobalCap
+    else ok_unless (option_or (option_map ShardCap (capped_shard books a)) (option_map GroupCap (full_group books a))))
+
+-- the lowest shard that names the server and is not paused
+abbrev pub serving_shard : BooksView → ℕ → Option ℕ
+serving_shard books a = position (λ shard. names shard.stand a && not (is_paused shard.stand)) books.shards
+
+-- whether the server may be stopped
+abbrev pub stoppable : BooksView → ℕ → Result (Unit {0}) StoppedFault
+stoppable books a =
+    if not (is_approved (state_of books a)) then Err NotApproved
+    else ok_unless (option_map StillServing (serving_shard books a))
+
+-- whether the server may come back
+abbrev pub returnable : BooksView → ℕ → Result (Unit {0}) AlreadyUp
+returnable books a = if is_up (state_of books a) then Err (record {}) else Ok tt
+
+-- whether the server may fail
+abbrev pub failable : BooksView → ℕ → Result (Unit {0}) AlreadyFailed
+failable books a = if is_failed (state_of books a) then Err (record {}) else Ok tt

@@ -1,0 +1,32 @@
+-- The caps of approved restarts. A failed server is not one of them: approvals count it, the caps do not.
+use Rattle.std.specs.Prelude.{◌≡◌, ℕ, ◌<◌, ◌≤◌, ◌⊎◌, Bool, true, false, length, count_by}
+use Rattle.sm_ranges.specs.declared.stand.Stand.{Stand}
+use Rattle.sm_place.specs.Books.{BooksView, shard_at, state_of}
+use Rattle.sm_place.specs.Stands.{AllNamed, is_leaving, names, names_one}
+use Rattle.sm_tasks.specs.States.{is_away, is_paused, is_stopped}
+use Rattle.sm_tasks.specs.Groups.{count_of, down_of}
+
+-- whether the stand names a server that is away by approval
+abbrev pub names_away : BooksView → Stand → Bool
+names_away books stand = names_one (λ b. is_away (state_of books b)) stand
+
+-- whether the stand names a stopped server
+abbrev pub names_stopped : BooksView → Stand → Bool
+names_stopped books stand = names_one (λ b. is_stopped (state_of books b)) stand
+
+-- what approved restarts keep to: at most `ops` servers are away, no shard of cap 0 names one of them, of each group at
+-- most `down` shards name one, and each shard that names a stopped server is paused
+pub record MeetsCaps (ops : ℕ) (books : BooksView) : Type 0 where
+  pub servers : count_by is_away books.states ≤ ops
+  pub shards : (k : ℕ) → k < length books.shards
+      → (shard_at books.shards k).row.cap ≡ 0 → names_away books (shard_at books.shards k).stand ≡ false
+  pub groups : (g : ℕ) → g < length books.groups → count_of (names_away books) books.shards g ≤ down_of books g
+  pub stopped : (k : ℕ) → k < length books.shards
+      → names_stopped books (shard_at books.shards k).stand ≡ true → is_paused (shard_at books.shards k).stand ≡ true
+
+-- each server that the new stand names is not leaving; or the old stand named it, and a paused shard stays paused
+abbrev pub TakesNoneLeaving : BooksView → Stand → Stand → Type 0
+TakesNoneLeaving books old stand =
+    let Stays : ℕ → Type 0 = λ a. is_leaving (state_of books a) ≡ false in
+    let IsKept : ℕ → Type 0 = λ a. (names old a ≡ true) × (is_paused old ≡ true → is_paused stand ≡ true) in
+    AllNamed (λ a. Stays a ⊎ IsKept a) stand

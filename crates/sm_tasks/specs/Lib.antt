@@ -1,0 +1,4 @@
+pub mod Approvals
+pub mod Caps
+pub mod Groups
+pub mod States

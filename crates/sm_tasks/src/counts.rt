@@ -1,0 +1,73 @@
+ghost use Rattle.std.specs.Prelude.{◌≡◌, ◌<◌, IfSome};
+ghost use Rattle.sm_place.specs.Books.{HasRow, NamesKnown};
+ghost use Rattle.sm_place.specs.Stands.{passes};
+ghost use Rattle.sm_tasks.specs.Approvals.{capped_shard, leaving_count, names_down, serving_shard, would_be_down};
+
+use sm_place::books::Books;
+use sm_place::named::{names, other_of, owner_of};
+use sm_ranges::server_id::ServerId;
+use sm_ranges::shard_id::ShardId;
+use sm_ranges::stand::Stand;
+
+/// How many servers are leaving.
+pub(crate) fn leaving_count(books: &Books) -> usize
+    ensures { result ≡ leaving_count books.now }
+{
+    books
+        .states()
+        .iter()
+        .filter(|state| state.is_leaving())
+        .count()
+}
+
+/// The lowest shard of cap 0 that names the server.
+pub(crate) fn capped_shard(books: &Books, a: ServerId) -> Option<ShardId>
+    ensures { result ≡ capped_shard books.now a }
+{
+    books.soundness();
+    let place = books
+        .rows()
+        .iter()
+        .position(|shard| shard.row.cap == 0 && names(&shard.stand, a));
+    shard_at(place)
+}
+
+/// The lowest shard that names the server and is not paused.
+pub(crate) fn serving_shard(books: &Books, a: ServerId) -> Option<ShardId>
+    ensures { result ≡ serving_shard books.now a }
+{
+    books.soundness();
+    let place = books.rows().iter().position(|shard| names(&shard.stand, a)
+        && !matches!(shard.stand, Stand::Paused(_)));
+    shard_at(place)
+}
+
+// The shard at the place, where there is one.
+fn shard_at(place: Option<usize>) -> Option<ShardId>
+    requires { IfSome place (λ at. at < 4096) }
+    ensures { result ≡ place }
+{
+    match place {
+        Some(at) => ShardId::new(at as u16),
+        None => None,
+    }
+}
+
+/// Whether the stand names the server or one that is leaving.
+pub(crate) fn names_down(books: &Books, stand: &Stand, a: ServerId) -> bool
+    requires { NamesKnown books.now.servers stand.now }
+    ensures { result ≡ names_down books.now a stand.now }
+{
+    is_down(books, owner_of(stand), a) || is_down(books, other_of(stand), a)
+}
+
+// Whether the server, where there is one, is this one or is leaving.
+fn is_down(books: &Books, server: Option<ServerId>, a: ServerId) -> bool
+    requires { HasRow books.now.servers server }
+    ensures { result ≡ passes (would_be_down books.now a) server }
+{
+    match server {
+        Some(b) => b == a || books.state(b).is_leaving(),
+        None => false,
+    }
+}

@@ -1,0 +1,53 @@
+ghost use Rattle.std.specs.Prelude.{◌≡◌, ℕ, ◌<◌, slice_index};
+ghost use Rattle.sm_place.specs.Stands.{names};
+ghost use Rattle.sm_tasks.specs.Approvals.{full_group, names_down};
+ghost use Rattle.sm_tasks.specs.Groups.{count_of};
+
+use crate::counts::names_down;
+use sm_place::books::Books;
+use sm_place::named::names;
+use sm_ranges::server_id::ServerId;
+
+/// The lowest group of which a shard names the server, and of whose shards more than may be name it or a server that is
+/// leaving. The counts stand on the stack, so that no memory is taken.
+pub(crate) fn full_group(books: &Books, a: ServerId) -> Option<u16>
+    ensures { result ≡ full_group books.now a }
+{
+    books.soundness();
+    let named = named_by_group(books, a);
+    let down = down_by_group(books, a);
+    for (g, row) in books.groups().iter().enumerate() {
+        if named[g] > 0 && down[g] > row.down {
+            return Some(g as u16);
+        }
+    }
+    None
+}
+
+// For each group, how many of its shards name the server.
+fn named_by_group(books: &Books, a: ServerId) -> [u16; 4096]
+    ensures { (g : ℕ) → g < 4096 → slice_index result g ≡ count_of (λ stand. names stand a) books.now.shards g }
+{
+    books.soundness();
+    let mut counts = [0; 4096];
+    for shard in books.rows() {
+        if names(&shard.stand, a) {
+            counts[usize::from(shard.row.group)] += 1;
+        }
+    }
+    counts
+}
+
+// For each group, how many of its shards name the server or one that is leaving.
+fn down_by_group(books: &Books, a: ServerId) -> [u16; 4096]
+    ensures { (g : ℕ) → g < 4096 → slice_index result g ≡ count_of (names_down books.now a) books.now.shards g }
+{
+    books.soundness();
+    let mut counts = [0; 4096];
+    for shard in books.rows() {
+        if names_down(books, &shard.stand, a) {
+            counts[usize::from(shard.row.group)] += 1;
+        }
+    }
+    counts
+}

@@ -1,0 +1,61 @@
+//! Laws of the caps of approved restarts, for the layers above: what keeps them.
+
+ghost use Rattle.std.specs.Prelude.{◌≡◌, ℕ, ◌<◌, All, Ok, List, false, length, true};
+ghost use Rattle.sm_ranges.specs.declared.stand.Stand.{Stand};
+ghost use Rattle.sm_ranges.specs.declared.stand.Stand.TheVariants.{Prepared, Serving, Vacant};
+ghost use Rattle.sm_place.specs.declared.group_row.GroupRow.{GroupRow};
+ghost use Rattle.sm_place.specs.declared.server_row.ServerRow.{ServerRow};
+ghost use Rattle.sm_place.specs.declared.server_state.ServerState.TheVariants.{Approved, Asked, Failed, Stopped, Up};
+ghost use Rattle.sm_place.specs.declared.shard_row.ShardRow.{ShardRow};
+ghost use Rattle.sm_place.specs.Books.{BooksView, IsKnown, new_books, shard_at, state_of, with_stand, with_state};
+ghost use Rattle.sm_place.specs.Stands.{AllNamed, is_leaving, names};
+ghost use Rattle.sm_tasks.specs.Approvals.{approvable, stoppable};
+ghost use Rattle.sm_tasks.specs.Caps.{MeetsCaps, TakesNoneLeaving};
+ghost use Rattle.sm_tasks.specs.States.{is_paused};
+
+/// Books whose servers are all up and whose shards are all vacant meet the caps, and so do new books.
+pub fn all_up_meets_caps()
+    ensures all_up { (ops : ℕ) (books : BooksView)
+        → All (λ state. state ≡ Up) books.states → All (λ shard. shard.stand ≡ Vacant) books.shards
+        → MeetsCaps ops books }
+    ensures new { (ops : ℕ) (servers : List ServerRow) (groups : List GroupRow) (shards : List ShardRow)
+        → MeetsCaps ops (new_books servers groups shards) }
+{}
+
+/// Each step of a restart that is made keeps the caps. Coming back and failing keep them whatever the state was.
+pub fn steps_keep_caps()
+    ensures ask { (ops : ℕ) (books : BooksView) (a : ℕ)
+        → length books.states ≡ length books.servers → IsKnown books.servers a
+        → MeetsCaps ops books → MeetsCaps ops (with_state books a Asked) }
+    ensures approve { (ops : ℕ) (books : BooksView) (a : ℕ)
+        → length books.states ≡ length books.servers → IsKnown books.servers a
+        → approvable ops books a ≡ Ok tt → MeetsCaps ops books → MeetsCaps ops (with_state books a Approved) }
+    ensures stopped { (ops : ℕ) (books : BooksView) (a : ℕ)
+        → length books.states ≡ length books.servers → IsKnown books.servers a
+        → stoppable books a ≡ Ok tt → MeetsCaps ops books → MeetsCaps ops (with_state books a Stopped) }
+    ensures back { (ops : ℕ) (books : BooksView) (a : ℕ)
+        → length books.states ≡ length books.servers → IsKnown books.servers a
+        → MeetsCaps ops books → MeetsCaps ops (with_state books a Up) }
+    ensures fail { (ops : ℕ) (books : BooksView) (a : ℕ)
+        → length books.states ≡ length books.servers → IsKnown books.servers a
+        → MeetsCaps ops books → MeetsCaps ops (with_state books a Failed) }
+{}
+
+/// A new stand of a shard keeps the caps where it takes on no server that is leaving: so where a server that stays
+/// comes to serve the shard, or makes ready beside the owner, and where a shard that is not paused names no further
+/// server.
+pub fn stands_keep_caps()
+    ensures taken { (ops : ℕ) (books : BooksView) (k : ℕ) (stand : Stand) → k < length books.shards
+        → TakesNoneLeaving books (shard_at books.shards k).stand stand
+        → MeetsCaps ops books → MeetsCaps ops (record books { shards = with_stand books.shards k stand }) }
+    ensures serving { (ops : ℕ) (books : BooksView) (k a : ℕ) → k < length books.shards
+        → is_leaving (state_of books a) ≡ false
+        → MeetsCaps ops books → MeetsCaps ops (record books { shards = with_stand books.shards k (Serving a) }) }
+    ensures prepared { (ops : ℕ) (books : BooksView) (k owner a : ℕ) → k < length books.shards
+        → (shard_at books.shards k).stand ≡ Serving owner → is_leaving (state_of books a) ≡ false
+        → MeetsCaps ops books → MeetsCaps ops (record books { shards = with_stand books.shards k (Prepared owner a) }) }
+    ensures fewer { (ops : ℕ) (books : BooksView) (k : ℕ) (stand : Stand) → k < length books.shards
+        → is_paused (shard_at books.shards k).stand ≡ false
+        → AllNamed (λ a. names (shard_at books.shards k).stand a ≡ true) stand
+        → MeetsCaps ops books → MeetsCaps ops (record books { shards = with_stand books.shards k stand }) }
+{}

@@ -1,0 +1,175 @@
+ghost use Rattle.std.specs.Prelude.{◌≡◌, ◌≤◌, OnErr, OnOk};
+ghost use Rattle.sm_place.specs.Books.{IsKnown, with_state};
+ghost use Rattle.sm_place.specs.declared.server_state.ServerState.TheVariants.{Approved, Asked, Failed, Stopped, Up};
+ghost use Rattle.sm_tasks.specs.Approvals.{approvable, askable, failable, returnable, stoppable};
+
+use crate::already_failed::AlreadyFailed;
+use crate::already_up::AlreadyUp;
+use crate::approve_fault::ApproveFault;
+use crate::counts::{capped_shard, leaving_count, serving_shard};
+use crate::groups::full_group;
+use crate::not_up::NotUp;
+use crate::stopped_fault::StoppedFault;
+use sm_place::books::Books;
+use sm_place::server_state::ServerState;
+use sm_ranges::server_id::ServerId;
+use std::marker::Model;
+
+/// The steps of planned restarts, and what an approval keeps to.
+/// A step that is refused changes nothing, and none takes memory. Each has a check, which says whether it would be made.
+#[derive(Clone, Copy, Debug, Drop)]
+pub struct Tasks {
+    ops: u16,
+}
+
+impl Model for Tasks {
+    ghost use Rattle.std.specs.Prelude.{ℕ, ◌≤◌};
+
+    ghost Value = { ℕ };
+
+    ghost view = { λ tasks. tasks.ops };
+
+    ghost invariant = { λ tasks. tasks.ops ≤ 4095 };
+
+    ghost inverse = { λ ops. record { ops = ops } };
+}
+
+impl Tasks {
+    /// Steps where at most `ops` servers, 0 to 4,095, may be approved to restart, stopped or failed for an approval.
+    pub fn new(ops: u16) -> Tasks
+        requires { ops ≤ 4095 }
+        ensures { result ≡ ops }
+    {
+        Tasks { ops }
+    }
+
+    /// Whether `ask` would be made, or why not.
+    pub fn check_ask(&self, books: &Books, a: ServerId) -> Result<(), NotUp>
+        requires { IsKnown books.now.servers a }
+        ensures { result ≡ askable books.now a }
+    {
+        match books.state(a) {
+            ServerState::Up => Ok(()),
+            _ => Err(NotUp),
+        }
+    }
+
+    /// Asks for a restart of the server, which is Up.
+    pub fn ask(&self, books: &mut Books, a: ServerId) -> Result<(), NotUp>
+        requires { IsKnown books.old.servers a }
+        ensures answer { result ≡ askable books.old a }
+        ensures made { OnOk result (books.new ≡ with_state books.old a Asked) }
+        ensures refused { OnErr result (books.new ≡ books.old) }
+    {
+        self.check_ask(books, a)?;
+        books.set_state(a, ServerState::Asked);
+        Ok(())
+    }
+
+    /// Whether `approve` would be made, or why not.
+    pub fn check_approve(&self, books: &Books, a: ServerId) -> Result<(), ApproveFault>
+        requires { IsKnown books.now.servers a }
+        ensures { result ≡ approvable self.now books.now a }
+    {
+        if !matches!(books.state(a), ServerState::Asked) {
+            return Err(ApproveFault::NotAsked);
+        }
+        if leaving_count(books) >= usize::from(self.ops) {
+            return Err(ApproveFault::GlobalCap);
+        }
+        if let Some(k) = capped_shard(books, a) {
+            return Err(ApproveFault::ShardCap(k));
+        }
+        if let Some(g) = full_group(books, a) {
+            return Err(ApproveFault::GroupCap(g));
+        }
+        Ok(())
+    }
+
+    /// Approves the restart of the server, which is Asked: it is leaving from then on.
+    pub fn approve(&self, books: &mut Books, a: ServerId) -> Result<(), ApproveFault>
+        requires { IsKnown books.old.servers a }
+        ensures answer { result ≡ approvable self.now books.old a }
+        ensures made { OnOk result (books.new ≡ with_state books.old a Approved) }
+        ensures refused { OnErr result (books.new ≡ books.old) }
+    {
+        self.check_approve(books, a)?;
+        books.set_state(a, ServerState::Approved);
+        Ok(())
+    }
+
+    /// Whether `stopped` would be made, or why not.
+    pub fn check_stopped(&self, books: &Books, a: ServerId) -> Result<(), StoppedFault>
+        requires { IsKnown books.now.servers a }
+        ensures { result ≡ stoppable books.now a }
+    {
+        if !matches!(books.state(a), ServerState::Approved) {
+            return Err(StoppedFault::NotApproved);
+        }
+        match serving_shard(books, a) {
+            Some(k) => Err(StoppedFault::StillServing(k)),
+            None => Ok(()),
+        }
+    }
+
+    /// Notes that the server, which is Approved, was stopped.
+    pub fn stopped(&self, books: &mut Books, a: ServerId) -> Result<(), StoppedFault>
+        requires { IsKnown books.old.servers a }
+        ensures answer { result ≡ stoppable books.old a }
+        ensures made { OnOk result (books.new ≡ with_state books.old a Stopped) }
+        ensures refused { OnErr result (books.new ≡ books.old) }
+    {
+        self.check_stopped(books, a)?;
+        books.set_state(a, ServerState::Stopped);
+        Ok(())
+    }
+
+    /// Whether `back` would be made, or why not.
+    pub fn check_back(&self, books: &Books, a: ServerId) -> Result<(), AlreadyUp>
+        requires { IsKnown books.now.servers a }
+        ensures { result ≡ returnable books.now a }
+    {
+        match books.state(a) {
+            ServerState::Up => Err(AlreadyUp),
+            _ => Ok(()),
+        }
+    }
+
+    /// Notes that the server, which is not Up, is Up again.
+    pub fn back(&self, books: &mut Books, a: ServerId) -> Result<(), AlreadyUp>
+        requires { IsKnown books.old.servers a }
+        ensures answer { result ≡ returnable books.old a }
+        ensures made { OnOk result (books.new ≡ with_state books.old a Up) }
+        ensures refused { OnErr result (books.new ≡ books.old) }
+    {
+        self.check_back(books, a)?;
+        books.set_state(a, ServerState::Up);
+        Ok(())
+    }
+
+    /// Whether `fail` would be made, or why not.
+    pub fn check_fail(&self, books: &Books, a: ServerId) -> Result<(), AlreadyFailed>
+        requires { IsKnown books.now.servers a }
+        ensures { result ≡ failable books.now a }
+    {
+        match books.state(a) {
+            ServerState::Failed => Err(AlreadyFailed),
+            _ => Ok(()),
+        }
+    }
+
+    /// Notes that the server failed, whatever its restart had come to.
+    pub fn fail(&self, books: &mut Books, a: ServerId) -> Result<(), AlreadyFailed>
+        requires { IsKnown books.old.servers a }
+        ensures answer { result ≡ failable books.old a }
+        ensures made { OnOk result (books.new ≡ with_state books.old a Failed) }
+        ensures refused { OnErr result (books.new ≡ books.old) }
+    {
+        self.check_fail(books, a)?;
+        books.set_state(a, ServerState::Failed);
+        Ok(())
+    }
+}
+
+#[cfg(test)]
+mod tests;
