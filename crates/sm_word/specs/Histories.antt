@@ -18,7 +18,7 @@ use Rattle.sm_ownership.specs.Growth.{record_at-empty}
 use Rattle.sm_ownership.specs.History.{record_at, after_admit, after_change, after_done, after_kind, acts_as, kind_fits, table_of_latest, IsLegalLatest}
 use Rattle.sm_ownership.specs.Lasting.{next_record}
 use Rattle.sm_ownership.specs.Rules.{stand_after, accepts_at}
-use Rattle.sm_word.specs.Word.{NamesServers, IsReachable, IsWellFormed}
+use Rattle.sm_word.specs.Word.{NamesServers, FitsStand, IsWellFormed}
 
 -- the server that a change newly names, if it does, is a server
 abbrev pub NamesKnown : Change → Type 0
@@ -38,10 +38,10 @@ AreKnown entries = All (λ entry. KnownKind entry.kind) entries
 
 -- well formed but for the greatest generation
 abbrev IsShaped : Record → Type 0
-IsShaped state = NamesServers state.stand × IsReachable state.stand state.admitted state.generation
+IsShaped state = NamesServers state.stand × FitsStand state.stand state.admitted state.generation
 
 abbrev IsShapedAt : Stand → Bool → ℕ → Type 0
-IsShapedAt stand admitted generation = NamesServers stand × IsReachable stand admitted generation
+IsShapedAt stand admitted generation = NamesServers stand × FitsStand stand admitted generation
 
 prepared_unless : (owner next generation : ℕ) (same : Bool) → (next == owner) ≡ same → IsServer owner → IsServer next → is_some (if same then None else Some (Prepared owner next)) ≡ true → IsShapedAt (unwrap_or (if same then None else Some (Prepared owner next)) (Serving owner)) false (generation + 1)
 prepared_unless owner next generation true is first second leads = absurd (true≢false (sym leads))
@@ -114,20 +114,20 @@ module _ {Q : Type 0} (count ceiling : ℕ) where
   well_formed earlier shard low legal known =
       let shaped = shaped_latest earlier shard legal known in
       let reached = (within_latest count ceiling earlier shard legal).0 in
-      record { servers = shaped.0; reachable = shaped.1; generation = omega arith }
+      record { servers = shaped.0; parts = shaped.1; generation = omega arith }
 
 -- the record after a change, an admission, or the end of one
 pub formed_change : (state : Record) (change : Change) → IsWellFormed state → NamesKnown change → state.admitted ≡ false → is_some (stand_after state.stand change) ≡ true → state.generation + 1 < 2 ^ 36 → IsWellFormed (after_change state change)
 formed_change state change formed known idle leads low =
     let shaped = subst (λ admitted. IsShapedAt (unwrap_or (stand_after state.stand change) state.stand) admitted (state.generation + 1)) (sym idle) (shaped_change state.stand change state.generation formed.servers known leads) in
-    record { servers = shaped.0; reachable = shaped.1; generation = low }
+    record { servers = shaped.0; parts = shaped.1; generation = low }
 
 pub formed_admit : (state : Record) (server : ℕ) (mode : Mode) → IsWellFormed state → accepts_at state.stand server mode ≡ true → state.generation + 1 < 2 ^ 36 → IsWellFormed (after_admit state)
 formed_admit state server mode formed accepted low =
     let shaped = shaped_admit state.stand server mode state.generation formed.servers accepted in
-    record { servers = shaped.0; reachable = shaped.1; generation = low }
+    record { servers = shaped.0; parts = shaped.1; generation = low }
 
 pub formed_done : (state : Record) → IsWellFormed state → state.admitted ≡ true → state.generation + 1 < 2 ^ 36 → IsWellFormed (after_done state)
 formed_done state formed busy low =
-    let shaped = shaped_done state.stand state.admitted state.generation busy (formed.servers, formed.reachable) in
-    record { servers = shaped.0; reachable = shaped.1; generation = low }
+    let shaped = shaped_done state.stand state.admitted state.generation busy (formed.servers, formed.parts) in
+    record { servers = shaped.0; parts = shaped.1; generation = low }

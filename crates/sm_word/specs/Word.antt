@@ -59,16 +59,16 @@ NamesServers (Taken owner previous) = AreTwoServers owner previous
 NamesServers (Paused owner) = IsServer owner
 
 -- a vacant shard is idle and has had no entry, a paused one is idle, and every other has had an entry
-abbrev pub IsReachable : Stand → Bool → ℕ → Type 0
-IsReachable Vacant admitted generation = (admitted ≡ false) × (generation ≡ 0)
-IsReachable (Serving owner) admitted generation = 1 ≤ generation
-IsReachable (Prepared owner next) admitted generation = 1 ≤ generation
-IsReachable (Forwarding owner next) admitted generation = 1 ≤ generation
-IsReachable (Taken owner previous) admitted generation = 1 ≤ generation
-IsReachable (Paused owner) admitted generation = (admitted ≡ false) × (1 ≤ generation)
+abbrev pub FitsStand : Stand → Bool → ℕ → Type 0
+FitsStand Vacant admitted generation = (admitted ≡ false) × (generation ≡ 0)
+FitsStand (Serving owner) admitted generation = 1 ≤ generation
+FitsStand (Prepared owner next) admitted generation = 1 ≤ generation
+FitsStand (Forwarding owner next) admitted generation = 1 ≤ generation
+FitsStand (Taken owner previous) admitted generation = 1 ≤ generation
+FitsStand (Paused owner) admitted generation = (admitted ≡ false) × (1 ≤ generation)
 
 -- a record that has a word
 pub record IsWellFormed (state : Record) : Type 0 where
   pub servers : NamesServers state.stand
-  pub reachable : IsReachable state.stand state.admitted state.generation
+  pub parts : FitsStand state.stand state.admitted state.generation
   pub generation : state.generation < 2 ^ 36

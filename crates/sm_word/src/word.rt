@@ -3,7 +3,7 @@ ghost use Rattle.sm_ownership.specs.declared.record.Record.{Record as RecordValu
 ghost use Rattle.sm_ownership.specs.History.{after_admit, after_done};
 ghost use Rattle.sm_ranges.specs.declared.stand.Stand.{Stand as StandValue};
 ghost use Rattle.sm_ranges.specs.ServerId.{IsServer};
-ghost use Rattle.sm_word.specs.Word.{IsWellFormed, IsReachable, NamesServers, word_of, phase_of, owner_of, other_of, server_of};
+ghost use Rattle.sm_word.specs.Word.{IsWellFormed, FitsStand, NamesServers, word_of, phase_of, owner_of, other_of, server_of};
 
 use sm_ownership::record::Record;
 use sm_ranges::server_id::ServerId;
@@ -43,7 +43,7 @@ pub fn unpack(word: u64) -> Option<Record>
     let stand = stand_of(word / PHASE, owner, other)?;
     let admitted = word / ADMITTED % 2 == 1;
     let generation = word % OTHER;
-    if !is_reachable(&stand, admitted, generation) {
+    if !fits_stand(&stand, admitted, generation) {
         return None;
     }
     Some(Record {
@@ -183,9 +183,9 @@ fn stand_of(phase: u64, owner: Option<ServerId>, other: Option<ServerId>) -> Opt
     }
 }
 
-// Whether a history leads to a record with these parts.
-fn is_reachable(stand: &Stand, admitted: bool, generation: u64) -> bool
-    ensures { IsTrue result ↔ IsReachable stand.now admitted generation }
+// Whether a record of this stand may be admitted so, and have this generation.
+fn fits_stand(stand: &Stand, admitted: bool, generation: u64) -> bool
+    ensures { IsTrue result ↔ FitsStand stand.now admitted generation }
 {
     match stand {
         Stand::Vacant => !admitted && generation == 0,
@@ -204,7 +204,9 @@ mod tests {
     fn is_word_of(rt: &impl Abort, word: u64, state: &Record)
         requires { IsWellFormed state.now }
     {
-        assert_eq!(rt; pack(*state), word);
+        let packed = pack(*state);
+        assert_eq!(rt; packed, word);
+        assert_eq!(rt; record_of_word(packed), *state);
         assert_eq!(rt; unpack(word), Some(*state));
     }
 
@@ -216,6 +218,18 @@ mod tests {
         Record {
             stand,
             admitted: false,
+            generation,
+        }
+    }
+
+    fn admitted(stand: Stand, generation: u64) -> Record
+        ensures stand { result.stand ≡ stand }
+        ensures admitted { result.admitted ≡ true }
+        ensures generation { result.generation ≡ generation }
+    {
+        Record {
+            stand,
+            admitted: true,
             generation,
         }
     }
@@ -237,18 +251,27 @@ mod tests {
             owner: two,
             previous: one,
         };
-        let admitted = Record {
-            stand: Stand::Serving(one),
-            admitted: true,
-            generation: 2,
-        };
         is_word_of(&rt, 0x0000_0000_0000_0000, &idle(Stand::Vacant, 0));
         is_word_of(&rt, 0x2001_0000_0000_0001, &idle(Stand::Serving(one), 1));
-        is_word_of(&rt, 0x3001_0000_0000_0002, &admitted);
+        is_word_of(
+            &rt,
+            0x3001_0000_0000_0002,
+            &admitted(Stand::Serving(one), 2),
+        );
         is_word_of(&rt, 0x4001_0020_0000_0002, &idle(prepared, 2));
         is_word_of(&rt, 0x6001_0020_0000_0003, &idle(forwarding, 3));
         is_word_of(&rt, 0x8002_0010_0000_0004, &idle(taken, 4));
         is_word_of(&rt, 0xafff_0000_0000_0005, &idle(Stand::Paused(last), 5));
+        Ok(())
+    }
+
+    #[test]
+    fn words_of_an_admission(rt: HostRuntime) -> Result<(), Fail> {
+        let one = ServerId::new(1).ok_or("server 1")?;
+        let before = pack(idle(Stand::Serving(one), 1));
+        assert_eq!(rt; admit_word(before), 0x3001_0000_0000_0002);
+        let between = pack(admitted(Stand::Serving(one), 2));
+        assert_eq!(rt; done_word(between), 0x2001_0000_0000_0003);
         Ok(())
     }
 
