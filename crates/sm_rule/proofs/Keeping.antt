@@ -29,7 +29,7 @@ use Rattle.sm_word.specs.Words.{word_once}
 use Rattle.sm_rule.specs.declared.limits.Limits.{Limits}
 use Rattle.sm_rule.specs.declared.view.Held.{Held}
 use Rattle.sm_rule.specs.declared.view.View.{View}
-use Rattle.sm_rule.specs.Admissions.{Holds as HoldsPermit, PermitValue, beyond, held_of}
+use Rattle.sm_rule.specs.Admissions.{HoldsPermit, PermitValue, beyond, held_of}
 use Rattle.sm_rule.specs.Passes.{PassValue, pass_value, slots_of}
 use Rattle.sm_rule.specs.Rule.{AreHome, Fits, Holds, IsHeld, Rule, table_in}
 use Rattle.sm_rule.specs.Steps.{Entered, Exchanged, IsFree, IsWordOf, Loaded, MayAdd, Stored, Takes, is_end}

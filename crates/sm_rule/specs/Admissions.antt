@@ -58,8 +58,8 @@ abbrev pub held_of : {Q : Type 0} → PassValue Q → Option (ℕ × Record)
 held_of pass = option_map (λ held. (held.shard, held.state)) pass.held
 
 -- the permit is the one that the pass holds
-abbrev pub Holds : {S Q : Type 0} → PassValue Q → PermitValue S → Type 0
-Holds pass permit = held_of pass ≡ Some (permit.shard, permit.state)
+abbrev pub HoldsPermit : {S Q : Type 0} → PassValue Q → PermitValue S → Type 0
+HoldsPermit pass permit = held_of pass ≡ Some (permit.shard, permit.state)
 
 -- the request that a list has beyond another, if any
 abbrev pub beyond : {Q : Type 0} → List Q → List Q → Option Q

@@ -5,7 +5,7 @@ ghost use Rattle.sm_ownership.specs.Lasting.{NoneBy};
 ghost use Rattle.sm_ownership.specs.Rules.{phase_fault};
 ghost use Rattle.sm_word.specs.Histories.{NamesKnown};
 ghost use Rattle.sm_word.specs.Word.{IsWellFormed, word_of};
-ghost use Rattle.sm_rule.specs.Admissions.{Holds, PassAdmitted, RefusedBy, beyond, fault_of};
+ghost use Rattle.sm_rule.specs.Admissions.{HoldsPermit, PassAdmitted, RefusedBy, beyond, fault_of};
 ghost use Rattle.sm_rule.specs.Boards.{BoardValue, make_fault};
 ghost use Rattle.sm_rule.specs.Closing.{WasClosed};
 ghost use Rattle.sm_rule.specs.Changes.{ChairAdds, ChairLooks, Forbids, NotMade, record_at_chair};
@@ -59,8 +59,8 @@ impl<S: Service> Model for Board<S> {
 
 impl<S: Service> Board<S> {
     /// A board of as many vacant shards as bodies (1 to 4,096), which keep nothing yet, whose generations stay at or below the
-    /// ceiling (3 to 2^36 - 1), and its chair. The first fault that applies is answered, and want of memory only where
-    /// there is none; the bodies are dropped then.
+    /// ceiling (3 to 2^36 - 1), and its chair; or the first fault that applies, `NoMemory` only where no other does. The
+    /// bodies are dropped then.
     pub fn make(
         alloc: Global,
         bodies: Vec<S>,
@@ -104,7 +104,8 @@ impl<S: Service> Board<S> {
         self.limits.count as u32
     }
 
-    /// A new pass with this server, for good. Its number is no other's, and not the chair's.
+    /// A new pass with this server, for good. Its number isn't the chair's, and has no entry in what the pass has seen; the
+    /// board's rule gives none twice.
     pub fn pass(&self, server: Option<ServerId>) -> Pass<S>
         ensures board { result.board ≡ self.now }
         ensures server { result.server ≡ server }
@@ -180,7 +181,7 @@ impl<S: Service> Board<S> {
         requires shard { k < self.now.limits.count }
         requires free { pass.old.held ≡ None }
         ensures admitted { OnOk result (PassAdmitted pass.old k mode pass.new) }
-        ensures permit { IfOk result (λ permit. (permit.shard ≡ k) × Holds pass.new permit) }
+        ensures permit { IfOk result (λ permit. (permit.shard ≡ k) × HoldsPermit pass.new permit) }
         ensures body { IfOk result (λ permit. S.requests permit.body ≡ kept pass.new.seen k) }
         ensures held { IfOk result (λ permit. S.requests permit.body ≡ list_held pass.new.held) }
         ensures refused { IfErr result (λ refusal. PassLooks pass.old pass.new × RefusedBy pass.old pass.new k mode refusal) }
@@ -201,7 +202,7 @@ impl<S: Service> Board<S> {
         requires free { pass.old.held ≡ None }
         requires kind { B.kind ≡ Admit (unwrap_or pass.old.server 0) mode }
         ensures admitted { OnOk result (PassAdmitted pass.old k mode pass.new) }
-        ensures permit { IfOk result (λ permit. (permit.shard ≡ k) × Holds pass.new permit) }
+        ensures permit { IfOk result (λ permit. (permit.shard ≡ k) × HoldsPermit pass.new permit) }
         ensures body { IfOk result (λ permit. S.requests permit.body ≡ kept pass.new.seen k) }
         ensures held { IfOk result (λ permit. S.requests permit.body ≡ list_held pass.new.held) }
         ensures refused { IfErr result (λ refusal. PassLooks pass.old pass.new × RefusedBy pass.old pass.new k mode refusal) }
@@ -248,7 +249,7 @@ impl<S: Service> Board<S> {
     /// since the admission, or none. It always succeeds, by one store.
     pub fn finish(&self, pass: &mut Pass<S>, permit: Permit<S>) -> Front
         requires board { pass.old.board ≡ self.now }
-        requires permit { Holds pass.old permit }
+        requires permit { HoldsPermit pass.old permit }
         requires body { (request : Option S.Request) × (S.requests permit.body ≡ list_with (list_held pass.old.held) request) }
         ensures done { (request : Option S.Request) → S.requests permit.body ≡ list_with (list_held pass.old.held) request
             → PassAdds pass.old permit.shard (Done request) pass.new }
@@ -263,7 +264,7 @@ impl<S: Service> Board<S> {
 
     fn finish_as<B: Asks<S::Request>>(&self, pass: &mut Pass<S>, permit: Permit<S>) -> Front
         requires board { pass.old.board ≡ self.now }
-        requires permit { Holds pass.old permit }
+        requires permit { HoldsPermit pass.old permit }
         requires body { (request : Option S.Request) × (S.requests permit.body ≡ list_with (list_held pass.old.held) request) }
         requires kind { B.kind ≡ Done (beyond (list_held pass.old.held) (S.requests permit.body)) }
         ensures done { PassAdds pass.old permit.shard (Done (beyond (list_held pass.old.held) (S.requests permit.body))) pass.new }
@@ -357,8 +358,8 @@ impl<S: Service> Board<S> {
         })
     }
 
-    /// Ends the board: each shard's record, and the body of each idle one, after all that was ever done on it. The body of a
-    /// shard whose permit was never spent isn't there.
+    /// Ends the board: each shard's record, and the body of each idle one, after one legal history that extends what the chair
+    /// had seen by entries of passes. The body of a shard whose permit was never spent isn't there.
     pub fn close(self, chair: Chair<S>) -> Vec<(Record, Option<S>)>
         requires board { chair.board ≡ self }
         ensures { WasClosed S.requests chair result.items }
@@ -429,7 +430,7 @@ impl<S: Service> Board<S> {
     }
 }
 
-// A change names servers alone.
+// The servers that a change names are numbered as servers are. Reading the number tells the proof so, and does nothing else.
 fn names_servers(change: &Change)
     ensures { NamesKnown change.now }
 {

@@ -11,7 +11,7 @@ pub mod limits;
 pub mod make_fault;
 pub mod pass;
 pub mod permit;
-pub mod rule;
+mod rule;
 #[cfg(test)]
 mod tests;
 pub mod view;

@@ -27,13 +27,13 @@ use std::sync::Arc;
 use std::test::Fail;
 use std::thread;
 
-// Assigns a vacant shard.
+// Assigns a vacant shard; none where it isn't vacant.
 fn assign(
     board: &Board<CounterText>,
     chair: &mut Chair<CounterText>,
     k: ShardId,
     owner: ServerId,
-) -> Option<ChangeRefusal>
+) -> Option<Result<(), ChangeRefusal>>
     requires board { chair.old.board ≡ board.now }
     requires shard { k < board.now.limits.count }
     ensures { chair.new.board ≡ board.now }
@@ -42,18 +42,15 @@ fn assign(
         Stand::Vacant => {}
         _ => return None,
     }
-    match board.change(chair, k, Change::Assign(owner)) {
-        Ok(()) => None,
-        Err(refusal) => Some(refusal),
-    }
+    Some(board.change(chair, k, Change::Assign(owner)))
 }
 
-// Pauses a shard that is served.
+// Pauses a shard that is served; none where it isn't.
 fn pause(
     board: &Board<CounterText>,
     chair: &mut Chair<CounterText>,
     k: ShardId,
-) -> Option<ChangeRefusal>
+) -> Option<Result<(), ChangeRefusal>>
     requires board { chair.old.board ≡ board.now }
     requires shard { k < board.now.limits.count }
     ensures { chair.new.board ≡ board.now }
@@ -62,10 +59,7 @@ fn pause(
         Stand::Serving(_) => {}
         _ => return None,
     }
-    match board.change(chair, k, Change::Pause) {
-        Ok(()) => None,
-        Err(refusal) => Some(refusal),
-    }
+    Some(board.change(chair, k, Change::Pause))
 }
 
 // Why the pass isn't admitted; an admission that it gets is ended.
@@ -139,6 +133,10 @@ fn serving(owner: ServerId, admitted: bool, generation: u64) -> Record {
     }
 }
 
+fn front(shard: ShardId, generation: u64) -> Front {
+    Front { shard, generation }
+}
+
 // One shard, below ceiling 3: what a pass sees that was made before all that happens.
 #[test]
 fn stale_pass_looks(rt: HostRuntime) -> Result<(), Fail> {
@@ -151,9 +149,10 @@ fn stale_pass_looks(rt: HostRuntime) -> Result<(), Fail> {
     let mut second = board.pass(None);
     assert_eq!(rt; first.server(), Some(one));
     assert_eq!(rt; chair.stand(k), Stand::Vacant);
-    assert_eq!(rt; assign(&board, &mut chair, k, one), None);
+    assert_eq!(rt; assign(&board, &mut chair, k, one), Some(Ok(())));
     assert_eq!(rt; chair.stand(k), Stand::Serving(one));
     let idle = serving(one, false, 1);
+    // A look that answers from what it saw before (look_from_memory) fails here.
     assert_eq!(rt; board.look(&mut second, k), idle);
     let not_executor = AdmitRefusal::Refused(AdmitFault::NotExecutor, idle);
     assert_eq!(rt; refusal(&board, &mut second, k), Some(not_executor));
@@ -163,17 +162,16 @@ fn stale_pass_looks(rt: HostRuntime) -> Result<(), Fail> {
     let admitted = serving(one, true, 2);
     assert_eq!(rt; board.look(&mut second, k), admitted);
     let busy = ChangeRefusal::Busy(admitted);
-    assert_eq!(rt; pause(&board, &mut chair, k), Some(busy));
-    let front = board.finish(&mut first, permit);
-    assert_eq!(rt; (front.shard, front.generation), (k, 3));
+    assert_eq!(rt; pause(&board, &mut chair, k), Some(Err(busy)));
+    assert_eq!(rt; board.finish(&mut first, permit), front(k, 3));
     let last = serving(one, false, 3);
     assert_eq!(rt; board.look(&mut second, k), last);
     let spent = AdmitRefusal::Refused(AdmitFault::Spent, last);
     assert_eq!(rt; refusal(&board, &mut first, k), Some(spent));
-    assert_eq!(rt;
-        pause(&board, &mut chair, k),
-        Some(ChangeRefusal::Spent(last))
-    );
+    let fault = board.refusal(&last, Some(one), Mode::Direct);
+    assert_eq!(rt; fault, Some(AdmitFault::Spent));
+    let no_more = ChangeRefusal::Spent(last);
+    assert_eq!(rt; pause(&board, &mut chair, k), Some(Err(no_more)));
     assert_eq!(rt; board.look_chair(&mut chair, k), last);
     Ok(())
 }
@@ -186,14 +184,14 @@ fn body_comes_home(rt: HostRuntime) -> Result<(), Fail> {
     let (board, mut chair) = Board::make(rt.alloc(), bodies(rt.alloc(), 1, 100)?, 1_000)
         .ok()
         .ok_or("a board")?;
-    assert_eq!(rt; assign(&board, &mut chair, k, one), None);
+    assert_eq!(rt; assign(&board, &mut chair, k, one), Some(Ok(())));
     let mut pass = board.pass(Some(one));
     let applied = put(&board, &mut pass, rt.alloc(), k);
-    assert_eq!(rt;
-        applied.map(|front| (front.shard, front.generation)),
-        Some((k, 3))
-    );
-    assert_eq!(rt; refusal(&board, &mut pass, k), None);
+    assert_eq!(rt; applied, Some(front(k, 3)));
+    let Ok(permit) = board.admit(&mut pass, k, Mode::Direct) else {
+        return Err("the pass is admitted again".into());
+    };
+    assert_eq!(rt; board.finish(&mut pass, permit), front(k, 5));
     let rows = board.close(chair);
     assert_eq!(rt; rows.len(), 1);
     assert_eq!(rt; rows[0].0, serving(one, false, 5));
@@ -209,7 +207,7 @@ fn permit_is_never_spent(rt: HostRuntime) -> Result<(), Fail> {
     let (board, mut chair) = Board::make(rt.alloc(), bodies(rt.alloc(), 2, 100)?, 1_000)
         .ok()
         .ok_or("a board")?;
-    assert_eq!(rt; assign(&board, &mut chair, k, one), None);
+    assert_eq!(rt; assign(&board, &mut chair, k, one), Some(Ok(())));
     let mut pass = board.pass(Some(one));
     let Ok(permit) = board.admit(&mut pass, k, Mode::Direct) else {
         return Err("the pass is admitted".into());
@@ -265,7 +263,7 @@ fn two_threads_admit(rt: HostRuntime) -> Result<(), Fail> {
     let (board, mut chair) = Board::make(rt.alloc(), bodies(rt.alloc(), 1, 2_000)?, 1_000_000)
         .ok()
         .ok_or("a board")?;
-    assert_eq!(rt; assign(&board, &mut chair, k, one), None);
+    assert_eq!(rt; assign(&board, &mut chair, k, one), Some(Ok(())));
     let (first, second) = (board.pass(Some(one)), board.pass(Some(one)));
     let board = Arc::new(rt.alloc(), board)?;
     let first = Worker {

@@ -15,6 +15,7 @@ pub struct View<Q> {
     pub held: Option<Held<Q>>,
     /// The history as far as it has looked.
     pub seen: LinkedList<Entry<Q>>,
+    // The rest is for notes, which aren't there yet: each view has it as that of a new seat has.
     /// Another seat has taken it in, and nothing is said of it any more.
     pub spent: bool,
     /// Its number is the seat's own; a seat cut from another gets one by its first load.
