@@ -1,4 +1,4 @@
-ghost use Rattle.std.specs.Prelude.{◌≡◌, ◌<◌, ◌^◌, fold, [], drop, replicate, IfOk, IfSome, IfNone, OnOk, OnErr, IsOkUnless, Err};
+ghost use Rattle.std.specs.Prelude.{◌≡◌, ◌<◌, ◌^◌, fold, [], drop, replicate, ◌≤◌, vec_capacity, IfOk, IfSome, IfNone, OnOk, OnErr, IsOkUnless, Err};
 ghost use Rattle.sm_publish.specs.Publishing.{with_route, taken, publish_fault};
 
 use crate::publish_fault::PublishFault;
@@ -32,7 +32,7 @@ impl Model for Publisher {
 
 impl Publisher {
     /// A publisher of routes for so many shards, and its routers, of which there is at least one and which have seen nothing.
-    /// It waits only where memory for the routers is refused.
+    /// All memory is taken first. It may wait only where a router finds no place at the map, of which a new one has enough.
     pub fn new<R: Wait>(
         rt: &R,
         alloc: Global,
@@ -43,10 +43,11 @@ impl Publisher {
         ensures publisher { IfOk result (λ made. made.0 ≡ record { count = count; published = [] }) }
         ensures routers { IfOk result (λ made. made.1.items ≡ replicate routers []) }
     {
+        let room = Vec::with_capacity(alloc, routers)?;
         let first = RouteMap::new(alloc, count)?;
         let second = RouteMap::new(alloc, count)?;
         let writer = MapWriter::new(alloc, first, second, routers)?;
-        match routers_of(alloc, &writer, routers) {
+        match routers_of(&writer, routers, room) {
             Ok(made) => Ok((Publisher { writer }, made)),
             Err(refused) => {
                 let _map = writer.take(rt);
@@ -88,13 +89,20 @@ impl Publisher {
     }
 }
 
-// So many routers of the writer's map, which have seen nothing.
-fn routers_of(alloc: Global, writer: &MapWriter, count: usize) -> Result<Vec<Router>, AllocError>
+// So many routers of the writer's map, which have seen nothing, in this room.
+fn routers_of(
+    writer: &MapWriter,
+    count: usize,
+    mut made: Vec<Router>,
+) -> Result<Vec<Router>, AllocError>
+    requires { (made.items ≡ []) × (count ≤ vec_capacity made) }
     ensures { IfOk result (λ made. made.items ≡ replicate count []) }
 {
-    let mut made = Vec::with_capacity(alloc, count)?;
     for _ in 0..count {
-        made.push(Router::new(writer.factory().reader()?))?;
+        let router = Router::new(writer.factory().reader()?);
+        let Ok(()) = made.push(router) else {
+            unreachable!()
+        };
     }
     Ok(made)
 }

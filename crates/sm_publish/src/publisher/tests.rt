@@ -60,18 +60,23 @@ fn publish_all<R: Wait>(
     Ok(())
 }
 
-// Whether generations never fall in what the router reads for the key.
-fn never_goes_back(router: &mut Router, layout: &Layout, key: &[u8], reads: u32) -> bool {
+// Reads the key's route so often, and gives the router back where generations never fell.
+fn never_goes_back(mut router: Router, layout: &Layout, key: &[u8], reads: u32) -> Option<Router> {
     let mut newest = 0;
     for _ in 0..reads {
         if let Some(route) = router.route(layout, key) {
             if route.generation < newest {
-                return false;
+                return None;
             }
             newest = route.generation;
         }
     }
-    true
+    Some(router)
+}
+
+fn last_read(router: Option<Router>, layout: &Layout, key: &[u8]) -> Option<Route> {
+    let mut router = router?;
+    router.route(layout, key)
 }
 
 // Two threads read 10,000 times each.
@@ -80,19 +85,12 @@ fn both_never_go_back<R: Threads + Sync>(
     first: Router,
     second: Router,
     layout: &Layout,
-) -> bool {
-    let (first, second) = thread::join(
+) -> (Option<Router>, Option<Router>) {
+    thread::join(
         rt,
-        move || {
-            let mut router = first;
-            never_goes_back(&mut router, layout, b"a", 10_000)
-        },
-        move || {
-            let mut router = second;
-            never_goes_back(&mut router, layout, b"a", 10_000)
-        },
-    );
-    first && second
+        move || never_goes_back(first, layout, b"a", 10_000),
+        move || never_goes_back(second, layout, b"a", 10_000),
+    )
 }
 
 #[test]
@@ -100,18 +98,36 @@ fn generations_never_fall(rt: HostRuntime) -> Result<(), Fail> {
     let layout = Layout::new(rt.alloc(), &[b"", b"m"])?;
     let route = route_of(&rt, 0, 1, 0);
 
-    let (mut publisher, mut routers) = Publisher::new(&rt, rt.alloc(), 2, 3)?;
+    let (mut publisher, mut routers) = Publisher::new(&rt, rt.alloc(), 2, 2)?;
     let first = routers.pop().expect(&rt, "a router");
     let second = routers.pop().expect(&rt, "a router");
-    let (published, never_fell) = thread::join(
+    let (published, (first, second)) = thread::join(
         &rt,
         || publish_all(&rt, &mut publisher, route, 2_000),
         || both_never_go_back(&rt, first, second, &layout),
     );
     assert_eq!(rt; published, Ok(()));
-    assert!(rt; never_fell);
-    let last = routers[0].route(&layout, b"a");
-    assert_eq!(rt; last, Some(route_of(&rt, 0, 1, 2_000)));
+    let newest = Some(route_of(&rt, 0, 1, 2_000));
+    assert_eq!(rt; last_read(first, &layout, b"a"), newest);
+    assert_eq!(rt; last_read(second, &layout, b"a"), newest);
+    publisher.end(&rt);
+    Ok(())
+}
+
+// Fails where a router stays at what it read first, or always answers none: its contract allows both.
+#[test]
+fn router_stays_behind(rt: HostRuntime) -> Result<(), Fail> {
+    let layout = Layout::new(rt.alloc(), &[b"", b"m"])?;
+    let (mut publisher, mut routers) = Publisher::new(&rt, rt.alloc(), 2, 2)?;
+    let mut first = routers.pop().expect(&rt, "a router");
+    let mut second = routers.pop().expect(&rt, "a router");
+    for generation in 1..4u64 {
+        let published = publisher.publish(&rt, route_of(&rt, 1, 1, generation));
+        assert_eq!(rt; published, Ok(()));
+        let newest = Some(route_of(&rt, 1, 1, generation));
+        assert_eq!(rt; first.route(&layout, b"z"), newest);
+        assert_eq!(rt; second.route(&layout, b"z"), newest);
+    }
     publisher.end(&rt);
     Ok(())
 }

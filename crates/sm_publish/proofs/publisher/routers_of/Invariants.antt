@@ -1,6 +1,7 @@
-use Rattle.std.proofs.Common.{◌≡◌, [], replicate}
+use Rattle.std.proofs.Common.{◌≡◌, ◌≤◌, [], replicate}
+use Rattle.std.specs.Prelude.{vec_capacity}
 use Rattle.sm_publish.proofs.publisher.routers_of.Given as goal
 
--- a router for each turn, and none has seen anything
+-- a router for each turn, none has seen anything, and there is room for all
 abbrev pub invariant-loop : goal.invariant-loop
-invariant-loop l = l.made.items ≡ replicate l.counter []
+invariant-loop l = (l.made.items ≡ replicate l.counter []) × (l.count ≤ vec_capacity l.made)
