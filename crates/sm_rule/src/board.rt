@@ -32,7 +32,7 @@ use sm_ranges::server_id::ServerId;
 use sm_ranges::shard_id::ShardId;
 use sm_ranges::stand::Stand;
 use sm_service::service::Service;
-use sm_word::word::{admit_word, done_word, pack, record_of_word};
+use sm_word::word::{admit_word, done_word, pack, record_of_word, record_served};
 use std::alloc::{AllocError, Global};
 use std::marker::{Brand, Model};
 
@@ -135,7 +135,7 @@ impl<S: Service> Board<S> {
         ensures seen { PassLooks pass.old pass.new }
         ensures state { result ≡ record_of pass.new k }
     {
-        self.load(&mut pass.seat, k).1
+        self.load(&mut pass.seat, k, None).1
     }
 
     /// The shard's record after all that the chair then has seen.
@@ -145,7 +145,7 @@ impl<S: Service> Board<S> {
         ensures seen { ChairLooks chair.old chair.new }
         ensures state { result ≡ record_at_chair chair.new k }
     {
-        self.load(&mut chair.seat, k).1
+        self.load(&mut chair.seat, k, None).1
     }
 
     /// The first reason for which a record of this board doesn't admit the server for a request that came so, if any.
@@ -207,7 +207,7 @@ impl<S: Service> Board<S> {
         ensures held { IfOk result (λ permit. S.requests permit.body ≡ list_held pass.new.held) }
         ensures refused { IfErr result (λ refusal. PassLooks pass.old pass.new × RefusedBy pass.old pass.new k mode refusal) }
     {
-        let (word, read) = self.load(&mut pass.seat, k);
+        let (word, read) = self.load(&mut pass.seat, k, pass.server);
         match self.refusal(&read, pass.server, mode) {
             Some(fault) => return Err(AdmitRefusal::Refused(fault, read)),
             None => {}
@@ -319,7 +319,7 @@ impl<S: Service> Board<S> {
         ensures made { OnOk result (ChairAdds chair.old k change chair.new) }
         ensures refused { IfErr result (λ refusal. ChairLooks chair.old chair.new × NotMade chair.old chair.new k refusal) }
     {
-        let (word, read) = self.load(&mut chair.seat, k);
+        let (word, read) = self.load(&mut chair.seat, k, None);
         let next = self.changed(&read, change)?;
         let new = pack(next);
         match self.exchange::<B>(&mut chair.seat, k, &read, &next, word, new) {
@@ -411,8 +411,14 @@ impl<S: Service> Board<S> {
         Err(record_of_word(found))
     }
 
-    // Loads the shard's word, and reads its record.
-    fn load(&self, seat: &mut Seat<Option<S>, View<S::Request>>, k: ShardId) -> (u64, Record)
+    // Loads the shard's word, and reads its record, at once where the likely server serves the shard.
+    #[inline(always)]
+    fn load(
+        &self,
+        seat: &mut Seat<Option<S>, View<S::Request>>,
+        k: ShardId,
+        likely: Option<ServerId>,
+    ) -> (u64, Record)
         requires table { seat.old.table_id ≡ self.now.id }
         requires limits { seat.old.me.0.limits ≡ self.now.limits }
         requires live { seat.old.me.0.spent ≡ false }
@@ -426,7 +432,7 @@ impl<S: Service> Board<S> {
         ensures low { self.now.limits.ceiling < 2 ^ 36 }
     {
         let word = self.table.shared.load::<Load>(seat, k.index());
-        (word, record_of_word(word))
+        (word, record_served(word, likely))
     }
 }
 

@@ -67,6 +67,23 @@ pub fn record_of_word(word: u64) -> Record
     }
 }
 
+/// The record of a word that has one. It is read at once where the likely server serves the shard and isn't admitted to it.
+pub fn record_served(word: u64, likely: Option<ServerId>) -> Record
+    requires { (state : RecordValue) × IsWellFormed state × (word_of state ≡ word) }
+    ensures { (state : RecordValue) → IsWellFormed state → word_of state ≡ word → result ≡ state }
+{
+    if let Some(server) = likely
+        && word / OTHER == PHASE / OTHER + u64::from(server.number()) * (OWNER / OTHER)
+    {
+        return Record {
+            stand: Stand::Serving(server),
+            admitted: false,
+            generation: word % OTHER,
+        };
+    }
+    record_of_word(word)
+}
+
 /// The word after an admission, of the word of an idle record.
 pub fn admit_word(word: u64) -> u64
     requires { (state : RecordValue) × IsWellFormed state × (state.admitted ≡ false) × (word_of state ≡ word) }
@@ -207,6 +224,7 @@ mod tests {
         let packed = pack(*state);
         assert_eq!(rt; packed, word);
         assert_eq!(rt; record_of_word(packed), *state);
+        assert_eq!(rt; record_served(packed, ServerId::new(1)), *state);
         assert_eq!(rt; unpack(word), Some(*state));
     }
 

@@ -15,7 +15,7 @@ load-word-requires g c =
       loads _ _ _ _ _ _ (low_key c.self.inside.table.shared.key c.self.inside.limits c.self.invariant.0 c.self.invariant.5) c.requires.live,
     )
 
-pub record_of_word-requires : goal.record_of_word-requires
-record_of_word-requires g c =
+pub record_served-requires : goal.record_served-requires
+record_served-requires g c =
     let found = c.load-word.ensures.2.1 in
     (record_in c.load-word.new.seat.me.0.limits c.load-word.new.seat.me.0.seen c.index.result, found.1, sym found.0)
