@@ -136,6 +136,7 @@ pub IsTallied-new : (servers : List ServerRow) (groups : List GroupRow) (shards 
     (replicate (length groups * w) 0) w
 IsTallied-new servers groups shards w ok below = record {
   has_ranges = record {
+    servers_rise = AreRising-are_servers servers ok.servers_ok;
     states_len = length-replicate (length servers) Up;
     domains = below;
     capacities = λ a known. (AreInRange-are_servers servers ok.servers_ok).capacity (place_of servers a) known;

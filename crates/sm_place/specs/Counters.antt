@@ -26,8 +26,9 @@ pub record AreBelow (servers : List ServerRow) (width : ℕ) : Type 0 where
   pub width_fits : width ≤ 4096
   pub at : (a : ℕ) → IsKnown servers a → domain_of servers a < width
 
--- the rows keep to their ranges
+-- the numbers of the servers rise, and the rows keep to their ranges
 pub record HasRanges (servers : List ServerRow) (groups : List GroupRow) (states : List ServerState) (width : ℕ) : Type 0 where
+  pub servers_rise : AreRising servers
   pub states_len : length states ≡ length servers
   pub domains : AreBelow servers width
   pub capacities : (a : ℕ) → IsKnown servers a → (server_of servers a).capacity < 2 ^ 32

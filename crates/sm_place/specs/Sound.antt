@@ -1,10 +1,12 @@
 -- What holds of all books.
 use Rattle.std.specs.Prelude.{ℕ, ◌≡◌, ◌<◌, ◌≤◌, length}
 use Rattle.sm_place.specs.Books.{BooksView, NamesKnown, shard_at}
+use Rattle.sm_place.specs.Counters.{AreRising}
 use Rattle.sm_place.specs.Room.{HasRoom}
 
--- each server has a state, each shard's group and servers have rows, and there is room
+-- the numbers of the servers rise, each server has a state, each shard's group and servers have rows, and there is room
 pub record AreSound (books : BooksView) : Type 0 where
+  pub servers_rise : AreRising books.servers
   pub states : length books.states ≡ length books.servers
   pub groups : length books.groups ≤ 4096
   pub shards : length books.shards ≤ 4096

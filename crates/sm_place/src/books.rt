@@ -2,6 +2,7 @@ ghost use Rattle.std.specs.Prelude.{All, ◌≡◌, ◌+◌, ◌<◌, ◌↔◌,
 ghost use Rattle.std.specs.Prelude.{length, nat_lt, remove, slice_index_or};
 ghost use Rattle.sm_place.specs.Books.{first_books_fault, new_books, IsKnown, NamesKnown};
 ghost use Rattle.sm_place.specs.Books.{domain_of, no_group, server_of, shard_at, state_of, with_stand, with_state};
+ghost use Rattle.sm_place.specs.Counters.{AreRising};
 ghost use Rattle.sm_place.specs.Room.{count_in, fit, load_on, HasRoom};
 ghost use Rattle.sm_place.specs.Sound.{AreSound};
 ghost use Rattle.sm_place.specs.Plans.{KeepsRoom, assign_plan, books_after, drain_plan, first_fit, plan, plan_after};
@@ -89,7 +90,8 @@ impl Books {
 
     /// The servers, by rising numbers.
     pub fn servers(&self) -> &[ServerRow]
-        ensures { result.now ≡ self.now.servers }
+        ensures rows { result.now ≡ self.now.servers }
+        ensures rising { AreRising result.now }
     {
         self.roster.rows()
     }

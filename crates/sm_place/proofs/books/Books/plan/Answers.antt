@@ -31,7 +31,7 @@ place-requires-clause-shard c =
 pub place-requires-clause-known : goal.place-requires-clause-known
 place-requires-clause-known c =
     let all : c.deref-in-loop-k.result.now ≡ servers_but c.args.from.now c.args.self.now.servers =
-    c.deref-in-loop-k.ensures.value ∙ c.in_ok-servers.ensures ∙ ap (servers_but c.args.from.now) c.servers.ensures in
+    c.deref-in-loop-k.ensures.value ∙ c.in_ok-servers.ensures ∙ ap (servers_but c.args.from.now) c.servers.ensures.rows in
     rw (all, c.loop-k.invariant.servers_stay) (known_servers c.args.from.now c.args.self.now.servers)
 
 pub loop-k-preserved : goal.loop-k-preserved
@@ -65,7 +65,7 @@ returns-clause-plan c =
     c.deref-k-items.ensures.value ∙ c.in_ok-shards.ensures
     ∙ ap (shards_from c.args.from.now 0) (c.deref.ensures.value ∙ ap (λ (b : BooksView). b.shards) c.self.view_is) in
     let from_servers : servers ≡ servers_but c.args.from.now c.args.self.now.servers =
-    c.in_ok-servers.ensures ∙ ap (servers_but c.args.from.now) c.servers.ensures in
+    c.in_ok-servers.ensures ∙ ap (servers_but c.args.from.now) c.servers.ensures.rows in
     done ∙ ap (λ ks. plan c.args.self.now ks servers) from_shards
     ∙ ap (plan c.args.self.now (shards_from c.args.from.now 0 c.args.self.now.shards)) from_servers
 
@@ -80,7 +80,7 @@ returns-clause-keeps_room c =
     c.deref-k-items.ensures.value ∙ c.in_ok-shards.ensures
     ∙ ap (shards_from c.args.from.now 0) (c.deref.ensures.value ∙ ap (λ (b : BooksView). b.shards) c.self.view_is) in
     let from_servers : servers ≡ servers_but c.args.from.now c.args.self.now.servers =
-    c.in_ok-servers.ensures ∙ ap (servers_but c.args.from.now) c.servers.ensures in
+    c.in_ok-servers.ensures ∙ ap (servers_but c.args.from.now) c.servers.ensures.rows in
     let found =
     done ∙ ap (λ ks. plan c.args.self.now ks servers) from_shards
     ∙ ap (plan c.args.self.now (shards_from c.args.from.now 0 c.args.self.now.shards)) from_servers in
