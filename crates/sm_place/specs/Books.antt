@@ -79,7 +79,7 @@ abbrev pub rises_above : ℕ → List ℕ → Bool
 rises_above low [] = true
 rises_above low (n ∷ ns) = nat_lt low n && rises_above n ns
 
--- the count is at least 1, and at most the second number
+-- the second number is at least 1, and at most the first
 abbrev pub is_count : ℕ → ℕ → Bool
 is_count most n = nat_lt 0 n && nat_lt n (most + 1)
 

@@ -83,7 +83,7 @@ impl Roster {
     pub fn knows(&self, a: ServerId) -> bool
         ensures { IsTrue result ↔ IsKnown self.now a }
     {
-        usize::from(self.places[usize::from(a.number())]) < self.rows.len()
+        self.place(a) < self.rows.len()
     }
 
     /// The places of the servers that the stand names.
@@ -112,7 +112,7 @@ impl Roster {
         requires fits { width ≤ 4096 }
         ensures { result ≡ cell_of self.now width group a }
     {
-        usize::from(group) * width + usize::from(self.rows[self.place(a)].domain)
+        usize::from(group) * width + usize::from(self.row(a).domain)
     }
 
     /// The counters of the group and the domains of the servers that the stand names.
