@@ -2,7 +2,7 @@
 use Rattle.std.proofs.Common.{ℕ, ◌+◌, ◌*◌, ◌<◌, ◌≤◌, ◌≡◌, Bool, true, false, cond, eqb, List, length, Option}
 use Rattle.std.proofs.Common.{Some, None, sym, refl, ap, ◌∙◌, inl, inr, arith, ◌||◌, ◌&&◌}
 use Rattle.std.specs.Prelude.{option_map, remove, slice_index}
-use Rattle.std.proofs.lemmas.Bool.{eqb-true, eq-eqb}
+use Rattle.std.proofs.lemmas.Bool.{and_from, and_right, eqb-true, eq-eqb}
 use Rattle.std.proofs.lemmas.Bool.Decides.{eqb_tells}
 use Rattle.std.proofs.lemmas.Nat.{same_from_place}
 use Rattle.std.proofs.lemmas.List.Sums.{sum_by-set, sum_by-remove}
@@ -12,20 +12,18 @@ use Rattle.sm_place.specs.declared.server_row.ServerRow.{ServerRow}
 use Rattle.sm_place.specs.declared.shard.Shard.{Shard}
 use Rattle.sm_place.specs.Counters.{AreBelow, HasCells, HasCounts}
 use Rattle.sm_place.specs.Cells.{amount_at, is_hit, cell_of, AreInside, IsIn}
-use Rattle.sm_place.specs.Books.{no_shard, IsKnown, HasRow, NamesKnown, domain_of, shard_at, with_stand}
+use Rattle.sm_place.specs.Books.{moved, no_shard, IsKnown, HasRow, NamesKnown, domain_of, shard_at, with_stand}
 use Rattle.sm_place.specs.Room.{names_domain, is_in, count_in}
-use Rattle.sm_place.proofs.Naming.{and_both, and_none}
-use Rattle.sm_place.proofs.Sharing.{moved}
 
 -- two cells are one where the groups and the domains are
 pub eqb-cell : (w g b g' d : ℕ) → b < w → d < w → eqb (g * w + b) (g' * w + d) ≡ (eqb g g' && eqb b d)
 eqb-cell w g b g' d hb hd =
     elim (eqb_tells (g * w + b) (g' * w + d)) [
-      | inl p ↦ let e = same_from_place g b g' d w hb hd p.1 in p.0 ∙ sym (and_both _ _ (eq-eqb g g' e.0) (eq-eqb b d e.1))
+      | inl p ↦ let e = same_from_place g b g' d w hb hd p.1 in p.0 ∙ sym (and_from _ _ (eq-eqb g g' e.0) (eq-eqb b d e.1))
       | inr p ↦ elim (eqb_tells g g') [
         | inl q ↦ elim (eqb_tells b d) [
           | inl r ↦ absurd (p.1 (ap (λ (n : ℕ). n * w + b) q.1 ∙ ap (λ (n : ℕ). g' * w + n) r.1))
-          | inr r ↦ p.0 ∙ sym (and_none _ _ r.0)
+          | inr r ↦ p.0 ∙ sym (and_right _ _ r.0)
         ]
         | inr q ↦ p.0 ∙ sym (ap (λ v. v && eqb b d) q.0)
       ]
@@ -34,7 +32,7 @@ eqb-cell w g b g' d hb hd =
 pub passes-cell : (servers : List ServerRow) (w g g' d : ℕ) (x : Option ℕ) → AreBelow servers w → HasRow servers x → d < w
     → passes (λ at. eqb at (g' * w + d)) (option_map (cell_of servers w g) x)
     ≡ (eqb g g' && passes (λ a. eqb (domain_of servers a) d) x)
-passes-cell servers w g g' d None below row h = sym (and_none (eqb g g') false refl)
+passes-cell servers w g g' d None below row h = sym (and_right (eqb g g') false refl)
 passes-cell servers w g g' d (Some a) below row h = eqb-cell w g (domain_of servers a) g' d (below.at a row) h
 
 -- the cell of a group and a domain gets one where the stand's shard is in it

@@ -1,31 +1,20 @@
 -- The books stay tallied when a stand changes.
-use Rattle.std.proofs.Common.{ℕ, ◌<◌, ◌≡◌, ◌≢◌, List, [], ◌∷◌, ◌++◌, length, take, refl, ap, sym, ◌∙◌, arith, inl, inr, subst}
+use Rattle.std.proofs.Common.{ℕ, ◌<◌, ◌≡◌, List, [], ◌∷◌, ◌++◌, length, take, refl, ap, sym, ◌∙◌, arith, inl, inr, subst}
 use Rattle.std.proofs.lemmas.Bool.Decides.{eqb_tells}
-use Rattle.std.proofs.lemmas.List.{get_or-set_same, get_or-set_other, length-set}
 use Rattle.sm_ranges.specs.declared.stand.Stand.{Stand}
 use Rattle.sm_place.specs.declared.server_row.ServerRow.{ServerRow}
 use Rattle.sm_place.specs.declared.group_row.GroupRow.{GroupRow}
 use Rattle.sm_place.specs.declared.shard.Shard.{Shard}
 use Rattle.sm_place.specs.declared.server_state.ServerState.{ServerState}
 use Rattle.sm_place.specs.Counters.{HasRanges, HasRows, HasLoads, HasCounts, IsTallied}
-use Rattle.sm_place.specs.Books.{no_shard, NamesKnown, shard_at, with_stand}
+use Rattle.sm_place.specs.Books.{moved, NamesKnown, shard_at, with_stand}
 use Rattle.sm_place.specs.Room.{HasRoom, count_in}
-use Rattle.sm_place.proofs.Sharing.{moved}
+use Rattle.sm_place.specs.Changed.{length-with_stand, shard_at-other, shard_at-same}
 
 -- a vector whose slice was written has what was written
 pub take-all : (xs ys : List ℕ) (n : ℕ) → n ≡ length xs → take n (xs ++ ys) ≡ xs
 take-all [] ys n e = rw e refl
 take-all (x ∷ xs) ys n e = rw e (ap (λ v. x ∷ v) (take-all xs ys (length xs) refl))
-
-pub shard_at-same : (shards : List Shard) (k : ℕ) (stand : Stand) → k < length shards
-    → shard_at (with_stand shards k stand) k ≡ moved (shard_at shards k) stand
-shard_at-same shards k stand h = get_or-set_same shards k (moved (shard_at shards k) stand) no_shard h
-
-pub shard_at-other : (shards : List Shard) (k j : ℕ) (stand : Stand) → j ≢ k → shard_at (with_stand shards k stand) j ≡ shard_at shards j
-shard_at-other shards k j stand ne = get_or-set_other shards k j (moved (shard_at shards k) stand) no_shard ne
-
-pub length-with_stand : (shards : List Shard) (k : ℕ) (stand : Stand) → length (with_stand shards k stand) ≡ length shards
-length-with_stand shards k stand = simp length-set
 
 pub HasRows-with_stand : (servers : List ServerRow) (groups : List GroupRow) (shards : List Shard) (k : ℕ) (stand : Stand)
     → k < length shards → NamesKnown servers stand → HasRows servers groups shards → HasRows servers groups (with_stand shards k stand)

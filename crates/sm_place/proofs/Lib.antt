@@ -1,10 +1,9 @@
-pub mod Counting
-pub mod Leaving
-pub mod Keeping
-pub mod Naming
-pub mod Placing
-pub mod Planning
-pub mod Rooms
-pub mod Sharing
-pub mod Starting
-pub mod Turns
+mod Counting
+mod Keeping
+mod Leaving
+mod Placing
+mod Planning
+mod Rooms
+mod Sharing
+mod Starting
+mod Turns

@@ -9,7 +9,7 @@ use Rattle.std.proofs.lemmas.List.Sums.{position_or_len_is, prefix_len-le-length
 use Rattle.sm_place.specs.declared.server_row.ServerRow.{ServerRow}
 use Rattle.sm_place.specs.Books.{no_server, place_of, IsKnown}
 use Rattle.sm_place.specs.Counters.{AreRising, HasPlaces}
-use Rattle.sm_place.proofs.Sharing.{id-at_place}
+use Rattle.sm_place.specs.Changed.{id-at_place}
 
 -- below one of two numbers, or not
 pub split : (m n : ℕ) → (m < n) ⊎ (n ≤ m)

@@ -11,7 +11,7 @@ use Rattle.sm_place.specs.Stands.{passes, stands_to_move}
 use Rattle.sm_place.specs.Books.{BooksView, no_server, IsKnown}
 use Rattle.sm_place.specs.Room.{fit}
 use Rattle.sm_place.specs.Plans.{PlanView, books_after, first_fit, no_plan, plan, plan_after, planned, servers_but, shards_from}
-use Rattle.sm_place.proofs.Keeping.{length-with_stand}
+use Rattle.sm_place.specs.Changed.{length-with_stand}
 use Rattle.sm_place.proofs.Leaving.{known_at}
 
 -- the first server that is left fits, or is passed over

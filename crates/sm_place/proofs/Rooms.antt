@@ -2,20 +2,20 @@
 use Rattle.std.proofs.Common.{ℕ, ◌+◌, ◌<◌, ◌≤◌, ◌≡◌, Bool, true, false, cond, eqb, length, Result, Ok, Err}
 use Rattle.std.proofs.Common.{refl, ap, sym, ◌∙◌, arith, inl, inr, ◌⊎◌, ◌&&◌}
 use Rattle.std.specs.Prelude.{slice_index_or, nat_lt, remove}
-use Rattle.std.proofs.lemmas.Bool.{eqb-true}
+use Rattle.std.proofs.lemmas.Bool.{and_from, and_parts, eqb-true}
 use Rattle.std.proofs.lemmas.Bool.Decides.{eqb_tells}
 use Rattle.sm_ranges.specs.declared.stand.Stand.{Stand}
 use Rattle.sm_ranges.specs.declared.stand.Stand.TheVariants.{Prepared, Serving}
 use Rattle.sm_place.specs.declared.shard.Shard.{Shard}
 use Rattle.sm_place.specs.declared.place_fault.PlaceFault.{PlaceFault}
 use Rattle.sm_place.specs.declared.place_fault.PlaceFault.TheVariants.{Leaving, NoCapacity, DomainLimit}
-use Rattle.sm_place.specs.Books.{BooksView, no_group, server_of, domain_of, shard_at, state_of, with_stand}
+use Rattle.sm_place.specs.Books.{BooksView, moved, no_group, server_of, domain_of, shard_at, state_of, with_stand}
 use Rattle.sm_place.specs.Room.{HasRoom, load_by, load_on, count_in, is_in, names_domain, fit}
 use Rattle.sm_place.specs.Stands.{AllNamed, is_leaving, names, owner_of}
-use Rattle.sm_place.proofs.Sharing.{moved, load_on-remove, load_on-with_stand}
+use Rattle.sm_place.specs.Named.{names_one-found, names_one-named, AllNamed-at, names-owner}
+use Rattle.sm_place.proofs.Sharing.{load_on-remove, load_on-with_stand}
 use Rattle.sm_place.proofs.Counting.{count_in-remove, count_in-with_stand}
 use Rattle.sm_place.proofs.Leaving.{IsFit-fit, cond-le}
-use Rattle.sm_place.proofs.Naming.{and_both, and_first, and_second, cond_within, names_one-found, names_one-named, AllNamed-at, names-owner}
 
 -- a shard that fits a server fits none that is leaving
 pub stays-fit : (books : BooksView) (k a : ℕ) → fit books k a ≡ Ok tt → is_leaving (state_of books a) ≡ false
@@ -31,6 +31,12 @@ stays-fit books k a e =
     first false q r e = refl
     first true q r e = absurd (cc)
 
+-- what counts only where another thing counts adds no more than that
+cond_within : (p q : Bool) (n : ℕ) → (p ≡ true → q ≡ true) → cond p n 0 ≤ cond q n 0
+cond_within false q n h = omega arith
+cond_within true true n h = omega arith
+cond_within true false n h = let e = h refl in absurd (cc)
+
 -- a shard takes no more of a server than before where the new stand names it only if the old one does
 load_by-within : (shard : Shard) (stand : Stand) (b : ℕ) → (names stand b ≡ true → names shard.stand b ≡ true)
     → load_by b (moved shard stand) ≤ load_by b shard
@@ -45,9 +51,9 @@ is_in-within books shard stand g d h =
     (λ e.
     let here : (b : ℕ) × ((names stand b ≡ true) × (eqb (domain_of books.servers b) d ≡ true)) =
     names_one-found (λ b. eqb (domain_of books.servers b) d) stand
-    (and_second (eqb shard.row.group g) (names_domain books.servers stand d) e) in
-    and_both (eqb shard.row.group g) (names_domain books.servers shard.stand d)
-    (and_first (eqb shard.row.group g) (names_domain books.servers stand d) e)
+    (and_parts (eqb shard.row.group g) (names_domain books.servers stand d) e).1 in
+    and_from (eqb shard.row.group g) (names_domain books.servers shard.stand d)
+    (and_parts (eqb shard.row.group g) (names_domain books.servers stand d) e).0
     (names_one-named (λ b. eqb (domain_of books.servers b) d) shard.stand here.0 (h here.0 here.1.0 here.1.1) here.1.1))
 
 -- a stand that names no further server leaves room

@@ -2,30 +2,18 @@
 use Rattle.std.proofs.Common.{ℕ, ◌+◌, ◌<◌, ◌≤◌, ◌≡◌, zero, suc, Bool, true, false, cond, eqb, List, [], ◌∷◌}
 use Rattle.std.proofs.Common.{length, get_or, Option, Some, None, sym, refl, ap, ◌∙◌, inl, inr, arith, ◌||◌}
 use Rattle.std.specs.Prelude.{option_map, remove, slice_index}
-use Rattle.std.proofs.lemmas.Bool.{eqb-true, eq-eqb}
+use Rattle.std.proofs.lemmas.Bool.{eq-eqb, or_right}
 use Rattle.std.proofs.lemmas.Bool.Decides.{eqb_tells}
-use Rattle.std.proofs.lemmas.List.Sums.{passes_at_first, sum_by-set, sum_by-remove}
+use Rattle.std.proofs.lemmas.List.Sums.{sum_by-set, sum_by-remove}
 use Rattle.sm_ranges.specs.declared.stand.Stand.{Stand}
 use Rattle.sm_place.specs.Stands.{passes, names, owner_of, other_of}
 use Rattle.sm_place.specs.declared.server_row.ServerRow.{ServerRow}
 use Rattle.sm_place.specs.declared.shard.Shard.{Shard}
 use Rattle.sm_place.specs.Counters.{HasLoads}
 use Rattle.sm_place.specs.Cells.{amount_at, is_hit, AreInside, IsAt}
-use Rattle.sm_place.specs.Books.{no_server, no_shard, place_of, IsKnown, HasRow, NamesKnown, shard_at, with_stand}
+use Rattle.sm_place.specs.Books.{moved, no_shard, place_of, IsKnown, HasRow, NamesKnown, shard_at, with_stand}
+use Rattle.sm_place.specs.Changed.{same_place}
 use Rattle.sm_place.specs.Room.{load_on, load_by}
-use Rattle.sm_place.proofs.Naming.{or_right}
-
--- the row at a server's place is its own
-pub id-at_place : (servers : List ServerRow) (a : ℕ) → IsKnown servers a → (get_or servers (place_of servers a) no_server).id ≡ a
-id-at_place servers a known = eqb-true _ _ (passes_at_first (λ row. eqb row.id a) servers no_server known)
-
--- two servers at one place are one
-pub same_place : (servers : List ServerRow) (a b : ℕ) → IsKnown servers a → place_of servers b ≡ place_of servers a → b ≡ a
-same_place servers a b known e =
-    let here = id-at_place servers a known in
-    let b_known : IsKnown servers b = rw e known in
-    let there = id-at_place servers b b_known in
-    sym there ∙ ap (λ i. (get_or servers i no_server).id) e ∙ here
 
 -- places tell servers apart
 pub eqb-place : (servers : List ServerRow) (a b : ℕ) → IsKnown servers a → eqb (place_of servers b) (place_of servers a) ≡ eqb b a
@@ -65,8 +53,8 @@ load_on-remove shards k a h = sum_by-remove (load_by a) shards k no_shard h
 
 pub load_on-with_stand : (shards : List Shard) (k a : ℕ) (stand : Stand) → k < length shards
     → load_on (with_stand shards k stand) a + load_by a (shard_at shards k)
-    ≡ load_on shards a + load_by a (record { row = (shard_at shards k).row; stand = stand })
-load_on-with_stand shards k a stand h = sum_by-set (load_by a) shards k (record { row = (shard_at shards k).row; stand = stand }) no_shard h
+    ≡ load_on shards a + load_by a (moved (shard_at shards k) stand)
+load_on-with_stand shards k a stand h = sum_by-set (load_by a) shards k (moved (shard_at shards k) stand) no_shard h
 
 pub AreInside-place : (servers : List ServerRow) (x : Option ℕ) → HasRow servers x
     → AreInside (length servers) (option_map (place_of servers) x)
@@ -114,10 +102,6 @@ pub hit_named : (servers : List ServerRow) (stand : Stand) (x y : Option ℕ) (i
 hit_named servers stand x y i at known hit =
     hit_place servers (owner_of stand) (other_of stand) i known.0 known.1
     (sym (ap (λ v. is_hit v y i) at.owner ∙ ap (λ v. is_hit (option_map (place_of servers) (owner_of stand)) v i) at.other) ∙ hit)
-
--- the shard with another stand
-abbrev pub moved : Shard → Stand → Shard
-moved shard stand = record { row = shard.row; stand = stand }
 
 -- the counters of loads, after the servers of one stand lost the shard's load and those of another gained it
 pub HasLoads-moved : (servers : List ServerRow) (shards : List Shard) (k : ℕ) (stand : Stand) (loads0 loads1 loads2 : List ℕ)

@@ -3,7 +3,7 @@ use Rattle.std.proofs.Common.{ℕ, zero, suc, ◌+◌, ◌*◌, ◌<◌, ◌≤�
 use Rattle.std.proofs.Common.{[], ◌∷◌, length, get_or, map, sym, refl, ◌∙◌, arith, ◌&&◌, Option, Some, None}
 use Rattle.std.specs.Prelude.{replicate}
 use Rattle.std.specs.List.{list_all}
-use Rattle.std.proofs.lemmas.Bool.{ltb-true}
+use Rattle.std.proofs.lemmas.Bool.{and_parts, ltb-true}
 use Rattle.std.proofs.lemmas.List.Sums.{sum_by-cons}
 use Rattle.std.proofs.lemmas.List.{length-replicate, get_or-replicate, length-map}
 use Rattle.sm_place.specs.declared.server_row.ServerRow.{ServerRow}
@@ -17,7 +17,6 @@ use Rattle.sm_place.specs.Books.{is_shard, are_servers, are_groups, are_shards, 
 use Rattle.sm_place.specs.Books.{vacant, shard_at}
 use Rattle.sm_place.specs.Room.{load_on, is_in, count_in}
 use Rattle.sm_place.specs.Counters.{AreRising, AreInRange, AreBelow, IsTallied}
-use Rattle.sm_place.proofs.Naming.{and_first, and_second}
 
 -- rows without a fault keep their rules
 pub record AreBooks (servers : List ServerRow) (groups : List GroupRow) (shards : List ShardRow) : Type 0 where
@@ -43,17 +42,17 @@ AreBooks-no_fault servers groups shards e =
 pub list_all-each : {X : Type 0} (p : X → Bool) (xs : List X) (d : X) → list_all p xs ≡ true → (i : ℕ)
     → i < length xs → p (get_or xs i d) ≡ true
 list_all-each p [] d e i h = absurd (omega arith)
-list_all-each p (x ∷ xs) d e zero h = and_first (p x) (list_all p xs) e
-list_all-each p (x ∷ xs) d e (suc i) h = list_all-each p xs d (and_second (p x) (list_all p xs) e) i (omega arith)
+list_all-each p (x ∷ xs) d e zero h = (and_parts (p x) (list_all p xs) e).0
+list_all-each p (x ∷ xs) d e (suc i) h = list_all-each p xs d (and_parts (p x) (list_all p xs) e).1 i (omega arith)
 
 -- rising numbers are all above the one that they rise from
 ids_above : (low : ℕ) (rows : List ServerRow) → rises_above low (map (λ row. row.id) rows) ≡ true → (j : ℕ) → j < length rows
     → low < (get_or rows j no_server).id
 ids_above low [] e j h = absurd (omega arith)
-ids_above low (row ∷ rows) e zero h = ltb-true low row.id (and_first (ltb low row.id) _ e)
+ids_above low (row ∷ rows) e zero h = ltb-true low row.id (and_parts (ltb low row.id) _ e).0
 ids_above low (row ∷ rows) e (suc j) h =
-    let first : low < row.id = ltb-true low row.id (and_first (ltb low row.id) _ e) in
-    let rest : row.id < (get_or rows j no_server).id = ids_above row.id rows (and_second (ltb low row.id) _ e) j (omega arith) in
+    let first : low < row.id = ltb-true low row.id (and_parts (ltb low row.id) _ e).0 in
+    let rest : row.id < (get_or rows j no_server).id = ids_above row.id rows (and_parts (ltb low row.id) _ e).1 j (omega arith) in
     omega arith
 
 -- of rising numbers each is below the later ones
@@ -61,16 +60,16 @@ ids_rise : (low : ℕ) (rows : List ServerRow) → rises_above low (map (λ row.
     → (get_or rows i no_server).id < (get_or rows j no_server).id
 ids_rise low [] e i j hi hj = absurd (omega arith)
 ids_rise low (row ∷ rows) e i zero hi hj = absurd (omega arith)
-ids_rise low (row ∷ rows) e zero (suc j) hi hj = ids_above row.id rows (and_second (ltb low row.id) _ e) j (omega arith)
-ids_rise low (row ∷ rows) e (suc i) (suc j) hi hj = ids_rise row.id rows (and_second (ltb low row.id) _ e) i j (omega arith) (omega arith)
+ids_rise low (row ∷ rows) e zero (suc j) hi hj = ids_above row.id rows (and_parts (ltb low row.id) _ e).1 j (omega arith)
+ids_rise low (row ∷ rows) e (suc i) (suc j) hi hj = ids_rise row.id rows (and_parts (ltb low row.id) _ e).1 i j (omega arith) (omega arith)
 
 -- the rules of servers, but for their count
 rules_of : (rows : List ServerRow) → are_servers rows ≡ true
     → (rises_above 0 (map (λ row. row.id) rows) ≡ true) × (list_all is_server rows ≡ true)
 rules_of rows e =
     let rising = rises_above 0 (map (λ row. row.id) rows) in
-    let both = and_first (is_count 4095 (length rows) && rising) (list_all is_server rows) e in
-    (and_second (is_count 4095 (length rows)) rising both, and_second (is_count 4095 (length rows) && rising) (list_all is_server rows) e)
+    let both = (and_parts (is_count 4095 (length rows) && rising) (list_all is_server rows) e).0 in
+    ((and_parts (is_count 4095 (length rows)) rising both).1, (and_parts (is_count 4095 (length rows) && rising) (list_all is_server rows) e).1)
 
 -- servers by their rules rise
 pub AreRising-are_servers : (rows : List ServerRow) → are_servers rows ≡ true → AreRising rows
@@ -85,10 +84,10 @@ AreInRange-are_servers rows e =
     record {
       domain = λ i h. let row =
           get_or rows i no_server in ltb-true row.domain 4096
-          (and_first (ltb row.domain 4096) (ltb row.capacity 4294967296) (list_all-each is_server rows no_server all i h));
+          (and_parts (ltb row.domain 4096) (ltb row.capacity 4294967296) (list_all-each is_server rows no_server all i h)).0;
       capacity = λ i h. let row =
           get_or rows i no_server in ltb-true row.capacity 4294967296
-          (and_second (ltb row.domain 4096) (ltb row.capacity 4294967296) (list_all-each is_server rows no_server all i h));
+          (and_parts (ltb row.domain 4096) (ltb row.capacity 4294967296) (list_all-each is_server rows no_server all i h)).1;
     }
 
 -- vacant shards load no server
@@ -126,7 +125,7 @@ few_of : {X : Type 0} (rows : List X) (all : Bool) → (is_count 4096 (length ro
 few_of rows all e =
     let few : length rows < 4097 =
     ltb-true (length rows) 4097
-    (and_second (ltb 0 (length rows)) (ltb (length rows) 4097) (and_first (is_count 4096 (length rows)) all e)) in
+    (and_parts (ltb 0 (length rows)) (ltb (length rows) 4097) (and_parts (is_count 4096 (length rows)) all e).0).1 in
     omega arith
 
 -- new counters agree with new books
@@ -146,9 +145,9 @@ IsTallied-new servers groups shards w ok below = record {
         let row = get_or groups g no_group in
         let low : row.limit < 4097 =
         ltb-true row.limit 4097
-        (and_first (ltb row.limit 4097) (ltb row.down 4097)
+        (and_parts (ltb row.limit 4097) (ltb row.down 4097)
         (list_all-each is_group groups no_group
-        (and_second (is_count 4096 (length groups)) (list_all is_group groups) ok.groups_ok) g h)) in omega arith;
+        (and_parts (is_count 4096 (length groups)) (list_all is_group groups) ok.groups_ok).1 g h)).0 in omega arith;
   };
   has_rows = record {
     count =
@@ -159,9 +158,9 @@ IsTallied-new servers groups shards w ok below = record {
         let row = get_or shards k no_shard.row in
         let low : row.group < length groups =
         ltb-true row.group (length groups)
-        (and_first (ltb row.group (length groups)) (ltb row.cap 2)
+        (and_parts (ltb row.group (length groups)) (ltb row.cap 2)
         (list_all-each (is_shard (length groups)) shards no_shard.row
-        (and_second (is_count 4096 (length shards)) (list_all (is_shard (length groups)) shards) ok.shards_ok) k inside)) in
+        (and_parts (is_count 4096 (length shards)) (list_all (is_shard (length groups)) shards) ok.shards_ok).1 k inside)).0 in
         rw (shard_at-vacant shards k inside) low;
     known = λ k h.
         let inside : k < length shards = omega (arith, length-vacant shards) in

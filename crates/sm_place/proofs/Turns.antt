@@ -1,7 +1,8 @@
 -- Each turn of a plan keeps room.
 use Rattle.std.proofs.Common.{ℕ, ◌≡◌, ◌≢◌, inl, inr, cond, List, [], ◌∷◌, ◌++◌, All, Option, Some, None}
-use Rattle.std.proofs.Common.{Result, Ok, Err, refl, ap, ◌∙◌, append_assoc}
+use Rattle.std.proofs.Common.{Result, Ok, Err, refl, sym, ◌∙◌, append_assoc}
 use Rattle.std.specs.Prelude.{is_ok}
+use Rattle.std.proofs.lemmas.List.{append-nil}
 use Rattle.std.proofs.lemmas.List.Elements.{All-nil, All-cons}
 use Rattle.sm_place.specs.declared.plan.Move.{Move}
 use Rattle.sm_place.specs.declared.place_fault.PlaceFault.{PlaceFault}
@@ -41,16 +42,11 @@ pub record Adds (p : PlanView) (books : BooksView) (shards servers : List ℕ) (
   pub left_are : q.left ≡ p.left ++ left
   pub keeps : KeepsRoom books shards servers moves left
 
--- nothing appended
-append_nil : {X : Type 0} (xs : List X) → xs ≡ xs ++ []
-append_nil [] = refl
-append_nil (x ∷ xs) = ap (λ ys. x ∷ ys) (append_nil xs)
-
 -- a plan that goes on adds what keeps room
 pub planned-adds : (p : PlanView) (books : BooksView) (shards servers : List ℕ)
     → Adds p books shards servers (planned p books shards servers)
 planned-adds p books [] servers =
-    record { moves = []; left = []; moves_are = append_nil p.moves; left_are = append_nil p.left; keeps = (refl, refl) }
+    record { moves = []; left = []; moves_are = sym (append-nil p.moves); left_are = sym (append-nil p.left); keeps = (refl, refl) }
 planned-adds p books (k ∷ shards) servers =
     step (first_fit books k servers) refl (λ to. planned-adds (plan_after p k to) (books_after books k to) shards servers)
   where

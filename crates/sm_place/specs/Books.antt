@@ -62,9 +62,13 @@ NamesKnown servers stand = HasRow servers (owner_of stand) × HasRow servers (ot
 abbrev pub shard_at : List Shard → ℕ → Shard
 shard_at shards k = slice_index_or shards k no_shard
 
+-- the shard with another stand
+abbrev pub moved : Shard → Stand → Shard
+moved shard stand = record { row = shard.row; stand = stand }
+
 -- the shards where shard k has this stand
 abbrev pub with_stand : List Shard → ℕ → Stand → List Shard
-with_stand shards k stand = slice_set shards k (record { row = (shard_at shards k).row; stand = stand })
+with_stand shards k stand = slice_set shards k (moved (shard_at shards k) stand)
 
 -- the server's state
 abbrev pub state_of : BooksView → ℕ → ServerState

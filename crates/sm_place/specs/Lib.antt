@@ -1,6 +1,8 @@
 pub mod Books
 pub mod Cells
+pub mod Changed
 pub mod Counters
+pub mod Named
 pub mod Plans
 pub mod Room
 pub mod Sound

@@ -1,7 +1,7 @@
 -- Steps of restarts keep the caps.
 use Rattle.std.proofs.Common.{ℕ, ◌<◌, ◌≤◌, ◌≡◌, Bool, true, false, cond, eqb, length, Ok, ap, sym, ◌∙◌, arith, inl, inr, ◌&&◌}
 use Rattle.std.specs.Prelude.{count_by, nat_lt}
-use Rattle.std.proofs.lemmas.Bool.{eq-eqb, ltb-false}
+use Rattle.std.proofs.lemmas.Bool.{and_cases, and_from, and_parts, eq-eqb, ltb-false, or_left, or_right}
 use Rattle.std.proofs.lemmas.List.Sums.{sum_by-set}
 use Rattle.sm_ranges.specs.declared.stand.Stand.{Stand}
 use Rattle.sm_place.specs.declared.server_state.ServerState.{ServerState}
@@ -9,14 +9,15 @@ use Rattle.sm_place.specs.declared.server_state.ServerState.TheVariants.{Up, Ask
 use Rattle.sm_place.specs.declared.shard.Shard.{Shard}
 use Rattle.sm_place.specs.Books.{BooksView, IsKnown, place_of, shard_at, state_of, with_state}
 use Rattle.sm_place.specs.Stands.{is_leaving, names, names_one}
-use Rattle.sm_place.proofs.Naming.{and_both, and_first, and_second, cond_within, names_one-found, names_one-named, or_left, or_right}
+use Rattle.sm_place.specs.Changed.{state_of-set}
+use Rattle.sm_place.specs.Named.{names_one-found, names_one-named}
 use Rattle.sm_tasks.specs.Approvals.{approvable, leaving_count, names_down, stoppable, would_be_down}
 use Rattle.sm_tasks.specs.Caps.{MeetsCaps, names_away}
 use Rattle.sm_tasks.specs.Groups.{count_of, down_of, is_of}
 use Rattle.sm_tasks.specs.States.{is_away, is_paused, is_stopped}
-use Rattle.sm_tasks.proofs.Restarts.{false_within, or_no, count_by-within, count_by-within_but}
+use Rattle.sm_tasks.proofs.Restarts.{cond_within, false_within, count_by-within, count_by-within_but}
 use Rattle.sm_tasks.proofs.Restarts.{IsApprovable-approvable, IsStoppable-stoppable, is_away-approved}
-use Rattle.sm_tasks.proofs.Restarts.{is_leaving-away, state_of-set}
+use Rattle.sm_tasks.proofs.Restarts.{is_leaving-away}
 
 -- a test of states that the new state passes only if the old one does passes at no further server
 calm : (books : BooksView) (a : ℕ) (state : ServerState) → length books.states ≡ length books.servers → IsKnown books.servers a
@@ -37,8 +38,8 @@ one_within p q stand h e =
 of_within : (p q : Stand → Bool) (g : ℕ) (shard : Shard) → (p shard.stand ≡ true → q shard.stand ≡ true)
     → is_of p g shard ≡ true → is_of q g shard ≡ true
 of_within p q g shard h e =
-    and_both (eqb shard.row.group g) (q shard.stand) (and_first (eqb shard.row.group g) (p shard.stand) e)
-    (h (and_second (eqb shard.row.group g) (p shard.stand) e))
+    let parts = and_parts (eqb shard.row.group g) (p shard.stand) e in
+    and_from (eqb shard.row.group g) (q shard.stand) parts.0 (h parts.1)
 
 -- a step to a state that is away only if the old one is, and that is stopped only where the shards are paused, keeps the caps
 pub MeetsCaps-calm : (ops : ℕ) (books : BooksView) (a : ℕ) (state : ServerState)
@@ -120,7 +121,7 @@ MeetsCaps-approve ops books a len known e caps =
           omega (arith, one, less, may.few);
       shards = λ k h cap. false_within _ _ (unnamed (shard_at books.shards k).stand (may.uncapped k h cap)) (caps.shards k h cap);
       groups = λ g h.
-          elim (or_no (nat_lt 0 (count_of (λ stand. names stand a) books.shards g))
+          elim (and_cases (nat_lt 0 (count_of (λ stand. names stand a) books.shards g))
           (nat_lt (down_of books g) (count_of (names_down books a) books.shards g)) (may.groups g h)) [
             | inl p ↦
                 let none : count_of (λ stand. names stand a) books.shards g ≤ 0 =
@@ -131,7 +132,7 @@ MeetsCaps-approve ops books a len known e caps =
                 (λ shard no t. of_within (names_away new) (names_away books) g shard
                 (unnamed shard.stand
                 (not_named (eqb shard.row.group g) (names shard.stand a)
-                (and_first (eqb shard.row.group g) (names_away new shard.stand) t) no)) t) in
+                (and_parts (eqb shard.row.group g) (names_away new shard.stand) t).0 no)) t) in
                 omega (arith, fewer, caps.groups g h)
             | inr p ↦
                 let few : count_of (names_down books a) books.shards g ≤ down_of books g =

@@ -1,4 +1,4 @@
-pub mod Keeping
-pub mod Restarts
-pub mod Standing
-pub mod Tallies
+mod Keeping
+mod Restarts
+mod Standing
+mod Tallies

@@ -1,20 +1,18 @@
 -- What a step of a restart that is made shows, and how counts compare.
 use Rattle.std.proofs.Common.{ℕ, ◌+◌, ◌<◌, ◌≤◌, ◌≡◌, Bool, true, false, cond, eqb, List, [], ◌∷◌, length}
-use Rattle.std.proofs.Common.{get_or, set, Option, Some, None, Result, Ok, Err, refl, ap, sym, ◌∙◌, arith}
-use Rattle.std.proofs.Common.{inl, inr, ◌⊎◌, ◌&&◌, get_or-set_same, get_or-set_other, zero-add}
+use Rattle.std.proofs.Common.{get_or, Option, Some, None, Result, Ok, Err, refl, ap, sym, ◌∙◌, arith}
+use Rattle.std.proofs.Common.{◌&&◌, zero-add}
 use Rattle.std.specs.Prelude.{not, nat_lt, position, count_by}
 use Rattle.std.specs.List.{position_or_len, range_with_len}
 use Rattle.std.specs.Option.{option_map, option_or}
 use Rattle.std.proofs.lemmas.Bool.{eq-eqb, ltb-false}
-use Rattle.std.proofs.lemmas.Bool.Decides.{eqb_tells, nat_tests}
+use Rattle.std.proofs.lemmas.Bool.Decides.{nat_tests}
 use Rattle.std.proofs.lemmas.List.FromFn.{length-range_with_len, get_or-range_with_len}
-use Rattle.std.proofs.lemmas.List.Sums.{fails_before_first, sum_by-cons}
+use Rattle.std.proofs.lemmas.List.Sums.{fails_before_first, sum_by-cons, sum_by-le-sum_by}
 use Rattle.sm_place.specs.declared.server_state.ServerState.{ServerState}
 use Rattle.sm_place.specs.declared.server_state.ServerState.TheVariants.{Up, Asked, Approved, Stopped, Failed}
-use Rattle.sm_place.specs.Books.{BooksView, IsKnown, no_shard, place_of, shard_at, state_of, with_state}
+use Rattle.sm_place.specs.Books.{BooksView, no_shard, shard_at, state_of}
 use Rattle.sm_place.specs.Stands.{is_leaving, names}
-use Rattle.sm_place.proofs.Naming.{cond_within}
-use Rattle.sm_place.proofs.Sharing.{same_place}
 use Rattle.sm_tasks.specs.declared.approve_fault.ApproveFault.{ApproveFault}
 use Rattle.sm_tasks.specs.declared.approve_fault.ApproveFault.TheVariants.{NotAsked, GlobalCap, ShardCap, GroupCap}
 use Rattle.sm_tasks.specs.declared.stopped_fault.StoppedFault.{StoppedFault}
@@ -36,22 +34,16 @@ pub false_within : (p q : Bool) → (p ≡ true → q ≡ true) → q ≡ false 
 false_within false q h e = refl
 false_within true q h e = let t = h refl in absurd (cc)
 
-pub or_no : (u v : Bool) → (u && v) ≡ false → (u ≡ false) ⊎ (v ≡ false)
-or_no true v e = inr e
-or_no false v e = inl refl
+-- what counts only where another thing counts adds no more than that
+pub cond_within : (p q : Bool) (n : ℕ) → (p ≡ true → q ≡ true) → cond p n 0 ≤ cond q n 0
+cond_within false q n h = omega arith
+cond_within true true n h = omega arith
+cond_within true false n h = let e = h refl in absurd (cc)
 
 -- a test that passes only where another does passes no more often, also where it does so only at elements that a third test
 -- refuses, which refuses all
 pub count_by-within : {X : Type 0} (p q : X → Bool) (xs : List X) → ((x : X) → p x ≡ true → q x ≡ true) → count_by p xs ≤ count_by q xs
-count_by-within p q [] h = omega arith
-count_by-within p q (x ∷ xs) h =
-    omega (
-      arith,
-      sum_by-cons (λ y. cond (p y) 1 0) x xs,
-      sum_by-cons (λ y. cond (q y) 1 0) x xs,
-      cond_within (p x) (q x) 1 (h x),
-      count_by-within p q xs h,
-    )
+count_by-within p q xs h = sum_by-le-sum_by (λ x. cond (p x) 1 0) (λ x. cond (q x) 1 0) xs (λ x. cond_within (p x) (q x) 1 (h x))
 
 pub count_by-within_but : {X : Type 0} (p q r : X → Bool) (xs : List X) → count_by r xs ≤ 0
     → ((x : X) → r x ≡ false → p x ≡ true → q x ≡ true) → count_by p xs ≤ count_by q xs
@@ -157,24 +149,3 @@ is_away-stopped Asked e = absurd (cc)
 is_away-stopped Approved e = absurd (cc)
 is_away-stopped Stopped e = refl
 is_away-stopped Failed e = absurd (cc)
-
--- the state of a server, after that of a was set: its own new one, or another's old one
-pub state_of-set : (books : BooksView) (a b : ℕ) (state : ServerState)
-    → length books.states ≡ length books.servers → IsKnown books.servers a
-    → ((b ≡ a) × (state_of (with_state books a state) b ≡ state))
-    ⊎ ((eqb b a ≡ false) × (state_of (with_state books a state) b ≡ state_of books b))
-state_of-set books a b state len known =
-    elim (eqb_tells b a) [
-      | inl p ↦
-          let inside : place_of books.servers a < length books.states = rw len known in
-          inl (
-            p.1,
-            ap (λ i. get_or (set books.states (place_of books.servers a) state) (place_of books.servers i) Up) p.1
-                ∙ get_or-set_same books.states (place_of books.servers a) state Up inside,
-          )
-      | inr p ↦ inr (
-        p.0,
-        get_or-set_other books.states (place_of books.servers a) (place_of books.servers b) state Up
-            (λ same. p.1 (same_place books.servers a b known same)),
-      )
-    ]

@@ -1,8 +1,10 @@
 -- Books at the start meet the caps, and which new stands keep them.
 use Rattle.std.proofs.Common.{ℕ, ◌<◌, ◌≤◌, ◌≡◌, Bool, true, false, cond, eqb, List, length, get_or, All, refl}
-use Rattle.std.proofs.Common.{ap, sym, ◌∙◌, arith, inl, inr, ◌⊎◌, ◌&&◌, Option, Some, None}
-use Rattle.std.specs.Prelude.{IfSome, count_by}
+use Rattle.std.proofs.Common.{ap, sym, ◌∙◌, arith, inl, inr, ◌⊎◌, ◌&&◌}
+use Rattle.std.specs.Prelude.{count_by}
+use Rattle.std.proofs.lemmas.Bool.{and_right}
 use Rattle.std.proofs.lemmas.Bool.Decides.{eqb_tells}
+use Rattle.std.proofs.lemmas.Option.{IfSome_then}
 use Rattle.std.proofs.lemmas.List.Elements.{All-get_or, All-map, All-replicate}
 use Rattle.std.proofs.lemmas.List.Sums.{sum_by-le, sum_by-set}
 use Rattle.sm_ranges.specs.declared.stand.Stand.{Stand}
@@ -12,15 +14,14 @@ use Rattle.sm_place.specs.declared.server_row.ServerRow.{ServerRow}
 use Rattle.sm_place.specs.declared.server_state.ServerState.TheVariants.{Up}
 use Rattle.sm_place.specs.declared.shard.Shard.{Shard}
 use Rattle.sm_place.specs.declared.shard_row.ShardRow.{ShardRow}
-use Rattle.sm_place.specs.Books.{BooksView, no_shard, new_books, shard_at, state_of, vacant, with_stand}
+use Rattle.sm_place.specs.Books.{BooksView, moved, no_shard, new_books, shard_at, state_of, vacant, with_stand}
 use Rattle.sm_place.specs.Stands.{AllNamed, is_leaving, names, other_of, owner_of}
-use Rattle.sm_place.proofs.Keeping.{length-with_stand, shard_at-other, shard_at-same}
-use Rattle.sm_place.proofs.Naming.{AllNamed-at, and_none, cond_within, names_one-found, names_one-named, names-owner}
-use Rattle.sm_place.proofs.Sharing.{moved}
+use Rattle.sm_place.specs.Changed.{length-with_stand, shard_at-other, shard_at-same}
+use Rattle.sm_place.specs.Named.{AllNamed-at, names_one-found, names_one-named, names-owner}
 use Rattle.sm_tasks.specs.Caps.{MeetsCaps, TakesNoneLeaving, names_away, names_stopped}
 use Rattle.sm_tasks.specs.Groups.{count_of, is_of}
 use Rattle.sm_tasks.specs.States.{is_away, is_paused, is_stopped}
-use Rattle.sm_tasks.proofs.Restarts.{false_within, is_away-stopped, is_leaving-away}
+use Rattle.sm_tasks.proofs.Restarts.{cond_within, false_within, is_away-stopped, is_leaving-away}
 
 -- nothing is counted where nothing passes
 none_counted : {X : Type 0} (p : X → Bool) (xs : List X) → All (λ x. p x ≡ false) xs → count_by p xs ≤ 0
@@ -33,7 +34,7 @@ none_counted p xs all =
 
 -- a vacant shard is of no use to a test
 of_vacant : (test : Stand → Bool) (g : ℕ) (shard : Shard) → test Vacant ≡ false → shard.stand ≡ Vacant → is_of test g shard ≡ false
-of_vacant test g shard fails e = and_none (eqb shard.row.group g) (test shard.stand) (ap test e ∙ fails)
+of_vacant test g shard fails e = and_right (eqb shard.row.group g) (test shard.stand) (ap test e ∙ fails)
 
 pub MeetsCaps-all_up : (ops : ℕ) (books : BooksView) → All (λ state. state ≡ Up) books.states
     → All (λ shard. shard.stand ≡ Vacant) books.shards → MeetsCaps ops books
@@ -153,8 +154,4 @@ MeetsCaps-fewer ops books k stand inside unpaused named caps =
     let old = (shard_at books.shards k).stand in
     let held : is_paused old ≡ true → is_paused stand ≡ true = λ h. absurd (cc) in
     MeetsCaps-taken ops books k stand inside
-    (IfSome-more _ _ (owner_of stand) (λ a n. inr (n, held)) named.0, IfSome-more _ _ (other_of stand) (λ a n. inr (n, held)) named.1) caps
-  where
-    IfSome-more : (P Q : ℕ → Type 0) (x : Option ℕ) → ((a : ℕ) → P a → Q a) → IfSome x P → IfSome x Q
-    IfSome-more P Q None h p = tt
-    IfSome-more P Q (Some a) h p = h a p
+    (IfSome_then (owner_of stand) named.0 (λ a n. inr (n, held)), IfSome_then (other_of stand) named.1 (λ a n. inr (n, held))) caps

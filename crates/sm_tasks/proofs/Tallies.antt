@@ -4,7 +4,7 @@ use Rattle.std.proofs.Common.{set, refl, ap, sym, ◌∙◌, arith, inl, inr, �
 use Rattle.std.proofs.Common.{get_or-set_other, Some, None, zero-add}
 use Rattle.std.specs.Prelude.{replicate, position}
 use Rattle.std.specs.List.{position_or_len, range_with_len}
-use Rattle.std.proofs.lemmas.Bool.{eq-eqb, lt-ltb, le-ltb}
+use Rattle.std.proofs.lemmas.Bool.{and_from, and_right, eq-eqb, lt-ltb, le-ltb}
 use Rattle.std.proofs.lemmas.Bool.Decides.{eqb_tells}
 use Rattle.std.proofs.lemmas.List.{length-replicate, get_or-replicate, length-set, length-take, take_all}
 use Rattle.std.proofs.lemmas.List.FromFn.{length-range_with_len, get_or-range_with_len}
@@ -13,7 +13,6 @@ use Rattle.sm_ranges.specs.declared.stand.Stand.{Stand}
 use Rattle.sm_place.specs.declared.shard.Shard.{Shard}
 use Rattle.sm_place.specs.Books.{BooksView}
 use Rattle.sm_place.specs.Stands.{names}
-use Rattle.sm_place.proofs.Naming.{and_both, and_none}
 use Rattle.sm_tasks.specs.Approvals.{is_full, names_down}
 use Rattle.sm_tasks.specs.Groups.{is_of, count_of, down_of}
 
@@ -43,7 +42,7 @@ CountsTo-counted test shards i counts shard n h e pass small en so = record {
         let more = count_of-more test shards i shard.row.group shard h e in
         let one : ◌≡◌ {A = ℕ} (cond (is_of test shard.row.group shard) 1 0) 1 =
         ap (λ u. cond u 1 0)
-        (and_both (eqb shard.row.group shard.row.group) (test shard.stand) (eq-eqb shard.row.group shard.row.group refl) pass) in
+        (and_from (eqb shard.row.group shard.row.group) (test shard.stand) (eq-eqb shard.row.group shard.row.group refl) pass) in
         let goal : get_or (set counts shard.row.group (n + 1)) shard.row.group 0 ≡ count_of test (take (i + 1) shards) shard.row.group =
         omega (arith, here, more, one, en, so.at shard.row.group small) in
         rw (← p.1) goal
@@ -65,7 +64,7 @@ CountsTo-passed test shards i counts shard h e fail so = record {
   at = λ g hg.
       let more = count_of-more test shards i g shard h e in
       let none : ◌≡◌ {A = ℕ} (cond (is_of test g shard) 1 0) 0 =
-      ap (λ u. cond u 1 0) (and_none (eqb shard.row.group g) (test shard.stand) fail) in
+      ap (λ u. cond u 1 0) (and_right (eqb shard.row.group g) (test shard.stand) fail) in
       omega (arith, more, none, so.at g hg);
 }
 
@@ -115,4 +114,4 @@ pub is_full-unnamed : (books : BooksView) (a g : ℕ) → count_of (λ stand. na
 is_full-unnamed books a g named = rw (le-ltb _ _ named) refl
 
 pub is_full-few : (books : BooksView) (a g : ℕ) → count_of (names_down books a) books.shards g ≤ down_of books g → is_full books a g ≡ false
-is_full-few books a g down = and_none _ _ (le-ltb _ _ down)
+is_full-few books a g down = and_right _ _ (le-ltb _ _ down)
