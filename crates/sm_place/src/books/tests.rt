@@ -5,6 +5,7 @@ ghost use Rattle.sm_place.specs.Stands.{names};
 use super::*;
 use crate::laws::{fewer_names_leave_room, fit_leaves_room};
 use crate::named::{names, other_of, owner_of};
+use crate::plan::Move;
 use std::process::Abort;
 use std::test::Fail;
 
@@ -211,6 +212,68 @@ fn fills_a_server_to_its_capacity(rt: HostRuntime) -> Result<(), Fail> {
     assert!(rt; second.index() < books.rows().len());
     let server = ServerId::new(2).ok_or("a server")?;
     assert_eq!(rt; books.stand(second), Stand::Serving(server));
+    Ok(())
+}
+
+// Makes books of a limit of 1, again where memory is refused.
+fn made_in_two(rt: &impl Abort, alloc: Global) -> Result<Books, Fail> {
+    let servers = [row(1, 0, 2)?, row(2, 1, 2)?, row(3, 1, 2)?];
+    let groups = [group(1, 1)];
+    let shards = [light(0, 0), light(0, 1)];
+    match Books::new(alloc, &servers, &groups, &shards) {
+        Ok(books) => Ok(books),
+        Err(fault) => {
+            assert_eq!(*rt; fault, BooksFault::NoMemory);
+            Ok(Books::new(alloc, &servers, &groups, &shards)?)
+        }
+    }
+}
+
+// Plans from the server, or where there is none the Vacant shards, again where memory is refused.
+fn planned_in_two(
+    alloc: Global,
+    books: &Books,
+    from: Option<ServerId>,
+) -> Result<Plan, AllocError> {
+    match from {
+        None => books
+            .plan_assign(alloc)
+            .or_else(|_| books.plan_assign(alloc)),
+        Some(a) => books
+            .plan_drain(alloc, a)
+            .or_else(|_| books.plan_drain(alloc, a)),
+    }
+}
+
+// With each allocation refused in turn (`rt try --test --fail-alloc N`) a refused call leaves the books as they were,
+// and the same call made again does its work.
+#[test]
+fn refused_memory_changes_nothing(rt: HostRuntime) -> Result<(), Fail> {
+    let mut books = made_in_two(&rt, rt.alloc())?;
+    let first = server(&rt, &books, 1)?;
+    let second = server(&rt, &books, 2)?;
+    let third = server(&rt, &books, 3)?;
+    books.set_state(second, ServerState::Failed);
+    assert_eq!(rt; assign(&rt, &mut books, 0, 1)?, Ok(()));
+
+    let k = shard(&rt, &books, 1)?;
+    let plan = planned_in_two(rt.alloc(), &books, None)?;
+    let moves = [Move {
+        shard: k,
+        to: third,
+    }];
+    assert_eq!(rt; plan.moves(), moves.as_slice());
+
+    let k = shard(&rt, &books, 0)?;
+    let plan = planned_in_two(rt.alloc(), &books, Some(first))?;
+    let moves = [Move {
+        shard: k,
+        to: third,
+    }];
+    assert_eq!(rt; plan.moves(), moves.as_slice());
+    assert_eq!(rt; books.stand(k), Stand::Serving(first));
+    let second = server(&rt, &books, 2)?;
+    assert_eq!(rt; books.state(second), ServerState::Failed);
     Ok(())
 }
 
