@@ -1,34 +1,50 @@
-//! Measures books, plans and approvals at full size. Without an argument it measures nothing.
+//! Measures books, plans and approvals at full size, and plans by sums and by counters at a smaller one. Without an argument
+//! it measures nothing.
 #![tactic(auto)]
 
-mod full_size;
+mod plain;
+mod rows;
 
-use full_size::{FullSize, serve_all};
+use plain::PlainBooks;
+use rows::{Rows, serve_all};
 use sm_place::books::Books;
 use sm_ranges::server_id::ServerId;
 use sm_tasks::tasks::Tasks;
 use std::env;
 use std::time::Instant;
 
+const USAGE: &str = "bench_place: give books, first, last, plain, counted or approve to measure";
+
 const APPROVALS: u32 = 1000;
+
+// How many shards there are at full size, and where plans by sums are measured too.
+const FULL: u16 = 4096;
+
+const SMALL: u16 = 512;
 
 fn main(rt: HostRuntime) -> anyhow::Result<()> {
     let words: Vec<String> = env::args(&rt)?.collect(rt.alloc())?;
     if words.len() < 2 {
-        println!(rt; "bench_place: give books, first, last or approve to measure")?;
+        println!(rt; "{USAGE}")?;
         return Ok(());
     }
     match words[1].as_str() {
         "books" => measure_books(&rt),
-        "first" => measure_plan(&rt, 1),
-        "last" => measure_plan(&rt, 4095),
-        _ => measure_approve(&rt),
+        "first" => measure_plan(&rt, FULL, 1),
+        "last" => measure_plan(&rt, FULL, FULL - 1),
+        "plain" => measure_plain(&rt),
+        "counted" => measure_plan(&rt, SMALL, SMALL - 1),
+        "approve" => measure_approve(&rt),
+        _ => {
+            println!(rt; "{USAGE}")?;
+            Ok(())
+        }
     }
 }
 
 // Makes books and keeps them, so that the process has them at its peak.
 fn measure_books(rt: &HostRuntime) -> anyhow::Result<()> {
-    let rows = FullSize::new(rt.alloc(), 1)?;
+    let rows = Rows::new(rt.alloc(), FULL, 1)?;
     let start = Instant::now(rt)?;
     let books = Books::new(rt.alloc(), &rows.servers, &rows.groups, &rows.shards)?;
     println!(rt; "books {}", start.elapsed(rt)?.as_micros())?;
@@ -36,9 +52,9 @@ fn measure_books(rt: &HostRuntime) -> anyhow::Result<()> {
     Ok(())
 }
 
-// Makes books and a plan of all shards, which fit no server below this one.
-fn measure_plan(rt: &HostRuntime, roomy: u16) -> anyhow::Result<()> {
-    let rows = FullSize::new(rt.alloc(), roomy)?;
+// Makes books of so many shards and a plan of them, which fit no server below `roomy`.
+fn measure_plan(rt: &HostRuntime, size: u16, roomy: u16) -> anyhow::Result<()> {
+    let rows = Rows::new(rt.alloc(), size, roomy)?;
     let books = Books::new(rt.alloc(), &rows.servers, &rows.groups, &rows.shards)?;
     let start = Instant::now(rt)?;
     let plan = books.plan_assign(rt.alloc())?;
@@ -47,9 +63,20 @@ fn measure_plan(rt: &HostRuntime, roomy: u16) -> anyhow::Result<()> {
     Ok(())
 }
 
+// The same plan by sums and counts over all rows, where only the last server fits.
+fn measure_plain(rt: &HostRuntime) -> anyhow::Result<()> {
+    let rows = Rows::new(rt.alloc(), SMALL, SMALL - 1)?;
+    let mut books = PlainBooks::new(rt.alloc(), rows)?;
+    let start = Instant::now(rt)?;
+    let moves = books.assign_all(rt.alloc())?;
+    println!(rt; "plan {}", start.elapsed(rt)?.as_micros())?;
+    println!(rt; "moves {}", moves.len())?;
+    Ok(())
+}
+
 // Has one server serve all shards, and looks again and again whether its restart may be approved.
 fn measure_approve(rt: &HostRuntime) -> anyhow::Result<()> {
-    let rows = FullSize::new(rt.alloc(), 1)?;
+    let rows = Rows::new(rt.alloc(), FULL, 1)?;
     let mut books = Books::new(rt.alloc(), &rows.servers, &rows.groups, &rows.shards)?;
     let Some(a) = ServerId::new(1) else {
         return Ok(());

@@ -8,19 +8,20 @@ use sm_ranges::shard_id::ShardId;
 use sm_ranges::stand::Stand;
 use std::alloc::{AllocError, Global};
 
-/// Rows of 4,095 servers in as many domains, up to domain 4,095, of 4,096 groups, and of 4,096 shards of load 1.
+/// Rows of servers in as many domains, of groups, and of as many shards of load 1, one a group.
 #[derive(Drop)]
-pub(crate) struct FullSize {
+pub(crate) struct Rows {
     pub(crate) servers: Vec<ServerRow>,
     pub(crate) groups: Vec<GroupRow>,
     pub(crate) shards: Vec<ShardRow>,
 }
 
-impl FullSize {
-    /// The rows, where the servers from this number on have room for all shards and the others for none.
-    pub(crate) fn new(alloc: Global, roomy: u16) -> Result<FullSize, AllocError> {
+impl Rows {
+    /// The rows of so many shards and groups, and of one server less, up to 4,095. The servers from the number `roomy` on
+    /// have room for all shards, and the others for none.
+    pub(crate) fn new(alloc: Global, size: u16, roomy: u16) -> Result<Rows, AllocError> {
         let mut servers = Vec::new(alloc);
-        for number in 1..4096 {
+        for number in 1..size {
             if let Some(id) = ServerId::new(number) {
                 let capacity = if number >= roomy { 4096 } else { 0 };
                 servers.push(ServerRow {
@@ -32,7 +33,7 @@ impl FullSize {
         }
         let mut groups = Vec::new(alloc);
         let mut shards = Vec::new(alloc);
-        for group in 0..4096 {
+        for group in 0..size {
             groups.push(GroupRow {
                 limit: 1,
                 down: 4096,
@@ -43,7 +44,7 @@ impl FullSize {
                 cap: 1,
             })?;
         }
-        Ok(FullSize {
+        Ok(Rows {
             servers,
             groups,
             shards,
