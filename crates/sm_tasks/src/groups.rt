@@ -8,8 +8,8 @@ use sm_place::books::Books;
 use sm_place::named::names;
 use sm_ranges::server_id::ServerId;
 
-/// The lowest group of which a shard names the server, and of whose shards more than may be name it or a server that is
-/// leaving. The counts stand on the stack, so that no memory is taken.
+/// The lowest group, by its place from 0, of which a shard names the server, where more shards than the group's `down`
+/// name it or a server that is leaving. The counts stand on the stack, so that no memory is taken.
 pub(crate) fn full_group(books: &Books, a: ServerId) -> Option<u16>
     ensures { result ≡ full_group books.now a }
 {
