@@ -4,6 +4,7 @@ ghost use Rattle.sm_map.specs.KeyMap.{IsKeyMap, IsPlaceOf, IsGapFor};
 ghost use Rattle.sm_map.specs.Entry.{pairs_of, HasKeys};
 
 use crate::entry::Entry;
+use crate::order::compare;
 use sm_arena::arena::Arena;
 use std::alloc::{AllocError, Global};
 use std::cmp::Ordering;
@@ -101,7 +102,7 @@ fn search(entries: &[Entry], arena: &Arena, key: &[u8]) -> Result<usize, usize>
     let mut high = entries.len();
     while low < high {
         let middle = low + (high - low) / 2;
-        match arena.get(entries[middle].key).cmp(key) {
+        match compare(arena.get(entries[middle].key), key) {
             Ordering::Less => low = middle + 1,
             Ordering::Equal => return Ok(middle),
             Ordering::Greater => high = middle,

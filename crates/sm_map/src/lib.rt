@@ -4,5 +4,6 @@
 pub mod arena_map;
 mod entry;
 mod index;
+mod order;
 mod slot;
 pub mod val;
