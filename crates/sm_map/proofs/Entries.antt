@@ -13,8 +13,9 @@ use Rattle.sm_map.specs.KeyMap.{Pair, key_cmp, IsKeyMap, IsPlaceOf}
 use Rattle.sm_map.specs.KeyMap.{Text as HeldText, Count as HeldCount}
 use Rattle.sm_map.specs.ArenaMap.{MapValue}
 use Rattle.sm_map.specs.Stored.{Places, IsStored}
-use Rattle.sm_map.specs.Slot.{held_of, held_in, uses_piece, uses_slot, IsReadable}
-use Rattle.sm_map.specs.Entry.{pair_of, pairs_of, uses_entry, uses_all, HasKeys, row_of}
+use Rattle.sm_map.specs.Val.{held_of, row_of}
+use Rattle.sm_map.specs.Slot.{held_in, uses_piece, uses_slot, IsReadable}
+use Rattle.sm_map.specs.Entry.{pair_of, pairs_of, uses_entry, uses_all, HasKeys}
 use Rattle.sm_map.specs.Kept.{IsMap, map_of}
 use Rattle.sm_map.specs.declared.val.Val.{Val}
 use Rattle.sm_map.specs.declared.slot.Slot.{Slot}

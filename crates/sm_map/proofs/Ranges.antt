@@ -7,7 +7,7 @@ use Rattle.std.proofs.lemmas.Bool.{cases_lt}
 use Rattle.std.proofs.lemmas.List.{take-take, take_all, length-take, map_push}
 use Rattle.std.proofs.lemmas.List.Edits.{between_more}
 use Rattle.sm_map.specs.KeyMap.{Pair, is_below, within, IsEdgeOf}
-use Rattle.sm_map.specs.Entry.{row_of}
+use Rattle.sm_map.specs.Val.{row_of}
 use Rattle.sm_map.specs.declared.val.Val.{Val}
 
 module _ (p : Pair → Bool) where

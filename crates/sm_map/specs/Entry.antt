@@ -1,13 +1,11 @@
 -- The pairs of entries, and which spans they use.
 use Rattle.std.specs.Prelude.{ℕ, ◌+◌, List, map, All}
 use Rattle.std.specs.List.{sum_by}
-use Rattle.std.specs.Borrow.{Bor}
 use Rattle.sm_arena.specs.declared.span.Span.{Span}
 use Rattle.sm_arena.specs.Pieces.{IsPlaced, bytes_of}
 use Rattle.sm_map.specs.KeyMap.{Pair}
 use Rattle.sm_map.specs.Stored.{Places}
-use Rattle.sm_map.specs.Slot.{held_of, held_in, uses_piece, uses_slot}
-use Rattle.sm_map.specs.declared.val.Val.{Val}
+use Rattle.sm_map.specs.Slot.{held_in, uses_piece, uses_slot}
 use Rattle.sm_map.specs.declared.entry.Entry.{Entry}
 
 abbrev pub pair_of : Places → Entry → Pair
@@ -26,7 +24,3 @@ uses_all entries s = sum_by (λ entry. uses_entry entry s) entries
 -- the key of each entry lies in the arena
 abbrev pub HasKeys : Places → List Entry → Type 0
 HasKeys placed entries = All (λ entry. IsPlaced placed entry.key) entries
-
--- the pair that a caller gets
-abbrev pub row_of : Bor (List ℕ) × Val → Pair
-row_of row = record { key = row.0.now; value = held_of row.1 }

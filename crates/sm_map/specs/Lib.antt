@@ -1,6 +1,7 @@
 pub mod KeyMap
 pub mod ArenaMap
 pub mod Stored
+pub mod Val
 pub mod Slot
 pub mod Entry
 pub mod Index

@@ -1,4 +1,4 @@
--- What a caller's value and a slot hold, and which span a slot uses.
+-- What a slot holds, and which span it uses.
 use Rattle.std.specs.Prelude.{◌≡◌, ◌<◌, ℕ, cond, length}
 use Rattle.sm_arena.specs.declared.span.Span.{Span}
 use Rattle.sm_arena.specs.Pieces.{same_span, IsPlaced, bytes_of}
@@ -6,15 +6,8 @@ use Rattle.sm_arena.specs.Value.{ArenaValue, times_forgotten, forgetting}
 use Rattle.sm_map.specs.KeyMap.{Held}
 use Rattle.sm_map.specs.KeyMap.{Text as HeldText, Count as HeldCount}
 use Rattle.sm_map.specs.Stored.{Places}
-use Rattle.sm_map.specs.declared.val.Val.{Val}
-use Rattle.sm_map.specs.declared.val.Val.TheVariants.{Text as ValText, Count as ValCount}
 use Rattle.sm_map.specs.declared.slot.Slot.{Slot}
 use Rattle.sm_map.specs.declared.slot.Slot.TheVariants.{Text, Count}
-
--- a caller's value
-abbrev pub held_of : Val → Held
-held_of (ValText text) = HeldText text.now
-held_of (ValCount count) = HeldCount count
 
 -- what the slot holds
 abbrev pub held_in : Places → Slot → Held

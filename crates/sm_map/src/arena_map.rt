@@ -5,8 +5,7 @@ ghost use Rattle.sm_map.specs.KeyMap.{IsKeyMap, IsText, HoldsText, IsPlaceOf, Is
 ghost use Rattle.sm_map.specs.KeyMap.{held_at, holding, without, within, text_of, text_at, size_at};
 ghost use Rattle.sm_map.specs.KeyMap.{Text as HeldText};
 ghost use Rattle.sm_map.specs.ArenaMap.{IsRewrite, IsRemoval, IsAddition};
-ghost use Rattle.sm_map.specs.Slot.{held_of};
-ghost use Rattle.sm_map.specs.Entry.{row_of};
+ghost use Rattle.sm_map.specs.Val.{held_of, row_of};
 
 use crate::entry::Entry;
 use crate::index::Index;

@@ -1,6 +1,6 @@
 ghost use Rattle.std.specs.Prelude.{◌≡◌, IfOk, OnErr};
 ghost use Rattle.sm_map.specs.Stored.{IsStored};
-ghost use Rattle.sm_map.specs.Slot.{held_of};
+ghost use Rattle.sm_map.specs.Val.{held_of};
 
 use crate::slot::Slot;
 use crate::val::Val;

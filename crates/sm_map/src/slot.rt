@@ -2,7 +2,8 @@ ghost use Rattle.std.specs.Prelude.{◌≡◌, Some, ◌++◌, IfOk, OnErr};
 ghost use Rattle.sm_map.specs.KeyMap.{text_of, IsText};
 ghost use Rattle.sm_map.specs.KeyMap.{Text as HeldText};
 ghost use Rattle.sm_map.specs.Stored.{IsStored};
-ghost use Rattle.sm_map.specs.Slot.{held_of, held_in, uses_slot, IsReadable, IsForgettable, forgetting_slot};
+ghost use Rattle.sm_map.specs.Val.{held_of};
+ghost use Rattle.sm_map.specs.Slot.{held_in, uses_slot, IsReadable, IsForgettable, forgetting_slot};
 
 use crate::val::Val;
 use sm_arena::arena::Arena;

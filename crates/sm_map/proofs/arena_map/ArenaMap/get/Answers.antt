@@ -1,6 +1,6 @@
 use Rattle.std.proofs.Common.{Some, ap, sym, ◌∙◌}
 use Rattle.sm_map.specs.KeyMap.{Pair}
-use Rattle.sm_map.specs.Entry.{row_of}
+use Rattle.sm_map.specs.Val.{row_of}
 use Rattle.sm_map.proofs.KeyMaps.{held_here, held_nowhere}
 use Rattle.sm_map.proofs.arena_map.ArenaMap.get.Goals as goal
 

@@ -1,5 +1,5 @@
 use Rattle.sm_map.specs.KeyMap.{Pair}
-use Rattle.sm_map.specs.Slot.{held_of}
+use Rattle.sm_map.specs.Val.{held_of}
 use Rattle.sm_map.proofs.KeyMaps.{rewrite_holds, rewrite_dead, addition_holds, addition_dead}
 use Rattle.sm_map.proofs.arena_map.ArenaMap.put.Goals as goal
 
