@@ -14,7 +14,7 @@ pub(crate) struct Blocks {
     filling: usize,
 }
 
-// A longer piece has a block of its own.
+// A longer piece, or a longer pair, has a block of its own.
 const BLOCK_BYTES: usize = 65_536;
 
 // No memory is longer.

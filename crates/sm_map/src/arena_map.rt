@@ -49,7 +49,7 @@ impl ArenaMap {
         }
     }
 
-    /// How many keys hold something.
+    /// How many keys hold something. The pairs are in the order of their keys, and no key comes twice.
     pub fn len(&self) -> u128
         ensures value { result ≡ length self.now.pairs }
         ensures is_key_map { IsKeyMap self.now.pairs }
@@ -64,7 +64,7 @@ impl ArenaMap {
         self.arena.dead()
     }
 
-    /// What the key holds, or none where it holds nothing. The search halves, and takes no memory.
+    /// What the key holds, or none where it holds nothing. A binary search, which takes no memory.
     pub fn get(&self, key: &[u8]) -> Option<Val<'_>>
         ensures { option_map held_of result ≡ held_at self.now.pairs key.now }
     {
@@ -74,7 +74,11 @@ impl ArenaMap {
         }
     }
 
-    /// Makes the key hold the value, in place of what it held. Where memory is refused, nothing has changed.
+    /// Makes the key hold the value, in place of what it held.
+    ///
+    /// # Errors
+    ///
+    /// `AllocError` where memory is refused; the map is then as it was.
     pub fn put(&mut self, key: &[u8], value: Val<'_>) -> Result<(), AllocError>
         ensures ok { OnOk result (self.new.pairs ≡ holding self.old.pairs key.now (held_of value.entry)) }
         ensures dead { OnOk result (self.new.dead ≡ self.old.dead + length (text_at self.old.pairs key.now)) }
@@ -86,7 +90,11 @@ impl ArenaMap {
         }
     }
 
-    /// Makes the key, which holds a text, hold that text followed by the tail. Where memory is refused, nothing has changed.
+    /// Makes the key, which holds a text, hold that text followed by the tail.
+    ///
+    /// # Errors
+    ///
+    /// `AllocError` where memory is refused; the map is then as it was.
     pub fn append(&mut self, key: &[u8], tail: &[u8]) -> Result<(), AllocError>
         requires { HoldsText self.old.pairs key.now }
         ensures ok { OnOk result (self.new.pairs ≡ holding self.old.pairs key.now (HeldText (text_at self.old.pairs key.now ++ tail.now))) }
@@ -115,6 +123,10 @@ impl ArenaMap {
     }
 
     /// The pairs with keys from low on and below high, in the order of their keys, and of these the first `max`.
+    ///
+    /// # Errors
+    ///
+    /// `AllocError` where memory is refused; the map is then as it was.
     pub fn scan(
         &self,
         low: &[u8],
@@ -132,8 +144,11 @@ impl ArenaMap {
         Ok(rows)
     }
 
-    /// The same pairs in fresh memory, where nothing is dead. Where memory is refused, the map as it was.
-    /// The time is linear in the pairs and their bytes.
+    /// The same pairs in fresh memory, where nothing is dead. The time is linear in the pairs and their bytes.
+    ///
+    /// # Errors
+    ///
+    /// `AllocError` where memory is refused; the map then comes back as it was.
     pub fn rebuild(self) -> Result<ArenaMap, (ArenaMap, AllocError)>
         ensures ok { IfOk result (λ map. (map.pairs ≡ self.pairs) × (map.dead ≡ 0)) }
         ensures err { IfErr result (λ refused. refused.0 ≡ self) }

@@ -79,6 +79,7 @@ impl Index {
         requires room { 0 < self.old.room }
         ensures { self.new.entries ≡ insert self.old.entries at entry }
     {
+        // There is room, so this can't fail.
         let _ = self.entries.insert(at, entry);
     }
 

@@ -210,7 +210,7 @@ fn pair_or_nothing(rt: &impl Abort, arena: &mut Arena, first: &[u8], second: &[u
     assert_eq!(*rt; arena.dead(), 0);
 }
 
-// Passes whichever allocation is refused.
+// Passes with each allocation refused in turn (`rt try --test --fail-alloc N`).
 #[test]
 #[tactic(auto, using(crate::proofs::Placing::placed_now, crate::proofs::Placing::placed_later))]
 fn refused_memory_changes_nothing(rt: HostRuntime) -> Result<(), Fail> {
