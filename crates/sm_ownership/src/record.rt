@@ -58,13 +58,14 @@ impl Record {
     }
 
     /// Why the server is not admitted for a request that came so, the first reason that applies; none where it is.
-    /// No generation passes the ceiling.
+    /// `ceiling` is the greatest generation that a shard may have.
     pub fn admit_fault(&self, server: ServerId, mode: Mode, ceiling: u64) -> Option<AdmitFault>
         ensures { result ≡ admit_fault ceiling self.now server mode }
     {
         let accepts = self.accepts(server, mode);
+        let has_room = ceiling >= 2 && self.generation <= ceiling - 2;
         // What most admissions find, first.
-        if accepts && !self.admitted && ceiling >= 2 && self.generation <= ceiling - 2 {
+        if accepts && !self.admitted && has_room {
             return None;
         }
         match self.stand {
@@ -81,9 +82,6 @@ impl Record {
         if self.admitted {
             return Some(AdmitFault::Admitted);
         }
-        if ceiling < 2 || self.generation > ceiling - 2 {
-            return Some(AdmitFault::Spent);
-        }
-        None
+        Some(AdmitFault::Spent)
     }
 }
