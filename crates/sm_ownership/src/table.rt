@@ -116,3 +116,6 @@ impl Table {
         record.generation += 1;
     }
 }
+
+#[cfg(test)]
+mod tests;
