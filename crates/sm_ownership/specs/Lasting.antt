@@ -1,17 +1,16 @@
 -- What lasts while a history grows: the record of a shard or else its generation, the stand without the control, and an
 -- admission until its actor ends it.
-use Rattle.std.proofs.Common.{◌≡◌, ◌≢◌, ℕ, ◌<◌, ◌≤◌, ◌+◌, Bool, true, false, not, ◌&&◌, List, [], ◌∷◌, ◌++◌, refl, sym, ap, subst, ◌∙◌, arith, ◌⊎◌, ⊎_elim, inl, inr}
-use Rattle.std.specs.Prelude.{All, Option, Some, None, reverse, ◌==◌, ◌||◌, nat_lt, nat_le, is_some}
-use Rattle.std.proofs.lemmas.Bool.{true≢false, and_from, and_parts, cases_eq, eqb-true, ne_eqb, not-true, leb-true, ltb-true}
+use Rattle.std.proofs.Common.{◌≡◌, ◌≢◌, ℕ, ◌<◌, ◌+◌, Bool, true, false, not, List, [], ◌∷◌, ◌++◌, refl, sym, ap, subst, ◌∙◌, arith, ◌⊎◌, ⊎_elim, inl, inr}
+use Rattle.std.specs.Prelude.{All, Option, Some, None, reverse, ◌==◌, ◌||◌}
+use Rattle.std.proofs.lemmas.Bool.{true≢false, and_from, and_parts, cases_eq, eqb-true, ne_eqb, not-true}
 use Rattle.std.proofs.lemmas.List.{reverse-append}
 use Rattle.std.proofs.lemmas.List.Elements.{All-nil, All-cons, All-head, All-tail, All-append}
 use Rattle.sm_ownership.specs.declared.entry.Entry.{Entry}
 use Rattle.sm_ownership.specs.declared.entry.Kind.{Kind}
 use Rattle.sm_ownership.specs.declared.entry.Kind.TheVariants.{Change as Changed, Admit, Done}
 use Rattle.sm_ownership.specs.declared.record.Record.{Record}
-use Rattle.sm_ownership.specs.Growth.{record_at-empty, record_at-latest, record_at-latest_other}
+use Rattle.sm_ownership.specs.Growth.{record_at-latest, record_at-latest_other}
 use Rattle.sm_ownership.specs.History.{record_at, after_kind, admits_only, acts_as, latest_of, is_admit, is_admission_of, fits, kind_fits, table_of, table_of_latest, IsLegal, IsLegalLatest}
-use Rattle.sm_ownership.specs.Rules.{stand_after}
 
 -- none of the entries is by this actor
 abbrev pub NoneBy : {Q : Type 0} → ℕ → List (Entry Q) → Type 0
