@@ -6,8 +6,8 @@ fn names() -> Result<(ServerId, ServerId, ShardId), Fail> {
 }
 
 // A request for shard 0.
-fn get(alloc: Global) -> Result<Request, Fail> {
-    Ok(Request::Get(Key::new(alloc, b"a")?))
+fn inc(alloc: Global) -> Result<Request, Fail> {
+    Ok(Request::Inc(Key::new(alloc, b"a")?, 1))
 }
 
 // What the envelope first in flight is answered in the course of a migration of the shard.
@@ -23,8 +23,8 @@ fn delivered_while_migrating(world: &mut World<CounterText>, k: ShardId, next: S
 #[test]
 fn envelope_goes_round(rt: HostRuntime) -> Result<(), Fail> {
     let (one, two, k) = names()?;
-    let send = Step::Send(one, 0, get(rt.alloc())?);
-    let later = Step::Send(two, 1, get(rt.alloc())?);
+    let send = Step::Send(one, 0, inc(rt.alloc())?);
+    let later = Step::Send(two, 1, inc(rt.alloc())?);
     let mut world = new_world(rt.alloc())?;
     answer(&mut world, change(k, Change::Assign(one)));
     assert!(rt; answer(&mut world, send) == Told::Sent);
@@ -43,7 +43,7 @@ fn envelope_goes_round(rt: HostRuntime) -> Result<(), Fail> {
 #[test]
 fn holds_and_frees(rt: HostRuntime) -> Result<(), Fail> {
     let (one, two, k) = names()?;
-    let send = Step::Send(one, 0, get(rt.alloc())?);
+    let send = Step::Send(one, 0, inc(rt.alloc())?);
     let mut world = new_world(rt.alloc())?;
     answer(&mut world, change(k, Change::Assign(one)));
     assert!(rt; answer(&mut world, Step::Hold(k, one)) == Told::Made);
@@ -76,7 +76,7 @@ fn holds_and_frees(rt: HostRuntime) -> Result<(), Fail> {
 #[test]
 fn frees_no_request(rt: HostRuntime) -> Result<(), Fail> {
     let (one, _, k) = names()?;
-    let send = Step::Send(one, 7, get(rt.alloc())?);
+    let send = Step::Send(one, 7, inc(rt.alloc())?);
     let mut world = new_world(rt.alloc())?;
     let vacant = WorldFault::Admit(AdmitFault::Vacant);
     assert!(rt; answer(&mut world, Step::Hold(k, one)) == Told::Fault(vacant));
@@ -85,5 +85,43 @@ fn frees_no_request(rt: HostRuntime) -> Result<(), Fail> {
     assert!(rt; answer(&mut world, Step::Deliver(0)) == Told::Began(one));
     assert!(rt; answer(&mut world, Step::Free(k)) == Told::Fault(WorldFault::NotHeld));
     assert!(rt; answer(&mut world, Step::Finish(k)) == Told::Replied(7, one, 0));
+    Ok(())
+}
+
+#[test]
+fn pauses_and_reassigns(rt: HostRuntime) -> Result<(), Fail> {
+    let (one, two, k) = names()?;
+    let prepared = Stand::Prepared {
+        owner: one,
+        next: two,
+    };
+    // Each change, whether it is made and not refused as `SameServer`, and the stand and the generation after it.
+    let steps = [
+        (Change::Assign(one), true, Stand::Serving(one), 1),
+        (Change::PrepareAddShard(one), false, Stand::Serving(one), 1),
+        (Change::PrepareAddShard(two), true, prepared, 2),
+        (Change::Cancel, true, Stand::Serving(one), 3),
+        (Change::Pause, true, Stand::Paused(one), 4),
+        (Change::Resume, true, Stand::Serving(one), 5),
+        (Change::Pause, true, Stand::Paused(one), 6),
+        (Change::Reassign(one), false, Stand::Paused(one), 6),
+        (Change::Reassign(two), true, Stand::Serving(two), 7),
+    ];
+    let mut world = new_world(rt.alloc())?;
+    for (step, is_made, stand, generation) in steps {
+        let same = WorldFault::Command(CommandFault::SameServer);
+        let told = if is_made {
+            Told::Made
+        } else {
+            Told::Fault(same)
+        };
+        assert!(rt; answer(&mut world, change(k, step)) == told);
+        let expected = Record {
+            stand,
+            admitted: false,
+            generation,
+        };
+        assert!(rt; answer(&mut world, Step::Look(k)) == Told::Seen(expected));
+    }
     Ok(())
 }
