@@ -116,6 +116,12 @@ world_after-append : {Q R : Type 0} (service : Service Q R) (w : WorldState Q) (
 world_after-append service w [] later = refl
 world_after-append service w (step ∷ steps) later = world_after-append service (next service w step.0 step.1) steps later
 
+-- further steps only add to the history
+pub history_grows : {Q R : Type 0} (service : Service Q R) (frame : Frame) (steps later : List (Mark × Step Q)) → (added : List (Entry Q)) × ((world_of service frame (steps ++ later)).history ≡ (world_of service frame steps).history ++ added)
+history_grows service frame steps later =
+    let after = extends_after service (world_of service frame steps) later in
+    (after.added, ap (λ w. w.history) (world_after-append service (empty_world frame) steps later) ∙ after.history)
+
 module _ {Q R : Type 0} (service : Service Q R) (w : WorldState Q) (mark : Mark) (step : Step Q) (shard : ℕ) (reply : R) (place : ℕ) (run : HasRun service w (outcome service w mark step) shard reply place) where
   -- after any further steps the shard's kept requests still say that reply
   said_after : (later : List (Mark × Step Q)) → said service.reply_of (world_after service (next service w mark step) later).history shard place ≡ Some reply

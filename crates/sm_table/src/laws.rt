@@ -1,6 +1,7 @@
 //! Laws of the definitions: what holds of every list of steps, and of every history.
 
 ghost use Rattle.std.specs.Prelude.{◌≡◌, ℕ, Some, Ok, List, ◌∷◌, ◌++◌, length};
+ghost use Rattle.sm_ownership.specs.declared.entry.Entry.{Entry};
 ghost use Rattle.sm_ownership.specs.History.{IsLegal, kept, said};
 ghost use Rattle.sm_table.specs.declared.step.Step.{Step};
 ghost use Rattle.sm_table.specs.declared.step.Step.TheVariants.{Finish};
@@ -19,6 +20,13 @@ pub use sm_ownership::laws::{
 pub fn legal_history<Q, R>()
     ensures { (service : Service Q R) (frame : Frame) (steps : List (Mark × Step Q)) → IsFrame frame
         → IsLegal (length frame.bounds) frame.ceiling (world_of service frame steps).history }
+{}
+
+/// Further steps only add to the history.
+pub fn history_grows<Q, R>()
+    ensures { (service : Service Q R) (frame : Frame) (steps later : List (Mark × Step Q))
+        → (added : List (Entry Q))
+        × ((world_of service frame (steps ++ later)).history ≡ (world_of service frame steps).history ++ added) }
 {}
 
 /// Whatever the steps, a reply has the place after the requests that its shard has kept, and is what one run of those
