@@ -45,18 +45,21 @@ impl<Q: Drop> Envelope<Q> {
         Envelope { shell, request }
     }
 
+    /// The number that the sender gave it.
     pub fn number(&self) -> u64
         ensures { result ≡ self.now.number }
     {
         self.shell.number()
     }
 
+    /// The shard that it is for.
     pub fn shard(&self) -> ShardId
         ensures { result ≡ self.now.shard }
     {
         self.shell.shard()
     }
 
+    /// How it came: from a client, or forwarded.
     pub fn mode(&self) -> Mode
         ensures { result ≡ self.now.mode }
     {
@@ -70,6 +73,7 @@ impl<Q: Drop> Envelope<Q> {
         self.shell.hops()
     }
 
+    /// The request.
     pub fn request(&self) -> &Q
         ensures { result.now ≡ self.now.request }
     {

@@ -1,5 +1,5 @@
-//! The ownership table of the shards, the desk that checks control commands, and the world: the whole shard manager
-//! as one thread would run it, with the laws that hold of it.
+//! Envelopes, the desk that checks control commands, and the world: the whole shard manager as one thread runs it, with
+//! the laws that hold of it.
 #![tactic(auto)]
 
 mod bodies;

@@ -8,7 +8,7 @@ use sm_ranges::server_id::ServerId;
 use sm_ranges::shard_id::ShardId;
 use std::marker::Model;
 
-/// An envelope but for its request. Only an envelope is taken apart into one.
+/// An envelope but for its request. Only `Envelope::parts` gives one.
 #[derive(Debug, Drop)]
 pub struct Shell {
     number: u64,
@@ -54,18 +54,21 @@ impl Shell {
         }
     }
 
+    /// The number that the sender gave it.
     pub fn number(&self) -> u64
         ensures { result ≡ self.now.number }
     {
         self.number
     }
 
+    /// The shard that it is for.
     pub fn shard(&self) -> ShardId
         ensures { result ≡ self.now.shard }
     {
         self.shard
     }
 
+    /// How it came: from a client, or forwarded.
     pub fn mode(&self) -> Mode
         ensures { result ≡ self.now.mode }
     {
