@@ -1,9 +1,9 @@
 -- A change of a shard's stand, in the parts and in the world that they stand for.
-use Rattle.std.proofs.Common.{◌≡◌, ℕ, ◌<◌, Bool, true, false, not, List, [], ◌∷◌, ◌++◌, length, refl, sym, ap, subst, ◌∙◌, arith}
-use Rattle.std.specs.Prelude.{Option, Some, None, Ok, Err, map, reverse, nat_lt, slice_set, unwrap_or, if◌then◌else◌}
+use Rattle.std.proofs.Common.{◌≡◌, ℕ, ◌<◌, Bool, true, false, not, List, length, refl, sym, ap, subst, ◌∙◌, arith}
+use Rattle.std.specs.Prelude.{Option, Some, None, Ok, Err, map, nat_lt, slice_set, unwrap_or, if◌then◌else◌}
 use Rattle.std.specs.Option.{option_map}
 use Rattle.std.proofs.lemmas.Bool.{lt-ltb, ltb-true}
-use Rattle.std.proofs.lemmas.List.{reverse-append, map-set, length-map, get_or-map}
+use Rattle.std.proofs.lemmas.List.{map-set, length-map, get_or-map}
 use Rattle.sm_ranges.specs.declared.stand.Stand.TheVariants.{Vacant}
 use Rattle.sm_ownership.specs.declared.change.Change.{Change}
 use Rattle.sm_ownership.specs.declared.change_fault.ChangeFault.{ChangeFault}
@@ -17,7 +17,7 @@ use Rattle.sm_table.specs.declared.world_answer.WorldAnswer.TheVariants.{Made}
 use Rattle.sm_table.specs.declared.world_fault.WorldFault.TheVariants.{Command as CommandRefused}
 use Rattle.sm_ownership.specs.Rules.{stand_after, phase_fault, newly_named}
 use Rattle.sm_table.specs.Desk.{DeskView, is_unknown, stand_at, change_fault, command_fault_of, command_fault_from, desk_after}
-use Rattle.sm_ownership.specs.History.{vacant, after_change, fits, table_of, IsLegal}
+use Rattle.sm_ownership.specs.History.{vacant, after_change}
 use Rattle.sm_ownership.specs.Tables.{TableView, record_fault, apply_fault, table_changed}
 use Rattle.sm_table.specs.World.{Service, WorldState, Plain, count_of, desk_of, world_table, world_record, table_fault, with_entry, outcome}
 use Rattle.sm_table.specs.Standing.{IsSound, WorldView, StandsFor, Follows}

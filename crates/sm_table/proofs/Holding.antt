@@ -4,7 +4,6 @@ use Rattle.std.specs.Prelude.{Option, Some, None, Ok, Err, is_none, nat_lt, slic
 use Rattle.std.proofs.lemmas.Bool.{lt-ltb}
 use Rattle.sm_ownership.specs.declared.entry.Kind.TheVariants.{Done}
 use Rattle.sm_ownership.specs.declared.mode.Mode.TheVariants.{Direct}
-use Rattle.sm_ownership.specs.declared.record.Record.{Record}
 use Rattle.sm_ownership.specs.Growth.{kept-push_none, length-table_of}
 use Rattle.sm_ownership.specs.History.{record_at}
 use Rattle.sm_ownership.specs.Rules.{admit_fault}
@@ -20,8 +19,7 @@ use Rattle.sm_table.specs.World.{Service, WorldState, Plain, count_of, world_rec
 use Rattle.sm_table.specs.Standing.{WorldView, StandsFor, Follows, with_admission}
 use Rattle.sm_table.proofs.Admissions.{entered, entered_parts, entered_keeps}
 use Rattle.sm_table.proofs.Endings.{in_hand, done_parts, done_parts_of}
-use Rattle.sm_table.proofs.Entries.{hand_within}
-use Rattle.sm_table.proofs.Parts.{parts_of, parts-from_StandsFor, Follows-unchanged, Follows-changed}
+use Rattle.sm_table.proofs.Parts.{parts-from_StandsFor, Follows-unchanged, Follows-changed}
 
 in_hand-alone : {Q : Type 0} (own : ℕ) (some : Option (Work Q)) → true ≡ is_none some → in_hand own some ≡ in_hand own None
 in_hand-alone own None is = refl

@@ -1,5 +1,5 @@
 -- An envelope in flight that is lost, in the parts and in the world that they stand for.
-use Rattle.std.proofs.Common.{◌≡◌, ℕ, ◌<◌, true, List, length, refl, sym, ap, subst, ◌∙◌, arith}
+use Rattle.std.proofs.Common.{◌≡◌, ℕ, ◌<◌, true, List, length, refl, sym, ap, subst, ◌∙◌}
 use Rattle.std.specs.Prelude.{Ok, nat_lt, remove}
 use Rattle.std.proofs.lemmas.Bool.{lt-ltb}
 use Rattle.sm_table.specs.declared.flight.Flight.{Flight}

@@ -40,9 +40,6 @@ same_view v bounds desk records ceiling limits in_flight in_hand a b c d e f g =
 pub parts-from_StandsFor : {Q : Type 0} (v : WorldView Q) (w : WorldState Q) → StandsFor v w → v ≡ parts_of w v.kept
 parts-from_StandsFor v w stands = same_view v w.frame.bounds (desk_of w) (world_table w) w.frame.ceiling w.frame.limits w.in_flight w.in_hand stands.bounds stands.desk stands.records stands.ceiling stands.limits stands.in_flight stands.in_hand
 
-pub Keeps-from_StandsFor : {Q : Type 0} (v : WorldView Q) (w : WorldState Q) → StandsFor v w → Keeps w v.kept
-Keeps-from_StandsFor v w stands = record { bodies = stands.bodies; each = stands.kept }
-
 -- a step that leaves the world leaves the parts
 pub Follows-unchanged : {Q R : Type 0} (service : Service Q R) (w : WorldState Q) (mark : Mark) (step : Step Q) (view now : WorldView Q) (answer : Result (WorldAnswer R) WorldFault) → StandsFor now w → outcome service w mark step ≡ (answer, w) → view ≡ now → Follows view answer (outcome service w mark step)
 Follows-unchanged service w mark step view now answer stands out same = record {

@@ -1,4 +1,4 @@
-ghost use Rattle.std.specs.Prelude.{◌≡◌, ℕ, All, IfOk, None, length, replicate};
+ghost use Rattle.std.specs.Prelude.{◌≡◌, ℕ, All, IfOk, None, replicate};
 ghost use Rattle.std.specs.List.Sorted.{IsStrictlyIncreasing};
 ghost use Rattle.std.specs.Result.{result_err};
 ghost use Rattle.sm_ranges.specs.ServerId.{IsServer};

@@ -1,5 +1,5 @@
 use Rattle.std.proofs.Common.{◌≡◌, ◌<◌, ◌∙◌, ap, refl, subst, sym, length, arith}
-use Rattle.std.specs.Prelude.{All, remove, slice_get, Some}
+use Rattle.std.specs.Prelude.{All, slice_get, Some}
 use Rattle.std.proofs.lemmas.Option.{slice_get_read}
 use Rattle.sm_ownership.specs.Rules.{forward_to}
 use Rattle.sm_table.specs.declared.flight.Flight.{Flight}

@@ -1,4 +1,4 @@
-use Rattle.std.proofs.Common.{◌≡◌, ◌<◌, length, None, Some, refl, sym, ◌∙◌, ap, arith}
+use Rattle.std.proofs.Common.{length, refl, ◌∙◌, ap}
 use Rattle.std.proofs.lemmas.List.{length-set}
 use Rattle.sm_table.proofs.Endings.{hand-from_work, replied, full, unserved}
 use Rattle.sm_table.proofs.Entries.{hand_within}
