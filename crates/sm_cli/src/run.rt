@@ -119,6 +119,9 @@ pub fn run_model<R: Read, W: Write>(
     // The reader is called no more often than it gives bytes, but for one call that sees the end or fails.
     ensures calls { CallsFit false true (R.remaining reader.old.inner)
         (R.remaining reader.new.inner) reader.old.calls reader.new.calls }
+    // Nothing is read again once the end was seen.
+    ensures not_past_end { reader.old.ended ≡ false
+        → reader.new.read_past_end ≡ reader.old.read_past_end }
 {
     run(alloc, reader, writer, &mut ModelEngine::new(alloc))
 }
@@ -154,6 +157,8 @@ pub fn run<R: Read, W: Write, E: Engine>(
     ensures writer_unfailed { result ≢ Err RunFault.Write → writer.new.failed ≡ writer.old.failed }
     ensures calls { CallsFit false true (R.remaining reader.old.inner)
         (R.remaining reader.new.inner) reader.old.calls reader.new.calls }
+    ensures not_past_end { reader.old.ended ≡ false
+        → reader.new.read_past_end ≡ reader.old.read_past_end }
 {
     let mut lines = match LineReader::new(alloc) {
         Ok(lines) => lines,
@@ -189,6 +194,9 @@ fn open<R: Read>(
     ensures last_call { OnErr result (CallsFit lines.old.ended true
         (R.remaining reader.old.inner) (R.remaining reader.new.inner)
         reader.old.calls reader.new.calls) }
+    ensures same_end { reader.old.ended ≡ lines.old.ended → reader.new.ended ≡ lines.new.ended }
+    ensures not_past_end { reader.old.ended ≡ lines.old.ended
+        → reader.new.read_past_end ≡ reader.old.read_past_end }
 {
     match lines.next_line(reader, MAX_SETTINGS) {
         Ok(Next::Line) => read_settings(alloc, lines.line()),
@@ -252,6 +260,8 @@ fn run_session<R: Read, W: Write, E: Engine>(
     ensures writer_unfailed { result ≢ Err RunFault.Write → writer.new.failed ≡ writer.old.failed }
     ensures calls { CallsFit lines.old.ended true (R.remaining reader.old.inner)
         (R.remaining reader.new.inner) reader.old.calls reader.new.calls }
+    ensures not_past_end { reader.old.ended ≡ lines.old.ended
+        → reader.new.read_past_end ≡ reader.old.read_past_end }
 {
     let mut session = match engine.begin(settings) {
         Ok(session) => session,

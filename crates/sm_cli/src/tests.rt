@@ -188,6 +188,7 @@ fn reads_nothing_after_the_end(rt: HostRuntime) -> Result<(), Fail> {
         let ended = run_model(alloc, &mut reader, &mut Watched::new(&mut written));
         assert_eq!(rt; ended, Ok(Status::Ran));
         assert_eq!(rt; reader.calls, end as u64 + 1);
+        assert!(rt; reader.ended && !reader.read_past_end);
         assert_eq!(rt; written.as_slice(), FIRST_ANSWERS);
     }
     Ok(())

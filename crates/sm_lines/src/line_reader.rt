@@ -219,6 +219,9 @@ impl LineReader {
             reader.old.calls reader.new.calls) }
         ensures last_call { OnErr result (CallsFit false true (R.remaining reader.old.inner)
             (R.remaining reader.new.inner) reader.old.calls reader.new.calls) }
+        ensures same_end { reader.old.ended ≡ self.old.ended → reader.new.ended ≡ self.new.ended }
+        ensures not_past_end { reader.old.ended ≡ self.old.ended
+            → reader.new.read_past_end ≡ reader.old.read_past_end }
     {
         if self.ended {
             return Ok(false);
@@ -282,6 +285,10 @@ impl LineReader {
             (R.remaining reader.old.inner) (R.remaining reader.new.inner)
             reader.old.calls reader.new.calls }
         ensures not_read_again { self.old.ended ≡ true → reader.new ≡ reader.old }
+        // Where the end was seen here if the reader had come to it, nothing is read past it.
+        ensures same_end { reader.old.ended ≡ self.old.ended → reader.new.ended ≡ self.new.ended }
+        ensures not_past_end { reader.old.ended ≡ self.old.ended
+            → reader.new.read_past_end ≡ reader.old.read_past_end }
     {
         self.begin_line();
         let mut is_long = false;

@@ -108,6 +108,9 @@ fn answer_next<R: Read, E: Responder>(
     ensures last_call { result ≡ Err AnswerFault.Read → CallsFit false true
         (R.remaining reader.old.inner) (R.remaining reader.new.inner)
         reader.old.calls reader.new.calls }
+    ensures same_end { reader.old.ended ≡ lines.old.ended → reader.new.ended ≡ lines.new.ended }
+    ensures not_past_end { reader.old.ended ≡ lines.old.ended
+        → reader.new.read_past_end ≡ reader.old.read_past_end }
 {
     out.clear();
     match lines.next_line(reader, limit) {
@@ -180,6 +183,9 @@ fn answer_rest<R: Read, W: Write, E: Responder>(
         (W.contents writer.old.inner) (W.contents writer.new.inner) responder.old }
     ensures calls { CallsFit lines.old.ended true (R.remaining reader.old.inner)
         (R.remaining reader.new.inner) reader.old.calls reader.new.calls }
+    ensures same_end { reader.old.ended ≡ lines.old.ended → reader.new.ended ≡ lines.new.ended }
+    ensures not_past_end { reader.old.ended ≡ lines.old.ended
+        → reader.new.read_past_end ≡ reader.old.read_past_end }
 {
     'lines: for _count in 0..COUNT_LIMIT {
         match flush_before_read(lines, pieces, writer) {
@@ -249,6 +255,10 @@ pub fn answer_lines<R: Read, W: Write, E: Responder>(
     // The reader is called no more often than it gives bytes, but for one call that sees the end or fails.
     ensures calls { CallsFit lines.old.ended true (R.remaining reader.old.inner)
         (R.remaining reader.new.inner) reader.old.calls reader.new.calls }
+    // Nothing is read again once the end was seen.
+    ensures same_end { reader.old.ended ≡ lines.old.ended → reader.new.ended ≡ lines.new.ended }
+    ensures not_past_end { reader.old.ended ≡ lines.old.ended
+        → reader.new.read_past_end ≡ reader.old.read_past_end }
 {
     let mut pieces = match PieceWriter::new(alloc) {
         Ok(pieces) => pieces,

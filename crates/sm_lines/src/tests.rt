@@ -177,6 +177,10 @@ fn reads_long_lines_in_pieces(rt: HostRuntime) -> Result<(), Fail> {
     let calls = reader.calls;
     assert!(rt; lines.next_line(&mut reader, 0) == Ok(Next::End));
     assert!(rt; reader.calls == calls);
+    assert!(rt; reader.ended);
+    assert!(rt; !reader.read_past_end);
+    assert!(rt; matches!(reader.read(&mut [0u8; 1]), Ok(0)));
+    assert!(rt; reader.read_past_end);
     Ok(())
 }
 

@@ -17,6 +17,10 @@ pub struct Watched<T> {
     pub calls: u64,
     /// Whether a call failed, or a write took none of the bytes that it was given.
     pub failed: bool,
+    /// Whether a read gave nothing into a buffer with room, which says that the end was there.
+    pub ended: bool,
+    /// Whether a read was made after one that had seen the end.
+    pub read_past_end: bool,
 }
 
 impl<T> Watched<T> {
@@ -25,11 +29,15 @@ impl<T> Watched<T> {
         ensures inner { result.inner ≡ inner }
         ensures calls { result.calls ≡ 0 }
         ensures failed { result.failed ≡ false }
+        ensures ended { result.ended ≡ false }
+        ensures read_past_end { result.read_past_end ≡ false }
     {
         Watched {
             inner,
             calls: 0,
             failed: false,
+            ended: false,
+            read_past_end: false,
         }
     }
 
@@ -55,11 +63,24 @@ impl<R: Read> Read for Watched<R> {
         ensures counted { self.old.calls < COUNT_LIMIT → self.new.calls ≡ self.old.calls + 1 }
         ensures at_limit { COUNT_LIMIT ≤ self.old.calls → self.new.calls ≡ self.old.calls }
         ensures failed { MatchResult result (λ _. self.new.failed ≡ self.old.failed) (λ _. self.new.failed ≡ true) }
+        ensures end { IfOk result (λ n. n ≡ 0 → 0 < length buf.new → self.new.ended ≡ true) }
+        ensures no_end { IfOk result (λ n. 0 < n → self.new.ended ≡ self.old.ended) }
+        ensures no_room { length buf.new ≡ 0 → self.new.ended ≡ self.old.ended }
+        ensures end_unseen { OnErr result (self.new.ended ≡ self.old.ended) }
+        ensures past_end { self.old.ended ≡ true → self.new.read_past_end ≡ true }
+        ensures not_past_end { self.old.ended ≡ false
+            → self.new.read_past_end ≡ self.old.read_past_end }
     {
         self.count_call();
+        if self.ended {
+            self.read_past_end = true;
+        }
         let result = self.inner.read(buf);
         if result.is_err() {
             self.failed = true;
+        }
+        if matches!(result, Ok(0)) && !buf.is_empty() {
+            self.ended = true;
         }
         result
     }
@@ -79,6 +100,8 @@ impl<W: Write> Write for Watched<W> {
         ensures took_some { IfOk result (λ n. 0 < n → self.new.failed ≡ self.old.failed) }
         ensures took_empty { length buf.now ≡ 0
             → IfOk result (λ _. self.new.failed ≡ self.old.failed) }
+        ensures end { (self.new.ended ≡ self.old.ended)
+            × (self.new.read_past_end ≡ self.old.read_past_end) }
     {
         self.count_call();
         let result = self.inner.write(buf);
@@ -94,6 +117,8 @@ impl<W: Write> Write for Watched<W> {
         ensures bytes { Keeps (W.contents self.old.inner) (W.contents self.new.inner) }
         ensures counted { self.new.calls ≡ self.old.calls }
         ensures failed { MatchResult result (λ _. self.new.failed ≡ self.old.failed) (λ _. self.new.failed ≡ true) }
+        ensures end { (self.new.ended ≡ self.old.ended)
+            × (self.new.read_past_end ≡ self.old.read_past_end) }
     {
         let result = self.inner.flush();
         if result.is_err() {

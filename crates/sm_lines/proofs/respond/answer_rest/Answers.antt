@@ -11,6 +11,8 @@ lines-init g c = record {
   end_stands = c.requires.end_stands;
   calls = took_same _ _ _;
   read_unfailed = refl;
+  same_end = λ is. is;
+  not_past_end = λ _. refl;
   write_unfailed = refl;
 }
 
@@ -62,5 +64,7 @@ lines-preserved g c =
       end_stands = c.in-Ok-true.ensures.end_stands;
       calls = took_more _ _ _ _ _ _ _ _ _ c.lines.invariant.calls (c.in-Ok-true.ensures.calls (λ e. cc));
       read_unfailed = c.in-Ok-true.ensures.unfailed (λ e. cc) ∙ c.lines.invariant.read_unfailed;
+      same_end = λ is. c.in-Ok-true.ensures.same_end (c.lines.invariant.same_end is);
+      not_past_end = λ is. c.in-Ok-true.ensures.not_past_end (c.lines.invariant.same_end is) ∙ c.lines.invariant.not_past_end is;
       write_unfailed = c.in-Ok-write.ensures.unfailed ∙ (c.in-Ok.ensures.unfailed ∙ c.lines.invariant.write_unfailed);
     }

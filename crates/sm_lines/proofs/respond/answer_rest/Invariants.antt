@@ -13,5 +13,7 @@ invariant-lines g l = record {
   end_stands : EndStands l.lines (g.R.Read.remaining l.reader.inner);
   calls : CallsFit l.fn.lines.ended l.lines.ended (g.R.Read.remaining l.fn.reader.inner) (g.R.Read.remaining l.reader.inner) l.fn.reader.calls l.reader.calls;
   read_unfailed : l.reader.failed ≡ l.fn.reader.failed;
+  same_end : l.fn.reader.ended ≡ l.fn.lines.ended → l.reader.ended ≡ l.lines.ended;
+  not_past_end : l.fn.reader.ended ≡ l.fn.lines.ended → l.reader.read_past_end ≡ l.fn.reader.read_past_end;
   write_unfailed : l.writer.failed ≡ l.fn.writer.failed;
 }

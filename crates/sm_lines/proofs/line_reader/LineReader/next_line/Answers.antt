@@ -61,4 +61,6 @@ pieces-preserved g c =
       calls = took_more _ _ _ _ _ _ _ _ _ (subst P (ap (λ r. r.ended) (sym took.ok)) c.pieces.invariant.calls) read.calls;
       unfailed = more.2 ∙ c.pieces.invariant.unfailed;
       not_read = λ is. absurd (false≢true (sym more.4 ∙ same_end ∙ is));
+      reader_ended = λ is. read.same_end (c.pieces.invariant.reader_ended is ∙ sym (ap (λ r. r.ended) took.ok));
+      not_past_end = λ is. read.not_past_end (c.pieces.invariant.reader_ended is ∙ sym (ap (λ r. r.ended) took.ok)) ∙ c.pieces.invariant.not_past_end is;
     }

@@ -12,6 +12,8 @@ invariant-pieces g l = record {
   unfailed : l.reader.failed ≡ l.fn.reader.failed;
   calls : CallsFit l.fn.self.ended l.self.ended (g.R.Read.remaining l.fn.reader.inner) (g.R.Read.remaining l.reader.inner) l.fn.reader.calls l.reader.calls;
   not_read : l.fn.self.ended ≡ true → l.reader ≡ l.fn.reader;
+  reader_ended : l.fn.reader.ended ≡ l.fn.self.ended → l.reader.ended ≡ l.self.ended;
+  not_past_end : l.fn.reader.ended ≡ l.fn.self.ended → l.reader.read_past_end ≡ l.fn.reader.read_past_end;
 }
 
 abbrev pub decreases-pieces : goal.decreases-pieces
