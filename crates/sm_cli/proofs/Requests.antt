@@ -13,7 +13,7 @@ use Rattle.sm_script.specs.declared.command.Command.TheVariants as ask
 use Rattle.sm_ownership.specs.declared.admit_fault.AdmitFault.TheVariants as admit
 use Rattle.sm_table.specs.declared.refusal.Refusal.TheVariants as refusal
 use Rattle.sm_table.specs.declared.step.Step.{Step}
-use Rattle.sm_table.specs.declared.step.Step.TheVariants.{Look, Send, Deliver, Finish}
+use Rattle.sm_table.specs.declared.step.Step.TheVariants.{Look, Send, Finish}
 use Rattle.sm_table.specs.declared.world_answer.WorldAnswer.{WorldAnswer}
 use Rattle.sm_table.specs.declared.world_answer.WorldAnswer.TheVariants.{Made, Seen, Sent, Began, Forwarded, Refused, Replied}
 use Rattle.sm_table.specs.declared.world_fault.WorldFault.{WorldFault}
@@ -21,8 +21,8 @@ use Rattle.sm_table.specs.declared.world_fault.WorldFault.TheVariants as fault
 use Rattle.sm_table.specs.Envelope.{most_hops}
 use Rattle.sm_table.specs.Standing.{Follows, StandsFor, WorldView}
 use Rattle.sm_table.specs.World.{WorldState, Plain, mark_of, outcome, count_of, world_record}
-use Rattle.sm_cli.specs.Commands.{answer_of, arrived, commanded, counter_text, delivered, finished, is_begun, is_sent, owner_of, owner_seen, requested, requested_at, shard_for, stepped, Stepped}
-use Rattle.sm_cli.specs.Models.{ModelView, IsAt, EndsAt, Ends, EndsIn, Answers, Arrives}
+use Rattle.sm_cli.specs.Commands.{answer_of, arrived, commanded, counter_text, delivered, finished, is_begun, is_sent, owner_of, owner_seen, requested, shard_for, stepped, Stepped}
+use Rattle.sm_cli.specs.Models.{ModelView, IsAt, EndsAt, Ends, Answers, Arrives}
 use Rattle.sm_cli.proofs.Settling.{Settles, settles_request, settles_request_at}
 use Rattle.sm_cli.proofs.Stepping.{plain_of_answer, delivered_unsent, finished_unbegun, follows_plain, look_is, looked}
 

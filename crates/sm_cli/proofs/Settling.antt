@@ -1,10 +1,8 @@
 -- A command that is run at a world where no request is under way ends in a step that answers the script, and leaves no
 -- request under way.
-use Rattle.std.proofs.Common.{◌≡◌, zero, suc, ◌+◌, ap, ◌∙◌, arith, ◌<◌, ◌++◌, ◌∷◌, [], Bool, true, false, ℕ, List, length, sym, subst, refl, Option, Some, None, Ok, Err, is_some, nat_lt, if◌then◌else◌, slice_index_or, slice_set, slice_get}
+use Rattle.std.proofs.Common.{◌≡◌, zero, suc, ◌+◌, arith, ◌<◌, ◌++◌, ◌∷◌, [], Bool, true, false, ℕ, List, length, sym, subst, refl, Option, Some, None, Ok, Err, is_some, nat_lt, if◌then◌else◌, slice_index_or}
 use Rattle.std.proofs.lemmas.Bool.Decides.{nat_tests}
 use Rattle.std.proofs.lemmas.List.{get_or-set_same}
-use Rattle.sm_ranges.specs.Ranges.{shard_of}
-use Rattle.sm_service.specs.Service.{key_of_request}
 use Rattle.sm_service.specs.declared.reply.Reply.{Reply}
 use Rattle.sm_service.specs.declared.request.Request.{Request}
 use Rattle.sm_script.specs.declared.command.Command.TheVariants as ask
@@ -16,16 +14,15 @@ use Rattle.sm_table.specs.declared.in_hand.InHand.{InHand}
 use Rattle.sm_table.specs.declared.in_hand.Work.{Work}
 use Rattle.sm_ownership.specs.declared.mode.Mode.TheVariants.{Direct}
 use Rattle.sm_table.specs.declared.step.Step.TheVariants.{Deliver}
-use Rattle.sm_table.specs.declared.world_answer.WorldAnswer.TheVariants.{Made, Refused, Sent, Began, Forwarded}
-use Rattle.sm_table.specs.declared.world_fault.WorldFault.TheVariants.{UnknownServer, UnknownShard, NotHeld}
+use Rattle.sm_table.specs.declared.world_answer.WorldAnswer.TheVariants.{Refused, Sent}
+use Rattle.sm_table.specs.declared.world_fault.WorldFault.TheVariants.{UnknownServer, UnknownShard}
 use Rattle.sm_table.specs.Desk.{is_known}
 use Rattle.sm_table.specs.Envelope.{EnvelopeView, most_hops, one_hop_more, sent_on}
-use Rattle.sm_table.specs.World.{WorldState, Plain, after_hop, arrived as arrived_at, controlled, count_of, ended, flight_to, freed, hand_of, held, hopped, let_go, reached, served, with_room, without_flight, worked, world_record}
+use Rattle.sm_table.specs.World.{WorldState, Plain, after_hop, arrived as arrived_at, controlled, count_of, ended, flight_to, freed, hand_of, held, hopped, let_go, reached, served, with_room, worked, world_record}
 use Rattle.sm_ownership.specs.History.{kept}
 use Rattle.sm_ownership.specs.Rules.{admit_fault, forward_to}
-use Rattle.sm_table.specs.declared.refusal.Refusal.TheVariants.{KeptFull, TooManyHops}
+use Rattle.sm_table.specs.declared.refusal.Refusal.TheVariants.{KeptFull}
 use Rattle.sm_cli.specs.Commands.{answer_of, arrived, changed, commanded, counter_text, delivered, finished, is_forwarded, owner_of, requested, requested_at, shard_for, stepped, Stepped}
-use Rattle.sm_cli.proofs.Stepping.{look_is, looked}
 
 -- the last step answers the script, and no request is under way
 pub record Settles (went : Stepped) : Type 0 where
@@ -35,10 +32,6 @@ pub record Settles (went : Stepped) : Type 0 where
 control_settles : (w : WorldState Request) (shard : ℕ) (change : Change) (fault : Option CommandFault) → w.in_flight ≡ [] → Settles (controlled w shard change fault)
 control_settles w shard change (Some fault) rest = record { answers = refl; rest = rest }
 control_settles w shard change None rest = record { answers = refl; rest = rest }
-
-looked_settles : (w : WorldState Request) (shard : ℕ) (there : Bool) → w.in_flight ≡ [] → Settles (looked there w shard)
-looked_settles w shard true rest = record { answers = refl; rest = rest }
-looked_settles w shard false rest = record { answers = refl; rest = rest }
 
 -- a shard with a request in hand replies, or keeps as many requests as it may
 worked_settles : (w : WorldState Request) (shard server : ℕ) (work : Work Request) → w.in_flight ≡ [] → Settles (worked counter_text w Plain shard server (Some work))
@@ -159,9 +152,6 @@ settles_hold w shard server rest = held_settles w shard server (nat_lt shard (co
 
 pub settles_free : (w : WorldState Request) (shard : ℕ) → w.in_flight ≡ [] → Settles (commanded w (ask.Free shard))
 settles_free w shard rest = freed_settles w shard (nat_lt shard (count_of w)) (slice_index_or w.in_hand shard None) rest
-
-pub settles_look : (w : WorldState Request) (shard : ℕ) → w.in_flight ≡ [] → Settles (commanded w (ask.Look shard))
-settles_look w shard rest = let P : Stepped → Type 0 = Settles in subst P (sym (look_is w shard)) (looked_settles w shard (nat_lt shard (count_of w)) rest)
 
 pub settles_request : (w : WorldState Request) (request : Request) → shard_for w request < length w.in_hand → w.in_flight ≡ [] → Settles (commanded w (ask.Request request))
 settles_request w request within rest = requested_settles w request (owner_of (world_record w (shard_for w request)).stand) within rest

@@ -87,22 +87,22 @@ impl ModelSession {
         ensures { Ends self.old command result self.new }
     {
         match command {
-            Command::Assign(shard, server) => return self.change(shard, Change::Assign(server)),
+            Command::Assign(shard, server) => self.change(shard, Change::Assign(server)),
             Command::PrepareAdd(shard, server) => {
-                return self.change(shard, Change::PrepareAddShard(server));
+                self.change(shard, Change::PrepareAddShard(server))
             }
-            Command::PrepareDrop(shard) => return self.change(shard, Change::PrepareDropShard),
-            Command::Add(shard) => return self.change(shard, Change::AddShard),
-            Command::Drop(shard) => return self.change(shard, Change::DropShard),
-            Command::Cancel(shard) => return self.change(shard, Change::Cancel),
-            Command::Pause(shard) => return self.change(shard, Change::Pause),
-            Command::Resume(shard) => return self.change(shard, Change::Resume),
-            Command::Reassign(shard, server) => return self.change(shard, Change::Reassign(server)),
-            Command::Hold(shard, server) => return self.world.step(Step::Hold(shard, server)),
-            Command::Free(shard) => return self.world.step(Step::Free(shard)),
-            Command::Look(shard) => return self.world.step(Step::Look(shard)),
-            Command::Request(request) => return self.run_request(request),
-            Command::RequestAt(server, request) => return self.run_request_at(server, request),
+            Command::PrepareDrop(shard) => self.change(shard, Change::PrepareDropShard),
+            Command::Add(shard) => self.change(shard, Change::AddShard),
+            Command::Drop(shard) => self.change(shard, Change::DropShard),
+            Command::Cancel(shard) => self.change(shard, Change::Cancel),
+            Command::Pause(shard) => self.change(shard, Change::Pause),
+            Command::Resume(shard) => self.change(shard, Change::Resume),
+            Command::Reassign(shard, server) => self.change(shard, Change::Reassign(server)),
+            Command::Hold(shard, server) => self.world.step(Step::Hold(shard, server)),
+            Command::Free(shard) => self.world.step(Step::Free(shard)),
+            Command::Look(shard) => self.world.step(Step::Look(shard)),
+            Command::Request(request) => self.run_request(request),
+            Command::RequestAt(server, request) => self.run_request_at(server, request),
         }
     }
 
@@ -267,7 +267,7 @@ fn owner_of(stand: &Stand) -> Option<ServerId>
     }
 }
 
-/// The answer to a command that ended in this step; an error is want of memory.
+/// The answer to a command that ended in this step; an error is want of memory, or a step that ends no command.
 fn answer_of(ended: Result<WorldAnswer<Reply>, WorldFault>) -> Result<Answer, AllocError>
     ensures ok { IfOk result (λ answer. answer_of ended ≡ Some answer) }
     ensures err { OnErr result (answer_of ended ≡ None) }
@@ -278,7 +278,7 @@ fn answer_of(ended: Result<WorldAnswer<Reply>, WorldFault>) -> Result<Answer, Al
     }
 }
 
-/// The answer to a command whose last step was made; an error is want of memory.
+/// The answer to a command whose last step was made; an error is want of memory, or a step that ends no command.
 fn answer_of_made(made: WorldAnswer<Reply>) -> Result<Answer, AllocError>
     ensures ok { IfOk result (λ answer. answer_of (Ok made) ≡ Some answer) }
     ensures err { OnErr result (answer_of (Ok made) ≡ None) }
@@ -302,9 +302,7 @@ fn answer_of_made(made: WorldAnswer<Reply>) -> Result<Answer, AllocError>
             place,
         }),
         // No command ends with a request that was only sent, begun or forwarded.
-        WorldAnswer::Sent => Err(AllocError),
-        WorldAnswer::Began(_) => Err(AllocError),
-        WorldAnswer::Forwarded(_) => Err(AllocError),
+        WorldAnswer::Sent | WorldAnswer::Began(_) | WorldAnswer::Forwarded(_) => Err(AllocError),
     }
 }
 
@@ -321,7 +319,7 @@ fn answer_of_refusal(refusal: Refusal) -> Result<Answer, AllocError>
     }
 }
 
-/// The answer to a command whose last step was refused; an error is want of memory.
+/// The answer to a command whose last step was refused; an error is want of memory, or a step that ends no command.
 fn answer_of_fault(fault: WorldFault) -> Result<Answer, AllocError>
     ensures ok { IfOk result (λ answer. answer_of (Err fault) ≡ Some answer) }
     ensures err { OnErr result (answer_of (Err fault) ≡ None) }
@@ -333,8 +331,7 @@ fn answer_of_fault(fault: WorldFault) -> Result<Answer, AllocError>
         WorldFault::UnknownServer => Ok(Answer::Refused(Refused::UnknownServer)),
         WorldFault::NotHeld => Ok(Answer::Refused(Refused::NotHeld)),
         // No command delivers where nothing is in flight.
-        WorldFault::NoEnvelope => Err(AllocError),
-        WorldFault::NoMemory => Err(AllocError),
+        WorldFault::NoEnvelope | WorldFault::NoMemory => Err(AllocError),
     }
 }
 

@@ -1,8 +1,8 @@
-ghost use Rattle.std.specs.Prelude.{◌≡◌, ◌≢◌, ◌⊎◌, ◌≤◌, ℕ, List, [], IfOk, IfErr, OnOk, OnErr, Ok, Err, true, false};
+ghost use Rattle.std.specs.Prelude.{◌≡◌, ◌≢◌, ◌⊎◌, ◌*◌, ◌≤◌, ℕ, List, [], IfOk, IfErr, OnOk, OnErr, Ok, Err, true, false};
 ghost use Rattle.std.specs.Io.KnownBytes.{Appends, IsAtEnd};
 ghost use Rattle.sm_lines.specs.Answers.{Answers, ReadingStopped, StopsAfter};
 ghost use Rattle.sm_lines.specs.Lines.{TookPart};
-ghost use Rattle.sm_lines.specs.Reading.{unread, CallsFit, EndStands};
+ghost use Rattle.sm_lines.specs.Reading.{unread, CallsFit, EndStands, HeldGiven};
 ghost use Rattle.sm_lines.specs.Sending.{WroteFront};
 ghost use Rattle.sm_settings.specs.SettingsLine.{values_of};
 ghost use Rattle.sm_settings.specs.SettingsRules.{KeepsRules};
@@ -12,7 +12,8 @@ ghost use Rattle.sm_cli.specs.Script.{settings_line};
 use crate::engine::Engine;
 use crate::model_engine::ModelEngine;
 use sm_lines::{
-    AnswerFault, COUNT_LIMIT, LineReader, Next, ReadFault, Watched, answer_lines, write_whole,
+    AnswerFault, COUNT_LIMIT, LineReader, Next, PIECE, ReadFault, Watched, answer_lines,
+    write_whole,
 };
 use sm_script::line::MAX_LINE;
 use sm_settings::settings::Settings;
@@ -122,11 +123,16 @@ pub fn run_model<R: Read, W: Write>(
     // Nothing is read again once the end was seen.
     ensures not_past_end { reader.old.ended ≡ false
         → reader.new.read_past_end ≡ reader.old.read_past_end }
+    // Also of unknown bytes, `Read` comes only where the reader failed, or its calls could give as many bytes as lines or
+    // calls are counted.
+    ensures read_calls { result ≡ Err RunFault.Read → (reader.new.failed ≡ true)
+        ⊎ (COUNT_LIMIT ≤ PIECE * reader.new.calls) }
 {
     run(alloc, reader, writer, &mut ModelEngine::new(alloc))
 }
 
-/// Runs the script of the reader on the engine, and writes its answers. A fault comes where it does of `run_model`.
+/// Runs the script of the reader on the engine, and writes its answers. Each fault comes under the same conditions as in
+/// `run_model`.
 pub fn run<R: Read, W: Write, E: Engine>(
     alloc: Global,
     reader: &mut Watched<R>,
@@ -159,11 +165,10 @@ pub fn run<R: Read, W: Write, E: Engine>(
         (R.remaining reader.new.inner) reader.old.calls reader.new.calls }
     ensures not_past_end { reader.old.ended ≡ false
         → reader.new.read_past_end ≡ reader.old.read_past_end }
+    ensures read_calls { result ≡ Err RunFault.Read → (reader.new.failed ≡ true)
+        ⊎ (COUNT_LIMIT ≤ PIECE * reader.new.calls) }
 {
-    let mut lines = match LineReader::new(alloc) {
-        Ok(lines) => lines,
-        Err(_) => return Err(RunFault::NoMemory),
-    };
+    let mut lines = LineReader::new(alloc)?;
     match open(alloc, &mut lines, reader) {
         Ok(Opening::Accepted(settings)) => run_session(
             alloc, &mut lines, reader, writer, engine, settings,
@@ -197,6 +202,8 @@ fn open<R: Read>(
     ensures same_end { reader.old.ended ≡ lines.old.ended → reader.new.ended ≡ lines.new.ended }
     ensures not_past_end { reader.old.ended ≡ lines.old.ended
         → reader.new.read_past_end ≡ reader.old.read_past_end }
+    ensures held_given { OnOk result (HeldGiven lines.old reader.old.calls
+        → HeldGiven lines.new reader.new.calls) }
 {
     match lines.next_line(reader, MAX_SETTINGS) {
         Ok(Next::Line) => read_settings(alloc, lines.line()),
@@ -262,11 +269,10 @@ fn run_session<R: Read, W: Write, E: Engine>(
         (R.remaining reader.new.inner) reader.old.calls reader.new.calls }
     ensures not_past_end { reader.old.ended ≡ lines.old.ended
         → reader.new.read_past_end ≡ reader.old.read_past_end }
+    ensures read_calls { result ≡ Err RunFault.Read → HeldGiven lines.old reader.old.calls
+        → (reader.new.failed ≡ true) ⊎ (COUNT_LIMIT ≤ PIECE * reader.new.calls) }
 {
-    let mut session = match engine.begin(settings) {
-        Ok(session) => session,
-        Err(_) => return Err(RunFault::NoMemory),
-    };
+    let mut session = engine.begin(settings)?;
     match answer_lines(alloc, lines, reader, writer, &mut session, MAX_LINE) {
         Ok(()) => Ok(Status::Ran),
         Err(fault) => Err(RunFault::from(fault)),

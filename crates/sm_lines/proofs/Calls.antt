@@ -1,8 +1,13 @@
 -- Lemmas on how many calls of the reader were made.
-use Rattle.std.proofs.Common.{◌≡◌, ◌≢◌, ℕ, List, Bool, true, false, Option, None, Some, refl, subst, arith}
+use Rattle.std.proofs.Common.{◌≡◌, ◌≢◌, ◌∙◌, ap, ◌⊎◌, inl, inr, ℕ, ◌+◌, ◌-◌, ◌*◌, ◌<◌, ◌≤◌, List, [], ◌++◌, length, take, drop, Bool, true, false, Option, None, Some, refl, subst, arith}
+use Rattle.std.proofs.lemmas.Grind.{common_steps}
+use Rattle.std.proofs.lemmas.Bool.{cases_lt}
+use Rattle.std.proofs.lemmas.List.{length-drop}
 use Rattle.sm_lines.specs.declared.respond.AnswerFault.{AnswerFault}
 use Rattle.sm_lines.specs.declared.respond.AnswerFault.TheVariants.{Read, Write, NoMemory}
-use Rattle.sm_lines.specs.Reading.{CallsFit}
+use Rattle.sm_lines.specs.Reading.{CallsFit, HeldGiven, LinesGiven, Reading}
+use Rattle.sm_lines.specs.declared.TheConstants.{PIECE}
+use Rattle.sm_lines.specs.declared.watch.TheConstants.{COUNT_LIMIT}
 
 -- no call
 pub took_same : (ended : Bool) (left : Option (List ℕ)) (calls : ℕ) → CallsFit ended ended left left calls calls
@@ -36,3 +41,57 @@ took_stopped Write was now ended old mid new before between after one other last
     took_seen was ended old new before after (took_more was now ended old mid new before between after one (other (λ e. cc)))
 took_stopped NoMemory was now ended old mid new before between after one other last =
     took_seen was ended old new before after (took_more was now ended old mid new before between after one (other (λ e. cc)))
+
+-- lines, and then more
+pub given_more : (more count : ℕ) (was mid lines : Reading) (before between after : ℕ) → LinesGiven count was mid before between → LinesGiven more mid lines between after
+    → LinesGiven (count + more) was lines before after
+given_more more count was mid lines before between after one two = omega (arith, one, two)
+
+-- a line that was taken with its line feed
+pub given_line : (was now lines : Reading) (limit n before after : ℕ) → LinesGiven 0 was now before after → n < length now.held
+    → lines ≡ record now { line = take limit (now.line ++ take n now.held); held = drop 1 (drop n now.held) } → LinesGiven 1 was lines before after
+given_line was now lines limit n before after given inside is =
+    let size : length lines.held ≡ (length now.held - n) - 1 = ap (λ (r : Reading). length r.held) is ∙ length-drop 1 (drop n now.held) ∙ ap (λ (m : ℕ). m - 1) (length-drop n now.held) in
+    omega (arith, given, inside, size)
+
+-- fewer lines
+pub fewer_given : (was lines : Reading) (before after : ℕ) → LinesGiven 1 was lines before after → LinesGiven 0 was lines before after
+fewer_given was lines before after given = omega (arith, given)
+
+-- all that was held was taken, and more read
+pub given_piece : (count : ℕ) (was now took lines : Reading) (before between after : ℕ) → LinesGiven count was now before between → took.held ≡ [] → LinesGiven 0 took lines between after
+    → LinesGiven count was lines before after
+given_piece count was now took lines before between after one none two = let size : length took.held ≡ 0 = ap length none in omega (arith, one, two, size)
+
+-- the same, where the line in front took a byte
+pub given_part : (was now took lines : Reading) (limit before between after : ℕ) (is_long longer : Bool)
+    → LinesGiven 0 was now before between → ((is_long ≡ true) ⊎ (0 < length now.line) → LinesGiven 1 was now before between)
+    → took ≡ record now { line = take limit (now.line ++ now.held); held = [] } → (longer ≡ true → (is_long ≡ true) ⊎ (limit < length now.line + length now.held))
+    → LinesGiven 0 took lines between after → lines.line ≡ took.line → (longer ≡ true) ⊎ (0 < length lines.line) → LinesGiven 1 was lines before after
+given_part was now took lines limit before between after is_long longer one line cut long two same some = took_byte (grown some)
+  where
+    none : took.held ≡ []
+    none = ap (λ (r : Reading). r.held) cut
+
+    size : length lines.line ≡ length (take limit (now.line ++ now.held))
+    size = ap length (same ∙ ap (λ (r : Reading). r.line) cut)
+
+    grown : (longer ≡ true) ⊎ (0 < length lines.line) → (is_long ≡ true) ⊎ (0 < length now.line + length now.held)
+    grown (inl is) = elim (long is) [ inl was_long ↦ inl was_long | inr more ↦ inr (omega (arith, more)) ]
+    grown (inr any) = inr (grind (arith, common_steps, size, any))
+
+    took_byte : (is_long ≡ true) ⊎ (0 < length now.line + length now.held) → LinesGiven 1 was lines before after
+    took_byte (inl is) = given_piece 1 was now took lines before between after (line (inl is)) none two
+    took_byte (inr any) = elim (cases_lt 0 (length now.line)) [
+      | inl has ↦ given_piece 1 was now took lines before between after (line (inr has)) none two
+      | inr has_none ↦ let left : length took.held ≡ 0 = ap length none in omega (arith, one, two, left, any, has_none)
+    ]
+
+-- so many calls could give as many bytes as they are
+pub calls_many : (failed : Bool) (calls : ℕ) → (failed ≡ true) ⊎ (COUNT_LIMIT ≤ calls) → (failed ≡ true) ⊎ (COUNT_LIMIT ≤ PIECE * calls)
+calls_many failed calls (inl is) = inl is
+calls_many failed calls (inr many) = inr (omega (arith, many))
+
+-- so many lines came from calls that could give as many bytes
+pub lines_many : (count : ℕ) (was lines : Reading) (before after : ℕ) → LinesGiven count was lines before after → COUNT_LIMIT ≤ count → HeldGiven was before → COUNT_LIMIT ≤ PIECE * after
+lines_many count was lines before after given many held = omega (arith, given, many, held)

@@ -2,10 +2,6 @@
 use Rattle.std.specs.Prelude.{◌≡◌, ◌⊎◌, Bool, true, false, ℕ, ◌≤◌, ◌<◌, List, [], ◌∷◌, ◌++◌, length, take, ⊤, Option, None, Some}
 use Rattle.std.specs.Io.KnownBytes.{Appends}
 use Rattle.sm_lines.specs.Lines.{lines_of, HadFeed, LosesLine, TookLines, TookPart}
-use Rattle.sm_lines.specs.declared.line_reader.ReadFault.{ReadFault}
-use Rattle.sm_lines.specs.declared.line_reader.ReadFault.TheVariants.{Read, NoMemory}
-use Rattle.sm_lines.specs.declared.respond.AnswerFault.{AnswerFault}
-use Rattle.sm_lines.specs.declared.respond.AnswerFault.TheVariants as stopped
 use Rattle.sm_lines.specs.Reading.{Reading}
 use Rattle.sm_lines.specs.declared.watch.TheConstants.{COUNT_LIMIT}
 use Rattle.sm_lines.specs.Sending.{WroteFront}
@@ -105,8 +101,3 @@ pub record Answered {E : Type 0} (answers : E → List ℕ → List ℕ → E �
   pub sent : List ℕ
   pub answered : AnswersAll answers before done (sent ++ waiting) after
   pub wrote : Appends old new sent
-
--- the fault where reading stopped
-abbrev pub answer_fault : ReadFault → AnswerFault
-answer_fault Read = stopped.Read
-answer_fault NoMemory = stopped.NoMemory

@@ -1,6 +1,7 @@
 -- What callers see of a reader of lines.
-use Rattle.std.specs.Prelude.{◌≡◌, ℕ, ◌+◌, ◌≤◌, List, length, Bool, true, false, ⊤, Option, None, Some}
+use Rattle.std.specs.Prelude.{◌≡◌, ℕ, ◌+◌, ◌*◌, ◌≤◌, List, length, Bool, true, false, ⊤, Option, None, Some}
 use Rattle.std.specs.Io.KnownBytes.{prepend_known, IsAtEnd}
+use Rattle.sm_lines.specs.declared.TheConstants.{PIECE}
 
 -- the line in front, the bytes read beyond it, and whether the end of the input was seen
 pub record Reading : Type 0 where
@@ -27,3 +28,11 @@ abbrev pub CallsFit : Bool → Bool → Option (List ℕ) → Option (List ℕ) 
 CallsFit was ended None left before after = ⊤
 CallsFit was ended (Some bytes) None before after = ⊥
 CallsFit was ended (Some bytes) (Some left) before after = after + length left + end_call was ≤ before + length bytes + end_call ended
+
+-- what is held came from so many calls, each of which gives a piece at most
+abbrev pub HeldGiven : Reading → ℕ → Type 0
+HeldGiven lines calls = length lines.held ≤ PIECE * calls
+
+-- so many lines, of a byte each at least, came from what was held and from the calls since
+abbrev pub LinesGiven : ℕ → Reading → Reading → ℕ → ℕ → Type 0
+LinesGiven count was lines before after = count + length lines.held + PIECE * before ≤ length was.held + PIECE * after

@@ -1,7 +1,7 @@
 ghost use Rattle.std.specs.Prelude.{◌≡◌, ◌≢◌, ℕ, ◌+◌, ◌<◌, ◌≤◌, ◌⊎◌, ◌↔◌, ◌++◌, [], true, false, IsTrue, IfOk, IfSome, IfNone, OnOk, OnErr, All, Contains, length, take, drop, slice_index};
 ghost use Rattle.std.specs.Io.KnownBytes.{Consumes, IsAtEnd};
 ghost use Rattle.sm_lines.specs.Lines.{TookLine, TookLongLine, TookPart};
-ghost use Rattle.sm_lines.specs.Reading.{unread, CallsFit, EndStands};
+ghost use Rattle.sm_lines.specs.Reading.{unread, CallsFit, EndStands, LinesGiven};
 
 use crate::{COUNT_LIMIT, PIECE, Watched};
 use memchr::memchr;
@@ -27,12 +27,14 @@ pub struct LineReader {
 impl Model for LineReader {
     ghost use Rattle.std.specs.Prelude.{◌≤◌, ◌<◌, length, slice_range};
     ghost use Rattle.sm_lines.specs.Reading.{Reading};
+    ghost use Rattle.sm_lines.specs.declared.TheConstants.{PIECE};
 
     ghost Value = { Reading };
 
     ghost view = { λ r. record { line = r.line.items; held = slice_range r.piece.items r.at r.end; ended = r.ended } };
 
-    ghost invariant = { λ r. (r.at ≤ r.end) × (r.end ≤ length r.piece.items) × (0 < length r.piece.items) };
+    ghost invariant = { λ r. (r.at ≤ r.end) × (r.end ≤ length r.piece.items) × (0 < length r.piece.items)
+        × (length r.piece.items ≤ PIECE) };
 }
 
 /// What stands in front of a [`LineReader`].
@@ -222,6 +224,7 @@ impl LineReader {
         ensures same_end { reader.old.ended ≡ self.old.ended → reader.new.ended ≡ self.new.ended }
         ensures not_past_end { reader.old.ended ≡ self.old.ended
             → reader.new.read_past_end ≡ reader.old.read_past_end }
+        ensures given { LinesGiven 0 self.old self.new reader.old.calls reader.new.calls }
     {
         if self.ended {
             return Ok(false);
@@ -289,6 +292,11 @@ impl LineReader {
         ensures same_end { reader.old.ended ≡ self.old.ended → reader.new.ended ≡ self.new.ended }
         ensures not_past_end { reader.old.ended ≡ self.old.ended
             → reader.new.read_past_end ≡ reader.old.read_past_end }
+        // A call gives a piece at most, and a line takes a byte at least.
+        ensures given { OnOk result (LinesGiven 0 self.old self.new
+            reader.old.calls reader.new.calls) }
+        ensures line_given { IfOk result (λ next. next ≢ Next.End → LinesGiven 1 self.old self.new
+            reader.old.calls reader.new.calls) }
     {
         self.begin_line();
         let mut is_long = false;
@@ -310,6 +318,7 @@ impl LineReader {
         ensures long { result ≡ Next.LongLine → is_long ≡ true }
         ensures line { result ≡ Next.Line → (is_long ≡ false) × (0 < length self.now.line) }
         ensures end { result ≡ Next.End → (is_long ≡ false) × (self.now.line ≡ []) }
+        ensures some { result ≢ Next.End → (is_long ≡ true) ⊎ (0 < length self.now.line) }
     {
         if is_long {
             Next::LongLine

@@ -1,11 +1,11 @@
-ghost use Rattle.std.specs.Prelude.{◌≡◌, ◌≢◌, ℕ, ◌≤◌, ◌⊎◌, List, [], true, false, IfOk, OnOk, OnErr, length};
+ghost use Rattle.std.specs.Prelude.{◌≡◌, ◌≢◌, ℕ, ◌*◌, ◌≤◌, ◌⊎◌, List, [], true, false, IfOk, OnOk, OnErr, length};
 ghost use Rattle.std.specs.Io.KnownBytes.{IsAtEnd};
 ghost use Rattle.sm_lines.specs.Lines.{LosesLine, TookPart};
-ghost use Rattle.sm_lines.specs.Reading.{unread, CallsFit, EndStands};
+ghost use Rattle.sm_lines.specs.Reading.{unread, CallsFit, EndStands, HeldGiven, LinesGiven};
 ghost use Rattle.sm_lines.specs.Sending.{Sends, WroteFront};
 ghost use Rattle.sm_lines.specs.Answers.{Answers, Answered, AnsweredLine, HasLines, RanAll, RanTo, RanShort, ReadingStopped, StopsAfter};
 
-use crate::{COUNT_LIMIT, LineReader, Next, PieceWriter, ReadFault, Watched, WriteFault};
+use crate::{COUNT_LIMIT, LineReader, Next, PIECE, PieceWriter, ReadFault, Watched, WriteFault};
 use std::alloc::{AllocError, Global};
 use std::io::{Read, Write};
 
@@ -61,19 +61,6 @@ impl From<WriteFault> for AnswerFault {
     }
 }
 
-impl From<ReadFault> for AnswerFault {
-    ghost use Rattle.sm_lines.specs.Answers.{answer_fault};
-
-    ghost from_gives = { λ fault stopped. stopped ≡ answer_fault fault };
-
-    fn from(fault: ReadFault) -> AnswerFault {
-        match fault {
-            ReadFault::Read => AnswerFault::Read,
-            ReadFault::NoMemory => AnswerFault::NoMemory,
-        }
-    }
-}
-
 /// Reads the next line and puts its answer into `out`; false where there is no further line.
 fn answer_next<R: Read, E: Responder>(
     lines: &mut LineReader,
@@ -111,6 +98,8 @@ fn answer_next<R: Read, E: Responder>(
     ensures same_end { reader.old.ended ≡ lines.old.ended → reader.new.ended ≡ lines.new.ended }
     ensures not_past_end { reader.old.ended ≡ lines.old.ended
         → reader.new.read_past_end ≡ reader.old.read_past_end }
+    ensures given { IfOk result (λ more. more ≡ true → LinesGiven 1 lines.old lines.new
+        reader.old.calls reader.new.calls) }
 {
     out.clear();
     match lines.next_line(reader, limit) {
@@ -186,6 +175,8 @@ fn answer_rest<R: Read, W: Write, E: Responder>(
     ensures same_end { reader.old.ended ≡ lines.old.ended → reader.new.ended ≡ lines.new.ended }
     ensures not_past_end { reader.old.ended ≡ lines.old.ended
         → reader.new.read_past_end ≡ reader.old.read_past_end }
+    ensures read_calls { result ≡ Err AnswerFault.Read → HeldGiven lines.old reader.old.calls
+        → (reader.new.failed ≡ true) ⊎ (COUNT_LIMIT ≤ PIECE * reader.new.calls) }
 {
     'lines: for _count in 0..COUNT_LIMIT {
         match flush_before_read(lines, pieces, writer) {
@@ -259,6 +250,11 @@ pub fn answer_lines<R: Read, W: Write, E: Responder>(
     ensures same_end { reader.old.ended ≡ lines.old.ended → reader.new.ended ≡ lines.new.ended }
     ensures not_past_end { reader.old.ended ≡ lines.old.ended
         → reader.new.read_past_end ≡ reader.old.read_past_end }
+
+    // Also of unknown bytes, `Read` comes only where the reader failed, or its calls could give as many bytes as lines or
+    // calls are counted.
+    ensures read_calls { result ≡ Err AnswerFault.Read → HeldGiven lines.old reader.old.calls
+        → (reader.new.failed ≡ true) ⊎ (COUNT_LIMIT ≤ PIECE * reader.new.calls) }
 {
     let mut pieces = match PieceWriter::new(alloc) {
         Ok(pieces) => pieces,

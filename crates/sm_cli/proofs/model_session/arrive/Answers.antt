@@ -1,5 +1,5 @@
 use Rattle.std.proofs.Common.{sym, ◌∙◌, arith}
-use Rattle.sm_cli.proofs.Arrivals.{arrives_now, arrives_last, at_first, on_its_way}
+use Rattle.sm_cli.proofs.Arrivals.{arrives_now, arrives_last, on_its_way}
 use Rattle.sm_cli.proofs.model_session.arrive.Goals as goal
 
 pub loop-hop-preserved : goal.loop-hop-preserved

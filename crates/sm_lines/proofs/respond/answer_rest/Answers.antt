@@ -1,7 +1,7 @@
-use Rattle.std.proofs.Common.{Err, ◌≡◌, inl, refl, ap, ◌∙◌}
+use Rattle.std.proofs.Common.{Err, ◌≡◌, arith, inl, inr, refl, ap, ◌∙◌}
 use Rattle.sm_lines.specs.declared.respond.AnswerFault.TheVariants.{Read}
 use Rattle.sm_lines.proofs.AnswerLemmas.{has_lines, so_far_none, so_far_sent, so_far_line, so_far_short, so_far_short_line, was_unseen}
-use Rattle.sm_lines.proofs.Calls.{took_same, took_more, took_stopped}
+use Rattle.sm_lines.proofs.Calls.{calls_many, given_more, lines_many, took_same, took_more, took_stopped}
 use Rattle.sm_lines.proofs.respond.answer_rest.Goals as goal
 
 pub lines-init : goal.lines-init
@@ -12,6 +12,7 @@ lines-init g c = record {
   calls = took_same _ _ _;
   read_unfailed = refl;
   same_end = λ is. is;
+  given = omega arith;
   not_past_end = λ _. refl;
   write_unfailed = refl;
 }
@@ -64,7 +65,16 @@ lines-preserved g c =
       end_stands = c.in-Ok-true.ensures.end_stands;
       calls = took_more _ _ _ _ _ _ _ _ _ c.lines.invariant.calls (c.in-Ok-true.ensures.calls (λ e. cc));
       read_unfailed = c.in-Ok-true.ensures.unfailed (λ e. cc) ∙ c.lines.invariant.read_unfailed;
+      given = given_more 1 c.lines._count c.args.lines.now c.lines.lines c.answer_next.new.lines _ _ _ c.lines.invariant.given (c.in-Ok-true.ensures.given c.in-Ok-true.field-0-test);
       same_end = λ is. c.in-Ok-true.ensures.same_end (c.lines.invariant.same_end is);
       not_past_end = λ is. c.in-Ok-true.ensures.not_past_end (c.lines.invariant.same_end is) ∙ c.lines.invariant.not_past_end is;
       write_unfailed = c.in-Ok-write.ensures.unfailed ∙ (c.in-Ok.ensures.unfailed ∙ c.lines.invariant.write_unfailed);
     }
+
+pub returns-in-Err-answer_next-clause-read_calls : goal.returns-in-Err-answer_next-clause-read_calls
+returns-in-Err-answer_next-clause-read_calls g c = λ is _.
+    let fault : c.in-Err-answer_next.fault ≡ Read = cc in
+    calls_many _ _ (c.in-Err-answer_next.ensures.read (ap Err fault)).4
+
+pub returns-clause-read_calls : goal.returns-clause-read_calls
+returns-clause-read_calls g c = λ _ held. inr (lines_many c.lines._count c.args.lines.now c.lines.lines _ _ c.lines.invariant.given (omega (arith, c.lines.auto, c.lines-test.false)) held)

@@ -1,5 +1,5 @@
 use Rattle.std.proofs.Common.{◌≡◌, true}
-use Rattle.sm_lines.specs.Reading.{unread, CallsFit, EndStands}
+use Rattle.sm_lines.specs.Reading.{unread, CallsFit, EndStands, LinesGiven}
 use Rattle.sm_lines.specs.Answers.{Answers}
 use Rattle.sm_lines.proofs.AnswerLemmas.{SoFar}
 use Rattle.sm_lines.proofs.respond.answer_rest.Given as goal
@@ -15,5 +15,6 @@ invariant-lines g l = record {
   read_unfailed : l.reader.failed ≡ l.fn.reader.failed;
   same_end : l.fn.reader.ended ≡ l.fn.lines.ended → l.reader.ended ≡ l.lines.ended;
   not_past_end : l.fn.reader.ended ≡ l.fn.lines.ended → l.reader.read_past_end ≡ l.fn.reader.read_past_end;
+  given : LinesGiven l._count l.fn.lines l.lines l.fn.reader.calls l.reader.calls;
   write_unfailed : l.writer.failed ≡ l.fn.writer.failed;
 }

@@ -2,7 +2,7 @@ use Rattle.std.proofs.Common.{◌≡◌, Bool, subst, sym, ◌∙◌, ap}
 use Rattle.std.proofs.lemmas.Bool.{false≢true}
 use Rattle.sm_lines.proofs.LineLemmas.{took_line, took_long_line, so_far_next, took_last_line, took_last_long_line}
 use Rattle.sm_lines.specs.Reading.{CallsFit}
-use Rattle.sm_lines.proofs.Calls.{took_more}
+use Rattle.sm_lines.proofs.Calls.{fewer_given, given_line, given_part, given_piece, took_more}
 use Rattle.sm_lines.proofs.line_reader.LineReader.next_line.Goals as goal
 
 pub returns-in-Some-clause-line : goal.returns-in-Some-clause-line
@@ -62,5 +62,26 @@ pieces-preserved g c =
       unfailed = more.2 ∙ c.pieces.invariant.unfailed;
       not_read = λ is. absurd (false≢true (sym more.4 ∙ same_end ∙ is));
       reader_ended = λ is. read.same_end (c.pieces.invariant.reader_ended is ∙ sym (ap (λ r. r.ended) took.ok));
+      given = given_piece 0 c.args.self.now c.pieces.self c.take_held.new.self c.fill.new.self _ _ _ c.pieces.invariant.given (ap (λ r. r.held) took.ok) read.given;
+      line_given = given_part c.args.self.now c.pieces.self c.take_held.new.self c.fill.new.self _ _ _ _ _ _ c.pieces.invariant.given c.pieces.invariant.line_given took.ok took.long read.given read.line;
       not_past_end = λ is. read.not_past_end (c.pieces.invariant.reader_ended is ∙ sym (ap (λ r. r.ended) took.ok)) ∙ c.pieces.invariant.not_past_end is;
     }
+
+pub returns-in-Some-clause-given : goal.returns-in-Some-clause-given
+returns-in-Some-clause-given g c =
+    fewer_given c.args.self.now c.end_line.new.self _ _
+    (given_line c.args.self.now c.pieces.self c.end_line.new.self _ c.in-Some.n _ _ c.pieces.invariant.given c.in-Some.ensures.some.0 c.in_ok-end_line-in-Some.ensures.ok)
+
+pub returns-in-Some-clause-line_given : goal.returns-in-Some-clause-line_given
+returns-in-Some-clause-line_given g c = λ _.
+    given_line c.args.self.now c.pieces.self c.end_line.new.self _ c.in-Some.n _ _ c.pieces.invariant.given c.in-Some.ensures.some.0 c.in_ok-end_line-in-Some.ensures.ok
+
+pub returns-in-Ok-false-clause-given : goal.returns-in-Ok-false-clause-given
+returns-in-Ok-false-clause-given g c =
+    given_piece 0 c.args.self.now c.pieces.self c.take_held.new.self c.fill.new.self _ _ _ c.pieces.invariant.given (ap (λ r. r.held) c.in_ok-is_long-in-None.ensures.ok) c.in-Ok-false.ensures.given
+
+pub returns-in-Ok-false-clause-line_given : goal.returns-in-Ok-false-clause-line_given
+returns-in-Ok-false-clause-line_given g c = λ some.
+    let took = c.in_ok-is_long-in-None.ensures in
+    let read = c.in-Ok-false.ensures in
+    given_part c.args.self.now c.pieces.self c.take_held.new.self c.fill.new.self _ _ _ _ _ _ c.pieces.invariant.given c.pieces.invariant.line_given took.ok took.long read.given read.line (c.last_line.ensures.some some)

@@ -1,5 +1,5 @@
-use Rattle.std.proofs.Common.{◌≡◌, ◌-◌, true}
-use Rattle.sm_lines.specs.Reading.{unread, CallsFit, EndStands}
+use Rattle.std.proofs.Common.{◌≡◌, ◌-◌, ◌<◌, ◌⊎◌, true, length}
+use Rattle.sm_lines.specs.Reading.{unread, CallsFit, EndStands, LinesGiven}
 use Rattle.sm_lines.specs.declared.watch.TheConstants.{COUNT_LIMIT}
 use Rattle.sm_lines.proofs.LineLemmas.{SoFar}
 use Rattle.sm_lines.proofs.line_reader.LineReader.next_line.Given as goal
@@ -14,6 +14,8 @@ invariant-pieces g l = record {
   not_read : l.fn.self.ended ≡ true → l.reader ≡ l.fn.reader;
   reader_ended : l.fn.reader.ended ≡ l.fn.self.ended → l.reader.ended ≡ l.self.ended;
   not_past_end : l.fn.reader.ended ≡ l.fn.self.ended → l.reader.read_past_end ≡ l.fn.reader.read_past_end;
+  given : LinesGiven 0 l.fn.self l.self l.fn.reader.calls l.reader.calls;
+  line_given : (l.is_long ≡ true) ⊎ (0 < length l.self.line) → LinesGiven 1 l.fn.self l.self l.fn.reader.calls l.reader.calls;
 }
 
 abbrev pub decreases-pieces : goal.decreases-pieces
