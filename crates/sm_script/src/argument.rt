@@ -1,4 +1,4 @@
-ghost use Rattle.std.specs.Prelude.{◌≡◌, IfOk, IsTrue, Some};
+ghost use Rattle.std.specs.Prelude.{◌≡◌, IfOk, IsTrue};
 ghost use Rattle.sm_script.specs.Grammar.{accepts};
 ghost use Rattle.sm_script.specs.Numbers.{number};
 ghost use Rattle.sm_script.specs.declared.shape.Shape.TheVariants.{Shard, Server, Key as KeyShape};
