@@ -1,4 +1,4 @@
 mod Places
 mod Comparisons
 mod Covering
-pub mod Layouts
+mod Layouts
