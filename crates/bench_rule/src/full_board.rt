@@ -1,6 +1,7 @@
 ghost use Rattle.std.specs.Prelude.{All, ◌≡◌, ◌<◌, IfSome, None, [], length};
 
 use crate::tally::Tally;
+use sm_body::service::Service;
 use sm_ownership::change::Change;
 use sm_ownership::mode::Mode;
 use sm_ownership::record::Record;
@@ -10,7 +11,6 @@ use sm_ranges::stand::Stand;
 use sm_rule::board::Board;
 use sm_rule::chair::Chair;
 use sm_rule::pass::Pass;
-use sm_service::service::Service;
 use std::alloc::Global;
 
 const SHARDS: u16 = 4096;

@@ -1,6 +1,6 @@
 ghost use Rattle.std.specs.Prelude.{◌≡◌, ◌+◌, [], length};
 
-use sm_service::service::{ApplyFault, Service};
+use sm_body::service::{ApplyFault, Service};
 use std::marker::Model;
 
 /// A body that counts its requests, which say nothing.

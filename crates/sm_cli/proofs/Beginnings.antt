@@ -1,6 +1,6 @@
 -- The world that a session begins with.
 use Rattle.std.proofs.Common.{◌≡◌, ℕ, zero, suc, refl, List, [], ◌∷◌, map, length, replicate, ap, ◌∙◌, subst}
-use Rattle.sm_service.specs.Service.{Kept}
+use Rattle.sm_body.specs.Service.{Kept}
 use Rattle.sm_service.specs.declared.request.Request.{Request}
 use Rattle.sm_settings.specs.SettingsLine.{SettingsValues}
 use Rattle.sm_table.specs.Standing.{StandsFor, WorldView}

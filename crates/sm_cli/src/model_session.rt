@@ -6,6 +6,7 @@ ghost use Rattle.sm_cli.specs.Models.{IsNew, Answers, Arrives, Ends, EndsIn};
 ghost use Rattle.sm_script.specs.declared.command.Command.TheVariants as ask;
 ghost use Rattle.sm_cli.specs.Script.{answer_line};
 
+use sm_body::service::Service;
 use sm_lines::Responder;
 use sm_ownership::admit_fault::AdmitFault;
 use sm_ownership::change::Change;
@@ -21,7 +22,6 @@ use sm_script::refused::Refused;
 use sm_service::counter_text::CounterText;
 use sm_service::reply::Reply;
 use sm_service::request::Request;
-use sm_service::service::Service;
 use sm_settings::server_row::ServerRow;
 use sm_settings::settings::Settings;
 use sm_table::command::{Command as ControlCommand, CommandFault};

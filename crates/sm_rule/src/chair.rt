@@ -1,9 +1,9 @@
 use crate::view::View;
 use atomic_table::Seat;
+use sm_body::service::Service;
 use sm_ownership::record::Record;
 use sm_ranges::shard_id::ShardId;
 use sm_ranges::stand::Stand;
-use sm_service::service::Service;
 use std::marker::Model;
 
 /// The control's own pass on a board, which alone changes stands. Its number is 0.

@@ -1,7 +1,7 @@
 use crate::view::View;
 use atomic_table::Seat;
+use sm_body::service::Service;
 use sm_ranges::server_id::ServerId;
-use sm_service::service::Service;
 use std::marker::Model;
 
 /// What a thread acts on a board with: a number and a server for good, and what it has seen of the history.

@@ -3,7 +3,7 @@
 use crate::limits::Limits;
 use crate::view::View;
 use atomic_table::{Play, TableRule};
-use sm_service::service::Service;
+use sm_body::service::Service;
 use std::marker::{Brand, PhantomData};
 
 /// What the rule asks of bodies: the requests that each keeps.

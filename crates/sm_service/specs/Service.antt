@@ -6,11 +6,6 @@ use Rattle.sm_service.specs.declared.request.Request.{Request}
 use Rattle.sm_service.specs.declared.request.Request.TheVariants.{Get, Put, Inc}
 use Rattle.sm_service.specs.KeyMap.{reply, after}
 
--- the requests that a body keeps, and how many it keeps at most
-pub record Kept (Q : Type 0) : Type 0 where
-  pub requests : List Q
-  pub limit : ℕ
-
 -- the key map that the requests make, from the empty one
 abbrev pub map_of : List Request → List Pair
 map_of requests = fold after [] requests

@@ -7,7 +7,7 @@ use crate::held::{Held, MAX_TEXT};
 use crate::pair_map::PairMap;
 use crate::reply::Reply;
 use crate::request::Request;
-use crate::service::{ApplyFault, Service};
+use sm_body::service::{ApplyFault, Service};
 use sm_ranges::key::Key;
 use std::alloc::{AllocError, Global};
 use std::marker::Model;
@@ -24,7 +24,8 @@ pub struct CounterText {
 impl Model for CounterText {
     ghost use Rattle.std.specs.Prelude.{◌≡◌};
     ghost use Rattle.sm_service.specs.declared.request.Request.{Request};
-    ghost use Rattle.sm_service.specs.Service.{Kept, map_of};
+    ghost use Rattle.sm_body.specs.Service.{Kept};
+    ghost use Rattle.sm_service.specs.Service.{map_of};
 
     ghost Value = { Kept Request };
 

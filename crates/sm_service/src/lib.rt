@@ -1,4 +1,4 @@
-//! What a shard's body is: a service that answers requests in turn and keeps each of them; and a sample one.
+//! A sample service: texts and counts by key.
 #![tactic(auto)]
 
 pub mod bytes;
@@ -8,4 +8,12 @@ pub mod pair;
 mod pair_map;
 pub mod reply;
 pub mod request;
-pub mod service;
+
+pub use bytes::Bytes;
+pub use counter_text::CounterText;
+pub use held::Held;
+pub use pair::Pair;
+pub use reply::Reply;
+pub use request::Request;
+pub use service::{ApplyFault, Service};
+pub use sm_body::service;

@@ -1,7 +1,7 @@
 ghost use Rattle.std.specs.Prelude.{◌≡◌, ◌<◌, ◌≤◌, ◌++◌, ◌∷◌, [], length, map, slice_index_or, slice_set, IfOk, IfErr, OnOk, OnErr};
 
+use sm_body::service::{ApplyFault, Service};
 use sm_ranges::shard_id::ShardId;
-use sm_service::service::{ApplyFault, Service};
 use std::marker::Model;
 
 /// The bodies of the shards, by the lists of requests that they keep.

@@ -22,6 +22,7 @@ use crate::setup::Setup;
 use crate::step::Step;
 use crate::world_answer::WorldAnswer;
 use crate::world_fault::WorldFault;
+use sm_body::service::{ApplyFault, Service};
 use sm_ownership::admit_fault::AdmitFault;
 use sm_ownership::change::Change;
 use sm_ownership::mode::Mode;
@@ -30,7 +31,6 @@ use sm_ownership::table::Table;
 use sm_ranges::layout::Layout;
 use sm_ranges::server_id::ServerId;
 use sm_ranges::shard_id::ShardId;
-use sm_service::service::{ApplyFault, Service};
 use std::alloc::{AllocError, Global};
 use std::marker::Model;
 

@@ -1,5 +1,5 @@
 use Rattle.std.proofs.Common.{◌≡◌, All, [], vec_len}
-use Rattle.sm_service.specs.Service.{Kept}
+use Rattle.sm_body.specs.Service.{Kept}
 use Rattle.sm_service.specs.declared.request.Request.{Request}
 use Rattle.sm_table.proofs.world.tests.new_world.Given as goal
 
