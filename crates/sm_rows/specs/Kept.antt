@@ -1,0 +1,32 @@
+-- The rules of the rows of servers, groups and shards, as facts.
+use Rattle.std.specs.Prelude.{ℕ, ◌<◌, ◌≤◌, ◌^◌, List, length, map, All}
+use Rattle.std.specs.List.Sorted.{IsStrictlyIncreasing}
+use Rattle.sm_ranges.specs.ServerId.{IsServer}
+use Rattle.sm_rows.specs.declared.limits.TheConstants.{MAX_SERVERS, MAX_DOMAIN, MAX_GROUPS, MAX_LIMIT, MAX_SHARDS, MAX_CAP}
+use Rattle.sm_rows.specs.declared.server_row.ServerRow.{ServerRow}
+use Rattle.sm_rows.specs.declared.group_row.GroupRow.{GroupRow}
+use Rattle.sm_rows.specs.declared.shard_row.ShardRow.{ShardRow}
+
+-- what holds of servers by their rules
+pub record AreServers (rows : List ServerRow) : Type 0 where
+  pub some : 1 ≤ length rows
+  pub few : length rows ≤ MAX_SERVERS
+  pub ids : All (λ row. IsServer row.id) rows
+  pub ids_rise : IsStrictlyIncreasing (map (λ row. row.id) rows)
+  pub domains : All (λ row. row.domain ≤ MAX_DOMAIN) rows
+  pub capacities : All (λ row. row.capacity < 2 ^ 32) rows
+
+-- what holds of groups by their rules
+pub record AreGroups (rows : List GroupRow) : Type 0 where
+  pub some : 1 ≤ length rows
+  pub few : length rows ≤ MAX_GROUPS
+  pub limits : All (λ row. row.limit ≤ MAX_LIMIT) rows
+  pub downs : All (λ row. row.down ≤ MAX_LIMIT) rows
+
+-- what holds of shards by their rules, where there are so many groups
+pub record AreShards (groups : ℕ) (rows : List ShardRow) : Type 0 where
+  pub some : 1 ≤ length rows
+  pub few : length rows ≤ MAX_SHARDS
+  pub places_of_groups : All (λ row. row.group < groups) rows
+  pub loads : All (λ row. row.load < 2 ^ 32) rows
+  pub caps : All (λ row. row.cap ≤ MAX_CAP) rows

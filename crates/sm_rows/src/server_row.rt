@@ -1,0 +1,50 @@
+ghost use Rattle.std.specs.Prelude.{◌≡◌};
+ghost use Rattle.std.specs.List.{list_all};
+ghost use Rattle.sm_rows.specs.Rows.{are_rising, are_servers, is_server};
+
+use crate::limits::{MAX_DOMAIN, MAX_SERVERS};
+use sm_ranges::server_id::ServerId;
+
+/// A server, as the settings give it.
+#[derive(Clone, Copy, Debug, PartialEq, Eq, Drop)]
+pub struct ServerRow {
+    /// The number of the server.
+    pub id: ServerId,
+    /// The fault domain, 0 to 4,095: servers of one domain tend to fail together.
+    pub domain: u16,
+    /// The loads of the shards that name the server add up to at most this.
+    pub capacity: u32,
+}
+
+impl ServerRow {
+    /// Whether each number of the row is in its range.
+    pub fn is_in_range(&self) -> bool
+        ensures { result ≡ is_server self.now }
+    {
+        // The types keep the ranges of the other two.
+        prove!(self.id.number() <= 4095);
+        prove!(self.capacity <= u32::MAX);
+        self.domain <= MAX_DOMAIN
+    }
+}
+
+/// Whether the rows are 1 to 4,095, each in its ranges, by rising numbers.
+pub fn are_servers(rows: &[ServerRow]) -> bool
+    ensures { result ≡ are_servers rows.now }
+{
+    !rows.is_empty() && rows.len() <= MAX_SERVERS && rows_in_range(rows) && are_rising(rows)
+}
+
+fn rows_in_range(rows: &[ServerRow]) -> bool
+    ensures { result ≡ list_all is_server rows.now }
+{
+    rows.iter().all(|row| row.is_in_range())
+}
+
+fn are_rising(rows: &[ServerRow]) -> bool
+    ensures { result ≡ are_rising rows.now }
+{
+    rows.iter()
+        .zip(rows.iter().skip(1))
+        .all(|(row, next)| row.id.number() < next.id.number())
+}

@@ -1,0 +1,40 @@
+ghost use Rattle.std.specs.Prelude.{◌≡◌};
+ghost use Rattle.std.specs.List.{list_all};
+ghost use Rattle.sm_rows.specs.Rows.{are_shards, is_shard};
+
+use crate::limits::{MAX_CAP, MAX_SHARDS};
+
+/// A shard, as the settings give it.
+#[derive(Clone, Copy, Debug, PartialEq, Eq, Drop)]
+pub struct ShardRow {
+    /// The place of its group among the groups, from 0.
+    pub group: u16,
+    /// What it takes of the capacity of each server that it names.
+    pub load: u32,
+    /// How many of its replicas, of which there is one, may be down for a planned restart: 0 or 1.
+    pub cap: u8,
+}
+
+impl ShardRow {
+    /// Whether each number of the row is in its range, where there are so many groups.
+    pub fn is_in_range(&self, groups: usize) -> bool
+        ensures { result ≡ is_shard groups self.now }
+    {
+        // The type keeps the load's range.
+        prove!(self.load <= u32::MAX);
+        usize::from(self.group) < groups && self.cap <= MAX_CAP
+    }
+}
+
+/// Whether the rows are 1 to 4,096, each in its ranges where there are so many groups.
+pub fn are_shards(groups: usize, rows: &[ShardRow]) -> bool
+    ensures { result ≡ are_shards groups rows.now }
+{
+    !rows.is_empty() && rows.len() <= MAX_SHARDS && rows_in_range(groups, rows)
+}
+
+fn rows_in_range(groups: usize, rows: &[ShardRow]) -> bool
+    ensures { result ≡ list_all (is_shard groups) rows.now }
+{
+    rows.iter().all(|row| row.is_in_range(groups))
+}
