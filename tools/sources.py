@@ -1,0 +1,111 @@
+"""How the tools of this folder read a crate: its public functions with their clauses, and the definitions of its specs/."""
+import pathlib
+import re
+from collections import namedtuple
+
+TOP = pathlib.Path(__file__).resolve().parent.parent
+CRATES = TOP / "crates"
+NAME = re.compile(r"(?<![\w.])[A-Za-z_][\w'-]*(?:\.[A-Za-z_][\w'-]*)*")
+IMPORT = re.compile(r"^\s*(?:ghost |pub |unfoldable )*use Rattle\.(\w+)\.(specs|proofs)\.([\w.]+?)(?:\.\{([^}]*)\}| as (\w+))?;?\s*$", re.M)
+PUBLIC_FN = re.compile(r"pub (?:const |unsafe )*fn (\w+)")
+METHOD = re.compile(r"(?:const |unsafe )*fn (\w+)")
+CLAUSE = re.compile(r"(?:requires|ensures|ghost)\b")
+ITEM = re.compile(r"^(?:(?:pub|abbrev|unfoldable|opaque|data|record)\s+)*([^\s:(){},=]+)")
+
+# A function of Rust: its file, its name, its whole head, and the text of its clauses.
+Function = namedtuple("Function", "file name head clauses")
+# Where an imported name stands: the crate, the module below specs/ and the name there (none: the module itself).
+Origin = namedtuple("Origin", "crate module name")
+
+
+def without_comments(text):
+    return re.sub(r"(?m)(^|\s)(//|--).*$", "", text)
+
+
+def imports_of(text):
+    """Returns the origin of each name that the file takes over from some crate's specs/, by the name that it has here."""
+    found = {}
+    for crate, part, module, names, alias in IMPORT.findall(without_comments(text)):
+        if part != "specs":
+            continue
+        if alias:
+            found[alias] = Origin(crate, module, "")
+            continue
+        for one in filter(None, (it.strip() for it in names.split(","))):
+            there, _, here = one.partition(" as ")
+            found[here.strip() or there] = Origin(crate, module, there)
+    return found
+
+
+def modules_of(crate):
+    """Yields the files of the crate's public modules. A program has no other crate above it: all of its modules count."""
+    source = CRATES / crate / "src"
+    is_program = (source / "main.rt").exists()
+    left = [(source / ("main.rt" if is_program else "lib.rt"), source)]
+    while left:
+        file, folder = left.pop()
+        if not file.exists():
+            continue
+        yield file
+        text = without_comments(file.read_text(encoding="utf-8"))
+        for tested, shown, name in re.findall(r"^(#\[cfg\(test\)\]\s*)?(pub )?mod (\w+);", text, re.M):
+            passed_on = re.search(r"^pub use (?:self::|crate::)?%s::" % name, text, re.M)
+            if not tested and (shown or passed_on or is_program):
+                left.append((folder / (name + ".rt"), folder / name))
+
+
+def public_functions(crate):
+    """Yields each public function of the crate's public modules, and each method of a public trait."""
+    for file in modules_of(crate):
+        lines = file.read_text(encoding="utf-8").split("\n")
+        in_trait = False
+        for at, line in enumerate(lines):
+            if re.match(r"pub trait ", line):
+                in_trait = True
+            elif line == "}":
+                in_trait = False
+            found = PUBLIC_FN.match(line.strip()) or in_trait and METHOD.match(line.strip())
+            if found:
+                head = head_of(lines[at:])
+                first = next((n for n, it in enumerate(head) if CLAUSE.match(it.strip())), len(head))
+                yield Function(file, found[1], "\n".join(head[:first]), without_comments("\n".join(head[first:])))
+
+
+def head_of(lines):
+    """Returns the lines of a function's signature and clauses, which come first."""
+    in_clauses = False
+    for n, line in enumerate(lines):
+        word = line.strip()
+        in_clauses = in_clauses or bool(CLAUSE.match(word))
+        if word in ("{", "{}") or word.endswith(";") or not in_clauses and word.endswith(("{", "{}")):
+            return lines[: n + 1]
+    return lines
+
+
+def spec_file(crate, module):
+    return CRATES / crate / "specs" / (module.replace(".", "/") + ".antt")
+
+
+def items_of(file):
+    """Returns the text of each item of a file of definitions, by its name, without comments."""
+    items, name = {}, None
+    for line in without_comments(file.read_text(encoding="utf-8")).split("\n"):
+        if line[:1].strip() and not re.match(r"(pub )?(use|mod)\b|(pub )?unfoldable use\b", line):
+            name = ITEM.match(line)[1] if ITEM.match(line) else None
+        elif line[:1].strip():
+            name = None
+        if name and line.strip():
+            items[name] = items.get(name, "") + line + "\n"
+    return items
+
+
+def holder(items, name):
+    """Returns the item that has this name, or whose text declares it, as a record its fields and a data type its cases."""
+    if name in items:
+        return name
+    inner = r"(?m)^\s+(?:pub )?(?:\| )?%s\b" % re.escape(name)
+    return next((it for it in items if re.search(inner, items[it])), None)
+
+
+def crates():
+    return sorted(it.name for it in CRATES.iterdir() if (it / "src").is_dir())
