@@ -1,6 +1,6 @@
 ghost use Rattle.std.specs.Prelude.{◌≡◌};
 ghost use Rattle.std.specs.List.{list_all};
-ghost use Rattle.sm_rows.specs.Rows.{are_groups, is_group};
+ghost use Rattle.sm_rows.specs.Rows.{are_groups, is_group_row};
 
 use crate::limits::{MAX_GROUPS, MAX_LIMIT};
 
@@ -16,7 +16,7 @@ pub struct GroupRow {
 impl GroupRow {
     /// Whether each number of the row is in its range.
     pub fn is_in_range(&self) -> bool
-        ensures { result ≡ is_group self.now }
+        ensures { result ≡ is_group_row self.now }
     {
         self.limit <= MAX_LIMIT && self.down <= MAX_LIMIT
     }
@@ -30,7 +30,7 @@ pub fn are_groups(rows: &[GroupRow]) -> bool
 }
 
 fn rows_in_range(rows: &[GroupRow]) -> bool
-    ensures { result ≡ list_all is_group rows.now }
+    ensures { result ≡ list_all is_group_row rows.now }
 {
     rows.iter().all(|row| row.is_in_range())
 }

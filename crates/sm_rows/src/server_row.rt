@@ -1,6 +1,6 @@
 ghost use Rattle.std.specs.Prelude.{◌≡◌};
 ghost use Rattle.std.specs.List.{list_all};
-ghost use Rattle.sm_rows.specs.Rows.{are_rising, are_servers, is_server};
+ghost use Rattle.sm_rows.specs.Rows.{are_rising, are_servers, is_server_row};
 
 use crate::limits::{MAX_DOMAIN, MAX_SERVERS};
 use sm_ranges::server_id::ServerId;
@@ -19,7 +19,7 @@ pub struct ServerRow {
 impl ServerRow {
     /// Whether each number of the row is in its range.
     pub fn is_in_range(&self) -> bool
-        ensures { result ≡ is_server self.now }
+        ensures { result ≡ is_server_row self.now }
     {
         // The types keep the ranges of the other two.
         prove!(self.id.number() <= 4095);
@@ -36,7 +36,7 @@ pub fn are_servers(rows: &[ServerRow]) -> bool
 }
 
 fn rows_in_range(rows: &[ServerRow]) -> bool
-    ensures { result ≡ list_all is_server rows.now }
+    ensures { result ≡ list_all is_server_row rows.now }
 {
     rows.iter().all(|row| row.is_in_range())
 }

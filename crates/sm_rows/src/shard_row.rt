@@ -1,6 +1,6 @@
 ghost use Rattle.std.specs.Prelude.{◌≡◌};
 ghost use Rattle.std.specs.List.{list_all};
-ghost use Rattle.sm_rows.specs.Rows.{are_shards, is_shard};
+ghost use Rattle.sm_rows.specs.Rows.{are_shards, is_shard_row};
 
 use crate::limits::{MAX_CAP, MAX_SHARDS};
 
@@ -18,7 +18,7 @@ pub struct ShardRow {
 impl ShardRow {
     /// Whether each number of the row is in its range, where there are so many groups.
     pub fn is_in_range(&self, groups: usize) -> bool
-        ensures { result ≡ is_shard groups self.now }
+        ensures { result ≡ is_shard_row groups self.now }
     {
         // The type keeps the load's range.
         prove!(self.load <= u32::MAX);
@@ -34,7 +34,7 @@ pub fn are_shards(groups: usize, rows: &[ShardRow]) -> bool
 }
 
 fn rows_in_range(groups: usize, rows: &[ShardRow]) -> bool
-    ensures { result ≡ list_all (is_shard groups) rows.now }
+    ensures { result ≡ list_all (is_shard_row groups) rows.now }
 {
     rows.iter().all(|row| row.is_in_range(groups))
 }

@@ -10,7 +10,7 @@ use Rattle.sm_rows.specs.declared.limits.TheConstants.{MAX_SERVERS, MAX_DOMAIN, 
 use Rattle.sm_rows.specs.declared.server_row.ServerRow.{ServerRow}
 use Rattle.sm_rows.specs.declared.group_row.GroupRow.{GroupRow}
 use Rattle.sm_rows.specs.declared.shard_row.ShardRow.{ShardRow}
-use Rattle.sm_rows.specs.Rows.{is_within, is_server, is_group, is_shard, are_rising, are_servers, are_groups, are_shards}
+use Rattle.sm_rows.specs.Rows.{is_within, is_server_row, is_group_row, is_shard_row, are_rising, are_servers, are_groups, are_shards}
 use Rattle.sm_rows.specs.Kept.{AreServers, AreGroups, AreShards}
 
 -- a number within a range is from its low to its high end
@@ -45,56 +45,56 @@ IsStrictlyIncreasing-are_rising (row ∷ next ∷ rows) e (suc k) within =
 -- servers that pass keep their rules
 pub AreServers-are_servers : (rows : List ServerRow) → are_servers rows ≡ true → AreServers rows
 AreServers-are_servers rows e =
-    let tests = three (is_within 1 MAX_SERVERS (length rows)) (list_all is_server rows) (are_rising rows) e in
+    let tests = three (is_within 1 MAX_SERVERS (length rows)) (list_all is_server_row rows) (are_rising rows) e in
     let count = is_within-true 1 MAX_SERVERS (length rows) tests.0 in
     record {
       some = count.0;
       few = count.1;
-      ids = All-list_all (λ row. IsServer row.id) is_server (λ row t. is_within-true 1 MAX_SERVERS row.id (parts row t).0) rows tests.1;
+      ids = All-list_all (λ row. IsServer row.id) is_server_row (λ row t. is_within-true 1 MAX_SERVERS row.id (parts row t).0) rows tests.1;
       ids_rise = IsStrictlyIncreasing-are_rising rows tests.2;
-      domains = All-list_all (λ row. row.domain ≤ MAX_DOMAIN) is_server
+      domains = All-list_all (λ row. row.domain ≤ MAX_DOMAIN) is_server_row
           (λ row t. (is_within-true 0 MAX_DOMAIN row.domain (parts row t).1).1) rows tests.1;
-      capacities = All-list_all (λ row. row.capacity < 2 ^ 32) is_server
+      capacities = All-list_all (λ row. row.capacity < 2 ^ 32) is_server_row
           (λ row t. let most = is_within-true 0 4294967295 row.capacity (parts row t).2 in omega arith) rows tests.1;
     }
   where
-    parts : (row : ServerRow) → is_server row ≡ true
+    parts : (row : ServerRow) → is_server_row row ≡ true
         → (is_within 1 MAX_SERVERS row.id ≡ true) × (is_within 0 MAX_DOMAIN row.domain ≡ true) × (is_within 0 4294967295 row.capacity ≡ true)
     parts row t = three (is_within 1 MAX_SERVERS row.id) (is_within 0 MAX_DOMAIN row.domain) (is_within 0 4294967295 row.capacity) t
 
 -- groups that pass keep their rules
 pub AreGroups-are_groups : (rows : List GroupRow) → are_groups rows ≡ true → AreGroups rows
 AreGroups-are_groups rows e =
-    let tests = and_parts (is_within 1 MAX_GROUPS (length rows)) (list_all is_group rows) e in
+    let tests = and_parts (is_within 1 MAX_GROUPS (length rows)) (list_all is_group_row rows) e in
     let count = is_within-true 1 MAX_GROUPS (length rows) tests.0 in
     record {
       some = count.0;
       few = count.1;
-      limits = All-list_all (λ row. row.limit ≤ MAX_LIMIT) is_group
+      limits = All-list_all (λ row. row.limit ≤ MAX_LIMIT) is_group_row
           (λ row t. (is_within-true 0 MAX_LIMIT row.limit (parts row t).0).1) rows tests.1;
-      downs = All-list_all (λ row. row.down ≤ MAX_LIMIT) is_group
+      downs = All-list_all (λ row. row.down ≤ MAX_LIMIT) is_group_row
           (λ row t. (is_within-true 0 MAX_LIMIT row.down (parts row t).1).1) rows tests.1;
     }
   where
-    parts : (row : GroupRow) → is_group row ≡ true → (is_within 0 MAX_LIMIT row.limit ≡ true) × (is_within 0 MAX_LIMIT row.down ≡ true)
+    parts : (row : GroupRow) → is_group_row row ≡ true → (is_within 0 MAX_LIMIT row.limit ≡ true) × (is_within 0 MAX_LIMIT row.down ≡ true)
     parts row t = and_parts (is_within 0 MAX_LIMIT row.limit) (is_within 0 MAX_LIMIT row.down) t
 
 -- shards that pass keep their rules
 pub AreShards-are_shards : (groups : ℕ) (rows : List ShardRow) → are_shards groups rows ≡ true → AreShards groups rows
 AreShards-are_shards groups rows e =
-    let tests = and_parts (is_within 1 MAX_SHARDS (length rows)) (list_all (is_shard groups) rows) e in
+    let tests = and_parts (is_within 1 MAX_SHARDS (length rows)) (list_all (is_shard_row groups) rows) e in
     let count = is_within-true 1 MAX_SHARDS (length rows) tests.0 in
     record {
       some = count.0;
       few = count.1;
-      places_of_groups = All-list_all (λ row. row.group < groups) (is_shard groups)
+      places_of_groups = All-list_all (λ row. row.group < groups) (is_shard_row groups)
           (λ row t. ltb-true row.group groups (parts row t).0) rows tests.1;
-      loads = All-list_all (λ row. row.load < 2 ^ 32) (is_shard groups)
+      loads = All-list_all (λ row. row.load < 2 ^ 32) (is_shard_row groups)
           (λ row t. let most = is_within-true 0 4294967295 row.load (parts row t).1 in omega arith) rows tests.1;
-      caps = All-list_all (λ row. row.cap ≤ MAX_CAP) (is_shard groups)
+      caps = All-list_all (λ row. row.cap ≤ MAX_CAP) (is_shard_row groups)
           (λ row t. (is_within-true 0 MAX_CAP row.cap (parts row t).2).1) rows tests.1;
     }
   where
-    parts : (row : ShardRow) → is_shard groups row ≡ true
+    parts : (row : ShardRow) → is_shard_row groups row ≡ true
         → (nat_lt row.group groups ≡ true) × (is_within 0 4294967295 row.load ≡ true) × (is_within 0 MAX_CAP row.cap ≡ true)
     parts row t = three (nat_lt row.group groups) (is_within 0 4294967295 row.load) (is_within 0 MAX_CAP row.cap) t
