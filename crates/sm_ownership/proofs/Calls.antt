@@ -10,8 +10,8 @@ use Rattle.sm_ownership.specs.declared.entry.Entry.{Entry}
 use Rattle.sm_ownership.specs.declared.entry.Kind.TheVariants.{Change as Changed, Admit, Done}
 use Rattle.sm_ownership.specs.declared.mode.Mode.{Mode}
 use Rattle.sm_ownership.specs.declared.record.Record.{Record}
-use Rattle.sm_ownership.specs.Faults.{admit_fault-none, change_fits-no_fault}
-use Rattle.sm_ownership.specs.Growth.{fits-push, legal-push, length-table_of, table_of-push}
+use Rattle.sm_ownership.specs.lemmas.Faults.{admit_fault-none, change_fits-no_fault}
+use Rattle.sm_ownership.specs.lemmas.Growth.{fits-push, legal-push, length-table_of, table_of-push}
 use Rattle.sm_ownership.specs.History.{IsLegal, acts_as, after_kind, fits, is_admission_of, latest_of, record_at, table_of}
 use Rattle.sm_ownership.specs.Rules.{admit_fault, phase_fault}
 use Rattle.sm_ownership.specs.Tables.{TableView, apply_fault, change_fault_of, record_fault, table_view, with_record}

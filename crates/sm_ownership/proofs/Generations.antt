@@ -11,7 +11,7 @@ use Rattle.sm_ownership.specs.declared.entry.Kind.{Kind}
 use Rattle.sm_ownership.specs.declared.entry.Kind.TheVariants.{Change as Changed, Admit, Done}
 use Rattle.sm_ownership.specs.declared.record.Record.{Record}
 use Rattle.sm_ownership.specs.History.{record_at, after_kind, table_of, table_of_latest, IsLegal, IsLegalLatest}
-use Rattle.sm_ownership.specs.Growth.{record_at-empty, record_at-latest, record_at-latest_other, legal_prefix}
+use Rattle.sm_ownership.specs.lemmas.Growth.{record_at-empty, record_at-latest, record_at-latest_other, legal_prefix}
 
 one_more : {Q : Type 0} (state : Record) (kind : Kind Q) → (after_kind state kind).generation ≡ state.generation + 1
 one_more state (Changed change) = refl

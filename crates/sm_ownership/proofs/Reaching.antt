@@ -10,7 +10,7 @@ use Rattle.sm_ownership.specs.declared.entry.Entry.{Entry}
 use Rattle.sm_ownership.specs.declared.entry.Kind.{Kind}
 use Rattle.sm_ownership.specs.declared.entry.Kind.TheVariants.{Change as Changed, Admit, Done}
 use Rattle.sm_ownership.specs.declared.record.Record.{Record}
-use Rattle.sm_ownership.specs.Growth.{record_at-empty, record_at-latest, record_at-latest_other}
+use Rattle.sm_ownership.specs.lemmas.Growth.{record_at-empty, record_at-latest, record_at-latest_other}
 use Rattle.sm_ownership.specs.History.{IsLegal, IsLegalLatest, after_kind, record_at, table_of, table_of_latest}
 use Rattle.sm_ownership.specs.Reach.{IsApart, IsForwarded, IsReached, IsServed, Takes}
 use Rattle.sm_ownership.specs.Rules.{stand_after}

@@ -13,7 +13,7 @@ use Rattle.sm_ownership.specs.declared.mode.Mode.{Mode}
 use Rattle.sm_ownership.specs.declared.record.Record.{Record}
 use Rattle.sm_ownership.specs.Rules.{executor, executor_of, accepts, accepts_at, is_forwarded_by}
 use Rattle.sm_ownership.specs.History.{record_at, after_kind, acts_as, latest_of, is_admit, is_admission_of, fits, kind_fits, table_of, table_of_latest, IsLegal, IsLegalLatest, without_ended, admitted, admitted_latest}
-use Rattle.sm_ownership.specs.Growth.{record_at-empty, record_at-latest, record_at-latest_other}
+use Rattle.sm_ownership.specs.lemmas.Growth.{record_at-empty, record_at-latest, record_at-latest_other}
 
 -- the entry admits the executor of the record
 abbrev pub IsOfExecutor : {Q : Type 0} → Record → Entry Q → Type 0

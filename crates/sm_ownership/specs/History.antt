@@ -1,5 +1,5 @@
 -- Histories: what the entries of one leave in the ownership table, which are legal, and what the shards keep.
-use Rattle.std.specs.Prelude.{ℕ, Bool, true, false, Option, Some, None, ◌≡◌, ◌==◌, ◌&&◌, ◌||◌, ◌+◌, nat_lt, nat_le, not, is_some, unwrap_or, if◌then◌else◌, List, [], ◌∷◌, filter, find, length, reverse, replicate, slice_get, slice_index_or, slice_set, take}
+use Rattle.std.specs.Prelude.{ℕ, Bool, true, false, Option, Some, None, ◌≡◌, ◌≢◌, ◌⊎◌, ◌==◌, ◌&&◌, ◌||◌, ◌+◌, ◌<◌, nat_lt, nat_le, not, is_some, unwrap_or, if◌then◌else◌, List, [], ◌∷◌, All, filter, find, length, reverse, replicate, slice_get, slice_index_or, slice_set, take}
 use Rattle.std.specs.List.{filter_map, list_all}
 use Rattle.std.specs.Option.{option_map}
 use Rattle.sm_ranges.specs.declared.stand.Stand.TheVariants.{Vacant}
@@ -105,6 +105,14 @@ IsLegalLatest count ceiling (entry ∷ earlier) =
 -- a legal history: each entry fits the table of those before it
 abbrev pub IsLegal : {Q : Type 0} → ℕ → ℕ → List (Entry Q) → Type 0
 IsLegal count ceiling history = IsLegalLatest count ceiling (reverse history)
+
+-- none of the entries is by this actor
+abbrev pub NoneBy : {Q : Type 0} → ℕ → List (Entry Q) → Type 0
+NoneBy actor entries = All (λ entry. entry.actor ≢ actor) entries
+
+-- the second record is the first one, or a later one of the same shard
+abbrev pub IsSameOrLater : Record → Record → Type 0
+IsSameOrLater before after = (after ≡ before) ⊎ (before.generation < after.generation)
 
 abbrev pub without_ended : {Q : Type 0} → Entry Q → Kind Q → List (Entry Q) → List (Entry Q)
 without_ended entry (Changed change) standing = standing

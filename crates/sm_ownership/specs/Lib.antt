@@ -1,9 +1,6 @@
-pub mod Ceilings
-pub mod Faults
-pub mod Growth
 pub mod History
-pub mod Lasting
 pub mod Reach
 pub mod Routes
 pub mod Rules
 pub mod Tables
+pub mod lemmas

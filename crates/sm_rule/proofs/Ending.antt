@@ -10,11 +10,10 @@ use Rattle.atomic_table.specs.Seated.{TableId}
 use Rattle.atomic_table.specs.Table.{State, Final, Seen}
 use Rattle.sm_ownership.specs.declared.entry.Entry.{Entry}
 use Rattle.sm_ownership.specs.declared.record.Record.{Record}
-use Rattle.sm_ownership.specs.History.{IsLegal, kept, record_at}
-use Rattle.sm_ownership.specs.Lasting.{NoneBy}
-use Rattle.sm_word.specs.Histories.{well_formed}
+use Rattle.sm_ownership.specs.History.{IsLegal, kept, record_at, NoneBy}
+use Rattle.sm_word.specs.lemmas.Histories.{well_formed}
 use Rattle.sm_word.specs.Word.{IsWellFormed, word_of}
-use Rattle.sm_word.specs.Words.{word_once}
+use Rattle.sm_word.specs.lemmas.Words.{word_once}
 use Rattle.sm_rule.specs.declared.limits.Limits.{Limits}
 use Rattle.sm_rule.specs.declared.view.View.{View}
 use Rattle.sm_rule.specs.Changes.{ChairValue, chair_value}

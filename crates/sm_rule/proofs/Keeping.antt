@@ -20,12 +20,13 @@ use Rattle.sm_ownership.specs.declared.entry.Kind.{Kind}
 use Rattle.sm_ownership.specs.declared.entry.Kind.TheVariants.{Change as Changed, Admit, Done}
 use Rattle.sm_ownership.specs.declared.mode.Mode.{Mode}
 use Rattle.sm_ownership.specs.declared.record.Record.{Record}
-use Rattle.sm_ownership.specs.Growth.{kept-push_none, kept-push_other, kept-push_some, length-table_of, record_at-empty, record_at-latest, record_at-latest_other}
-use Rattle.sm_ownership.specs.History.{IsLegal, IsLegalLatest, acts_as, admit_fits, admits_only, after_done, after_kind, change_fits, fits, is_admission_of, kept, kept_of, kind_fits, latest_of, record_at, table_of, table_of_latest, vacant}
-use Rattle.sm_ownership.specs.Lasting.{NoneBy, NoneBy-reverse, acts_as-none, acts_as-other, acts_as-own, admission_excludes, latest_of-other, next_record}
-use Rattle.sm_word.specs.Histories.{AreKnown, KnownKind, well_formed}
+use Rattle.sm_ownership.specs.lemmas.Growth.{kept-push_none, kept-push_other, kept-push_some, length-table_of, record_at-empty, record_at-latest, record_at-latest_other}
+use Rattle.sm_ownership.specs.History.{IsLegal, IsLegalLatest, acts_as, admit_fits, admits_only, after_done, after_kind, change_fits, fits, is_admission_of, kept, kept_of, kind_fits, latest_of, record_at, table_of, table_of_latest, vacant, NoneBy}
+use Rattle.sm_ownership.specs.lemmas.Lasting.{NoneBy-reverse, acts_as-none, acts_as-other, acts_as-own, admission_excludes, latest_of-other, next_record}
+use Rattle.sm_word.specs.lemmas.Histories.{well_formed}
+use Rattle.sm_word.specs.Known.{AreKnown, KnownKind}
 use Rattle.sm_word.specs.Word.{IsWellFormed, word_of}
-use Rattle.sm_word.specs.Words.{word_once}
+use Rattle.sm_word.specs.lemmas.Words.{word_once}
 use Rattle.sm_rule.specs.declared.limits.Limits.{Limits}
 use Rattle.sm_rule.specs.declared.view.Held.{Held}
 use Rattle.sm_rule.specs.declared.view.View.{View}

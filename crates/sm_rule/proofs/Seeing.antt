@@ -15,13 +15,14 @@ use Rattle.sm_ownership.specs.declared.entry.Kind.{Kind}
 use Rattle.sm_ownership.specs.declared.entry.Kind.TheVariants.{Change as Changed, Admit, Done}
 use Rattle.sm_ownership.specs.declared.mode.Mode.{Mode}
 use Rattle.sm_ownership.specs.declared.record.Record.{Record}
-use Rattle.sm_ownership.specs.Ceilings.{within_ceiling}
-use Rattle.sm_ownership.specs.Faults.{admit_fault-none, phase_fault-none}
-use Rattle.sm_ownership.specs.Growth.{fits-push, legal_prefix, record_at-push_other}
-use Rattle.sm_ownership.specs.History.{IsLegal, acts_as, after_admit, after_done, kept}
-use Rattle.sm_ownership.specs.Lasting.{IsSameOrLater, NoneBy, same_or_later, stand_stays}
+use Rattle.sm_ownership.specs.lemmas.Ceilings.{within_ceiling}
+use Rattle.sm_ownership.specs.lemmas.Faults.{admit_fault-none, phase_fault-none}
+use Rattle.sm_ownership.specs.lemmas.Growth.{fits-push, legal_prefix, record_at-push_other}
+use Rattle.sm_ownership.specs.History.{IsLegal, acts_as, after_admit, after_done, kept, IsSameOrLater, NoneBy}
+use Rattle.sm_ownership.specs.lemmas.Lasting.{same_or_later, stand_stays}
 use Rattle.sm_ownership.specs.Rules.{accepts, admit_fault, fault_at, phase_fault, stand_after}
-use Rattle.sm_word.specs.Histories.{NamesKnown, formed_admit, formed_done}
+use Rattle.sm_word.specs.lemmas.Histories.{formed_admit, formed_done}
+use Rattle.sm_word.specs.Known.{NewlyNamesServer}
 use Rattle.sm_word.specs.Word.{IsWellFormed}
 use Rattle.sm_rule.specs.declared.limits.Limits.{Limits}
 use Rattle.sm_rule.specs.declared.view.View.{View}
@@ -122,7 +123,7 @@ module _ (ceiling : ℕ) (state : Record) (server : ℕ) (mode : Mode) (none : a
   }
 
 -- the chair may make a change that the record allows
-pub may_change : {Q : Type 0} (view : View Q) (shard : ℕ) (state : Record) (change : Change) → NamesKnown change → view.number ≡ 0 → view.held ≡ None → state.admitted ≡ false → state.generation < view.limits.ceiling → is_some (stand_after state.stand change) ≡ true → MayAdd view shard state (Changed change)
+pub may_change : {Q : Type 0} (view : View Q) (shard : ℕ) (state : Record) (change : Change) → NewlyNamesServer change → view.number ≡ 0 → view.held ≡ None → state.admitted ≡ false → state.generation < view.limits.ceiling → is_some (stand_after state.stand change) ≡ true → MayAdd view shard state (Changed change)
 may_change view shard state change known chair free idle below leads = record {
   known = known;
   begins = refl;
@@ -275,7 +276,7 @@ module _ {Q : Type 0} (stands : List Stand) (u w : View Q) (is : IsChairView sta
       let at : read ≡ record_in u.limits w.seen shard = state ∙ ap (λ (view : View Q). record_in view.limits w.seen shard) looked.1 in
       subst (λ (one : Record). one.generation ≤ u.limits.ceiling) (sym at) (within_ceiling u.limits.count u.limits.ceiling w.seen shard looked.0.3).0
 
-  pub may_read : NamesKnown change → phase_fault (record_in u.limits u.seen shard).stand change ≡ None → read.admitted ≡ false → read.generation < u.limits.ceiling → MayAdd w shard read (Changed change)
+  pub may_read : NewlyNamesServer change → phase_fault (record_in u.limits u.seen shard).stand change ≡ None → read.admitted ≡ false → read.generation < u.limits.ceiling → MayAdd w shard read (Changed change)
   may_read known allowed idle below =
       let chair = chair_looks stands u w is looked in
       let top : read.generation < w.limits.ceiling = subst (λ (its : Limits). read.generation < its.ceiling) (sym (ap (λ (view : View Q). view.limits) looked.1)) below in

@@ -4,8 +4,7 @@ use mathlib.Core.Option.{some}
 use lib.ListN.{get_elem?}
 use Rattle.sm_ownership.specs.declared.entry.Entry.{Entry}
 use Rattle.sm_ownership.specs.declared.record.Record.{Record}
-use Rattle.sm_ownership.specs.History.{IsLegal, kept}
-use Rattle.sm_ownership.specs.Lasting.{NoneBy}
+use Rattle.sm_ownership.specs.History.{IsLegal, kept, NoneBy}
 use Rattle.sm_word.specs.Word.{IsWellFormed, word_of}
 use Rattle.sm_rule.specs.declared.limits.Limits.{Limits}
 use Rattle.sm_rule.specs.Changes.{ChairValue}

@@ -6,9 +6,8 @@ use lib.ListN.{get_elem?}
 use Rattle.atomic_table.specs.Table.{State}
 use Rattle.sm_ownership.specs.declared.entry.Entry.{Entry}
 use Rattle.sm_ownership.specs.declared.record.Record.{Record}
-use Rattle.sm_ownership.specs.History.{IsLegalLatest, acts_as, is_admission_of, kept, latest_of, record_at, table_of_latest}
-use Rattle.sm_ownership.specs.Lasting.{NoneBy}
-use Rattle.sm_word.specs.Histories.{AreKnown}
+use Rattle.sm_ownership.specs.History.{IsLegalLatest, acts_as, is_admission_of, kept, latest_of, record_at, table_of_latest, NoneBy}
+use Rattle.sm_word.specs.Known.{AreKnown}
 use Rattle.sm_word.specs.Word.{word_of}
 use Rattle.sm_rule.specs.declared.limits.Limits.{Limits}
 use Rattle.sm_rule.specs.declared.view.Held.{Held}

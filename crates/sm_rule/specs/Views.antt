@@ -4,8 +4,7 @@ use Rattle.sm_ownership.specs.declared.entry.Entry.{Entry}
 use Rattle.sm_ownership.specs.declared.entry.Kind.{Kind}
 use Rattle.sm_ownership.specs.declared.entry.Kind.TheVariants.{Change as Changed, Admit, Done}
 use Rattle.sm_ownership.specs.declared.record.Record.{Record}
-use Rattle.sm_ownership.specs.History.{IsLegal, kept, record_at, table_of}
-use Rattle.sm_ownership.specs.Lasting.{NoneBy}
+use Rattle.sm_ownership.specs.History.{IsLegal, kept, record_at, table_of, NoneBy}
 use Rattle.sm_rule.specs.declared.limits.Limits.{Limits}
 use Rattle.sm_rule.specs.declared.view.Held.{Held}
 use Rattle.sm_rule.specs.declared.view.View.{View}

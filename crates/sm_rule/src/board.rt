@@ -1,9 +1,8 @@
 ghost use Rattle.std.specs.Prelude.{◌≡◌, ◌≢◌, ◌<◌, ◌≤◌, ◌^◌, ℕ, true, false, All, Option, Some, None, IfOk, IfErr, OnOk, OnErr, IfSome, IfNone, IsOkUnless, [], ◌∷◌, length, map, replicate, unwrap_or};
 ghost use Rattle.sm_ownership.specs.declared.entry.Kind.TheVariants.{Change as Changed, Admit, Done};
-ghost use Rattle.sm_ownership.specs.History.{IsLegal, after_change, after_kind, kept};
-ghost use Rattle.sm_ownership.specs.Lasting.{NoneBy};
+ghost use Rattle.sm_ownership.specs.History.{IsLegal, after_change, after_kind, kept, NoneBy};
 ghost use Rattle.sm_ownership.specs.Rules.{phase_fault};
-ghost use Rattle.sm_word.specs.Histories.{NamesKnown};
+ghost use Rattle.sm_word.specs.Known.{NewlyNamesServer};
 ghost use Rattle.sm_word.specs.Word.{IsWellFormed, word_of};
 ghost use Rattle.sm_rule.specs.Admissions.{HoldsPermit, PassAdmitted, RefusedBy, beyond, fault_of};
 ghost use Rattle.sm_rule.specs.Boards.{BoardValue, make_fault};
@@ -335,7 +334,7 @@ impl<S: Service> Board<S> {
     fn changed(&self, read: &Record, change: Change) -> Result<Record, ChangeRefusal>
         requires fits { phase_fault read.now.stand change ≡ None }
         requires below { read.now.generation ≤ self.now.limits.ceiling }
-        ensures known { OnOk result (NamesKnown change) }
+        ensures known { OnOk result (NewlyNamesServer change) }
         ensures idle { OnOk result (read.now.admitted ≡ false) }
         ensures below { OnOk result (read.now.generation < self.now.limits.ceiling) }
         ensures next { IfOk result (λ next. next ≡ after_change read.now change) }
@@ -438,7 +437,7 @@ impl<S: Service> Board<S> {
 
 // The servers that a change names are numbered as servers are. Reading the number tells the proof so, and does nothing else.
 fn names_servers(change: &Change)
-    ensures { NamesKnown change.now }
+    ensures { NewlyNamesServer change.now }
 {
     match change {
         Change::Assign(server) | Change::PrepareAddShard(server) | Change::Reassign(server) => {

@@ -30,8 +30,7 @@ impl<S: Service> Model for Chair<S> {
 impl<S: Service> Chair<S> {
     ghost use Rattle.std.specs.Prelude.{◌≡◌, ◌<◌, ◌++◌, List};
     ghost use Rattle.sm_ownership.specs.declared.entry.Entry.{Entry};
-    ghost use Rattle.sm_ownership.specs.History.{IsLegal};
-    ghost use Rattle.sm_ownership.specs.Lasting.{NoneBy};
+    ghost use Rattle.sm_ownership.specs.History.{IsLegal, NoneBy};
     ghost use Rattle.sm_rule.specs.Changes.{record_at_chair};
     ghost use Rattle.sm_rule.specs.Views.{record_in};
 

@@ -10,7 +10,7 @@ use Rattle.std.proofs.lemmas.List.Recursion.{and_at}
 use Rattle.serde_json.specs.Data.{Data}
 use Rattle.sm_ranges.specs.LayoutFault.{first_layout_fault}
 use Rattle.sm_ranges.specs.ServerId.{IsServer}
-use Rattle.sm_ranges.specs.Layouts.{no_fault-layout}
+use Rattle.sm_ranges.specs.lemmas.Layouts.{no_fault-layout}
 use Rattle.sm_settings.specs.declared.server_row.ServerRow.{ServerRow}
 use Rattle.sm_settings.specs.declared.shard_row.ShardRow.{ShardRow}
 use Rattle.sm_settings.specs.declared.settings_fault.SettingsFault.TheVariants.{BadJson, NoMemory}

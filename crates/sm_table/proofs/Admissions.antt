@@ -7,7 +7,7 @@ use Rattle.sm_ownership.specs.declared.entry.Kind.TheVariants.{Admit}
 use Rattle.sm_ownership.specs.declared.mode.Mode.{Mode}
 use Rattle.sm_ownership.specs.declared.record.Record.{Record}
 use Rattle.sm_ownership.specs.History.{vacant, record_at, after_kind, table_of, IsLegal}
-use Rattle.sm_ownership.specs.Growth.{fits-push, table_of-push, kept-push_none}
+use Rattle.sm_ownership.specs.lemmas.Growth.{fits-push, table_of-push, kept-push_none}
 use Rattle.sm_table.specs.declared.in_hand.InHand.{InHand}
 use Rattle.sm_table.specs.World.{WorldState, count_of, with_entry, with_hand, desk_of}
 use Rattle.sm_table.specs.Standing.{IsSound, with_admission}

@@ -21,7 +21,7 @@ use Rattle.sm_ownership.specs.History.{vacant, after_change}
 use Rattle.sm_ownership.specs.Tables.{TableView, record_fault, apply_fault, table_changed}
 use Rattle.sm_table.specs.World.{Service, WorldState, Plain, count_of, desk_of, world_table, world_record, table_fault, with_entry, outcome}
 use Rattle.sm_table.specs.Standing.{IsSound, WorldView, StandsFor, Follows}
-use Rattle.sm_ownership.specs.Growth.{fits-push, length-table_of, table_of-push, kept-push_none}
+use Rattle.sm_ownership.specs.lemmas.Growth.{fits-push, length-table_of, table_of-push, kept-push_none}
 use Rattle.sm_table.proofs.Parts.{parts_of, parts-from_StandsFor, Follows-unchanged, Follows-changed}
 
 first_none : {X Y : Type 0} (there unknown : Bool) (x y : X) (fault : Option Y) (of : Y → X) → None ≡ (if not there then Some x else if unknown then Some y else option_map of fault) → (there ≡ true) × (fault ≡ None)

@@ -22,10 +22,10 @@ use Rattle.sm_table.specs.Desk.{is_unknown, stand_at, change_fault, command_faul
 use Rattle.sm_ownership.specs.History.{vacant, after_kind, admits_only, acts_as, fits}
 use Rattle.sm_table.specs.World.{WorldState, count_of, world_table, world_record, with_entry, with_hand, desk_of, table_fault, ended}
 use Rattle.sm_table.specs.Standing.{NamesKnown, IsHeld, IsSound}
-use Rattle.sm_ownership.specs.Faults.{change_fits-no_fault, admit_fault-none}
+use Rattle.sm_ownership.specs.lemmas.Faults.{change_fits-no_fault, admit_fault-none}
 use Rattle.sm_ownership.specs.Tables.{record_fault}
 use Rattle.sm_table.proofs.Names.{names_after}
-use Rattle.sm_ownership.specs.Growth.{length-table_of, legal-push, record_at-push, record_at-push_other}
+use Rattle.sm_ownership.specs.lemmas.Growth.{length-table_of, legal-push, record_at-push, record_at-push_other}
 
 list_all-reverse : {X : Type 0} (test : X → Bool) (xs : List X) → list_all test (reverse xs) ≡ list_all test xs
 list_all-reverse test [] = refl

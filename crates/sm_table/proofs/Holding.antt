@@ -4,7 +4,7 @@ use Rattle.std.specs.Prelude.{Option, Some, None, Ok, Err, is_none, nat_lt, slic
 use Rattle.std.proofs.lemmas.Bool.{lt-ltb}
 use Rattle.sm_ownership.specs.declared.entry.Kind.TheVariants.{Done}
 use Rattle.sm_ownership.specs.declared.mode.Mode.TheVariants.{Direct}
-use Rattle.sm_ownership.specs.Growth.{kept-push_none, length-table_of}
+use Rattle.sm_ownership.specs.lemmas.Growth.{kept-push_none, length-table_of}
 use Rattle.sm_ownership.specs.History.{record_at}
 use Rattle.sm_ownership.specs.Rules.{admit_fault}
 use Rattle.sm_ownership.specs.Tables.{TableView, table_done}

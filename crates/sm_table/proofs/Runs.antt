@@ -22,7 +22,7 @@ use Rattle.sm_table.specs.Envelope.{EnvelopeView}
 use Rattle.sm_ownership.specs.History.{kept, said}
 use Rattle.sm_table.specs.World.{Service, Frame, WorldState, Mark, Plain, Unmade, Unserved, Outcome, count_of, world_record, controlled, reached, after_hop, hopped, arrived, without_flight, delivered, with_room, worked, served, held, after_hold, let_go, freed, empty_world, answer, next, outcome, world_after, world_of}
 use Rattle.sm_table.proofs.Extensions.{extends_after}
-use Rattle.sm_ownership.specs.Growth.{kept-append, kept-push_some}
+use Rattle.sm_ownership.specs.lemmas.Growth.{kept-append, kept-push_some}
 
 slice_get-middle : {X : Type 0} (xs : List X) (x : X) (ys : List X) → slice_get (xs ++ x ∷ ys) (length xs) ≡ Some x
 slice_get-middle [] x ys = refl

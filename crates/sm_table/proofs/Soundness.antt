@@ -26,7 +26,7 @@ use Rattle.sm_table.specs.Envelope.{EnvelopeView, most_hops, one_hop_more, sent_
 use Rattle.sm_ownership.specs.History.{vacant, record_at, kept}
 use Rattle.sm_table.specs.World.{Service, Frame, WorldState, Mark, Plain, Unmade, Unserved, Outcome, count_of, world_record, desk_of, table_fault, controlled, after_look, after_send, flight_to, reached, after_hop, hopped, arrived, without_flight, delivered, after_lose, with_room, worked, served, held, after_hold, let_go, freed, after_free, empty_world, next, world_after, world_of}
 use Rattle.sm_table.specs.Standing.{IsFrame, IsFlight, NamesKnown, IsHeld, IsSound}
-use Rattle.sm_ownership.specs.Growth.{record_at-empty}
+use Rattle.sm_ownership.specs.lemmas.Growth.{record_at-empty}
 use Rattle.sm_table.proofs.Names.{known_forward}
 use Rattle.sm_table.proofs.Entries.{sound_change, sound_admit, sound_done}
 

@@ -6,8 +6,6 @@ pub mod Setup
 pub mod Standing
 pub mod Together
 pub mod World
-pub use Rattle.sm_ownership.specs.Faults
-pub use Rattle.sm_ownership.specs.Growth
 pub use Rattle.sm_ownership.specs.History
 pub use Rattle.sm_ownership.specs.Reach
 pub use Rattle.sm_ownership.specs.Routes

@@ -1,4 +1,3 @@
-pub mod Digits
-pub mod Histories
+pub mod Known
 pub mod Word
-pub mod Words
+pub mod lemmas

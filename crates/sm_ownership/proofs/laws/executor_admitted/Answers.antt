@@ -1,4 +1,4 @@
-use Rattle.sm_ownership.specs.Growth.{legal_prefix}
+use Rattle.sm_ownership.specs.lemmas.Growth.{legal_prefix}
 use Rattle.sm_ownership.proofs.Single.{admitted_executor}
 use Rattle.sm_ownership.proofs.laws.executor_admitted.Goals as goal
 

@@ -1,4 +1,4 @@
-use Rattle.sm_ownership.specs.Ceilings.{within_ceiling}
+use Rattle.sm_ownership.specs.lemmas.Ceilings.{within_ceiling}
 use Rattle.sm_ownership.proofs.laws.generation_within_ceiling.Goals as goal
 
 pub returns : goal.returns

@@ -1,4 +1,4 @@
-use Rattle.sm_ownership.specs.Growth.{legal_prefix}
+use Rattle.sm_ownership.specs.lemmas.Growth.{legal_prefix}
 use Rattle.sm_ownership.proofs.Single as single
 use Rattle.sm_ownership.proofs.laws.one_admission.Goals as goal
 

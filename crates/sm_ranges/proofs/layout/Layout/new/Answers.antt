@@ -1,5 +1,5 @@
 use Rattle.sm_ranges.specs.LayoutFault.{texts_of}
-use Rattle.sm_ranges.specs.Layouts.{no_fault-layout, layout-no_fault}
+use Rattle.sm_ranges.specs.lemmas.Layouts.{no_fault-layout, layout-no_fault}
 use Rattle.sm_ranges.proofs.layout.Layout.new.Goals as goal
 
 pub invariant_of-result : goal.invariant_of-result

@@ -1,7 +1,7 @@
 use Rattle.std.proofs.Common.{◌≡◌, ◌<◌, None, sym, ap, ◌∙◌, subst, arith}
 use Rattle.std.specs.Prelude.{slice_set}
 use Rattle.sm_ownership.specs.Rules.{phase_fault}
-use Rattle.sm_word.specs.Histories.{formed_change}
+use Rattle.sm_word.specs.lemmas.Histories.{formed_change}
 use Rattle.sm_word.specs.Word.{IsWellFormed}
 use Rattle.sm_rule.specs.Admissions.{Races}
 use Rattle.sm_rule.specs.Changes.{ChairValue, IsChairView, record_at_chair}

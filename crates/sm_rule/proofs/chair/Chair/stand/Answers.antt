@@ -1,5 +1,5 @@
 use Rattle.std.proofs.Common.{sym, ◌∙◌}
-use Rattle.sm_ownership.specs.Lasting.{stand_stays}
+use Rattle.sm_ownership.specs.lemmas.Lasting.{stand_stays}
 use Rattle.sm_rule.proofs.chair.Chair.stand.Goals as goal
 
 pub returns-clause-stays : goal.returns-clause-stays

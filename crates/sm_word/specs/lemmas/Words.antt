@@ -3,7 +3,7 @@ use Rattle.std.proofs.Common.{◌≡◌, ◌/◌, ◌%◌, ◌^◌, ◌<◌, Boo
 use Rattle.sm_ranges.specs.declared.stand.Stand.{Stand}
 use Rattle.sm_ranges.specs.declared.stand.Stand.TheVariants.{Vacant, Serving, Prepared, Forwarding, Taken, Paused}
 use Rattle.sm_ownership.specs.declared.record.Record.{Record}
-use Rattle.sm_word.specs.Digits.{generation_digits, other_digits, owner_digits, admitted_digit, phase_digits}
+use Rattle.sm_word.specs.lemmas.Digits.{generation_digits, other_digits, owner_digits, admitted_digit, phase_digits}
 use Rattle.sm_word.specs.Word.{phase_of, owner_of, other_of, bit_of, word_of, NamesServers, IsWellFormed}
 
 pub owner_below : (stand : Stand) → NamesServers stand → owner_of stand < 4096

@@ -8,7 +8,7 @@ use Rattle.sm_ownership.specs.declared.entry.Kind.TheVariants.{Change as Changed
 use Rattle.sm_ownership.specs.declared.record.Record.{Record}
 use Rattle.sm_ownership.specs.Rules.{stand_after}
 use Rattle.sm_ownership.specs.History.{record_at, after_kind, acts_as, kind_fits, table_of, table_of_latest, IsLegal, IsLegalLatest}
-use Rattle.sm_ownership.specs.Growth.{record_at-empty, record_at-latest, record_at-latest_other}
+use Rattle.sm_ownership.specs.lemmas.Growth.{record_at-empty, record_at-latest, record_at-latest_other}
 
 -- the generation is at most the ceiling, and below it while a server is admitted
 abbrev pub IsWithin : ℕ → Record → Type 0

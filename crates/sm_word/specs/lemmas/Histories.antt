@@ -13,28 +13,13 @@ use Rattle.sm_ownership.specs.declared.entry.Kind.{Kind}
 use Rattle.sm_ownership.specs.declared.entry.Kind.TheVariants.{Change as Changed, Admit, Done}
 use Rattle.sm_ownership.specs.declared.mode.Mode.{Mode}
 use Rattle.sm_ownership.specs.declared.record.Record.{Record}
-use Rattle.sm_ownership.specs.Ceilings.{within_latest}
-use Rattle.sm_ownership.specs.Growth.{record_at-empty}
+use Rattle.sm_ownership.specs.lemmas.Ceilings.{within_latest}
+use Rattle.sm_ownership.specs.lemmas.Growth.{record_at-empty}
 use Rattle.sm_ownership.specs.History.{record_at, after_admit, after_change, after_done, after_kind, acts_as, kind_fits, table_of_latest, IsLegalLatest}
-use Rattle.sm_ownership.specs.Lasting.{next_record}
+use Rattle.sm_ownership.specs.lemmas.Lasting.{next_record}
 use Rattle.sm_ownership.specs.Rules.{stand_after, accepts_at}
+use Rattle.sm_word.specs.Known.{NewlyNamesServer, KnownKind, AreKnown}
 use Rattle.sm_word.specs.Word.{NamesServers, FitsStand, IsWellFormed}
-
--- the server that a change newly names, if it does, is a server
-abbrev pub NamesKnown : Change → Type 0
-NamesKnown (Assign server) = IsServer server
-NamesKnown (PrepareAddShard next) = IsServer next
-NamesKnown (Reassign next) = IsServer next
-NamesKnown _ = Unit {0}
-
-abbrev pub KnownKind : {Q : Type 0} → Kind Q → Type 0
-KnownKind (Changed change) = NamesKnown change
-KnownKind (Admit server mode) = IsServer server
-KnownKind (Done request) = Unit {0}
-
--- each entry names servers 1 to 4,095 alone
-abbrev pub AreKnown : {Q : Type 0} → List (Entry Q) → Type 0
-AreKnown entries = All (λ entry. KnownKind entry.kind) entries
 
 -- well formed but for the greatest generation
 abbrev IsShaped : Record → Type 0
@@ -51,7 +36,7 @@ serving_unless : (owner next generation : ℕ) (same : Bool) → IsServer next �
 serving_unless owner next generation true second leads = absurd (true≢false (sym leads))
 serving_unless owner next generation false second leads = (second, omega arith)
 
-shaped_change : (stand : Stand) (change : Change) (generation : ℕ) → NamesServers stand → NamesKnown change → is_some (stand_after stand change) ≡ true → IsShapedAt (unwrap_or (stand_after stand change) stand) false (generation + 1)
+shaped_change : (stand : Stand) (change : Change) (generation : ℕ) → NamesServers stand → NewlyNamesServer change → is_some (stand_after stand change) ≡ true → IsShapedAt (unwrap_or (stand_after stand change) stand) false (generation + 1)
 shaped_change Vacant (Assign server) generation named known leads = (known, omega arith)
 shaped_change (Serving owner) (PrepareAddShard next) generation named known leads = prepared_unless owner next generation (next == owner) refl named known leads
 shaped_change (Serving owner) Pause generation named known leads = (named, (refl, omega arith))
@@ -117,7 +102,7 @@ module _ {Q : Type 0} (count ceiling : ℕ) where
       record { servers = shaped.0; parts = shaped.1; generation = omega arith }
 
 -- the record after a change, an admission, or the end of one
-pub formed_change : (state : Record) (change : Change) → IsWellFormed state → NamesKnown change → state.admitted ≡ false → is_some (stand_after state.stand change) ≡ true → state.generation + 1 < 2 ^ 36 → IsWellFormed (after_change state change)
+pub formed_change : (state : Record) (change : Change) → IsWellFormed state → NewlyNamesServer change → state.admitted ≡ false → is_some (stand_after state.stand change) ≡ true → state.generation + 1 < 2 ^ 36 → IsWellFormed (after_change state change)
 formed_change state change formed known idle leads low =
     let shaped = subst (λ admitted. IsShapedAt (unwrap_or (stand_after state.stand change) state.stand) admitted (state.generation + 1)) (sym idle) (shaped_change state.stand change state.generation formed.servers known leads) in
     record { servers = shaped.0; parts = shaped.1; generation = low }

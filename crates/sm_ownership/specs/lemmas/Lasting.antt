@@ -9,16 +9,8 @@ use Rattle.sm_ownership.specs.declared.entry.Entry.{Entry}
 use Rattle.sm_ownership.specs.declared.entry.Kind.{Kind}
 use Rattle.sm_ownership.specs.declared.entry.Kind.TheVariants.{Change as Changed, Admit, Done}
 use Rattle.sm_ownership.specs.declared.record.Record.{Record}
-use Rattle.sm_ownership.specs.Growth.{record_at-latest, record_at-latest_other}
-use Rattle.sm_ownership.specs.History.{record_at, after_kind, admits_only, acts_as, latest_of, is_admit, is_admission_of, fits, kind_fits, table_of, table_of_latest, IsLegal, IsLegalLatest}
-
--- none of the entries is by this actor
-abbrev pub NoneBy : {Q : Type 0} → ℕ → List (Entry Q) → Type 0
-NoneBy actor entries = All (λ entry. entry.actor ≢ actor) entries
-
--- the second record is the first one, or a later one of the same shard
-abbrev pub IsSameOrLater : Record → Record → Type 0
-IsSameOrLater before after = (after ≡ before) ⊎ (before.generation < after.generation)
+use Rattle.sm_ownership.specs.lemmas.Growth.{record_at-latest, record_at-latest_other}
+use Rattle.sm_ownership.specs.History.{IsSameOrLater, NoneBy, record_at, after_kind, admits_only, acts_as, latest_of, is_admit, is_admission_of, fits, kind_fits, table_of, table_of_latest, IsLegal, IsLegalLatest}
 
 or_else : (one : Bool) → (one || true) ≡ true
 or_else true = refl

@@ -1,0 +1,5 @@
+-- Lemmas on histories that the proofs of crates above cite.
+pub mod Ceilings
+pub mod Faults
+pub mod Growth
+pub mod Lasting

@@ -1,0 +1,21 @@
+-- Entries that name known servers alone.
+use Rattle.std.specs.Prelude.{ℕ, List, All, IfSome}
+use Rattle.sm_ranges.specs.ServerId.{IsServer}
+use Rattle.sm_ownership.specs.declared.change.Change.{Change}
+use Rattle.sm_ownership.specs.declared.entry.Entry.{Entry}
+use Rattle.sm_ownership.specs.declared.entry.Kind.{Kind}
+use Rattle.sm_ownership.specs.declared.entry.Kind.TheVariants.{Change as Changed, Admit, Done}
+use Rattle.sm_ownership.specs.Rules.{newly_named}
+
+-- the server that a change newly names, if it does, is a server
+abbrev pub NewlyNamesServer : Change → Type 0
+NewlyNamesServer change = IfSome (newly_named change) IsServer
+
+abbrev pub KnownKind : {Q : Type 0} → Kind Q → Type 0
+KnownKind (Changed change) = NewlyNamesServer change
+KnownKind (Admit server mode) = IsServer server
+KnownKind (Done request) = Unit {0}
+
+-- each entry names servers 1 to 4,095 alone
+abbrev pub AreKnown : {Q : Type 0} → List (Entry Q) → Type 0
+AreKnown entries = All (λ entry. KnownKind entry.kind) entries
