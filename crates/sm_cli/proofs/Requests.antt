@@ -11,14 +11,14 @@ use Rattle.sm_script.specs.declared.answer.Answer.{Answer}
 use Rattle.sm_script.specs.declared.command.Command.{Command}
 use Rattle.sm_script.specs.declared.command.Command.TheVariants as ask
 use Rattle.sm_ownership.specs.declared.admit_fault.AdmitFault.TheVariants as admit
-use Rattle.sm_table.specs.declared.refusal.Refusal.TheVariants as refusal
+use Rattle.sm_envelope.specs.declared.refusal.Refusal.TheVariants as refusal
 use Rattle.sm_table.specs.declared.step.Step.{Step}
 use Rattle.sm_table.specs.declared.step.Step.TheVariants.{Look, Send, Finish}
 use Rattle.sm_table.specs.declared.world_answer.WorldAnswer.{WorldAnswer}
 use Rattle.sm_table.specs.declared.world_answer.WorldAnswer.TheVariants.{Made, Seen, Sent, Began, Forwarded, Refused, Replied}
 use Rattle.sm_table.specs.declared.world_fault.WorldFault.{WorldFault}
 use Rattle.sm_table.specs.declared.world_fault.WorldFault.TheVariants as fault
-use Rattle.sm_table.specs.Envelope.{most_hops}
+use Rattle.sm_envelope.specs.declared.envelope.TheConstants.{MOST_HOPS}
 use Rattle.sm_table.specs.Standing.{Follows, StandsFor, WorldView}
 use Rattle.sm_table.specs.World.{WorldState, Plain, mark_of, outcome, count_of, world_record}
 use Rattle.sm_cli.specs.Commands.{answer_of, arrived, commanded, counter_text, delivered, finished, is_begun, is_sent, owner_of, owner_seen, requested, shard_for, stepped, Stepped}
@@ -207,7 +207,7 @@ was_sent layout request shard server v0 v1 sent w asked stands is =
     record { answered = sym went.answered; stands = went.stands }
 
 abbrev arrived_by : WorldState Request → Request → ℕ → Stepped
-arrived_by w request server = arrived most_hops (sent_to w request server).1
+arrived_by w request server = arrived MOST_HOPS (sent_to w request server).1
 
 commanded_arrived : (v1 : WorldView Request) (w : WorldState Request) (request : Request) (server : ℕ) → WasSent v1 w request server
     → commanded w (ask.RequestAt server request) ≡ finished (shard_for w request) (arrived_by w request server).0 (arrived_by w request server).1

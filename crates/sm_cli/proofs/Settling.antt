@@ -8,7 +8,7 @@ use Rattle.sm_service.specs.declared.request.Request.{Request}
 use Rattle.sm_script.specs.declared.command.Command.TheVariants as ask
 use Rattle.sm_ownership.specs.declared.admit_fault.AdmitFault.{AdmitFault}
 use Rattle.sm_ownership.specs.declared.change.Change.{Change}
-use Rattle.sm_table.specs.declared.command.CommandFault.{CommandFault}
+use Rattle.sm_desk.specs.declared.command.CommandFault.{CommandFault}
 use Rattle.sm_table.specs.declared.flight.Flight.{Flight}
 use Rattle.sm_table.specs.declared.in_hand.InHand.{InHand}
 use Rattle.sm_table.specs.declared.in_hand.Work.{Work}
@@ -16,12 +16,13 @@ use Rattle.sm_ownership.specs.declared.mode.Mode.TheVariants.{Direct}
 use Rattle.sm_table.specs.declared.step.Step.TheVariants.{Deliver}
 use Rattle.sm_table.specs.declared.world_answer.WorldAnswer.TheVariants.{Refused, Sent}
 use Rattle.sm_table.specs.declared.world_fault.WorldFault.TheVariants.{UnknownServer, UnknownShard}
-use Rattle.sm_table.specs.Desk.{is_known}
-use Rattle.sm_table.specs.Envelope.{EnvelopeView, most_hops, one_hop_more, sent_on}
+use Rattle.sm_desk.specs.Desk.{is_known}
+use Rattle.sm_envelope.specs.Envelope.{EnvelopeView, one_hop_more, sent_on}
+use Rattle.sm_envelope.specs.declared.envelope.TheConstants.{MOST_HOPS}
 use Rattle.sm_table.specs.World.{WorldState, Plain, after_hop, arrived as arrived_at, controlled, count_of, ended, flight_to, freed, hand_of, held, hopped, let_go, reached, served, with_room, worked, world_record}
 use Rattle.sm_ownership.specs.History.{kept}
 use Rattle.sm_ownership.specs.Rules.{admit_fault, forward_to}
-use Rattle.sm_table.specs.declared.refusal.Refusal.TheVariants.{KeptFull}
+use Rattle.sm_envelope.specs.declared.refusal.Refusal.TheVariants.{KeptFull}
 use Rattle.sm_cli.specs.Commands.{answer_of, arrived, changed, commanded, counter_text, delivered, finished, is_forwarded, owner_of, requested, requested_at, shard_for, stepped, Stepped}
 
 -- the last step answers the script, and no request is under way
@@ -83,13 +84,13 @@ reached_settles left w to envelope (Some fault) within rest = stays_settles left
 reached_settles left w to envelope None within rest = stays_settles left envelope.shard (reached w to envelope None) refl (begun_settles w to envelope within rest)
 
 -- a forwarded envelope is in flight again where a hop is left
-hop_settles : (left : ℕ) (w : WorldState Request) (flight : Flight Request) (to : ℕ) → flight.envelope.hops + left ≡ most_hops
+hop_settles : (left : ℕ) (w : WorldState Request) (flight : Flight Request) (to : ℕ) → flight.envelope.hops + left ≡ MOST_HOPS
     → ((fewer : ℕ) → left ≡ suc fewer → Settles (arrives fewer w (flight_to to (one_hop_more flight.envelope flight.to))))
     → Settles (continues left flight.envelope.shard (hopped (record w { in_flight = [] }) (after_hop [] (sent_on flight.envelope flight.to (Some to)))))
-hop_settles zero w flight to hops again = let none : nat_lt flight.envelope.hops most_hops ≡ false = grind (arith, nat_tests) in rw none (record { answers = refl; rest = refl })
-hop_settles (suc fewer) w flight to hops again = let some : nat_lt flight.envelope.hops most_hops ≡ true = grind (arith, nat_tests) in rw some (again fewer refl)
+hop_settles zero w flight to hops again = let none : nat_lt flight.envelope.hops MOST_HOPS ≡ false = grind (arith, nat_tests) in rw none (record { answers = refl; rest = refl })
+hop_settles (suc fewer) w flight to hops again = let some : nat_lt flight.envelope.hops MOST_HOPS ≡ true = grind (arith, nat_tests) in rw some (again fewer refl)
 
-flight_settles : (left : ℕ) (w : WorldState Request) (flight : Flight Request) (next : Option ℕ) → flight.envelope.hops + left ≡ most_hops → flight.envelope.shard < length w.in_hand
+flight_settles : (left : ℕ) (w : WorldState Request) (flight : Flight Request) (next : Option ℕ) → flight.envelope.hops + left ≡ MOST_HOPS → flight.envelope.shard < length w.in_hand
     → ((fewer : ℕ) → left ≡ suc fewer → (to : ℕ) → Settles (arrives fewer w (flight_to to (one_hop_more flight.envelope flight.to))))
     → Settles (continues left flight.envelope.shard (arrived_at (record w { in_flight = [] }) flight.to flight.envelope next))
 flight_settles left w flight None hops within again =
@@ -98,7 +99,7 @@ flight_settles left w flight None hops within again =
 flight_settles left w flight (Some to) hops within again = hop_settles left w flight to hops (λ fewer is. again fewer is to)
 
 -- the only envelope in flight arrives in as many deliveries as hops are left
-arrives_settles : (left : ℕ) (w : WorldState Request) (flight : Flight Request) → flight.envelope.hops + left ≡ most_hops → flight.envelope.shard < length w.in_hand → Settles (arrives left w flight)
+arrives_settles : (left : ℕ) (w : WorldState Request) (flight : Flight Request) → flight.envelope.hops + left ≡ MOST_HOPS → flight.envelope.shard < length w.in_hand → Settles (arrives left w flight)
 arrives_settles zero w flight hops within = flight_settles zero w flight (forward_to (world_record w flight.envelope.shard) flight.to) hops within (λ fewer is. absurd (omega (arith, is)))
 arrives_settles (suc left) w flight hops within =
     flight_settles (suc left) w flight (forward_to (world_record w flight.envelope.shard) flight.to) hops within
@@ -115,7 +116,7 @@ sent_settles : (w : WorldState Request) (in_flight : List (Flight Request)) (req
     delivered (shard_for w request) went.0 went.1)
 sent_settles w in_flight request server true rest within =
     let P : List (Flight Request) → Type 0 = λ flights. Settles (delivered (shard_for w request) (Ok Sent) (record w { in_flight = flights ++ flight_of w request server ∷ [] })) in
-    subst P (sym rest) (arrives_settles most_hops w (flight_of w request server) refl within)
+    subst P (sym rest) (arrives_settles MOST_HOPS w (flight_of w request server) refl within)
 sent_settles w in_flight request server false rest within = record { answers = refl; rest = rest }
 
 requested_at_settles : (w : WorldState Request) (request : Request) (server : ℕ) → shard_for w request < length w.in_hand → w.in_flight ≡ []

@@ -16,18 +16,18 @@ use Rattle.sm_ownership.specs.declared.admit_fault.AdmitFault.{AdmitFault}
 use Rattle.sm_ownership.specs.declared.admit_fault.AdmitFault.TheVariants as admit
 use Rattle.sm_ownership.specs.declared.change.Change.{Change}
 use Rattle.sm_ownership.specs.declared.change.Change.TheVariants as change
-use Rattle.sm_table.specs.declared.command.Command.TheVariants as control
-use Rattle.sm_table.specs.declared.command.CommandFault.{CommandFault}
-use Rattle.sm_table.specs.declared.command.CommandFault.TheVariants as command
-use Rattle.sm_table.specs.declared.refusal.Refusal.{Refusal}
-use Rattle.sm_table.specs.declared.refusal.Refusal.TheVariants as refusal
+use Rattle.sm_desk.specs.declared.command.Command.TheVariants as control
+use Rattle.sm_desk.specs.declared.command.CommandFault.{CommandFault}
+use Rattle.sm_desk.specs.declared.command.CommandFault.TheVariants as command
+use Rattle.sm_envelope.specs.declared.refusal.Refusal.{Refusal}
+use Rattle.sm_envelope.specs.declared.refusal.Refusal.TheVariants as refusal
 use Rattle.sm_table.specs.declared.step.Step.{Step}
 use Rattle.sm_table.specs.declared.step.Step.TheVariants.{Control, Look, Send, Deliver, Finish, Hold, Free}
 use Rattle.sm_table.specs.declared.world_answer.WorldAnswer.{WorldAnswer}
 use Rattle.sm_table.specs.declared.world_answer.WorldAnswer.TheVariants.{Made, Seen, Sent, Began, Forwarded as WasForwarded, Refused as RequestRefused, Replied}
 use Rattle.sm_table.specs.declared.world_fault.WorldFault.{WorldFault}
 use Rattle.sm_table.specs.declared.world_fault.WorldFault.TheVariants as world
-use Rattle.sm_table.specs.Envelope.{most_hops}
+use Rattle.sm_envelope.specs.declared.envelope.TheConstants.{MOST_HOPS}
 use Rattle.sm_table.specs.World.{Frame, Service, WorldState, Plain, outcome, world_record}
 use Rattle.sm_settings.specs.SettingsLine.{SettingsValues}
 
@@ -126,7 +126,7 @@ finished shard result w = (result, w)
 
 -- a request that was sent arrives, and is finished where a server began it
 abbrev pub delivered : ℕ → Result (WorldAnswer Reply) WorldFault → WorldState Request → Stepped
-delivered shard (Ok Sent) w = let reached = arrived most_hops w in finished shard reached.0 reached.1
+delivered shard (Ok Sent) w = let reached = arrived MOST_HOPS w in finished shard reached.0 reached.1
 delivered shard result w = (result, w)
 
 -- a request goes to this server

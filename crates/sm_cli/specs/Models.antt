@@ -11,7 +11,7 @@ use Rattle.sm_service.specs.declared.request.Request.{Request}
 use Rattle.sm_settings.specs.SettingsLine.{SettingsValues}
 use Rattle.sm_table.specs.declared.world_answer.WorldAnswer.{WorldAnswer}
 use Rattle.sm_table.specs.declared.world_fault.WorldFault.{WorldFault}
-use Rattle.sm_table.specs.Envelope.{most_hops}
+use Rattle.sm_envelope.specs.declared.envelope.TheConstants.{MOST_HOPS}
 use Rattle.sm_table.specs.Standing.{Follows, StandsFor, WorldView}
 use Rattle.sm_table.specs.World.{WorldState, Plain, empty_world, mark_of}
 
@@ -64,4 +64,4 @@ Ends before command result after = EndsIn before (λ w. commanded w command) res
 -- at every world the first envelope in flight arrived as it should, unless memory was refused
 abbrev pub Arrives : WorldView Request → Result (WorldAnswer Reply) WorldFault → WorldView Request → Type 0
 Arrives before result after =
-    (w : WorldState Request) → StandsFor before w → mark_of result ≡ Plain → Follows after result (arrived most_hops w)
+    (w : WorldState Request) → StandsFor before w → mark_of result ≡ Plain → Follows after result (arrived MOST_HOPS w)

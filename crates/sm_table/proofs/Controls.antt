@@ -7,16 +7,17 @@ use Rattle.std.proofs.lemmas.List.{map-set, length-map, get_or-map}
 use Rattle.sm_ranges.specs.declared.stand.Stand.TheVariants.{Vacant}
 use Rattle.sm_ownership.specs.declared.change.Change.{Change}
 use Rattle.sm_ownership.specs.declared.change_fault.ChangeFault.{ChangeFault}
-use Rattle.sm_table.specs.declared.command.Command.TheVariants.{Change as ChangeOf}
-use Rattle.sm_table.specs.declared.command.CommandFault.{CommandFault}
+use Rattle.sm_desk.specs.declared.command.Command.TheVariants.{Change as ChangeOf}
+use Rattle.sm_desk.specs.declared.command.CommandFault.{CommandFault}
 use Rattle.sm_ownership.specs.declared.entry.Entry.{Entry}
 use Rattle.sm_ownership.specs.declared.entry.Kind.TheVariants.{Change as Changed}
 use Rattle.sm_ownership.specs.declared.record.Record.{Record}
 use Rattle.sm_table.specs.declared.step.Step.TheVariants.{Control}
 use Rattle.sm_table.specs.declared.world_answer.WorldAnswer.TheVariants.{Made}
 use Rattle.sm_table.specs.declared.world_fault.WorldFault.TheVariants.{Command as CommandRefused}
-use Rattle.sm_ownership.specs.Rules.{stand_after, phase_fault, newly_named}
-use Rattle.sm_table.specs.Desk.{DeskView, is_unknown, stand_at, change_fault, command_fault_of, command_fault_from, desk_after}
+use Rattle.sm_ownership.specs.Rules.{stand_after, phase_fault}
+use Rattle.sm_desk.specs.Desk.{DeskView, stand_at, change_fault, command_fault_from, desk_after}
+use Rattle.sm_desk.specs.lemmas.Changes.{let_through}
 use Rattle.sm_ownership.specs.History.{vacant, after_change}
 use Rattle.sm_ownership.specs.Tables.{TableView, record_fault, apply_fault, table_changed}
 use Rattle.sm_table.specs.World.{Service, WorldState, Plain, count_of, desk_of, world_table, world_record, table_fault, with_entry, outcome}
@@ -24,30 +25,18 @@ use Rattle.sm_table.specs.Standing.{IsSound, WorldView, StandsFor, Follows}
 use Rattle.sm_ownership.specs.lemmas.Growth.{fits-push, length-table_of, table_of-push, kept-push_none}
 use Rattle.sm_table.proofs.Parts.{parts_of, parts-from_StandsFor, Follows-unchanged, Follows-changed}
 
-first_none : {X Y : Type 0} (there unknown : Bool) (x y : X) (fault : Option Y) (of : Y → X) → None ≡ (if not there then Some x else if unknown then Some y else option_map of fault) → (there ≡ true) × (fault ≡ None)
-first_none true false x y None of none = (refl, refl)
-first_none true false x y (Some fault) of none = absurd cc
-first_none true true x y fault of none = absurd cc
-first_none false unknown x y fault of none = absurd cc
-
--- what the desk lets through: a shard that is there, and a change that begins from its stand
-let_through : (desk : DeskView) (shard : ℕ) (change : Change) → None ≡ change_fault desk shard change → (shard < length desk.stands) × (phase_fault (stand_at desk.stands shard) change ≡ None)
-let_through desk shard change none =
-    let first = first_none (nat_lt shard (length desk.stands)) (is_unknown desk.servers (newly_named change)) _ _ (phase_fault (stand_at desk.stands shard) change) command_fault_of none in
-    (ltb-true _ _ first.0, first.1)
-
 module _ {Q R : Type 0} (service : Service Q R) (w : WorldState Q) (sound : IsSound w) (shard : ℕ) (change : Change) (none : None ≡ change_fault (desk_of w) shard change) where
   long : length (world_table w) ≡ count_of w
   long = length-table_of (count_of w) w.frame.ceiling w.history
 
   pub change_within : shard < length (world_table w)
-  change_within = omega (arith, (let_through (desk_of w) shard change none).0, length-map (world_table w) (λ (state : Record). state.stand))
+  change_within = omega (arith, (let_through (desk_of w) shard change (sym none)).within, length-map (world_table w) (λ (state : Record). state.stand))
 
   same_stand : stand_at (desk_of w).stands shard ≡ (world_record w shard).stand
   same_stand = get_or-map (λ (state : Record). state.stand) (world_table w) shard vacant Vacant change_within
 
   phase : phase_fault (world_record w shard).stand change ≡ None
-  phase = ap (λ stand. phase_fault stand change) (sym same_stand) ∙ (let_through (desk_of w) shard change none).1
+  phase = ap (λ stand. phase_fault stand change) (sym same_stand) ∙ (let_through (desk_of w) shard change (sym none)).phase
 
   -- where the desk lets a change through, the table refuses it by its record alone
   refusal : (fault : Option ChangeFault) → fault ≡ apply_fault (record { records = world_table w; ceiling = w.frame.ceiling }) shard change → table_fault w.frame.ceiling (world_record w shard) ≡ option_map command_fault_from fault

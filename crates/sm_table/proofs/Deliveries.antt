@@ -8,11 +8,11 @@ use Rattle.sm_ownership.specs.History.{record_at}
 use Rattle.sm_ownership.specs.Rules.{admit_fault, forward_to}
 use Rattle.sm_table.specs.declared.flight.Flight.{Flight}
 use Rattle.sm_table.specs.declared.in_hand.InHand.{InHand}
-use Rattle.sm_table.specs.declared.refusal.Refusal.TheVariants.{Admit as NotAdmitted}
+use Rattle.sm_envelope.specs.declared.refusal.Refusal.TheVariants.{Admit as NotAdmitted}
 use Rattle.sm_table.specs.declared.step.Step.TheVariants.{Deliver}
 use Rattle.sm_table.specs.declared.world_answer.WorldAnswer.{WorldAnswer}
 use Rattle.sm_table.specs.declared.world_answer.WorldAnswer.TheVariants.{Began, Refused}
-use Rattle.sm_table.specs.Envelope.{EnvelopeView, forwarded, sent_on}
+use Rattle.sm_envelope.specs.Envelope.{EnvelopeView, forwarded, sent_on}
 use Rattle.sm_table.specs.World.{Service, WorldState, Plain, world_record, hand_of, reached, after_hop, without_flight, mark_of, outcome}
 use Rattle.sm_table.specs.Standing.{WorldView, StandsFor, Follows, with_admission}
 use Rattle.sm_table.proofs.Admissions.{entered, entered_parts, entered_keeps}

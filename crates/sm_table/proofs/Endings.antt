@@ -10,7 +10,7 @@ use Rattle.sm_table.specs.declared.in_hand.InHand.{InHand}
 use Rattle.sm_table.specs.declared.in_hand.Work.{Work}
 use Rattle.sm_table.specs.Hands.{work_of}
 use Rattle.std.specs.Option.{option_map}
-use Rattle.sm_table.specs.declared.refusal.Refusal.TheVariants.{KeptFull, NoMemory as NoMemoryFor}
+use Rattle.sm_envelope.specs.declared.refusal.Refusal.TheVariants.{KeptFull, NoMemory as NoMemoryFor}
 use Rattle.sm_table.specs.declared.step.Step.TheVariants.{Finish}
 use Rattle.sm_table.specs.declared.world_answer.WorldAnswer.TheVariants.{Replied, Refused}
 use Rattle.sm_ownership.specs.History.{record_at, after_done, kept}

@@ -18,7 +18,8 @@ use Rattle.sm_ownership.specs.declared.mode.Mode.{Mode}
 use Rattle.sm_ownership.specs.declared.record.Record.{Record}
 use Rattle.sm_table.specs.declared.in_hand.InHand.{InHand}
 use Rattle.sm_ownership.specs.Rules.{newly_named, phase_fault, admit_fault}
-use Rattle.sm_table.specs.Desk.{is_unknown, stand_at, change_fault, command_fault_of, command_fault_from}
+use Rattle.sm_desk.specs.Desk.{is_unknown, stand_at, change_fault, command_fault_from}
+use Rattle.sm_desk.specs.lemmas.Changes.{let_through}
 use Rattle.sm_ownership.specs.History.{vacant, after_kind, admits_only, acts_as, fits}
 use Rattle.sm_table.specs.World.{WorldState, count_of, world_table, world_record, with_entry, with_hand, desk_of, table_fault, ended}
 use Rattle.sm_table.specs.Standing.{NamesKnown, IsHeld, IsSound}
@@ -122,13 +123,7 @@ module _ {Q : Type 0} (w : WorldState Q) (entry : Entry Q) (hands : List (Option
     held = λ shard within. ⊎_elim (λ same. subst HeldAt (sym same) held_own) (held_apart shard within) (cases_eq shard entry.shard);
   }
 
--- what holds where no fault of the desk applies, and where none of the table does
-not_refused : {X : Type 0} (there unknown : Bool) (x y : X) (fault : Option PhaseFault) (of : PhaseFault → X) → (if not there then Some x else if unknown then Some y else option_map of fault) ≡ None → (there ≡ true) × (unknown ≡ false) × (fault ≡ None)
-not_refused true false x y None of none = (refl, refl, refl)
-not_refused true false x y (Some fault) of none = absurd cc
-not_refused true true x y fault of none = absurd cc
-not_refused false unknown x y fault of none = absurd cc
-
+-- what holds where no fault of the table applies
 not_busy : {X : Type 0} (room busy : Bool) (x y : X) → (if not room then Some x else if busy then Some y else None) ≡ None → busy ≡ false
 not_busy true false x y none = refl
 not_busy true true x y none = absurd cc
@@ -150,14 +145,14 @@ module _ {Q : Type 0} (w : WorldState Q) (sound : IsSound w) where
   sound_change shard change desk table =
       let state = world_record w shard in
       let stands = map (λ (one : Record). one.stand) (world_table w) in
-      let allowed = not_refused (nat_lt shard (length stands)) (is_unknown w.frame.servers (newly_named change)) _ _ (phase_fault (stand_at stands shard) change) command_fault_of desk in
+      let allowed = let_through (desk_of w) shard change desk in
       let long = length-map (world_table w) (λ (one : Record). one.stand) in
-      let below = ltb-true _ _ allowed.0 in
+      let below = allowed.within in
       let count = long_table in
       let inside : shard < length (world_table w) = omega arith in
       let within : shard < count_of w = omega arith in
       let stand : stand_at stands shard ≡ state.stand = get_or-map (λ (one : Record). one.stand) (world_table w) shard vacant Vacant inside in
-      let phase : phase_fault state.stand change ≡ None = ap (λ at. phase_fault at change) (sym stand) ∙ allowed.2 in
+      let phase : phase_fault state.stand change ≡ None = ap (λ at. phase_fault at change) (sym stand) ∙ allowed.phase in
       let free : record_fault w.frame.ceiling state ≡ None = not_mapped command_fault_from (record_fault w.frame.ceiling state) table in
       let idle : state.admitted ≡ false = not_busy (nat_lt state.generation w.frame.ceiling) state.admitted _ _ free in
       let entry : Entry Q = record { actor = 0; shard = shard; kind = Changed change } in
@@ -166,7 +161,7 @@ module _ {Q : Type 0} (w : WorldState Q) (sound : IsSound w) where
         own_server = refl;
         places = sound.hands;
         others = λ _ _. refl;
-        named = names_after w.frame.servers state.stand change (sound.named shard within) allowed.1;
+        named = names_after w.frame.servers state.stand change (sound.named shard within) allowed.known;
         here = held_idle w.history (w.history ++ entry ∷ []) state.admitted shard (slice_index_or w.in_hand shard None) idle (sound.held shard within);
       })
 

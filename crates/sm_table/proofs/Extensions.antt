@@ -5,16 +5,16 @@ use Rattle.std.proofs.lemmas.Bool.{cond_both}
 use Rattle.std.proofs.lemmas.List.{append-nil}
 use Rattle.sm_ownership.specs.declared.admit_fault.AdmitFault.{AdmitFault}
 use Rattle.sm_ownership.specs.declared.change.Change.{Change}
-use Rattle.sm_table.specs.declared.command.Command.TheVariants.{Change as ChangeOf}
-use Rattle.sm_table.specs.declared.command.CommandFault.{CommandFault}
+use Rattle.sm_desk.specs.declared.command.Command.TheVariants.{Change as ChangeOf}
+use Rattle.sm_desk.specs.declared.command.CommandFault.{CommandFault}
 use Rattle.sm_ownership.specs.declared.entry.Entry.{Entry}
 use Rattle.sm_table.specs.declared.flight.Flight.{Flight}
 use Rattle.sm_table.specs.declared.in_hand.InHand.{InHand}
 use Rattle.sm_table.specs.declared.in_hand.Work.{Work}
 use Rattle.sm_table.specs.declared.step.Step.{Step}
 use Rattle.sm_table.specs.declared.step.Step.TheVariants.{Control, Look, Send, Deliver, Finish, Lose, Hold, Free}
-use Rattle.sm_table.specs.Desk.{is_known}
-use Rattle.sm_table.specs.Envelope.{EnvelopeView}
+use Rattle.sm_desk.specs.Desk.{is_known}
+use Rattle.sm_envelope.specs.Envelope.{EnvelopeView}
 use Rattle.sm_ownership.specs.History.{kept}
 use Rattle.sm_table.specs.World.{Service, WorldState, Mark, Plain, Unmade, Unserved, Outcome, count_of, controlled, reached, arrived, without_flight, delivered, with_room, worked, served, held, after_hold, let_go, freed, next, world_after}
 

@@ -10,7 +10,8 @@ use Rattle.sm_table.specs.declared.flight.Flight.{Flight}
 use Rattle.sm_table.specs.declared.in_hand.InHand.{InHand}
 use Rattle.sm_ownership.specs.History.{vacant, record_at, after_admit, after_change, after_done}
 use Rattle.sm_table.specs.Standing.{WorldView}
-use Rattle.sm_table.specs.Envelope.{EnvelopeView, most_hops, one_hop_more, sent_on}
+use Rattle.sm_envelope.specs.Envelope.{EnvelopeView, one_hop_more, sent_on}
+use Rattle.sm_envelope.specs.declared.envelope.TheConstants.{MOST_HOPS}
 use Rattle.sm_table.specs.World.{after_hop, flight_to}
 use Rattle.sm_table.specs.Together.{IsTogether}
 
@@ -68,7 +69,7 @@ module _ {Q : Type 0} (v : WorldView Q) (whole : IsTogether v) where
   pub flights-hop : (R : Type 0) (in_flight : List (Flight Q)) (envelope : EnvelopeView Q) (from : ℕ) (to : Option ℕ) → All IsShardThere in_flight → envelope.shard < length v.in_hand → All IsShardThere (after_hop {R = R} in_flight (sent_on envelope from to)).1
   flights-hop R in_flight envelope from None all there = all
   flights-hop R in_flight envelope from (Some to) all there =
-      cond_both (nat_lt envelope.hops most_hops) _ _ (λ (sent : Result (ℕ × EnvelopeView Q) (EnvelopeView Q)). All IsShardThere (after_hop {R = R} in_flight sent).1)
+      cond_both (nat_lt envelope.hops MOST_HOPS) _ _ (λ (sent : Result (ℕ × EnvelopeView Q) (EnvelopeView Q)). All IsShardThere (after_hop {R = R} in_flight sent).1)
       (λ _. All-push IsShardThere in_flight (flight_to to (one_hop_more envelope from)) all there)
       (λ _. all)
 

@@ -13,7 +13,7 @@ use Rattle.sm_table.specs.declared.in_hand.Work.{Work}
 use Rattle.sm_table.specs.declared.step.Step.TheVariants.{Hold, Free}
 use Rattle.sm_table.specs.declared.world_answer.WorldAnswer.TheVariants.{Made}
 use Rattle.sm_table.specs.declared.world_fault.WorldFault.TheVariants.{NotHeld}
-use Rattle.sm_table.specs.Desk.{is_known}
+use Rattle.sm_desk.specs.Desk.{is_known}
 use Rattle.sm_table.specs.Hands.{is_alone}
 use Rattle.sm_table.specs.World.{Service, WorldState, Plain, count_of, world_record, ended, let_go, freed, outcome}
 use Rattle.sm_table.specs.Standing.{WorldView, StandsFor, Follows, with_admission}

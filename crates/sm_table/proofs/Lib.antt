@@ -7,12 +7,10 @@ pub mod Entries
 pub mod Extensions
 pub mod Fitting
 pub mod Holding
-pub mod Known
 pub mod Losses
 pub mod Maps
 pub mod Names
 pub mod Parts
-pub mod Risings
 pub mod Runs
 pub mod Sends
 pub mod Soundness

@@ -7,7 +7,7 @@ use Rattle.sm_ranges.specs.declared.stand.Stand.TheVariants.{Vacant, Serving, Pr
 use Rattle.sm_ownership.specs.declared.change.Change.{Change}
 use Rattle.sm_ownership.specs.declared.change.Change.TheVariants.{Assign, PrepareAddShard, AddShard, DropShard, Cancel, Pause, Resume, Reassign}
 use Rattle.sm_ownership.specs.Rules.{stand_after, newly_named, forward_at}
-use Rattle.sm_table.specs.Desk.{is_known, is_unknown}
+use Rattle.sm_desk.specs.Desk.{is_known, is_unknown}
 use Rattle.sm_table.specs.Standing.{NamesKnown}
 
 known_of : (known : Bool) → not known ≡ false → known ≡ true

@@ -7,7 +7,7 @@ use Rattle.sm_table.specs.declared.in_hand.InHand.{InHand}
 use Rattle.sm_table.specs.declared.step.Step.{Step}
 use Rattle.sm_table.specs.declared.world_answer.WorldAnswer.{WorldAnswer}
 use Rattle.sm_table.specs.declared.world_fault.WorldFault.{WorldFault}
-use Rattle.sm_table.specs.Desk.{DeskView}
+use Rattle.sm_desk.specs.Desk.{DeskView}
 use Rattle.sm_ownership.specs.History.{kept}
 use Rattle.sm_table.specs.World.{Service, WorldState, Mark, Outcome, count_of, desk_of, world_table, outcome}
 use Rattle.sm_table.specs.Standing.{IsSound, WorldView, StandsFor, Follows}

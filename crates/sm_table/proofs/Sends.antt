@@ -7,7 +7,7 @@ use Rattle.sm_table.specs.declared.flight.Flight.{Flight}
 use Rattle.sm_table.specs.declared.step.Step.TheVariants.{Send}
 use Rattle.sm_table.specs.declared.world_answer.WorldAnswer.TheVariants.{Sent}
 use Rattle.sm_table.specs.declared.world_fault.WorldFault.TheVariants.{NoMemory}
-use Rattle.sm_table.specs.Desk.{is_known}
+use Rattle.sm_desk.specs.Desk.{is_known}
 use Rattle.sm_table.specs.World.{Service, WorldState, Plain, Unmade, outcome}
 use Rattle.sm_table.specs.Standing.{WorldView, StandsFor, Follows}
 use Rattle.sm_table.proofs.Parts.{parts-from_StandsFor, Follows-unchanged, Follows-changed}

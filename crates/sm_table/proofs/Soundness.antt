@@ -11,8 +11,8 @@ use Rattle.sm_ranges.specs.Ranges.{IsLayout, is_at_most, shard_of}
 use Rattle.sm_ranges.specs.ServerId.{IsServer}
 use Rattle.sm_ownership.specs.declared.admit_fault.AdmitFault.{AdmitFault}
 use Rattle.sm_ownership.specs.declared.change.Change.{Change}
-use Rattle.sm_table.specs.declared.command.CommandFault.{CommandFault}
-use Rattle.sm_table.specs.declared.command.Command.TheVariants.{Change as ChangeOf}
+use Rattle.sm_desk.specs.declared.command.CommandFault.{CommandFault}
+use Rattle.sm_desk.specs.declared.command.Command.TheVariants.{Change as ChangeOf}
 use Rattle.sm_table.specs.declared.flight.Flight.{Flight}
 use Rattle.sm_table.specs.declared.in_hand.InHand.{InHand}
 use Rattle.sm_table.specs.declared.in_hand.Work.{Work}
@@ -21,8 +21,9 @@ use Rattle.sm_ownership.specs.declared.record.Record.{Record}
 use Rattle.sm_table.specs.declared.step.Step.{Step}
 use Rattle.sm_table.specs.declared.step.Step.TheVariants.{Control, Look, Send, Deliver, Finish, Lose, Hold, Free}
 use Rattle.sm_ownership.specs.Rules.{admit_fault, forward_to}
-use Rattle.sm_table.specs.Desk.{is_known, change_fault}
-use Rattle.sm_table.specs.Envelope.{EnvelopeView, most_hops, one_hop_more, sent_on}
+use Rattle.sm_desk.specs.Desk.{is_known, change_fault}
+use Rattle.sm_envelope.specs.Envelope.{EnvelopeView, one_hop_more, sent_on}
+use Rattle.sm_envelope.specs.declared.envelope.TheConstants.{MOST_HOPS}
 use Rattle.sm_ownership.specs.History.{vacant, record_at, kept}
 use Rattle.sm_table.specs.World.{Service, Frame, WorldState, Mark, Plain, Unmade, Unserved, Outcome, count_of, world_record, desk_of, table_fault, controlled, after_look, after_send, flight_to, reached, after_hop, hopped, arrived, without_flight, delivered, after_lose, with_room, worked, served, held, after_hold, let_go, freed, after_free, empty_world, next, world_after, world_of}
 use Rattle.sm_table.specs.Standing.{IsFrame, IsFlight, NamesKnown, IsHeld, IsSound}
@@ -108,7 +109,7 @@ module _ {Q : Type 0} (R : Type 0) (w : WorldState Q) (sound : IsSound w) where
 
   -- an envelope goes on to a server that is known
   sound_hopped : (from to : ℕ) (envelope : EnvelopeView Q) → envelope.shard < count_of w → is_known w.frame.servers to ≡ true → LeavesSound (hopped w (after_hop w.in_flight (sent_on envelope from (Some to))))
-  sound_hopped from to envelope within known = cond_both (nat_lt envelope.hops most_hops) _ _ (λ (sent : Result (ℕ × EnvelopeView Q) (EnvelopeView Q)). LeavesSound (hopped w (after_hop w.in_flight sent)))
+  sound_hopped from to envelope within known = cond_both (nat_lt envelope.hops MOST_HOPS) _ _ (λ (sent : Result (ℕ × EnvelopeView Q) (EnvelopeView Q)). LeavesSound (hopped w (after_hop w.in_flight sent)))
       (λ _. sound_flights w _ sound (All-push (IsFlight w.frame) w.in_flight (flight_to to (one_hop_more envelope from)) sound.flights (record { shard = within; server = known })))
       (λ _. sound)
 

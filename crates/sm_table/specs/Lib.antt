@@ -1,11 +1,11 @@
 pub mod Bodies
-pub mod Desk
-pub mod Envelope
 pub mod Hands
 pub mod Setup
 pub mod Standing
 pub mod Together
 pub mod World
+pub use Rattle.sm_desk.specs.Desk
+pub use Rattle.sm_envelope.specs.Envelope
 pub use Rattle.sm_ownership.specs.History
 pub use Rattle.sm_ownership.specs.Reach
 pub use Rattle.sm_ownership.specs.Routes

@@ -11,7 +11,7 @@ use Rattle.sm_table.specs.declared.flight.Flight.{Flight}
 use Rattle.sm_table.specs.declared.in_hand.InHand.{InHand}
 use Rattle.sm_table.specs.declared.world_answer.WorldAnswer.{WorldAnswer}
 use Rattle.sm_table.specs.declared.world_fault.WorldFault.{WorldFault}
-use Rattle.sm_table.specs.Desk.{DeskView, is_known}
+use Rattle.sm_desk.specs.Desk.{DeskView, is_known}
 use Rattle.sm_ownership.specs.History.{after_admit, record_at, IsLegal, admits_only, is_admission_of, latest_of, kept}
 use Rattle.sm_table.specs.World.{Frame, WorldState, Outcome, count_of, desk_of, world_record, world_table}
 

@@ -4,9 +4,9 @@ use Rattle.std.specs.Option.{option_map, option_or}
 use Rattle.sm_ranges.specs.Ranges.{shard_of}
 use Rattle.sm_ownership.specs.declared.admit_fault.AdmitFault.{AdmitFault}
 use Rattle.sm_ownership.specs.declared.change.Change.{Change}
-use Rattle.sm_table.specs.declared.command.Command.{Command}
-use Rattle.sm_table.specs.declared.command.Command.TheVariants.{Change as ChangeOf}
-use Rattle.sm_table.specs.declared.command.CommandFault.{CommandFault}
+use Rattle.sm_desk.specs.declared.command.Command.{Command}
+use Rattle.sm_desk.specs.declared.command.Command.TheVariants.{Change as ChangeOf}
+use Rattle.sm_desk.specs.declared.command.CommandFault.{CommandFault}
 use Rattle.sm_ownership.specs.declared.entry.Entry.{Entry}
 use Rattle.sm_ownership.specs.declared.entry.Kind.{Kind}
 use Rattle.sm_ownership.specs.declared.entry.Kind.TheVariants.{Change as Changed, Admit, Done}
@@ -15,15 +15,15 @@ use Rattle.sm_ownership.specs.declared.record.Record.{Record}
 use Rattle.sm_table.specs.declared.flight.Flight.{Flight}
 use Rattle.sm_table.specs.declared.in_hand.InHand.{InHand}
 use Rattle.sm_table.specs.declared.in_hand.Work.{Work}
-use Rattle.sm_table.specs.declared.refusal.Refusal.TheVariants.{TooManyHops, Admit as NotAdmitted, KeptFull, NoMemory as NoMemoryFor}
+use Rattle.sm_envelope.specs.declared.refusal.Refusal.TheVariants.{TooManyHops, Admit as NotAdmitted, KeptFull, NoMemory as NoMemoryFor}
 use Rattle.sm_table.specs.declared.step.Step.{Step}
 use Rattle.sm_table.specs.declared.step.Step.TheVariants.{Control, Look, Send, Deliver, Finish, Lose, Hold, Free}
 use Rattle.sm_table.specs.declared.world_answer.WorldAnswer.{WorldAnswer}
 use Rattle.sm_table.specs.declared.world_answer.WorldAnswer.TheVariants.{Made, Seen, Sent, Began, Forwarded, Refused, Replied}
 use Rattle.sm_table.specs.declared.world_fault.WorldFault.{WorldFault}
 use Rattle.sm_table.specs.declared.world_fault.WorldFault.TheVariants.{Command as CommandRefused, Admit as AdmitRefused, UnknownShard, UnknownServer, NoEnvelope, NotHeld, NoMemory}
-use Rattle.sm_table.specs.Desk.{DeskView, is_known, desk_fault, command_fault_from}
-use Rattle.sm_table.specs.Envelope.{EnvelopeView, sent_on}
+use Rattle.sm_desk.specs.Desk.{DeskView, is_known, desk_fault, command_fault_from}
+use Rattle.sm_envelope.specs.Envelope.{EnvelopeView, sent_on}
 use Rattle.sm_ownership.specs.History.{record_at, table_of, kept}
 use Rattle.sm_ownership.specs.Rules.{admit_fault, forward_to}
 use Rattle.sm_ownership.specs.Tables.{record_fault}

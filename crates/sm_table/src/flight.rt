@@ -1,4 +1,4 @@
-use crate::envelope::Envelope;
+use sm_envelope::envelope::Envelope;
 use sm_ranges::server_id::ServerId;
 
 /// An envelope in flight, and the server that it goes to.

@@ -1,4 +1,4 @@
-use crate::desk::Desk;
+use sm_desk::desk::Desk;
 use sm_ranges::layout::Layout;
 
 /// What a world is made from, beside the bodies of its shards.

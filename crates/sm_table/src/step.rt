@@ -1,4 +1,4 @@
-use crate::command::Command;
+use sm_desk::command::Command;
 use sm_ranges::server_id::ServerId;
 use sm_ranges::shard_id::ShardId;
 

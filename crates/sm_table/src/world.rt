@@ -3,26 +3,26 @@ ghost use Rattle.std.specs.Result.{result_err};
 ghost use Rattle.sm_ranges.specs.declared.stand.Stand.TheVariants.{Vacant};
 ghost use Rattle.sm_ownership.specs.History.{record_at};
 ghost use Rattle.sm_ownership.specs.Rules.{admit_fault};
-ghost use Rattle.sm_table.specs.Envelope.{forwarded};
+ghost use Rattle.sm_envelope.specs.Envelope.{forwarded};
 ghost use Rattle.sm_table.specs.Setup.{frame_of};
 ghost use Rattle.sm_table.specs.Standing.{StandsFor, Follows, with_admission};
 ghost use Rattle.sm_table.specs.World.{WorldState, after_hop, outcome, mark_of, empty_world};
-ghost use Rattle.sm_table.specs.declared.command.Command.TheVariants.{Change as ChangeOf};
+ghost use Rattle.sm_desk.specs.declared.command.Command.TheVariants.{Change as ChangeOf};
 ghost use Rattle.sm_table.specs.declared.step.Step.TheVariants.{Control as ControlOf, Look as LookAt, Send as SendOf, Deliver as DeliverAt, Finish as FinishAt, Lose as LoseAt, Hold as HoldAt, Free as FreeAt};
 
 use crate::bodies::Bodies;
-use crate::command::Command;
-use crate::desk::Desk;
-use crate::envelope::Envelope;
 use crate::flight::Flight;
 use crate::hands::Hands;
 use crate::in_hand::{InHand, Work};
-use crate::refusal::Refusal;
 use crate::setup::Setup;
 use crate::step::Step;
 use crate::world_answer::WorldAnswer;
 use crate::world_fault::WorldFault;
 use sm_body::service::{ApplyFault, Service};
+use sm_desk::command::Command;
+use sm_desk::desk::Desk;
+use sm_envelope::envelope::Envelope;
+use sm_envelope::refusal::Refusal;
 use sm_ownership::admit_fault::AdmitFault;
 use sm_ownership::change::Change;
 use sm_ownership::mode::Mode;
@@ -329,6 +329,3 @@ fn send_on<Q: Drop, R>(
         Err(_) => WorldAnswer::Refused(Refusal::TooManyHops),
     }
 }
-
-#[cfg(test)]
-mod tests;

@@ -1,4 +1,4 @@
-use crate::refusal::Refusal;
+use sm_envelope::refusal::Refusal;
 use sm_ownership::record::Record;
 use sm_ranges::server_id::ServerId;
 

@@ -1,4 +1,4 @@
-use crate::command::CommandFault;
+use sm_desk::command::CommandFault;
 use sm_ownership::admit_fault::AdmitFault;
 use thiserror::Error;
 

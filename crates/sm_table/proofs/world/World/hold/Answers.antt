@@ -1,5 +1,5 @@
 use Rattle.std.proofs.Common.{◌<◌, ap, length, refl, subst, sym, arith}
-use Rattle.sm_table.specs.Desk.{is_known}
+use Rattle.sm_desk.specs.Desk.{is_known}
 use Rattle.sm_table.specs.Standing.{WorldView}
 use Rattle.sm_table.proofs.Holding.{held_by}
 use Rattle.sm_table.proofs.world.World.hold.Goals as goal

@@ -1,5 +1,5 @@
 use Rattle.std.proofs.Common.{◌<◌, ◌++◌, ◌∷◌, [], ap, subst, sym, ◌∙◌, length, arith}
-use Rattle.sm_table.specs.Envelope.{EnvelopeView}
+use Rattle.sm_envelope.specs.Envelope.{EnvelopeView}
 use Rattle.sm_ownership.specs.declared.mode.Mode.TheVariants.{Direct}
 use Rattle.sm_table.proofs.Fitting.{IsTogether-in_flight, flights-push}
 use Rattle.sm_table.proofs.Sends.{not_sent, sent}

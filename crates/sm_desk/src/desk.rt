@@ -2,10 +2,11 @@ ghost use Rattle.std.specs.Prelude.{◌≡◌, ℕ, All, IfOk, None, replicate};
 ghost use Rattle.std.specs.List.Sorted.{IsStrictlyIncreasing};
 ghost use Rattle.std.specs.Result.{result_err};
 ghost use Rattle.sm_ranges.specs.ServerId.{IsServer};
-ghost use Rattle.sm_table.specs.Desk.{is_known, change_fault, desk_fault, desk_after};
+ghost use Rattle.sm_desk.specs.Desk.{is_known, change_fault, desk_fault, desk_after};
 
 use crate::command::{Command, CommandFault};
 use sm_ownership::change::Change;
+use sm_ownership::change_fault::ChangeFault;
 use sm_ranges::server_id::ServerId;
 use sm_ranges::shard_id::ShardId;
 use sm_ranges::stand::Stand;
@@ -24,7 +25,7 @@ pub struct Desk {
 impl Model for Desk {
     ghost use Rattle.std.specs.Prelude.{All};
     ghost use Rattle.sm_ranges.specs.ServerId.{IsServer};
-    ghost use Rattle.sm_table.specs.Desk.{DeskView};
+    ghost use Rattle.sm_desk.specs.Desk.{DeskView};
 
     ghost Value = { DeskView };
 
@@ -75,7 +76,9 @@ impl Desk {
                 return Err(CommandFault::UnknownServer);
             }
         }
-        change.apply_to(self.stands[k.index()])?;
+        if let Err(fault) = change.apply_to(self.stands[k.index()]) {
+            return Err(ChangeFault::from(fault).into());
+        }
         Ok(())
     }
 

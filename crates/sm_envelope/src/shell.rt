@@ -1,5 +1,6 @@
 ghost use Rattle.std.specs.Prelude.{◌≡◌, ◌<◌, ◌+◌};
-ghost use Rattle.sm_table.specs.Envelope.{most_hops, whole};
+ghost use Rattle.sm_envelope.specs.Envelope.{whole};
+ghost use Rattle.sm_envelope.specs.declared.envelope.TheConstants.{MOST_HOPS};
 ghost use Rattle.sm_ownership.specs.declared.mode.Mode.TheVariants.{Direct, Forwarded};
 
 use crate::envelope::Envelope;
@@ -19,13 +20,14 @@ pub struct Shell {
 
 impl Model for Shell {
     ghost use Rattle.std.specs.Prelude.{◌≤◌};
-    ghost use Rattle.sm_table.specs.Envelope.{ShellView, most_hops};
+    ghost use Rattle.sm_envelope.specs.Envelope.{ShellView};
+    ghost use Rattle.sm_envelope.specs.declared.envelope.TheConstants.{MOST_HOPS};
 
     ghost Value = { ShellView };
 
     ghost view = { λ shell. record { number = shell.number; shard = shell.shard; mode = shell.mode; hops = shell.hops } };
 
-    ghost invariant = { λ shell. shell.hops ≤ most_hops };
+    ghost invariant = { λ shell. shell.hops ≤ MOST_HOPS };
 }
 
 impl Shell {
@@ -43,7 +45,7 @@ impl Shell {
 
     // The shell after one more hop, from this server on.
     pub(crate) fn forwarded(self, from: ServerId) -> Shell
-        requires { self.hops < most_hops }
+        requires { self.hops < MOST_HOPS }
         ensures { result ≡ record self { mode = Forwarded from; hops = self.hops + 1 } }
     {
         Shell {
@@ -75,7 +77,7 @@ impl Shell {
         self.mode
     }
 
-    /// How often the request was forwarded, 0 to 4.
+    /// How often the request was forwarded, 0 to [`MOST_HOPS`](crate::MOST_HOPS).
     pub fn hops(&self) -> u8
         ensures { result ≡ self.now.hops }
     {

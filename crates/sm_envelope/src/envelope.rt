@@ -1,6 +1,6 @@
 ghost use Rattle.std.specs.Prelude.{◌≡◌};
 ghost use Rattle.sm_ownership.specs.declared.mode.Mode.TheVariants.{Direct};
-ghost use Rattle.sm_table.specs.Envelope.{forwarded, shell_of, whole};
+ghost use Rattle.sm_envelope.specs.Envelope.{forwarded, shell_of, whole};
 
 use crate::shell::Shell;
 use sm_ownership::mode::Mode;
@@ -20,7 +20,7 @@ pub struct Envelope<Q: Drop> {
 }
 
 impl<Q: Drop> Model for Envelope<Q> {
-    ghost use Rattle.sm_table.specs.Envelope.{EnvelopeView, whole};
+    ghost use Rattle.sm_envelope.specs.Envelope.{EnvelopeView, whole};
 
     ghost Value = { EnvelopeView Q };
 
@@ -66,7 +66,7 @@ impl<Q: Drop> Envelope<Q> {
         self.shell.mode()
     }
 
-    /// How often the request was forwarded, 0 to 4.
+    /// How often the request was forwarded, 0 to [`MOST_HOPS`].
     pub fn hops(&self) -> u8
         ensures { result ≡ self.now.hops }
     {
@@ -110,6 +110,3 @@ impl<Q: Drop> Envelope<Q> {
         (self.request, self.shell)
     }
 }
-
-#[cfg(test)]
-mod tests;

@@ -1,4 +1,4 @@
-use sm_ownership::change::{Change, PhaseFault};
+use sm_ownership::change::Change;
 use sm_ownership::change_fault::ChangeFault;
 use sm_ownership::record::Record;
 use sm_ranges::shard_id::ShardId;
@@ -34,23 +34,9 @@ pub enum CommandFault {
     Busy(Record),
 }
 
-impl From<PhaseFault> for CommandFault {
-    ghost use Rattle.std.specs.Prelude.{◌≡◌};
-    ghost use Rattle.sm_table.specs.Desk.{command_fault_of};
-
-    ghost from_gives = { λ fault command. command ≡ command_fault_of fault };
-
-    fn from(fault: PhaseFault) -> CommandFault {
-        match fault {
-            PhaseFault::WrongPhase => CommandFault::WrongPhase,
-            PhaseFault::SameServer => CommandFault::SameServer,
-        }
-    }
-}
-
 impl From<ChangeFault> for CommandFault {
     ghost use Rattle.std.specs.Prelude.{◌≡◌};
-    ghost use Rattle.sm_table.specs.Desk.{command_fault_from};
+    ghost use Rattle.sm_desk.specs.Desk.{command_fault_from};
 
     ghost from_gives = { λ fault command. command ≡ command_fault_from fault };
 

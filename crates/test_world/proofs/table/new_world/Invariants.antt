@@ -1,7 +1,7 @@
 use Rattle.std.proofs.Common.{◌≡◌, All, [], vec_len}
 use Rattle.sm_body.specs.Service.{Kept}
 use Rattle.sm_service.specs.declared.request.Request.{Request}
-use Rattle.sm_table.proofs.world.tests.new_world.Given as goal
+use Rattle.test_world.proofs.table.new_world.Given as goal
 
 abbrev pub invariant-loop : goal.invariant-loop
 invariant-loop l = record {

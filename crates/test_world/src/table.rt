@@ -1,14 +1,24 @@
-use super::*;
-use crate::command::CommandFault;
+use crate::common::{server, shard};
+use sm_desk::{Command, CommandFault, Desk};
+use sm_envelope::Refusal;
 use sm_ownership::admit_fault::AdmitFault;
 use sm_ownership::change::Change;
 use sm_ownership::record::Record;
 use sm_ranges::key::Key;
+use sm_ranges::layout::Layout;
+use sm_ranges::server_id::ServerId;
+use sm_ranges::shard_id::ShardId;
 use sm_ranges::stand::Stand;
 use sm_service::bytes::Bytes;
 use sm_service::counter_text::CounterText;
 use sm_service::reply::Reply;
 use sm_service::request::Request;
+use sm_table::setup::Setup;
+use sm_table::step::Step;
+use sm_table::world::World;
+use sm_table::world_answer::WorldAnswer;
+use sm_table::world_fault::WorldFault;
+use std::alloc::Global;
 use std::test::Fail;
 
 // Shards 0 and 1, of the keys below and from `m` on, that keep two requests each; and servers 1 and 2.
@@ -26,14 +36,6 @@ fn new_world(alloc: Global) -> Result<World<CounterText>, Fail> {
         ceiling: 100,
     };
     Ok(World::new(alloc, setup, bodies)?)
-}
-
-fn server(number: u16) -> Result<ServerId, Fail> {
-    Ok(ServerId::new(number).ok_or("a server's number")?)
-}
-
-fn shard(number: u16) -> Result<ShardId, Fail> {
-    Ok(ShardId::new(number).ok_or("a shard's number")?)
 }
 
 fn put(alloc: Global) -> Result<Request, Fail> {

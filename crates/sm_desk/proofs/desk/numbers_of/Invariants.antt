@@ -1,8 +1,8 @@
 use Rattle.std.proofs.Common.{◌≡◌, ℕ, All, take}
 use Rattle.std.specs.List.Sorted.{IsStrictlyIncreasing}
 use Rattle.sm_ranges.specs.ServerId.{IsServer}
-use Rattle.sm_table.specs.Desk.{is_known}
-use Rattle.sm_table.proofs.desk.numbers_of.Given as goal
+use Rattle.sm_desk.specs.Desk.{is_known}
+use Rattle.sm_desk.proofs.desk.numbers_of.Given as goal
 
 abbrev pub invariant-loop-server : goal.invariant-loop-server
 invariant-loop-server l = record {

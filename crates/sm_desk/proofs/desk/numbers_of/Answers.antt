@@ -5,10 +5,10 @@ use Rattle.std.proofs.lemmas.List.Folds.{list_any_more}
 use Rattle.std.proofs.lemmas.Map.Views.{All-insert_key}
 use Rattle.std.specs.BTreeSet.{insert_key}
 use Rattle.sm_ranges.specs.ServerId.{IsServer}
-use Rattle.sm_table.specs.Desk.{is_known}
-use Rattle.sm_table.proofs.Known.{is_known-insert_key}
-use Rattle.sm_table.proofs.Risings.{insert_key-rising}
-use Rattle.sm_table.proofs.desk.numbers_of.Goals as goal
+use Rattle.sm_desk.specs.Desk.{is_known}
+use Rattle.sm_desk.proofs.Known.{is_known-insert_key}
+use Rattle.sm_desk.proofs.Risings.{insert_key-rising}
+use Rattle.sm_desk.proofs.desk.numbers_of.Goals as goal
 
 pub loop-server-preserved : goal.loop-server-preserved
 loop-server-preserved c = record {

@@ -1,5 +1,6 @@
 -- Requests on their way, and how servers forward them.
 use Rattle.std.specs.Prelude.{ℕ, Option, Some, None, Result, Ok, Err, ◌+◌, nat_lt, if◌then◌else◌}
+use Rattle.sm_envelope.specs.declared.envelope.TheConstants.{MOST_HOPS}
 use Rattle.sm_ownership.specs.declared.mode.Mode.{Mode}
 use Rattle.sm_ownership.specs.declared.mode.Mode.TheVariants.{Forwarded}
 use Rattle.sm_ownership.specs.declared.record.Record.{Record}
@@ -27,17 +28,13 @@ shell_of envelope = record { number = envelope.number; shard = envelope.shard; m
 abbrev pub whole : {Q : Type 0} → ShellView → Q → EnvelopeView Q
 whole shell request = record { number = shell.number; shard = shell.shard; mode = shell.mode; hops = shell.hops; request = request }
 
--- how often a request is forwarded at most
-abbrev pub most_hops : ℕ
-most_hops = 4
-
 -- the envelope after one more hop, from this server on
 abbrev pub one_hop_more : {Q : Type 0} → EnvelopeView Q → ℕ → EnvelopeView Q
 one_hop_more envelope from = record envelope { mode = Forwarded from; hops = envelope.hops + 1 }
 
 abbrev pub sent_on : {Q : Type 0} → EnvelopeView Q → ℕ → Option ℕ → Result (ℕ × EnvelopeView Q) (EnvelopeView Q)
 sent_on envelope from None = Err envelope
-sent_on envelope from (Some to) = if nat_lt envelope.hops most_hops then Ok (to, one_hop_more envelope from) else Err envelope
+sent_on envelope from (Some to) = if nat_lt envelope.hops MOST_HOPS then Ok (to, one_hop_more envelope from) else Err envelope
 
 -- what a server makes of an envelope by the shard's record: where it forwards requests and a hop is left, the server to
 -- which the envelope goes, and the envelope with that hop; else the envelope as it was
