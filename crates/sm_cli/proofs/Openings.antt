@@ -2,7 +2,7 @@
 use Rattle.std.proofs.Common.{◌≡◌, Bool, ℕ, List, ap, ◌∙◌, Option, Some, None, Err}
 use Rattle.sm_lines.specs.Lines.{TookLongLine, lines_of}
 use Rattle.sm_settings.specs.declared.settings_fault.SettingsFault.TheVariants.{TooLong}
-use Rattle.sm_settings.specs.SettingsLine.{settings_of_long}
+use Rattle.sm_settings.specs.lemmas.LongLines.{settings_of_long}
 use Rattle.sm_cli.specs.Runs.{IfKnown}
 use Rattle.sm_cli.specs.Script.{settings_in}
 

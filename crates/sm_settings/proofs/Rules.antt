@@ -14,6 +14,7 @@ use Rattle.sm_ranges.specs.lemmas.Layouts.{no_fault-layout}
 use Rattle.sm_settings.specs.declared.server_row.ServerRow.{ServerRow}
 use Rattle.sm_settings.specs.declared.shard_row.ShardRow.{ShardRow}
 use Rattle.sm_settings.specs.declared.settings_fault.SettingsFault.TheVariants.{BadJson, NoMemory}
+use Rattle.sm_settings.specs.declared.settings.TheConstants.{MAX_OPS, MAX_KEPT, MIN_CEILING, MAX_CEILING, MAX_WORKERS}
 use Rattle.sm_settings.specs.Members.{is_within}
 use Rattle.sm_settings.specs.ServerRow.{rises_above, is_server}
 use Rattle.sm_settings.specs.GroupRow.{is_group}
@@ -78,9 +79,9 @@ keeps_rules s d all =
     let groups = both (is_within 1 4096 (length s.groups)) (list_all is_group s.groups) (holds 4 (lit< tt)) in
     let group_count = in_range 1 4096 (length s.groups) groups.0 in
     let shards = both (length s.shards == length s.bounds) (list_all (is_shard (length s.groups)) s.shards) (holds 5 (lit< tt)) in
-    let kept = in_range 1 1048576 s.kept (holds 7 (lit< tt)) in
-    let ceiling = in_range 3 68719476735 s.ceiling (holds 8 (lit< tt)) in
-    let workers = in_range 1 8 s.workers (holds 9 (lit< tt)) in
+    let kept = in_range 1 MAX_KEPT s.kept (holds 7 (lit< tt)) in
+    let ceiling = in_range MIN_CEILING MAX_CEILING s.ceiling (holds 8 (lit< tt)) in
+    let workers = in_range 1 MAX_WORKERS s.workers (holds 9 (lit< tt)) in
     record {
       layout = no_fault-layout s.bounds (has_no_fault (first_layout_fault s.bounds) (holds 2 (lit< tt)));
       some_servers = server_count.0;
@@ -97,7 +98,7 @@ keeps_rules s d all =
       places_of_groups = told (λ row. row.group < length s.groups) (is_shard (length s.groups)) (λ row h. below row.group (length s.groups) (shard_parts (length s.groups) row h).0) s.shards shards.1;
       loads = told (λ row. row.load < 2 ^ 32) (is_shard (length s.groups)) (λ row h. let most = in_range 0 4294967295 row.load (shard_parts (length s.groups) row h).1 in omega arith) s.shards shards.1;
       caps = told (λ row. row.cap ≤ 1) (is_shard (length s.groups)) (λ row h. (in_range 0 1 row.cap (shard_parts (length s.groups) row h).2).1) s.shards shards.1;
-      ops = (in_range 0 4095 s.ops (holds 6 (lit< tt))).1;
+      ops = (in_range 0 MAX_OPS s.ops (holds 6 (lit< tt))).1;
       some_kept = kept.0;
       few_kept = kept.1;
       ceiling_reaches = ceiling.0;

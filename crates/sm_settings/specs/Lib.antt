@@ -5,3 +5,4 @@ pub mod SettingsFault
 pub mod SettingsLine
 pub mod SettingsRules
 pub mod ShardRow
+pub mod lemmas

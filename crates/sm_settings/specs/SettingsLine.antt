@@ -1,8 +1,6 @@
 -- What a settings line gives: its values, or the first rule that it breaks.
 use Rattle.std.specs.Prelude.{◌≡◌, ℕ, ◌<◌, ◌==◌, List, [], ◌∷◌, length, map, is_none, Bool, nat_le, if◌then◌else◌, Option, None, Some, Result, Ok, Err, codes}
 use Rattle.std.specs.Str.{is_utf8}
-use Rattle.std.proofs.Common.{ap}
-use Rattle.std.proofs.lemmas.Bool.{lt-leb}
 use Rattle.serde_json.specs.Data.{Data}
 use Rattle.serde_json.specs.Read.{read}
 use Rattle.sm_ranges.specs.LayoutFault.{first_layout_fault}
@@ -10,6 +8,7 @@ use Rattle.sm_settings.specs.declared.server_row.ServerRow.{ServerRow}
 use Rattle.sm_settings.specs.declared.group_row.GroupRow.{GroupRow}
 use Rattle.sm_settings.specs.declared.shard_row.ShardRow.{ShardRow}
 use Rattle.sm_settings.specs.declared.settings.Settings.{Settings}
+use Rattle.sm_settings.specs.declared.settings.TheConstants.{MAX_SETTINGS, MAX_OPS, MAX_KEPT, MIN_CEILING, MAX_CEILING, MAX_WORKERS}
 use Rattle.sm_settings.specs.declared.settings_fault.SettingsFault.{SettingsFault}
 use Rattle.sm_settings.specs.declared.settings_fault.SettingsFault.TheVariants.{TooLong, BadJson, BadVersion, BadShape, BadLayout, BadServers, BadGroups, BadShards, BadOps, BadKept, BadCeiling, BadWorkers}
 use Rattle.sm_settings.specs.Members.{number_at, text_of, items_at, is_whole, is_text, is_array_of, is_object_of, is_within}
@@ -63,10 +62,10 @@ rules d v =
     (are_servers v.servers, BadServers) ∷
     (are_groups v.groups, BadGroups) ∷
     (are_shards (length v.bounds) (length v.groups) v.shards, BadShards) ∷
-    (is_within 0 4095 v.ops, BadOps) ∷
-    (is_within 1 1048576 v.kept, BadKept) ∷
-    (is_within 3 68719476735 v.ceiling, BadCeiling) ∷
-    (is_within 1 8 v.workers, BadWorkers) ∷ []
+    (is_within 0 MAX_OPS v.ops, BadOps) ∷
+    (is_within 1 MAX_KEPT v.kept, BadKept) ∷
+    (is_within MIN_CEILING MAX_CEILING v.ceiling, BadCeiling) ∷
+    (is_within 1 MAX_WORKERS v.workers, BadWorkers) ∷ []
 
 -- the value where all rules hold, and else the fault of the first that doesn't
 abbrev pub value_or_fault : {V F : Type 0} → List (Bool × F) → V → Result V F
@@ -80,12 +79,7 @@ verdict_of (Some d) = value_or_fault (rules d (values_in d)) (values_in d)
 
 -- what the bytes of a line give as settings: their values, or their first fault
 unfoldable pub settings_of : List ℕ → Result SettingsValues SettingsFault
-settings_of line = if nat_le (length line) 1048576 then (if is_utf8 line then verdict_of (read line) else Err BadJson) else Err TooLong
-
--- a line beyond the limit is too long, whatever it says
-pub settings_of_long : (line : List ℕ) → 1048576 < length line → settings_of line ≡ Err TooLong
-unfolding settings_of
-settings_of_long line long = ap (λ b. if b then (if is_utf8 line then verdict_of (read line) else Err BadJson) else Err TooLong) (lt-leb (length line) 1048576 long)
+settings_of line = if nat_le (length line) MAX_SETTINGS then (if is_utf8 line then verdict_of (read line) else Err BadJson) else Err TooLong
 
 -- the values that settings hold
 abbrev pub values_of : Settings → SettingsValues

@@ -3,6 +3,7 @@ use Rattle.std.specs.Prelude.{◌≡◌, ◌≤◌, ◌<◌, ◌^◌, length, ma
 use Rattle.std.specs.List.Sorted.{IsStrictlyIncreasing}
 use Rattle.sm_ranges.specs.Ranges.{IsLayout}
 use Rattle.sm_ranges.specs.ServerId.{IsServer}
+use Rattle.sm_settings.specs.declared.settings.TheConstants.{MAX_OPS, MAX_KEPT, MIN_CEILING, MAX_WORKERS}
 use Rattle.sm_settings.specs.SettingsLine.{SettingsValues}
 
 -- what holds of the values of every settings line that is accepted
@@ -22,10 +23,10 @@ pub record KeepsRules (s : SettingsValues) : Type 0 where
   pub places_of_groups : All (λ row. row.group < length s.groups) s.shards
   pub loads : All (λ row. row.load < 2 ^ 32) s.shards
   pub caps : All (λ row. row.cap ≤ 1) s.shards
-  pub ops : s.ops ≤ 4095
+  pub ops : s.ops ≤ MAX_OPS
   pub some_kept : 1 ≤ s.kept
-  pub few_kept : s.kept ≤ 1048576
-  pub ceiling_reaches : 3 ≤ s.ceiling
+  pub few_kept : s.kept ≤ MAX_KEPT
+  pub ceiling_reaches : MIN_CEILING ≤ s.ceiling
   pub ceiling_fits : s.ceiling < 2 ^ 36
   pub some_workers : 1 ≤ s.workers
-  pub few_workers : s.workers ≤ 8
+  pub few_workers : s.workers ≤ MAX_WORKERS

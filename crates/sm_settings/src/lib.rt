@@ -8,3 +8,6 @@ pub mod server_row;
 pub mod settings;
 pub mod settings_fault;
 pub mod shard_row;
+
+pub use settings::{MAX_SETTINGS, Settings};
+pub use settings_fault::SettingsFault;

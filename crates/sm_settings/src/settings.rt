@@ -14,6 +14,24 @@ use serde_json::Value;
 use sm_ranges::layout::Layout;
 use std::alloc::{AllocError, Global};
 
+/// The most bytes that a settings line may have, without its line feed.
+pub const MAX_SETTINGS: usize = 1 << 20;
+
+/// The most servers that may be away at once.
+pub const MAX_OPS: u64 = 4_095;
+
+/// The most requests that a shard may keep.
+pub const MAX_KEPT: u64 = 1_048_576;
+
+/// The least ceiling: an admission and its end take two generations.
+pub const MIN_CEILING: u64 = 3;
+
+/// The greatest ceiling: the greatest number of 36 bits.
+pub const MAX_CEILING: u64 = (1 << 36) - 1;
+
+/// The most workers that a server may have.
+pub const MAX_WORKERS: u64 = 8;
+
 /// What a settings line says: how the keys are cut into shards, the servers, groups and shards, and the limits of a run.
 #[derive(Debug, Drop)]
 pub struct Settings {
@@ -46,9 +64,9 @@ impl Settings {
         ensures decided { settings_of line.now ≢ Err SettingsFault.NoMemory }
         // An empty line, as where there is no line, is no JSON.
         ensures empty { settings_of [] ≡ Err SettingsFault.BadJson }
-        ensures too_long { 1048576 < length line.now → result ≡ Err SettingsFault.TooLong }
+        ensures too_long { MAX_SETTINGS < length line.now → result ≡ Err SettingsFault.TooLong }
     {
-        if line.len() > MAX_BYTES {
+        if line.len() > MAX_SETTINGS {
             return Err(SettingsFault::TooLong);
         }
         match Value::from_slice(alloc, line) {
@@ -58,11 +76,6 @@ impl Settings {
         }
     }
 }
-
-const MAX_BYTES: usize = 1 << 20;
-
-// The greatest number of 36 bits.
-const MAX_CEILING: u64 = (1 << 36) - 1;
 
 // The settings that a JSON value says, or the fault of the first rule that it breaks.
 fn judge(alloc: Global, value: &Value) -> Result<Settings, SettingsFault>
@@ -89,10 +102,16 @@ fn judge(alloc: Global, value: &Value) -> Result<Settings, SettingsFault>
     else {
         return Err(SettingsFault::BadShards);
     };
-    let ops = limit(value, "ops", 0, 4095, SettingsFault::BadOps)?;
-    let kept = limit(value, "kept", 1, 1_048_576, SettingsFault::BadKept)?;
-    let ceiling = limit(value, "ceiling", 3, MAX_CEILING, SettingsFault::BadCeiling)?;
-    let workers = limit(value, "workers", 1, 8, SettingsFault::BadWorkers)?;
+    let ops = limit(value, "ops", 0, MAX_OPS, SettingsFault::BadOps)?;
+    let kept = limit(value, "kept", 1, MAX_KEPT, SettingsFault::BadKept)?;
+    let ceiling = limit(
+        value,
+        "ceiling",
+        MIN_CEILING,
+        MAX_CEILING,
+        SettingsFault::BadCeiling,
+    )?;
+    let workers = limit(value, "workers", 1, MAX_WORKERS, SettingsFault::BadWorkers)?;
     Ok(Settings {
         layout,
         servers,

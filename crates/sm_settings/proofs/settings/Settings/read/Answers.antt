@@ -3,14 +3,15 @@ use Rattle.std.proofs.lemmas.Bool.{false≢true}
 use Rattle.std.proofs.lemmas.Result.{IfOk-weaker, IfErr-weaker}
 use Rattle.serde_json.specs.View.{view}
 use Rattle.sm_settings.specs.declared.settings_fault.SettingsFault.TheVariants.{NoMemory}
-use Rattle.sm_settings.specs.SettingsLine.{values_of, settings_of, settings_of_long}
+use Rattle.sm_settings.specs.SettingsLine.{values_of, settings_of}
+use Rattle.sm_settings.specs.lemmas.LongLines.{settings_of_long}
 use Rattle.sm_settings.specs.SettingsRules.{KeepsRules}
 use Rattle.sm_settings.proofs.Rules.{verdict_keeps}
 use Rattle.sm_settings.proofs.Lines.{settings_of_read, settings_of_unread}
 use Rattle.sm_settings.proofs.settings.Settings.read.Goals as goal
 
-pub returns-then-line-gt-MAX_BYTES-clause-err : goal.returns-then-line-gt-MAX_BYTES-clause-err
-returns-then-line-gt-MAX_BYTES-clause-err c _ = settings_of_long c.args.line.now (omega arith)
+pub returns-then-line-gt-MAX_SETTINGS-clause-err : goal.returns-then-line-gt-MAX_SETTINGS-clause-err
+returns-then-line-gt-MAX_SETTINGS-clause-err c _ = settings_of_long c.args.line.now (omega arith)
 
 pub returns-in-Ok-clause-ok : goal.returns-in-Ok-clause-ok
 returns-in-Ok-clause-ok c =

@@ -1,0 +1,254 @@
+-- Where a run stopped, and what it had written by then.
+use Rattle.std.proofs.Common.{◌≡◌, ◌≢◌, All, ◌<◌, ◌≤◌, ◌+◌, ◌-◌, ◌++◌, ◌∷◌, [], Bool, true, ℕ, List, length, take, ap, sym, ◌∙◌, subst, refl, arith, ◌⊎◌, inl, inr, append_assoc, append-nil, Option, Some, None, Ok}
+use Rattle.std.proofs.lemmas.Bool.{cases_lt}
+use Rattle.std.proofs.lemmas.List.{take-append-le}
+use Rattle.std.proofs.Math.Seq.{take-append-add}
+use Rattle.std.proofs.KnownBytes.{Appends-nil, Consumes-nil, Consumes-trans}
+use Rattle.std.proofs.lemmas.List.Elements.{All-nil, All-cons, All-head}
+use Rattle.std.specs.Io.KnownBytes.{Appends, Consumes, prepend_known}
+use Rattle.sm_lines.specs.Answers.{AnswersAll, HasLines, IsAllRead, LosesLines, ReadingStopped, StopsAfter}
+use Rattle.sm_lines.specs.Lines.{lines_of, with_feeds, HadFeed, LosesLine, TookLines, TookPart}
+use Rattle.sm_lines.specs.Reading.{Reading, unread}
+use Rattle.sm_lines.specs.declared.watch.TheConstants.{COUNT_LIMIT}
+use Rattle.sm_settings.specs.SettingsLine.{SettingsValues, settings_of, values_of}
+use Rattle.sm_settings.specs.declared.settings.Settings.{Settings}
+use Rattle.sm_run.specs.declared.opening.Opening.{Opening}
+use Rattle.sm_run.specs.declared.opening.Opening.TheVariants.{Accepted}
+use Rattle.sm_run.specs.Openings.{IsOpening}
+use Rattle.sm_run.specs.Runs.{AreFirst, IsSession, StoppedAt, StoppedReading, StoppedWriting, WritesFor, WroteBefore}
+use Rattle.sm_run.specs.Sessions.{SessionShort, SessionTo}
+
+-- ---- the first lines of the input
+
+-- no line at all
+first_none : (input : Option (List ℕ)) → AreFirst input []
+first_none None = tt
+first_none (Some bytes) = (lines_of bytes, refl)
+
+first_more : (input mid : Option (List ℕ)) (first : List ℕ) (lines : List (List ℕ)) → LosesLine input mid first → AreFirst mid lines → AreFirst input (first ∷ lines)
+first_more None mid first lines lost are = tt
+first_more (Some bytes) None first lines lost are = absurd lost
+first_more (Some bytes) (Some left) first lines lost (rest, are) = (rest, lost ∙ ap (λ (all : List (List ℕ)). first ∷ all) are)
+
+first_lost : (input left : Option (List ℕ)) (lines : List (List ℕ)) → LosesLines input left lines → AreFirst input lines
+first_lost None left lines lost = tt
+first_lost (Some bytes) None lines lost = absurd lost
+first_lost (Some bytes) (Some left) lines lost = (lines_of left, lost)
+
+first_all : (input : Option (List ℕ)) (lines : List (List ℕ)) → HasLines input lines → AreFirst input lines
+first_all None lines are = tt
+first_all (Some bytes) lines are = ([], are ∙ sym (append-nil lines))
+
+first_short : (input left : Option (List ℕ)) (lines : List (List ℕ)) → HasLines input lines ⊎ StopsAfter input left lines → AreFirst input lines
+first_short input left lines (inl all) = first_all input lines all
+first_short input left lines (inr stops) = first_lost input stops.next lines stops.lost
+
+-- fewer lines
+first_fewer : (input : Option (List ℕ)) (lines rest : List (List ℕ)) → AreFirst input (lines ++ rest) → AreFirst input lines
+first_fewer None lines rest are = tt
+first_fewer (Some bytes) lines rest (more, are) = (rest ++ more, are ∙ append_assoc lines rest more)
+
+-- where nothing is held, what is unread is what the reader has left
+pub nothing_held : (held : List ℕ) (left : Option (List ℕ)) → held ≡ [] → prepend_known held left ≡ left
+nothing_held held None none = refl
+nothing_held held (Some bytes) none = ap (λ (h : List ℕ). Some (h ++ bytes)) none
+
+-- ---- the first line
+
+-- nothing was written, and no line was read whole
+pub none_read : (writes : List (List ℕ) → List ℕ → Type 0) (failed : Bool) (calls : ℕ) (before after : Reading) (input left old : Option (List ℕ))
+    → writes [] [] → before.held ≡ [] → TookPart (unread before input) (unread after left) → after.held ≡ [] → (failed ≡ true) ⊎ (COUNT_LIMIT ≤ calls)
+    → StoppedReading writes failed calls input left old old
+none_read writes failed calls before after input left old none none_before part none_after why =
+    let P : Option (List ℕ) → Type 0 = λ i. TookPart i (unread after left) in
+    let Q : Option (List ℕ) → Type 0 = λ l. TookPart input l in
+    let of = subst Q (nothing_held after.held left none_after) (subst P (nothing_held before.held input none_before) part) in
+    record {
+      before = [];
+      why = inl (record { next = input; took = record { plain = All-nil (λ line. All (λ b. b ≢ 10) line); lost = Consumes-nil input }; part = of }, why);
+      wrote = record { text = []; is = none; wrote = Appends-nil old };
+    }
+
+-- nothing was written
+pub none_written : (writes : List (List ℕ) → List ℕ → Type 0) (input old new : Option (List ℕ)) → writes [] [] → new ≡ old → StoppedAt writes input old new
+none_written writes input old new none same =
+    let P : Option (List ℕ) → Type 0 = λ n. Appends old n [] in
+    record { before = []; are = first_none input; wrote = record { text = []; is = none; wrote = subst P (sym same) (Appends-nil old) } }
+
+-- the first line of the input was taken off as these settings
+pub record Opened (ended : Bool) (input left : Option (List ℕ)) (settings : SettingsValues) : Type 0 where
+  pub first : List ℕ
+  pub lost : LosesLine input left first
+  pub feed : HadFeed ended input left first
+  pub accepted : settings_of first ≡ Ok settings
+
+pub opened : (ended : Bool) (lines : Reading) (input left : Option (List ℕ)) (opening : Opening) (settings : Settings)
+    → lines.held ≡ [] → opening ≡ Accepted settings → IsOpening ended (unread lines input) left opening → Opened ended input left (values_of settings)
+opened ended lines input left opening settings none is opens =
+    let P : Opening → Type 0 = λ o. IsOpening ended (unread lines input) left o in
+    let Q : Option (List ℕ) → Type 0 = λ i. IsOpening ended i left (Accepted settings) in
+    let o = subst Q (nothing_held lines.held input none) (subst P is opens) in
+    record { first = o.0; lost = o.1; feed = o.2; accepted = o.3 }
+
+-- ---- the lines after the settings
+
+-- the lines that were read whole, with the settings' line in front
+all_read_more : (input mid left : Option (List ℕ)) (first : List ℕ) (done : List (List ℕ)) → TookLines input mid (first ∷ []) → IsAllRead mid left done → IsAllRead input left (first ∷ done)
+all_read_more input mid left first done one all =
+    let P : List ℕ → Type 0 = λ line. All (λ b. b ≢ 10) line in
+    let Q : List ℕ → Type 0 = λ r. Consumes input all.next r in
+    record {
+      next = all.next;
+      took = record {
+        plain = All-cons P first done (All-head P first [] one.plain) all.took.plain;
+        lost = subst Q (append_assoc first (10 ∷ []) (with_feeds done)) (Consumes-trans input mid all.next (first ++ 10 ∷ []) (with_feeds done) one.lost all.took.lost);
+      };
+      part = all.part;
+    }
+
+-- the answers to the lines after the settings are what a run has to write
+session_wrote : {S : Type 0} (begins : SettingsValues → S → Type 0) (answers : S → List ℕ → List ℕ → S → Type 0) (settings : SettingsValues) (old new : Option (List ℕ)) (first : List ℕ) (done : List (List ℕ))
+    → settings_of first ≡ Ok settings → SessionTo begins answers settings old new done → WroteBefore (WritesFor begins answers) old new (first ∷ done)
+session_wrote begins answers settings old new first done accepted s = record {
+  text = s.ran.text;
+  is = record { settings = settings; begun = s.begun; ended = s.ended; accepted = accepted; began = s.began; answered = s.ran.answered };
+  wrote = s.ran.wrote;
+}
+
+pub read_session : {S : Type 0} (begins : SettingsValues → S → Type 0) (answers : S → List ℕ → List ℕ → S → Type 0) (settings : SettingsValues) (before after : Reading) (failed : Bool) (calls : ℕ)
+    (input mid left old new : Option (List ℕ)) (done : List (List ℕ))
+    → Opened before.ended input mid settings → SessionTo begins answers settings old new done → ReadingStopped before after failed calls mid (unread after left) done
+    → StoppedReading (WritesFor begins answers) failed calls input left old new
+read_session begins answers settings before after failed calls input mid left old new done o s (inl stop) =
+    let P : Option (List ℕ) → Type 0 = λ l. IsAllRead mid l done in
+    let all = subst P (nothing_held after.held left stop.none_held) stop.all_read in
+    record {
+      before = o.first ∷ done;
+      why = inl (all_read_more input mid left o.first done (o.feed stop.unseen) all, stop.why);
+      wrote = session_wrote begins answers settings old new o.first done o.accepted s;
+    }
+read_session begins answers settings before after failed calls input mid left old new done o s (inr counted) =
+    let many = counted.many in
+    record {
+      before = o.first ∷ done;
+      why = inr (first_more input mid o.first done o.lost (first_lost mid (unread after left) done counted.lost), omega (arith, many));
+      wrote = session_wrote begins answers settings old new o.first done o.accepted s;
+    }
+
+pub memory_session : {S : Type 0} (begins : SettingsValues → S → Type 0) (answers : S → List ℕ → List ℕ → S → Type 0) (settings : SettingsValues) (ended : Bool)
+    (input mid left old new : Option (List ℕ)) (done : List (List ℕ))
+    → Opened ended input mid settings → SessionTo begins answers settings old new done → StopsAfter mid left done
+    → StoppedAt (WritesFor begins answers) input old new
+memory_session begins answers settings ended input mid left old new done o s stops = record {
+  before = o.first ∷ done;
+  are = first_more input mid o.first done o.lost (first_lost mid stops.next done stops.lost);
+  wrote = session_wrote begins answers settings old new o.first done o.accepted s;
+}
+
+-- ---- a front of the answers
+
+-- a front of the answers to lines: all answers to the lines before one, and a front of its own
+record Cut {S : Type 0} (answers : S → List ℕ → List ℕ → S → Type 0) (before : S) (lines : List (List ℕ)) (text : List ℕ) (count : ℕ) : Type 0 where
+  done : List (List ℕ)
+  line : List ℕ
+  rest : List (List ℕ)
+  are : lines ≡ done ++ line ∷ rest
+  sent : List ℕ
+  answer : List ℕ
+  mid : S
+  after : S
+  answered : AnswersAll answers before done sent mid
+  next : answers mid line answer after
+  left : ℕ
+  cut : take count text ≡ sent ++ take left answer
+
+-- the cut is at the first line
+cut_first : {S : Type 0} (answers : S → List ℕ → List ℕ → S → Type 0) (before between : S) (line : List ℕ) (lines : List (List ℕ)) (text first : List ℕ) (count : ℕ)
+    → answers before line first between → take count text ≡ take count first → Cut answers before (line ∷ lines) text count
+cut_first answers before between line lines text first count gives cut =
+    record { done = []; line = line; rest = lines; are = refl; sent = []; answer = first; mid = before; after = between; answered = (refl, refl); next = gives; left = count; cut = cut }
+
+-- the cut is after the answer to the first line
+cut_later : {S : Type 0} (answers : S → List ℕ → List ℕ → S → Type 0) (before between : S) (line : List ℕ) (lines : List (List ℕ)) (text first rest : List ℕ) (count : ℕ)
+    → answers before line first between → text ≡ first ++ rest → length first < count
+    → ((lines ≡ []) × (rest ≡ [])) ⊎ Cut answers between lines rest (count - length first) → Cut answers before (line ∷ lines) text count
+cut_later answers before between line lines text first rest count gives is more (inl none) =
+    cut_first answers before between line lines text first count gives
+    (ap (take count) is ∙ ap (λ (r : List ℕ). take count (first ++ r)) none.1 ∙ ap (take count) (append-nil first))
+cut_later answers before between line lines text first rest count gives is more (inr c) =
+    let sum : count ≡ length first + (count - length first) = omega (arith, more) in
+    record {
+      done = line ∷ c.done;
+      line = c.line;
+      rest = c.rest;
+      are = ap (λ (l : List (List ℕ)). line ∷ l) c.are;
+      sent = first ++ c.sent;
+      answer = c.answer;
+      mid = c.mid;
+      after = c.after;
+      answered = (first, c.sent, between, refl, gives, c.answered);
+      next = c.next;
+      left = c.left;
+      cut = ap (take count) is ∙ ap (λ n. take n (first ++ rest)) sum ∙ take-append-add first rest (count - length first)
+          ∙ ap (λ (r : List ℕ). first ++ r) c.cut ∙ sym (append_assoc first c.sent (take c.left c.answer));
+    }
+
+cut_at : {S : Type 0} (answers : S → List ℕ → List ℕ → S → Type 0) (before after : S) (lines : List (List ℕ)) (text : List ℕ) (count : ℕ)
+    → AnswersAll answers before lines text after → ((lines ≡ []) × (text ≡ [])) ⊎ Cut answers before lines text count
+cut_at answers before after [] text count all = inl (refl, all.0)
+cut_at answers before after (line ∷ lines) text count (first, rest, between, is, gives, all) = elim (cases_lt (length first) count) [
+  | inl more ↦ inr (cut_later answers before between line lines text first rest count gives is more (cut_at answers between after lines rest (count - length first) all))
+  | inr few ↦ inr (cut_first answers before between line lines text first count gives (ap (take count) is ∙ take-append-le count first rest few))
+]
+
+-- one more line
+answers_more : {S : Type 0} (answers : S → List ℕ → List ℕ → S → Type 0) (before mid after : S) (done : List (List ℕ)) (line text more : List ℕ)
+    → AnswersAll answers before done text mid → answers mid line more after → AnswersAll answers before (done ++ line ∷ []) (text ++ more) after
+answers_more {S} answers before mid after [] line text more all one =
+    let P : S → Type 0 = λ x. answers x line more after in
+    (more, [], after, ap (λ t. t ++ more) all.0 ∙ sym (append-nil more), subst P all.1 one, (refl, refl))
+answers_more answers before mid after (l ∷ done) line text more all one =
+    (all.0, all.1 ++ more, all.2, ap (λ t. t ++ more) all.3 ∙ append_assoc all.0 all.1 more, all.4, answers_more answers all.2 mid after done line all.1 more all.5 one)
+
+-- a front of a session's answers was written
+pub write_session : {S : Type 0} (begins : SettingsValues → S → Type 0) (answers : S → List ℕ → List ℕ → S → Type 0) (settings : SettingsValues) (ended : Bool)
+    (input mid left old new : Option (List ℕ))
+    → Opened ended input mid settings → SessionShort begins answers settings mid left old new
+    → StoppedWriting (WritesFor begins answers) input old new
+write_session {S} begins answers settings ended input mid left old new o s =
+    at_cut (cut_at answers s.begun s.ran.after s.ran.done s.ran.text s.ran.wrote.count s.ran.answered)
+  where
+    are : AreFirst input (o.first ∷ s.ran.done)
+    are = first_more input mid o.first s.ran.done o.lost (first_short mid left s.ran.done s.ran.stops)
+
+    session : (lines : List (List ℕ)) (text : List ℕ) (ended : S) → AnswersAll answers s.begun lines text ended → IsSession begins answers o.first lines text
+    session lines text ended all = record { settings = settings; begun = s.begun; ended = ended; accepted = o.accepted; began = s.began; answered = all }
+
+    at_cut : ((s.ran.done ≡ []) × (s.ran.text ≡ [])) ⊎ Cut answers s.begun s.ran.done s.ran.text s.ran.wrote.count → StoppedWriting (WritesFor begins answers) input old new
+    at_cut (inl none) =
+        let P : List ℕ → Type 0 = λ t. Appends old new (take s.ran.wrote.count t) in
+        record {
+          before = [];
+          line = o.first;
+          are = first_fewer input (o.first ∷ []) s.ran.done are;
+          text = [];
+          answer = [];
+          whole = refl;
+          next = session [] [] s.begun (refl, refl);
+          count = s.ran.wrote.count;
+          wrote = subst P none.1 s.ran.wrote.wrote;
+        }
+    at_cut (inr c) =
+        let P : List (List ℕ) → Type 0 = λ l. AreFirst input (o.first ∷ l) in
+        let Q : List ℕ → Type 0 = λ t. Appends old new t in
+        record {
+          before = o.first ∷ c.done;
+          line = c.line;
+          are = first_fewer input (o.first ∷ (c.done ++ c.line ∷ [])) c.rest (subst P (c.are ∙ sym (append_assoc c.done (c.line ∷ []) c.rest)) are);
+          text = c.sent;
+          answer = c.answer;
+          whole = session c.done c.sent c.mid c.answered;
+          next = session (c.done ++ c.line ∷ []) (c.sent ++ c.answer) c.after (answers_more answers s.begun c.mid c.after c.done c.line c.sent c.answer c.answered c.next);
+          count = c.left;
+          wrote = subst Q c.cut s.ran.wrote.wrote;
+        }

@@ -1,0 +1,4 @@
+pub mod Openings
+pub mod Runs
+pub mod Sessions
+pub mod lemmas

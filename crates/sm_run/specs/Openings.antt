@@ -1,0 +1,49 @@
+-- The settings in front of a script.
+use Rattle.std.specs.Prelude.{◌≡◌, Bool, ℕ, List, [], ◌∷◌, ◌++◌, ⊤, Option, None, Some, Result, Ok, Err, codes}
+use Rattle.std.specs.Io.KnownBytes.{Appends}
+use Rattle.sm_lines.specs.Lines.{lines_of, HadFeed, LosesLine}
+use Rattle.sm_lines.specs.Sending.{WroteFront}
+use Rattle.sm_settings.specs.SettingsFault.{name_of}
+use Rattle.sm_settings.specs.SettingsLine.{SettingsValues, settings_of, values_of}
+use Rattle.sm_settings.specs.SettingsRules.{KeepsRules}
+use Rattle.sm_settings.specs.declared.settings_fault.SettingsFault.{SettingsFault}
+use Rattle.sm_settings.specs.declared.settings_fault.SettingsFault.TheVariants.{BadJson}
+use Rattle.sm_run.specs.declared.opening.Opening.{Opening}
+use Rattle.sm_run.specs.declared.opening.Opening.TheVariants.{Accepted, Refused}
+
+-- the answer to settings that aren't accepted
+abbrev pub settings_line : SettingsFault → List ℕ
+settings_line fault = codes "settings " ++ name_of fault ++ 10 ∷ []
+
+-- the settings in front of a script: those of its first line; where there is no line, there is no JSON
+abbrev pub settings_in : List (List ℕ) → Result SettingsValues SettingsFault
+settings_in [] = Err BadJson
+settings_in (first ∷ lines) = settings_of first
+
+-- a fact on the bytes, where they are known
+abbrev pub IfKnown : Option (List ℕ) → (List ℕ → Type 0) → Type 0
+IfKnown None fact = ⊤
+IfKnown (Some bytes) fact = fact bytes
+
+-- the first line of the input was taken off as settings, or refused
+abbrev pub IsOpening : Bool → Option (List ℕ) → Option (List ℕ) → Opening → Type 0
+IsOpening ended input left (Accepted settings) = (first : List ℕ) × LosesLine input left first × HadFeed ended input left first
+    × (settings_of first ≡ Ok (values_of settings)) × KeepsRules (values_of settings)
+IsOpening ended input left (Refused fault) = IfKnown input (λ bytes. settings_in (lines_of bytes) ≡ Err fault)
+
+-- a line was read as settings, or refused
+abbrev pub ReadsAs : List ℕ → Opening → Type 0
+ReadsAs line (Accepted settings) = (settings_of line ≡ Ok (values_of settings)) × KeepsRules (values_of settings)
+ReadsAs line (Refused fault) = settings_of line ≡ Err fault
+
+-- the settings in front of the input were refused, and what was written is their fault
+pub record RefusedScript (input old new : Option (List ℕ)) : Type 0 where
+  pub fault : SettingsFault
+  pub refused : IfKnown input (λ bytes. settings_in (lines_of bytes) ≡ Err fault)
+  pub wrote : Appends old new (settings_line fault)
+
+-- the settings in front of the input were refused, and a front of their fault was written
+pub record RefusedShort (input old new : Option (List ℕ)) : Type 0 where
+  pub fault : SettingsFault
+  pub refused : IfKnown input (λ bytes. settings_in (lines_of bytes) ≡ Err fault)
+  pub wrote : WroteFront old new (settings_line fault)

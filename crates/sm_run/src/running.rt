@@ -1,0 +1,128 @@
+ghost use Rattle.std.specs.Prelude.{◌≡◌, ◌≢◌, ◌⊎◌, ◌*◌, ◌≤◌, ℕ, List, IfOk, OnOk, Ok, Err, true, false};
+ghost use Rattle.std.specs.Io.KnownBytes.{IsAtEnd};
+ghost use Rattle.sm_lines.specs.Answers.{Answers, ReadingStopped, StopsAfter};
+ghost use Rattle.sm_lines.specs.Reading.{unread, CallsFit, EndStands, HeldGiven};
+ghost use Rattle.sm_settings.specs.SettingsLine.{values_of};
+ghost use Rattle.sm_settings.specs.SettingsRules.{KeepsRules};
+ghost use Rattle.sm_run.specs.Openings.{RefusedScript, RefusedShort};
+ghost use Rattle.sm_run.specs.Runs.{RanScript, StoppedAt, StoppedReading, StoppedWriting, WritesFor};
+ghost use Rattle.sm_run.specs.Sessions.{RanSession, SessionShort, SessionTo};
+
+use crate::engine::Engine;
+use crate::opening::{Opening, open, refuse};
+use crate::outcome::{RunFault, Status};
+use sm_lines::{COUNT_LIMIT, LineReader, PIECE, Watched, answer_lines};
+use sm_settings::Settings;
+use std::alloc::Global;
+use std::io::{Read, Write};
+
+/// Runs the script of the reader on the engine, and writes its answers.
+///
+/// `Read` comes only where the reader failed, or 2^32 of its calls or lines were counted; `Write` only where the writer
+/// failed; `NoMemory` only where neither failed. The answers to all lines before the one at which a fault came were
+/// written, and nothing else, but for a front of that line's answer where writing failed.
+pub fn run<R: Read, W: Write, E: Engine>(
+    alloc: Global,
+    reader: &mut Watched<R>,
+    writer: &mut Watched<W>,
+    engine: &mut E,
+) -> Result<Status, RunFault>
+    ensures ran { result ≡ Ok Status.Ran
+        → RanScript E.begins (Answers E.Session.gives E.Session.gives_long E.MAX_LINE)
+        (R.remaining reader.old.inner) (W.contents writer.old.inner) (W.contents writer.new.inner) }
+    ensures read_all { result ≡ Ok Status.Ran → IsAtEnd (R.remaining reader.new.inner) }
+    ensures bad_settings { result ≡ Ok Status.BadSettings → RefusedScript
+        (R.remaining reader.old.inner) (W.contents writer.old.inner) (W.contents writer.new.inner) }
+    // Where reading stopped, all lines that were read whole were answered.
+    ensures read { result ≡ Err RunFault.Read → StoppedReading
+        (WritesFor E.begins (Answers E.Session.gives E.Session.gives_long E.MAX_LINE))
+        reader.new.failed reader.new.calls (R.remaining reader.old.inner)
+        (R.remaining reader.new.inner) (W.contents writer.old.inner) (W.contents writer.new.inner) }
+    // Where memory was refused, the lines before one were answered.
+    ensures no_memory { result ≡ Err RunFault.NoMemory → StoppedAt
+        (WritesFor E.begins (Answers E.Session.gives E.Session.gives_long E.MAX_LINE))
+        (R.remaining reader.old.inner) (W.contents writer.old.inner) (W.contents writer.new.inner) }
+    // Where writing failed, the lines before one, and then a front of that one's answer was written.
+    ensures write { result ≡ Err RunFault.Write → StoppedWriting
+        (WritesFor E.begins (Answers E.Session.gives E.Session.gives_long E.MAX_LINE))
+        (R.remaining reader.old.inner) (W.contents writer.old.inner) (W.contents writer.new.inner)
+        ⊎ RefusedShort (R.remaining reader.old.inner) (W.contents writer.old.inner)
+        (W.contents writer.new.inner) }
+    ensures write_failed { result ≡ Err RunFault.Write → writer.new.failed ≡ true }
+    // No failed call is hidden by another fault, but that a failed write may come after a failed read.
+    ensures reader_unfailed { result ≢ Err RunFault.Read → result ≢ Err RunFault.Write
+        → reader.new.failed ≡ reader.old.failed }
+    ensures writer_unfailed { result ≢ Err RunFault.Write → writer.new.failed ≡ writer.old.failed }
+    // The reader is called no more often than it gives bytes, but for one call that sees the end or fails.
+    ensures calls { CallsFit false true (R.remaining reader.old.inner)
+        (R.remaining reader.new.inner) reader.old.calls reader.new.calls }
+    // Nothing is read again once the end was seen.
+    ensures not_past_end { reader.old.ended ≡ false
+        → reader.new.read_past_end ≡ reader.old.read_past_end }
+    // Also of unknown bytes, `Read` comes only where the reader failed, or its calls could give as many bytes as lines or
+    // calls are counted.
+    ensures read_calls { result ≡ Err RunFault.Read → (reader.new.failed ≡ true)
+        ⊎ (COUNT_LIMIT ≤ PIECE * reader.new.calls) }
+{
+    let mut lines = LineReader::new(alloc)?;
+    match open(alloc, &mut lines, reader) {
+        Ok(Opening::Accepted(settings)) => run_session(
+            alloc, &mut lines, reader, writer, engine, settings,
+        ),
+        Ok(Opening::Refused(fault)) => refuse(alloc, writer, fault),
+        Err(fault) => Err(fault),
+    }
+}
+
+/// Runs the lines after the settings.
+fn run_session<R: Read, W: Write, E: Engine>(
+    alloc: Global,
+    lines: &mut LineReader,
+    reader: &mut Watched<R>,
+    writer: &mut Watched<W>,
+    engine: &mut E,
+    settings: Settings,
+) -> Result<Status, RunFault>
+    requires rules { KeepsRules (values_of settings) }
+    requires end_stands { EndStands lines.old (R.remaining reader.old.inner) }
+    ensures ran { OnOk result (RanSession E.begins
+        (Answers E.Session.gives E.Session.gives_long E.MAX_LINE) (values_of settings)
+        (unread lines.old (R.remaining reader.old.inner))
+        (W.contents writer.old.inner) (W.contents writer.new.inner)) }
+    ensures read_all { OnOk result (IsAtEnd (R.remaining reader.new.inner)) }
+    ensures status { IfOk result (λ status. status ≡ Status.Ran) }
+    ensures read { result ≡ Err RunFault.Read → (done : List (List ℕ))
+        × SessionTo E.begins (Answers E.Session.gives E.Session.gives_long E.MAX_LINE)
+        (values_of settings) (W.contents writer.old.inner) (W.contents writer.new.inner) done
+        × ReadingStopped lines.old lines.new reader.new.failed reader.new.calls
+        (unread lines.old (R.remaining reader.old.inner))
+        (unread lines.new (R.remaining reader.new.inner)) done }
+    // Either no session began, or this one ran up to a line.
+    ensures no_memory { result ≡ Err RunFault.NoMemory
+        → (writer.new ≡ writer.old) ⊎ ((done : List (List ℕ))
+        × SessionTo E.begins (Answers E.Session.gives E.Session.gives_long E.MAX_LINE)
+        (values_of settings) (W.contents writer.old.inner) (W.contents writer.new.inner) done
+        × StopsAfter (unread lines.old (R.remaining reader.old.inner))
+        (unread lines.new (R.remaining reader.new.inner)) done) }
+    ensures write { result ≡ Err RunFault.Write → SessionShort E.begins
+        (Answers E.Session.gives E.Session.gives_long E.MAX_LINE) (values_of settings)
+        (unread lines.old (R.remaining reader.old.inner))
+        (unread lines.new (R.remaining reader.new.inner)) (W.contents writer.old.inner)
+        (W.contents writer.new.inner) }
+    ensures write_failed { result ≡ Err RunFault.Write → writer.new.failed ≡ true }
+    ensures reader_unfailed { result ≢ Err RunFault.Read → result ≢ Err RunFault.Write
+        → reader.new.failed ≡ reader.old.failed }
+    ensures writer_unfailed { result ≢ Err RunFault.Write → writer.new.failed ≡ writer.old.failed }
+    ensures calls { CallsFit lines.old.ended true (R.remaining reader.old.inner)
+        (R.remaining reader.new.inner) reader.old.calls reader.new.calls }
+    ensures not_past_end { reader.old.ended ≡ lines.old.ended
+        → reader.new.read_past_end ≡ reader.old.read_past_end }
+    ensures read_calls { result ≡ Err RunFault.Read → HeldGiven lines.old reader.old.calls
+        → (reader.new.failed ≡ true) ⊎ (COUNT_LIMIT ≤ PIECE * reader.new.calls) }
+{
+    let mut session = engine.begin(settings)?;
+    match answer_lines(alloc, lines, reader, writer, &mut session, E::MAX_LINE) {
+        Ok(()) => Ok(Status::Ran),
+        Err(fault) => Err(RunFault::from(fault)),
+    }
+}
