@@ -6,7 +6,7 @@ use Rattle.std.specs.declared.cmp.Ordering.TheVariants.{Less, Equal, Greater}
 use Rattle.std.specs.Ordering.{nat_cmp, is_lt, is_le, is_ge, is_some_and, ordering_reverse, ordering_then, partial_ordering_then}
 use Rattle.std.specs.Cmp.Lexicographic.{slice_cmp, slice_partial_cmp}
 use Rattle.std.proofs.lemmas.Cmp.{nat_list_cmp_total}
-use Rattle.sm_ranges.specs.Ranges.{is_below, is_at_most}
+use Rattle.sm_ranges.specs.KeyOrder.{is_below, is_at_most}
 
 then_some : (o rest : Ordering) → partial_ordering_then (Some o) (Some rest) ≡ Some (ordering_then o rest)
 then_some Less rest = refl

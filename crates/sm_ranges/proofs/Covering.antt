@@ -10,7 +10,8 @@ use Rattle.std.proofs.lemmas.Bool.{cases_lt, true≢false}
 use Rattle.std.proofs.lemmas.Cmp.{nat_list_cmp_total}
 use Rattle.std.proofs.lemmas.List.Sorted.{searchable_from_sorted}
 use Rattle.std.proofs.lemmas.Option.{slice_get-get_or, slice_get_past, get_or_from_slice_get}
-use Rattle.sm_ranges.specs.Ranges.{is_below, is_at_most, Covers, IsLayout, shard_of}
+use Rattle.sm_ranges.specs.Ranges.{Covers, IsLayout, shard_of}
+use Rattle.sm_ranges.specs.KeyOrder.{is_below, is_at_most}
 use Rattle.sm_ranges.proofs.Comparisons.{is_below-flip, at_most_empty, below_back}
 use Rattle.sm_ranges.proofs.Places.{count_by-prefix}
 

@@ -5,7 +5,7 @@ use Rattle.std.specs.List.{zip}
 use Rattle.std.specs.Option.{option_map}
 use Rattle.std.specs.Borrow.{Bor}
 use Rattle.std.proofs.lemmas.List.{drop-map}
-use Rattle.sm_ranges.specs.Ranges.{is_below}
+use Rattle.sm_ranges.specs.KeyOrder.{is_below}
 use Rattle.sm_ranges.specs.LayoutFault.{texts_of, first_not_rising}
 use Rattle.sm_ranges.proofs.Places.{position-map, zip-map}
 

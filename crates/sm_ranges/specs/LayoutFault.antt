@@ -3,7 +3,8 @@ use Rattle.std.specs.Prelude.{ℕ, ◌+◌, nat_lt, not, List, [], ◌∷◌, le
 use Rattle.std.specs.List.{zip}
 use Rattle.std.specs.Option.{option_map, option_or}
 use Rattle.std.specs.Borrow.{Bor}
-use Rattle.sm_ranges.specs.Ranges.{is_below}
+use Rattle.sm_ranges.specs.KeyOrder.{is_below}
+use Rattle.sm_ranges.specs.declared.limits.TheConstants.{MAX_KEY, MAX_SHARDS}
 use Rattle.sm_ranges.specs.declared.layout.LayoutFault.{LayoutFault}
 use Rattle.sm_ranges.specs.declared.layout.LayoutFault.TheVariants.{Empty, FirstNotEmpty, NotRising, KeyTooLong, TooMany}
 
@@ -15,9 +16,9 @@ texts_of bounds = map (λ bound. bound.now) bounds
 abbrev pub first_not_rising : List (List ℕ) → Option ℕ
 first_not_rising bounds = option_map (λ low. low + 1) (position (λ pair. not (is_below pair.0 pair.1)) (zip bounds (drop 1 bounds)))
 
--- the first place whose bound has over 255 bytes
+-- the first place whose bound has more bytes than a key may have
 abbrev pub first_too_long : List (List ℕ) → Option ℕ
-first_too_long bounds = position (λ bound. nat_lt 255 (length bound)) bounds
+first_too_long bounds = position (λ bound. nat_lt MAX_KEY (length bound)) bounds
 
 -- the first fault that applies, in the order Empty, FirstNotEmpty, NotRising, KeyTooLong, TooMany; none where the bounds make a layout
 abbrev pub first_layout_fault : List (List ℕ) → Option LayoutFault
@@ -26,4 +27,4 @@ first_layout_fault ((byte ∷ bytes) ∷ bounds) = Some FirstNotEmpty
 first_layout_fault ([] ∷ bounds) =
     option_or (option_map NotRising (first_not_rising ([] ∷ bounds)))
     (option_or (option_map KeyTooLong (first_too_long ([] ∷ bounds)))
-    (if nat_lt 4096 (length ([] ∷ bounds)) then Some TooMany else None))
+    (if nat_lt MAX_SHARDS (length ([] ∷ bounds)) then Some TooMany else None))

@@ -1,6 +1,9 @@
 pub mod Key
+pub mod KeyOrder
+pub mod Keyed
 pub mod LayoutFault
 pub mod Ranges
 pub mod ServerId
 pub mod ShardId
+pub mod Stand
 pub mod lemmas

@@ -1,16 +1,8 @@
--- Ranges of keys between bounds. Keys are compared byte by byte, as unsigned numbers, and a proper prefix comes first.
-use Rattle.std.specs.Prelude.{◌≡◌, ℕ, ◌+◌, ◌-◌, ◌≤◌, Bool, IsTrue, List, [], length, All, count_by, slice_get, Some, IfSome, IsSomeAnd}
+-- Ranges of keys between bounds.
+use Rattle.std.specs.Prelude.{◌≡◌, ℕ, ◌+◌, ◌-◌, ◌≤◌, IsTrue, List, [], length, All, count_by, slice_get, Some, IfSome, IsSomeAnd}
 use Rattle.std.specs.List.{AllAdjacentBelow}
-use Rattle.std.specs.Ordering.{nat_cmp, is_lt, is_le}
-use Rattle.std.specs.Cmp.Lexicographic.{slice_cmp}
-
--- the first key comes before the second
-abbrev pub is_below : List ℕ → List ℕ → Bool
-is_below first second = is_lt (slice_cmp nat_cmp first second)
-
--- the first key comes before the second, or is the second
-abbrev pub is_at_most : List ℕ → List ℕ → Bool
-is_at_most first second = is_le (slice_cmp nat_cmp first second)
+use Rattle.sm_ranges.specs.declared.limits.TheConstants.{MAX_KEY, MAX_SHARDS}
+use Rattle.sm_ranges.specs.KeyOrder.{is_below, is_at_most}
 
 -- bound k is at most the key, and the key is below bound k + 1 where there is one
 abbrev pub Covers : List (List ℕ) → ℕ → List ℕ → Type 0
@@ -25,7 +17,7 @@ shard_of bounds key = count_by (λ bound. is_at_most bound key) bounds - 1
 -- bounds that cut the key space into 1 to 4,096 ranges: they rise from the empty one, and have at most 255 bytes each
 pub record IsLayout (bounds : List (List ℕ)) : Type 0 where
   pub some : 1 ≤ length bounds
-  pub few : length bounds ≤ 4096
+  pub few : length bounds ≤ MAX_SHARDS
   pub first_empty : slice_get bounds 0 ≡ Some []
   pub rising : AllAdjacentBelow (λ low high. IsTrue (is_below low high)) bounds (length bounds)
-  pub short : All (λ bound. length bound ≤ 255) bounds
+  pub short : All (λ bound. length bound ≤ MAX_KEY) bounds

@@ -1,2 +1,5 @@
 -- Lemmas that the proofs of crates above cite.
+pub mod Cuts
+pub mod KeyOrders
+pub mod Keyed
 pub mod Layouts

@@ -1,6 +1,7 @@
 ghost use Rattle.std.specs.Prelude.{◌≡◌, ◌↔◌, IfOk, IfErr, OnOk};
 ghost use Rattle.sm_ranges.specs.declared.key.KeyFault.TheVariants.{Empty, TooLong};
 
+use crate::limits::MAX_KEY;
 use std::alloc::{AllocError, Global};
 use std::marker::Model;
 use thiserror::Error;
@@ -55,12 +56,12 @@ impl Key {
         ensures ok { IfOk result (λ key. key ≡ bytes.now) }
         ensures is_key { OnOk result (IsKey bytes.now) }
         ensures empty { (result ≡ Err KeyFault.Empty) ↔ (length bytes.now ≡ 0) }
-        ensures too_long { (result ≡ Err KeyFault.TooLong) ↔ (255 < length bytes.now) }
+        ensures too_long { (result ≡ Err KeyFault.TooLong) ↔ (MAX_KEY < length bytes.now) }
     {
         if bytes.is_empty() {
             return Err(KeyFault::Empty);
         }
-        if bytes.len() > 255 {
+        if bytes.len() > MAX_KEY {
             return Err(KeyFault::TooLong);
         }
         Ok(Key {

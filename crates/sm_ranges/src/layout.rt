@@ -2,6 +2,7 @@ ghost use Rattle.std.specs.Prelude.{◌≡◌, ◌+◌, ◌<◌, ℕ, Some, leng
 ghost use Rattle.sm_ranges.specs.Ranges.{Covers, IsLayout, shard_of};
 ghost use Rattle.sm_ranges.specs.LayoutFault.{texts_of, first_not_rising, first_too_long, first_layout_fault};
 
+use crate::limits::{MAX_KEY, MAX_SHARDS};
 use crate::shard_id::ShardId;
 use std::alloc::{AllocError, Global};
 use std::marker::Model;
@@ -174,7 +175,7 @@ fn first_fault(bounds: &[&[u8]]) -> Option<LayoutFault>
     if let Some(at) = first_too_long(bounds) {
         return Some(LayoutFault::KeyTooLong { at });
     }
-    if bounds.len() > 4096 {
+    if bounds.len() > MAX_SHARDS {
         return Some(LayoutFault::TooMany);
     }
     None
@@ -193,7 +194,7 @@ fn first_not_rising(bounds: &[&[u8]]) -> Option<usize>
 fn first_too_long(bounds: &[&[u8]]) -> Option<usize>
     ensures { result ≡ first_too_long (texts_of bounds.now) }
 {
-    bounds.iter().position(|bound| bound.len() > 255)
+    bounds.iter().position(|bound| bound.len() > MAX_KEY)
 }
 
 fn copied(alloc: Global, bounds: &[&[u8]]) -> Result<Vec<Bound>, AllocError>

@@ -3,6 +3,14 @@
 
 pub mod key;
 pub mod layout;
+pub mod limits;
+pub mod order;
 pub mod server_id;
 pub mod shard_id;
 pub mod stand;
+
+pub use key::{Key, KeyFault};
+pub use layout::{Layout, LayoutFault};
+pub use server_id::ServerId;
+pub use shard_id::ShardId;
+pub use stand::Stand;

@@ -1,5 +1,6 @@
 ghost use Rattle.std.specs.Prelude.{◌≡◌, ◌≤◌, ◌↔◌, IsSome, IfSome};
 
+use crate::limits::MAX_SERVER;
 use std::fmt;
 use std::marker::Model;
 
@@ -30,7 +31,7 @@ impl ServerId {
         ensures known { IsSome result ↔ IsServer number }
         ensures value { IfSome result (λ server. server ≡ number) }
     {
-        if number >= 1 && number <= 4095 {
+        if number >= 1 && number <= MAX_SERVER {
             Some(ServerId { number })
         } else {
             None

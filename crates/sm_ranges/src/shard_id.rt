@@ -1,5 +1,6 @@
 ghost use Rattle.std.specs.Prelude.{◌≡◌, ◌≤◌, ◌↔◌, IsSome, IfSome};
 
+use crate::limits::MAX_SHARD;
 use std::fmt;
 use std::marker::Model;
 
@@ -30,7 +31,7 @@ impl ShardId {
         ensures known { IsSome result ↔ IsShard number }
         ensures value { IfSome result (λ shard. shard ≡ number) }
     {
-        if number <= 4095 {
+        if number <= MAX_SHARD {
             Some(ShardId { number })
         } else {
             None

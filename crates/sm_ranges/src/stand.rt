@@ -1,3 +1,6 @@
+ghost use Rattle.std.specs.Prelude.{◌≡◌};
+ghost use Rattle.sm_ranges.specs.Stand.{names, other_of, owner_of};
+
 use crate::server_id::ServerId;
 
 /// Who owns a shard, and how far a migration of it has come.
@@ -15,4 +18,38 @@ pub enum Stand {
     Taken { owner: ServerId, previous: ServerId },
     /// Nobody executes requests until the owner resumes or another server is assigned.
     Paused(ServerId),
+}
+
+impl Stand {
+    /// The owner, whom every stand but a vacant one names.
+    pub fn owner(&self) -> Option<ServerId>
+        ensures { result ≡ owner_of self.now }
+    {
+        match *self {
+            Stand::Vacant => None,
+            Stand::Serving(owner)
+            | Stand::Prepared { owner, .. }
+            | Stand::Forwarding { owner, .. }
+            | Stand::Taken { owner, .. }
+            | Stand::Paused(owner) => Some(owner),
+        }
+    }
+
+    /// The next or the previous server, which a stand names during a migration.
+    pub fn other(&self) -> Option<ServerId>
+        ensures { result ≡ other_of self.now }
+    {
+        match *self {
+            Stand::Prepared { next, .. } | Stand::Forwarding { next, .. } => Some(next),
+            Stand::Taken { previous, .. } => Some(previous),
+            Stand::Vacant | Stand::Serving(_) | Stand::Paused(_) => None,
+        }
+    }
+
+    /// Whether the stand names the server.
+    pub fn names(&self, server: ServerId) -> bool
+        ensures { result ≡ names self.now server }
+    {
+        self.owner() == Some(server) || self.other() == Some(server)
+    }
 }

@@ -7,7 +7,8 @@ use Rattle.std.proofs.lemmas.List.{get_or-replicate, length-replicate}
 use Rattle.std.proofs.lemmas.List.Elements.{All-nil, All-head, All-tail, All-append, All-push, All-take, All-drop}
 use Rattle.std.proofs.lemmas.List.Sums.{count_by-le-length}
 use Rattle.std.proofs.lemmas.Option.{slice_get_within, get_or_from_slice_get}
-use Rattle.sm_ranges.specs.Ranges.{IsLayout, is_at_most, shard_of}
+use Rattle.sm_ranges.specs.Ranges.{IsLayout, shard_of}
+use Rattle.sm_ranges.specs.KeyOrder.{is_at_most}
 use Rattle.sm_ranges.specs.ServerId.{IsServer}
 use Rattle.sm_ownership.specs.declared.admit_fault.AdmitFault.{AdmitFault}
 use Rattle.sm_ownership.specs.declared.change.Change.{Change}

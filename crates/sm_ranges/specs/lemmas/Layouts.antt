@@ -8,7 +8,8 @@ use Rattle.std.proofs.lemmas.Bool.Decides.{nat_tests}
 use Rattle.std.proofs.lemmas.List.{length-drop, get_or-drop, get_or_default}
 use Rattle.std.proofs.lemmas.List.Sums.{fails_before_first, position_or_len_is}
 use Rattle.std.proofs.lemmas.Slice.Zip.{length-zip, get_or-zip}
-use Rattle.sm_ranges.specs.Ranges.{is_below, IsLayout}
+use Rattle.sm_ranges.specs.Ranges.{IsLayout}
+use Rattle.sm_ranges.specs.KeyOrder.{is_below}
 use Rattle.sm_ranges.specs.LayoutFault.{first_not_rising, first_too_long, first_layout_fault}
 use Rattle.sm_ranges.specs.declared.layout.LayoutFault.{LayoutFault}
 use Rattle.sm_ranges.specs.declared.layout.LayoutFault.TheVariants.{NotRising, KeyTooLong, TooMany}

@@ -6,7 +6,7 @@ use Rattle.std.proofs.lemmas.Iterator.Search.{position_from_yields_List}
 use Rattle.std.specs.Ordering.{nat_cmp, is_ge, is_some_and}
 use Rattle.std.specs.Cmp.Lexicographic.{slice_partial_cmp}
 use borrow.Author.Tests.{tests}
-use Rattle.sm_ranges.specs.Ranges.{is_below}
+use Rattle.sm_ranges.specs.KeyOrder.{is_below}
 use Rattle.sm_ranges.proofs.Comparisons.{is_ge-not_below}
 use Rattle.sm_ranges.proofs.Layouts.{first_not_rising-found}
 use Rattle.sm_ranges.proofs.layout.first_not_rising.Goals as goal

@@ -3,7 +3,7 @@ use Rattle.std.specs.List.Sorted.{IsPartitionPoint}
 use Rattle.std.specs.Ordering.{nat_cmp, is_le, is_some_and}
 use Rattle.std.specs.Cmp.Lexicographic.{slice_partial_cmp}
 use Rattle.std.proofs.lemmas.List.Sorted.{IsPartitionPoint-from_clause}
-use Rattle.sm_ranges.specs.Ranges.{is_at_most}
+use Rattle.sm_ranges.specs.KeyOrder.{is_at_most}
 use Rattle.sm_ranges.proofs.Comparisons.{is_le-at_most}
 use Rattle.sm_ranges.proofs.Covering.{parted, some_reached, counted, covering, only}
 use Rattle.sm_ranges.proofs.layout.last_reached.Goals as goal

@@ -1,0 +1,39 @@
+-- The servers that a stand names.
+use Rattle.std.specs.Prelude.{ℕ, Bool, false, Option, Some, None, IfSome, ◌==◌, ◌||◌}
+use Rattle.sm_ranges.specs.declared.stand.Stand.{Stand}
+use Rattle.sm_ranges.specs.declared.stand.Stand.TheVariants.{Vacant, Serving, Prepared, Forwarding, Taken, Paused}
+
+-- the owner that a stand names
+abbrev pub owner_of : Stand → Option ℕ
+owner_of Vacant = None
+owner_of (Serving owner) = Some owner
+owner_of (Prepared owner next) = Some owner
+owner_of (Forwarding owner next) = Some owner
+owner_of (Taken owner previous) = Some owner
+owner_of (Paused owner) = Some owner
+
+-- the next or previous server that a stand names
+abbrev pub other_of : Stand → Option ℕ
+other_of Vacant = None
+other_of (Serving owner) = None
+other_of (Prepared owner next) = Some next
+other_of (Forwarding owner next) = Some next
+other_of (Taken owner previous) = Some previous
+other_of (Paused owner) = None
+
+-- whether there is a number, and it passes the test
+abbrev pub passes : (ℕ → Bool) → Option ℕ → Bool
+passes test None = false
+passes test (Some a) = test a
+
+-- whether a server that the stand names passes the test
+abbrev pub names_one : (ℕ → Bool) → Stand → Bool
+names_one test stand = passes test (owner_of stand) || passes test (other_of stand)
+
+-- whether the stand names the server
+abbrev pub names : Stand → ℕ → Bool
+names stand server = names_one (λ named. named == server) stand
+
+-- each server that the stand names is such
+abbrev pub AllNamed : (ℕ → Type 0) → Stand → Type 0
+AllNamed IsSuch stand = IfSome (owner_of stand) IsSuch × IfSome (other_of stand) IsSuch
