@@ -28,7 +28,8 @@ use Rattle.sm_table.specs.declared.world_answer.WorldAnswer.TheVariants.{Made, S
 use Rattle.sm_table.specs.declared.world_fault.WorldFault.{WorldFault}
 use Rattle.sm_table.specs.declared.world_fault.WorldFault.TheVariants as world
 use Rattle.sm_envelope.specs.declared.envelope.TheConstants.{MOST_HOPS}
-use Rattle.sm_table.specs.World.{Frame, Service, WorldState, Plain, outcome, world_record}
+use Rattle.sm_body.specs.Service.{Service}
+use Rattle.sm_table.specs.World.{Frame, WorldState, Plain, outcome, world_record}
 use Rattle.sm_settings.specs.SettingsLine.{SettingsValues}
 
 -- what the sample service means

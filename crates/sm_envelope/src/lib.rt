@@ -1,4 +1,15 @@
 //! Requests on their way to a shard, and why one is refused.
+//!
+//! A server that forwards requests on a shard sends an envelope on to the shard's other server, up to [`MOST_HOPS`] times:
+//!
+//! ```rust
+//! let envelope = Envelope::new(7, k, b'a');
+//! let (to, envelope) = match envelope.forwarded(&state, owner) {
+//!     Ok(forwarded) => forwarded,
+//!     Err(_) => return Err("not forwarded by the owner".into()),
+//! };
+//! assert_eq!(rt; (to, envelope.hops(), envelope.mode()), (next, 1, Mode::Forwarded(owner)));
+//! ```
 #![tactic(auto)]
 
 pub mod envelope;

@@ -13,7 +13,8 @@ use Rattle.sm_table.specs.declared.step.Step.TheVariants.{Deliver}
 use Rattle.sm_table.specs.declared.world_answer.WorldAnswer.{WorldAnswer}
 use Rattle.sm_table.specs.declared.world_answer.WorldAnswer.TheVariants.{Began, Refused}
 use Rattle.sm_envelope.specs.Envelope.{EnvelopeView, forwarded, sent_on}
-use Rattle.sm_table.specs.World.{Service, WorldState, Plain, world_record, hand_of, reached, after_hop, without_flight, mark_of, outcome}
+use Rattle.sm_body.specs.Service.{Service}
+use Rattle.sm_table.specs.World.{WorldState, Plain, world_record, hand_of, reached, after_hop, without_flight, mark_of, outcome}
 use Rattle.sm_table.specs.Standing.{WorldView, StandsFor, Follows, with_admission}
 use Rattle.sm_table.proofs.Admissions.{entered, entered_parts, entered_keeps}
 use Rattle.sm_table.proofs.Parts.{parts_of, parts-from_StandsFor, Follows-changed}

@@ -10,9 +10,8 @@ use Rattle.sm_table.specs.declared.flight.Flight.{Flight}
 use Rattle.sm_table.specs.declared.in_hand.InHand.{InHand}
 use Rattle.sm_ownership.specs.History.{vacant}
 use Rattle.sm_table.specs.World.{Frame, empty_world}
-use Rattle.sm_table.specs.Standing.{IsFrame, WorldView, StandsFor}
-use Rattle.sm_table.specs.Together.{IsTogether}
-use Rattle.sm_table.proofs.Soundness.{sound_empty}
+use Rattle.sm_table.specs.Standing.{IsFrame, WorldView, StandsFor, IsTogether}
+use Rattle.sm_table.specs.lemmas.Soundness.{sound_empty}
 
 no_hand : {Q : Type 0} (count shard : ℕ) (hand : InHand Q) → slice_index_or (replicate count None) shard None ≡ Some hand → ⊥
 no_hand {Q = Q} count shard hand is =

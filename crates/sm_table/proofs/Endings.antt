@@ -16,12 +16,13 @@ use Rattle.sm_table.specs.declared.world_answer.WorldAnswer.TheVariants.{Replied
 use Rattle.sm_ownership.specs.History.{record_at, after_done, kept}
 use Rattle.sm_table.specs.Bodies.{BodiesView}
 use Rattle.sm_ownership.specs.Tables.{TableView, table_done}
-use Rattle.sm_table.specs.World.{Service, WorldState, Plain, Unserved, count_of, desk_of, ended, outcome}
+use Rattle.sm_body.specs.Service.{Service}
+use Rattle.sm_table.specs.World.{WorldState, Plain, Unserved, count_of, desk_of, ended, outcome}
 use Rattle.sm_table.specs.Standing.{IsSound, WorldView, StandsFor, Follows}
 use Rattle.sm_ownership.specs.lemmas.Growth.{fits-push, table_of-push, kept-push_none, kept-push_other, kept-push_some}
 use Rattle.sm_table.proofs.Parts.{parts_of, Keeps, parts-from_StandsFor, Follows-changed}
 use Rattle.sm_table.proofs.Admissions.{stands-push}
-use Rattle.sm_table.proofs.Entries.{hand_within}
+use Rattle.sm_table.specs.lemmas.Entries.{hand_within}
 
 -- what is in hand, by its parts
 abbrev pub in_hand : {Q : Type 0} → ℕ → Option (Work Q) → Option (InHand Q)

@@ -16,7 +16,8 @@ use Rattle.sm_table.specs.declared.step.Step.TheVariants.{Control, Look, Send, D
 use Rattle.sm_desk.specs.Desk.{is_known}
 use Rattle.sm_envelope.specs.Envelope.{EnvelopeView}
 use Rattle.sm_ownership.specs.History.{kept}
-use Rattle.sm_table.specs.World.{Service, WorldState, Mark, Plain, Unmade, Unserved, Outcome, count_of, controlled, reached, arrived, without_flight, delivered, with_room, worked, served, held, after_hold, let_go, freed, next, world_after}
+use Rattle.sm_body.specs.Service.{Service}
+use Rattle.sm_table.specs.World.{WorldState, Mark, Plain, Unmade, Unserved, Outcome, count_of, controlled, reached, arrived, without_flight, delivered, with_room, worked, served, held, after_hold, let_go, freed, next, world_after}
 
 -- the later world has the frame of the earlier one, and its history and then these entries
 pub record Extends {Q : Type 0} (w later : WorldState Q) : Type 0 where

@@ -9,11 +9,10 @@ use Rattle.sm_ownership.specs.declared.record.Record.{Record}
 use Rattle.sm_table.specs.declared.flight.Flight.{Flight}
 use Rattle.sm_table.specs.declared.in_hand.InHand.{InHand}
 use Rattle.sm_ownership.specs.History.{vacant, record_at, after_admit, after_change, after_done}
-use Rattle.sm_table.specs.Standing.{WorldView}
+use Rattle.sm_table.specs.Standing.{WorldView, IsTogether}
 use Rattle.sm_envelope.specs.Envelope.{EnvelopeView, one_hop_more, sent_on}
 use Rattle.sm_envelope.specs.declared.envelope.TheConstants.{MOST_HOPS}
 use Rattle.sm_table.specs.World.{after_hop, flight_to}
-use Rattle.sm_table.specs.Together.{IsTogether}
 
 module _ {Q : Type 0} (v : WorldView Q) (whole : IsTogether v) where
   abbrev IsShardThere : Flight Q → Type 0

@@ -15,7 +15,8 @@ use Rattle.sm_table.specs.declared.world_answer.WorldAnswer.TheVariants.{Made}
 use Rattle.sm_table.specs.declared.world_fault.WorldFault.TheVariants.{NotHeld}
 use Rattle.sm_desk.specs.Desk.{is_known}
 use Rattle.sm_table.specs.Hands.{is_alone}
-use Rattle.sm_table.specs.World.{Service, WorldState, Plain, count_of, world_record, ended, let_go, freed, outcome}
+use Rattle.sm_body.specs.Service.{Service}
+use Rattle.sm_table.specs.World.{WorldState, Plain, count_of, world_record, ended, let_go, freed, outcome}
 use Rattle.sm_table.specs.Standing.{WorldView, StandsFor, Follows, with_admission}
 use Rattle.sm_table.proofs.Admissions.{entered, entered_parts, entered_keeps}
 use Rattle.sm_table.proofs.Endings.{in_hand, done_parts, done_parts_of}

@@ -3,14 +3,11 @@ pub mod Controls
 pub mod Deliveries
 pub mod Empties
 pub mod Endings
-pub mod Entries
 pub mod Extensions
 pub mod Fitting
 pub mod Holding
 pub mod Losses
 pub mod Maps
-pub mod Names
 pub mod Parts
 pub mod Runs
 pub mod Sends
-pub mod Soundness

@@ -5,7 +5,8 @@ use Rattle.std.proofs.lemmas.Bool.{lt-ltb}
 use Rattle.sm_table.specs.declared.flight.Flight.{Flight}
 use Rattle.sm_table.specs.declared.step.Step.TheVariants.{Lose}
 use Rattle.sm_table.specs.declared.world_answer.WorldAnswer.TheVariants.{Made}
-use Rattle.sm_table.specs.World.{Service, WorldState, Plain, without_flight, outcome}
+use Rattle.sm_body.specs.Service.{Service}
+use Rattle.sm_table.specs.World.{WorldState, Plain, without_flight, outcome}
 use Rattle.sm_table.specs.Standing.{WorldView, StandsFor, Follows}
 use Rattle.sm_table.proofs.Parts.{parts-from_StandsFor, Follows-changed}
 

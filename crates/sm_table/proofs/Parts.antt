@@ -9,9 +9,10 @@ use Rattle.sm_table.specs.declared.world_answer.WorldAnswer.{WorldAnswer}
 use Rattle.sm_table.specs.declared.world_fault.WorldFault.{WorldFault}
 use Rattle.sm_desk.specs.Desk.{DeskView}
 use Rattle.sm_ownership.specs.History.{kept}
-use Rattle.sm_table.specs.World.{Service, WorldState, Mark, Outcome, count_of, desk_of, world_table, outcome}
+use Rattle.sm_body.specs.Service.{Service}
+use Rattle.sm_table.specs.World.{WorldState, Mark, Outcome, count_of, desk_of, world_table, outcome}
 use Rattle.sm_table.specs.Standing.{IsSound, WorldView, StandsFor, Follows}
-use Rattle.sm_table.proofs.Soundness.{sound_next}
+use Rattle.sm_table.specs.lemmas.Soundness.{sound_next}
 
 -- the parts of a world, where the bodies keep these lists
 abbrev pub parts_of : {Q : Type 0} → WorldState Q → List (List Q) → WorldView Q

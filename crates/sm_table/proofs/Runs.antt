@@ -20,7 +20,8 @@ use Rattle.sm_ownership.specs.Rules.{forward_to}
 use Rattle.sm_desk.specs.Desk.{is_known}
 use Rattle.sm_envelope.specs.Envelope.{EnvelopeView}
 use Rattle.sm_ownership.specs.History.{kept, said}
-use Rattle.sm_table.specs.World.{Service, Frame, WorldState, Mark, Plain, Unmade, Unserved, Outcome, count_of, world_record, controlled, reached, after_hop, hopped, arrived, without_flight, delivered, with_room, worked, served, held, after_hold, let_go, freed, empty_world, answer, next, outcome, world_after, world_of}
+use Rattle.sm_body.specs.Service.{Service}
+use Rattle.sm_table.specs.World.{Frame, WorldState, Mark, Plain, Unmade, Unserved, Outcome, count_of, world_record, controlled, reached, after_hop, hopped, arrived, without_flight, delivered, with_room, worked, served, held, after_hold, let_go, freed, empty_world, answer, next, outcome, world_after, world_of}
 use Rattle.sm_table.proofs.Extensions.{extends_after}
 use Rattle.sm_ownership.specs.lemmas.Growth.{kept-append, kept-push_some}
 

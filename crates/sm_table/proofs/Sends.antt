@@ -8,7 +8,8 @@ use Rattle.sm_table.specs.declared.step.Step.TheVariants.{Send}
 use Rattle.sm_table.specs.declared.world_answer.WorldAnswer.TheVariants.{Sent}
 use Rattle.sm_table.specs.declared.world_fault.WorldFault.TheVariants.{NoMemory}
 use Rattle.sm_desk.specs.Desk.{is_known}
-use Rattle.sm_table.specs.World.{Service, WorldState, Plain, Unmade, outcome}
+use Rattle.sm_body.specs.Service.{Service}
+use Rattle.sm_table.specs.World.{WorldState, Plain, Unmade, outcome}
 use Rattle.sm_table.specs.Standing.{WorldView, StandsFor, Follows}
 use Rattle.sm_table.proofs.Parts.{parts-from_StandsFor, Follows-unchanged, Follows-changed}
 
@@ -25,12 +26,13 @@ module _ {Q R : Type 0} (service : Service Q R) (v now : WorldView Q) (same : v 
   not_sent in_flight is = Follows-unchanged service w Unmade (Send to number request) (record v { in_flight = in_flight }) v (Err NoMemory) stands refl (ap (λ flights. record v { in_flight = flights }) is)
 
   -- the request is in flight
-  pub sent : (key : List ℕ) (in_flight : List (Flight Q)) → is_known v.desk.servers to ≡ true → key ≡ service.key_of request → in_flight ≡ v.in_flight ++ direct to number (shard_of v.bounds key) request ∷ [] → Follows (record v { in_flight = in_flight }) (Ok Sent) (outcome service w Plain (Send to number request))
-  sent key in_flight known key_is is =
+  pub sent : (shard : ℕ) (in_flight : List (Flight Q)) → is_known v.desk.servers to ≡ true → shard ≡ shard_of now.bounds (service.key_of request) → in_flight ≡ v.in_flight ++ direct to number shard request ∷ [] → Follows (record v { in_flight = in_flight }) (Ok Sent) (outcome service w Plain (Send to number request))
+  sent shard in_flight known by_key is =
       let knows : is_known w.frame.servers to ≡ true = ap (λ desk. is_known desk.servers to) (sym stands.desk) ∙ known in
-      let flights : List (Flight Q) = w.in_flight ++ direct to number (shard_of w.frame.bounds (service.key_of request)) request ∷ [] in
-      Follows-changed service w Plain (Send to number request) (record v { in_flight = in_flight }) (Ok Sent) (record w { in_flight = flights }) v.kept stands.sound (rw knows refl)
+      let of_world : shard ≡ shard_of w.frame.bounds (service.key_of request) = by_key ∙ ap (λ bounds. shard_of bounds (service.key_of request)) given.bounds in
+      let last = direct to number (shard_of w.frame.bounds (service.key_of request)) request in
+      Follows-changed service w Plain (Send to number request) (record v { in_flight = in_flight }) (Ok Sent) (record w { in_flight = w.in_flight ++ last ∷ [] }) v.kept stands.sound (rw knows refl)
       (λ _. ap (λ all. record v { in_flight = all }) is
-      ∙ ap (λ bytes. record v { in_flight = v.in_flight ++ direct to number (shard_of v.bounds bytes) request ∷ [] }) key_is
-      ∙ ap (λ (u : WorldView Q). record u { in_flight = u.in_flight ++ direct to number (shard_of u.bounds (service.key_of request)) request ∷ [] }) (parts-from_StandsFor v w stands))
+      ∙ ap (λ k. record v { in_flight = v.in_flight ++ direct to number k request ∷ [] }) of_world
+      ∙ ap (λ (u : WorldView Q). record u { in_flight = u.in_flight ++ last ∷ [] }) (parts-from_StandsFor v w stands))
       (λ _. record { bodies = stands.bodies; each = stands.kept })

@@ -1,9 +1,8 @@
 pub mod Bodies
 pub mod Hands
-pub mod Setup
 pub mod Standing
-pub mod Together
 pub mod World
+pub mod lemmas
 pub use Rattle.sm_desk.specs.Desk
 pub use Rattle.sm_envelope.specs.Envelope
 pub use Rattle.sm_ownership.specs.History

@@ -1,6 +1,7 @@
 -- When the parts of a `World` stand for a world of the definitions.
 use Rattle.std.specs.Prelude.{ℕ, Bool, true, false, Option, Some, None, Result, ◌≡◌, ◌<◌, List, [], All, length, reverse, slice_index_or, slice_set}
 use Rattle.std.specs.List.{list_all}
+use Rattle.sm_body.specs.Service.{Service}
 use Rattle.sm_ranges.specs.Ranges.{IsLayout}
 use Rattle.sm_ranges.specs.ServerId.{IsServer}
 use Rattle.sm_ranges.specs.declared.stand.Stand.{Stand}
@@ -9,16 +10,22 @@ use Rattle.sm_ownership.specs.declared.entry.Entry.{Entry}
 use Rattle.sm_ownership.specs.declared.record.Record.{Record}
 use Rattle.sm_table.specs.declared.flight.Flight.{Flight}
 use Rattle.sm_table.specs.declared.in_hand.InHand.{InHand}
+use Rattle.sm_table.specs.declared.setup.Setup.{Setup}
+use Rattle.sm_table.specs.declared.step.Step.{Step}
 use Rattle.sm_table.specs.declared.world_answer.WorldAnswer.{WorldAnswer}
 use Rattle.sm_table.specs.declared.world_fault.WorldFault.{WorldFault}
 use Rattle.sm_desk.specs.Desk.{DeskView, is_known}
 use Rattle.sm_ownership.specs.History.{after_admit, record_at, IsLegal, admits_only, is_admission_of, latest_of, kept}
-use Rattle.sm_table.specs.World.{Frame, WorldState, Outcome, count_of, desk_of, world_record, world_table}
+use Rattle.sm_table.specs.World.{Frame, WorldState, Outcome, count_of, desk_of, mark_of, outcome, world_record, world_table}
 
 -- a frame that a world can be made with: bounds of a layout, and servers by their numbers
 pub record IsFrame (frame : Frame) : Type 0 where
   pub layout : IsLayout frame.bounds
   pub servers : All IsServer frame.servers
+
+-- the frame of a world with this setup and with bodies of these limits
+abbrev pub setup_frame : Setup → List ℕ → Frame
+setup_frame setup limits = record { bounds = setup.layout; servers = setup.desk.servers; ceiling = setup.ceiling; limits = limits }
 
 -- an envelope is for a shard that is there, and goes to a server that is
 pub record IsFlight {Q : Type 0} (frame : Frame) (flight : Flight Q) : Type 0 where
@@ -26,28 +33,28 @@ pub record IsFlight {Q : Type 0} (frame : Frame) (flight : Flight Q) : Type 0 wh
   pub server : is_known frame.servers flight.to ≡ true
 
 -- a shard is admitted exactly where a server has it in hand, and then that server was admitted last
-abbrev pub IsHeld : {Q : Type 0} → List (Entry Q) → Bool → ℕ → Option (InHand Q) → Type 0
-IsHeld history admitted shard None = admitted ≡ false
-IsHeld history admitted shard (Some hand) = (admitted ≡ true) × (is_admission_of hand.server (latest_of (reverse history) shard) ≡ true)
+abbrev pub AgreesWithHand : {Q : Type 0} → List (Entry Q) → Bool → ℕ → Option (InHand Q) → Type 0
+AgreesWithHand history admitted shard None = admitted ≡ false
+AgreesWithHand history admitted shard (Some hand) = (admitted ≡ true) × (is_admission_of hand.server (latest_of (reverse history) shard) ≡ true)
 
 -- the servers that a stand names exist
-abbrev pub NamesKnown : List ℕ → Stand → Type 0
-NamesKnown servers Vacant = Unit {0}
-NamesKnown servers (Serving owner) = is_known servers owner ≡ true
-NamesKnown servers (Prepared owner next) = (is_known servers owner ≡ true) × (is_known servers next ≡ true)
-NamesKnown servers (Forwarding owner next) = (is_known servers owner ≡ true) × (is_known servers next ≡ true)
-NamesKnown servers (Taken owner previous) = (is_known servers owner ≡ true) × (is_known servers previous ≡ true)
-NamesKnown servers (Paused owner) = is_known servers owner ≡ true
+abbrev pub NamesServersOf : List ℕ → Stand → Type 0
+NamesServersOf servers Vacant = Unit {0}
+NamesServersOf servers (Serving owner) = is_known servers owner ≡ true
+NamesServersOf servers (Prepared owner next) = (is_known servers owner ≡ true) × (is_known servers next ≡ true)
+NamesServersOf servers (Forwarding owner next) = (is_known servers owner ≡ true) × (is_known servers next ≡ true)
+NamesServersOf servers (Taken owner previous) = (is_known servers owner ≡ true) × (is_known servers previous ≡ true)
+NamesServersOf servers (Paused owner) = is_known servers owner ≡ true
 
 -- what holds of each world that steps lead to
 pub record IsSound {Q : Type 0} (w : WorldState Q) : Type 0 where
   pub frame : IsFrame w.frame
   pub legal : IsLegal (count_of w) w.frame.ceiling w.history
   pub own_server : list_all (λ entry. admits_only entry.actor entry.kind) w.history ≡ true
-  pub named : (shard : ℕ) → shard < count_of w → NamesKnown w.frame.servers (world_record w shard).stand
+  pub named : (shard : ℕ) → shard < count_of w → NamesServersOf w.frame.servers (world_record w shard).stand
   pub flights : All (IsFlight w.frame) w.in_flight
   pub hands : length w.in_hand ≡ count_of w
-  pub held : (shard : ℕ) → shard < count_of w → IsHeld w.history (world_record w shard).admitted shard (slice_index_or w.in_hand shard None)
+  pub held : (shard : ℕ) → shard < count_of w → AgreesWithHand w.history (world_record w shard).admitted shard (slice_index_or w.in_hand shard None)
 
 -- what the parts of a `World` show
 pub record WorldView (Q : Type 0) : Type 0 where
@@ -59,6 +66,14 @@ pub record WorldView (Q : Type 0) : Type 0 where
   pub limits : List ℕ
   pub in_flight : List (Flight Q)
   pub in_hand : List (Option (InHand Q))
+
+-- each part has an element for each shard, flights are for shards that are there, and a shard that a server has in hand is admitted
+pub record IsTogether {Q : Type 0} (view : WorldView Q) : Type 0 where
+  pub layout : length view.bounds ≡ length view.in_hand
+  pub table : length view.records ≡ length view.in_hand
+  pub bodies : length view.kept ≡ length view.in_hand
+  pub flights : All (λ flight. flight.envelope.shard < length view.in_hand) view.in_flight
+  pub admitted : (shard : ℕ) (hand : InHand Q) → slice_index_or view.in_hand shard None ≡ Some hand → (record_at view.records shard).admitted ≡ true
 
 -- the parts are those of the world, which is one that steps lead to
 pub record StandsFor {Q : Type 0} (view : WorldView Q) (w : WorldState Q) : Type 0 where
@@ -77,6 +92,10 @@ pub record StandsFor {Q : Type 0} (view : WorldView Q) (w : WorldState Q) : Type
 pub record Follows {Q R : Type 0} (view : WorldView Q) (result : Result (WorldAnswer R) WorldFault) (outcome : Outcome Q R) : Type 0 where
   pub answered : result ≡ outcome.0
   pub stands : StandsFor view outcome.1
+
+-- the step went as its answer says: where the parts stood for a world, it answered what it should, and they stand for the next
+abbrev pub GoesAs : {Q R : Type 0} → Service Q R → WorldView Q → Result (WorldAnswer R) WorldFault → WorldView Q → Step Q → Type 0
+GoesAs {Q = Q} service before result after step = (w : WorldState Q) → StandsFor before w → Follows after result (outcome service w (mark_of result) step)
 
 -- the parts after an admission to a shard, with what the server then has in hand
 abbrev pub with_admission : {Q : Type 0} → WorldView Q → ℕ → InHand Q → WorldView Q

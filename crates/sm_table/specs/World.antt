@@ -1,6 +1,7 @@
 -- The world: the whole shard manager as one thread would run it. What each step answers, and what it leaves.
-use Rattle.std.specs.Prelude.{ℕ, Option, Some, None, Result, Ok, Err, nat_lt, if◌then◌else◌, List, [], ◌∷◌, ◌++◌, length, map, remove, replicate, slice_get, slice_index_or, slice_set}
+use Rattle.std.specs.Prelude.{ℕ, Bool, true, false, Option, Some, None, Result, Ok, Err, nat_lt, if◌then◌else◌, List, [], ◌∷◌, ◌++◌, length, map, remove, replicate, slice_get, slice_index_or, slice_set}
 use Rattle.std.specs.Option.{option_map, option_or}
+use Rattle.sm_body.specs.Service.{Service}
 use Rattle.sm_ranges.specs.Ranges.{shard_of}
 use Rattle.sm_ownership.specs.declared.admit_fault.AdmitFault.{AdmitFault}
 use Rattle.sm_ownership.specs.declared.change.Change.{Change}
@@ -28,11 +29,6 @@ use Rattle.sm_ownership.specs.History.{record_at, table_of, kept}
 use Rattle.sm_ownership.specs.Rules.{admit_fault, forward_to}
 use Rattle.sm_ownership.specs.Tables.{record_fault}
 
--- what a service means: the reply to a request after those of a list, and the bytes that choose its shard
-pub record Service (Q R : Type 0) : Type 0 where
-  pub reply_of : List Q → Q → R
-  pub key_of : Q → List ℕ
-
 -- what stays as it is made: the bounds of the shards, the servers, the greatest generation, and how many requests each shard keeps at most
 pub record Frame : Type 0 where
   pub bounds : List (List ℕ)
@@ -52,6 +48,13 @@ pub data Mark : Type 0 where
   Plain : Mark
   Unmade : Mark
   Unserved : Mark
+
+-- how a step may go: a `Send` alone may have its memory refused, and the service at a `Finish` alone
+abbrev pub may_go : {Q : Type 0} → Step Q → Mark → Bool
+may_go step Plain = true
+may_go (Send to number request) Unmade = true
+may_go (Finish shard) Unserved = true
+may_go step mark = false
 
 abbrev pub count_of : {Q : Type 0} → WorldState Q → ℕ
 count_of w = length w.frame.bounds

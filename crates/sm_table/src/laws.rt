@@ -7,7 +7,8 @@ ghost use Rattle.sm_table.specs.declared.step.Step.{Step};
 ghost use Rattle.sm_table.specs.declared.step.Step.TheVariants.{Finish};
 ghost use Rattle.sm_table.specs.declared.world_answer.WorldAnswer.TheVariants.{Replied};
 ghost use Rattle.sm_table.specs.Standing.{IsFrame};
-ghost use Rattle.sm_table.specs.World.{Service, Frame, Mark, answer, world_of};
+ghost use Rattle.sm_body.specs.Service.{Service};
+ghost use Rattle.sm_table.specs.World.{Frame, Mark, answer, world_of};
 
 pub use sm_ownership::laws::{
     admission_extends_history, admission_refused_exactly, change_extends_history,

@@ -1,5 +1,13 @@
 //! The world: the whole shard manager as one thread runs it, with the laws that hold of it. What it stands on is passed
 //! on: the ownership table, the desk that checks control commands, and envelopes.
+//!
+//! ```rust
+//! world.step(Step::Control(Command::Change(k, Change::Assign(one))))?;
+//! world.step(Step::Send(one, 7, request))?;
+//! world.step(Step::Deliver(0))?;
+//! let answer = world.step(Step::Finish(k))?;
+//! assert!(rt; matches!(&answer, WorldAnswer::Replied { number: 7, place: 0, .. }));
+//! ```
 #![tactic(auto)]
 
 mod bodies;
@@ -12,6 +20,14 @@ pub mod step;
 pub mod world;
 pub mod world_answer;
 pub mod world_fault;
+
+pub use flight::Flight;
+pub use in_hand::{InHand, Work};
+pub use setup::Setup;
+pub use step::Step;
+pub use world::World;
+pub use world_answer::WorldAnswer;
+pub use world_fault::WorldFault;
 
 pub use sm_desk::{Command, CommandFault, Desk, command, desk};
 pub use sm_envelope::{Envelope, Refusal, Shell, envelope, refusal, shell};

@@ -1,12 +1,12 @@
-ghost use Rattle.std.specs.Prelude.{◌≡◌, ◌<◌, ◌≤◌, ◌^◌, [], All, IfOk, OnOk, OnErr, length, map, replicate, vec_capacity, vec_len};
+ghost use Rattle.std.specs.Prelude.{◌≡◌, ◌<◌, ◌≤◌, ◌^◌, true, [], All, Ok, IfOk, OnOk, OnErr, length, map, replicate, vec_capacity, vec_len};
 ghost use Rattle.std.specs.Result.{result_err};
+ghost use Rattle.sm_ranges.specs.Ranges.{shard_of};
 ghost use Rattle.sm_ranges.specs.declared.stand.Stand.TheVariants.{Vacant};
 ghost use Rattle.sm_ownership.specs.History.{record_at};
 ghost use Rattle.sm_ownership.specs.Rules.{admit_fault};
 ghost use Rattle.sm_envelope.specs.Envelope.{forwarded};
-ghost use Rattle.sm_table.specs.Setup.{frame_of};
-ghost use Rattle.sm_table.specs.Standing.{StandsFor, Follows, with_admission};
-ghost use Rattle.sm_table.specs.World.{WorldState, after_hop, outcome, mark_of, empty_world};
+ghost use Rattle.sm_table.specs.Standing.{StandsFor, GoesAs, setup_frame, with_admission};
+ghost use Rattle.sm_table.specs.World.{Plain, after_hop, mark_of, may_go, empty_world};
 ghost use Rattle.sm_desk.specs.declared.command.Command.TheVariants.{Change as ChangeOf};
 ghost use Rattle.sm_table.specs.declared.step.Step.TheVariants.{Control as ControlOf, Look as LookAt, Send as SendOf, Deliver as DeliverAt, Finish as FinishAt, Lose as LoseAt, Hold as HoldAt, Free as FreeAt};
 
@@ -61,7 +61,7 @@ impl<S: Service> Model for World<S> {
       in_hand = world.in_hand;
     } };
 
-    ghost use Rattle.sm_table.specs.Together.{IsTogether};
+    ghost use Rattle.sm_table.specs.Standing.{IsTogether};
 
     ghost invariant = { λ world. IsTogether (record {
       bounds = world.layout;
@@ -85,7 +85,7 @@ impl<S: Service> World<S> {
         requires least_ceiling { 3 ≤ setup.ceiling }
         requires greatest_ceiling { setup.ceiling < 2 ^ 36 }
         ensures { IfOk result
-            (λ world. StandsFor world (empty_world (frame_of setup (map S.limit bodies.items)))) }
+            (λ world. StandsFor world (empty_world (setup_frame setup (map S.limit bodies.items)))) }
     {
         let Setup {
             layout,
@@ -103,18 +103,37 @@ impl<S: Service> World<S> {
         })
     }
 
+    /// The shard whose range covers the request's key.
+    pub fn shard_of(&self, request: &S::Request) -> ShardId
+        ensures within { result < length self.now.bounds }
+        ensures value { result ≡ shard_of self.now.bounds (S.key_of request.now) }
+    {
+        self.layout.shard_of(S::key(request))
+    }
+
+    /// The record of a shard.
+    pub fn record(&self, k: ShardId) -> Record
+        requires { k < length self.now.bounds }
+        ensures { result ≡ record_at self.now.records k }
+    {
+        self.table.record(k)
+    }
+
     /// Makes a step. Where the world stands for one of the definitions, it answers as that one does, and then stands for
-    /// the next. A step that a fault refuses changes nothing; `NoMemory` comes only where memory for the step was refused.
+    /// the next. A step that a fault refuses changes nothing. Want of memory is told of a `Send`, by `NoMemory`, and of a
+    /// `Finish`, which then refuses its request; no other step takes memory.
     pub fn step(&mut self, step: Step<S::Request>) -> Result<WorldAnswer<S::Reply>, WorldFault>
-        ensures stands { (w : WorldState S.Request) → StandsFor self.old w
-            → Follows self.new result
-            (outcome (record { reply_of = S.reply_of; key_of = S.key_of }) w (mark_of result) step) }
+        ensures stands { GoesAs (record { reply_of = S.reply_of; key_of = S.key_of }) self.old result self.new step }
+        ensures marks { may_go step (mark_of result) ≡ true }
         ensures bounds { self.new.bounds ≡ self.old.bounds }
     {
         match step {
             Step::Control(command) => self.control(&command),
             Step::Look(k) => self.look(k),
-            Step::Send(to, number, request) => self.send(to, number, request),
+            Step::Send(to, number, request) => {
+                let k = self.shard_of(&request);
+                self.send(to, number, k, request)
+            }
             Step::Deliver(place) => self.deliver(place),
             Step::Finish(k) => self.finish(k),
             Step::Lose(place) => self.lose(place),
@@ -125,9 +144,8 @@ impl<S: Service> World<S> {
 
     // Carries out a command, unless it is refused.
     fn control(&mut self, command: &Command) -> Result<WorldAnswer<S::Reply>, WorldFault>
-        ensures stands { (w : WorldState S.Request) → StandsFor self.old w
-            → Follows self.new result
-            (outcome (record { reply_of = S.reply_of; key_of = S.key_of }) w (mark_of result) (ControlOf command.now)) }
+        ensures stands { GoesAs (record { reply_of = S.reply_of; key_of = S.key_of }) self.old result self.new (ControlOf command.now) }
+        ensures marks { may_go {Q = S.Request} (ControlOf command.now) (mark_of result) ≡ true }
         ensures bounds { self.new.bounds ≡ self.old.bounds }
     {
         match command {
@@ -137,9 +155,8 @@ impl<S: Service> World<S> {
 
     // Changes the stand of a shard, unless the desk or the table refuses it.
     fn change(&mut self, k: ShardId, change: &Change) -> Result<WorldAnswer<S::Reply>, WorldFault>
-        ensures stands { (w : WorldState S.Request) → StandsFor self.old w
-            → Follows self.new result
-            (outcome (record { reply_of = S.reply_of; key_of = S.key_of }) w (mark_of result) (ControlOf (ChangeOf k change.now))) }
+        ensures stands { GoesAs (record { reply_of = S.reply_of; key_of = S.key_of }) self.old result self.new (ControlOf (ChangeOf k change.now)) }
+        ensures marks { may_go {Q = S.Request} (ControlOf (ChangeOf k change.now)) (mark_of result) ≡ true }
         ensures bounds { self.new.bounds ≡ self.old.bounds }
     {
         let command = Command::Change(k, *change);
@@ -153,9 +170,8 @@ impl<S: Service> World<S> {
 
     // Reads the record of a shard.
     fn look(&self, k: ShardId) -> Result<WorldAnswer<S::Reply>, WorldFault>
-        ensures { (w : WorldState S.Request) → StandsFor self.now w
-            → Follows self.now result
-            (outcome (record { reply_of = S.reply_of; key_of = S.key_of }) w (mark_of result) (LookAt k)) }
+        ensures stands { GoesAs (record { reply_of = S.reply_of; key_of = S.key_of }) self.now result self.now (LookAt k) }
+        ensures marks { may_go {Q = S.Request} (LookAt k) (mark_of result) ≡ true }
     {
         if k.index() < self.table.count() {
             Ok(WorldAnswer::Seen(self.table.record(k)))
@@ -164,22 +180,24 @@ impl<S: Service> World<S> {
         }
     }
 
-    // Puts a direct request for the server in flight.
-    fn send(
+    /// Puts a direct request for the server in flight, as `Step::Send` does, for the shard `k` that it finds by the
+    /// request's key.
+    pub fn send(
         &mut self,
         to: ServerId,
         number: u64,
+        k: ShardId,
         request: S::Request,
     ) -> Result<WorldAnswer<S::Reply>, WorldFault>
-        ensures stands { (w : WorldState S.Request) → StandsFor self.old w
-            → Follows self.new result
-            (outcome (record { reply_of = S.reply_of; key_of = S.key_of }) w (mark_of result) (SendOf to number request)) }
+        requires within { k < length self.old.bounds }
+        requires shard { k ≡ shard_of self.old.bounds (S.key_of request) }
+        ensures stands { GoesAs (record { reply_of = S.reply_of; key_of = S.key_of }) self.old result self.new (SendOf to number request) }
+        ensures marks { may_go (SendOf to number request) (mark_of result) ≡ true }
         ensures bounds { self.new.bounds ≡ self.old.bounds }
     {
         if !self.desk.knows(to) {
             return Err(WorldFault::UnknownServer);
         }
-        let k = self.layout.shard_of(S::key(&request));
         let flight = Flight {
             to,
             envelope: Envelope::new(number, k, request),
@@ -192,9 +210,8 @@ impl<S: Service> World<S> {
 
     // An envelope in flight reaches its server, which forwards it, begins it, or refuses it.
     fn deliver(&mut self, place: usize) -> Result<WorldAnswer<S::Reply>, WorldFault>
-        ensures stands { (w : WorldState S.Request) → StandsFor self.old w
-            → Follows self.new result
-            (outcome (record { reply_of = S.reply_of; key_of = S.key_of }) w (mark_of result) (DeliverAt place)) }
+        ensures stands { GoesAs (record { reply_of = S.reply_of; key_of = S.key_of }) self.old result self.new (DeliverAt place) }
+        ensures marks { may_go {Q = S.Request} (DeliverAt place) (mark_of result) ≡ true }
         ensures bounds { self.new.bounds ≡ self.old.bounds }
     {
         if place >= self.in_flight.len() {
@@ -217,9 +234,8 @@ impl<S: Service> World<S> {
 
     // The admitted server executes the request in hand, and its admission ends.
     fn finish(&mut self, k: ShardId) -> Result<WorldAnswer<S::Reply>, WorldFault>
-        ensures stands { (w : WorldState S.Request) → StandsFor self.old w
-            → Follows self.new result
-            (outcome (record { reply_of = S.reply_of; key_of = S.key_of }) w (mark_of result) (FinishAt k)) }
+        ensures stands { GoesAs (record { reply_of = S.reply_of; key_of = S.key_of }) self.old result self.new (FinishAt k) }
+        ensures marks { may_go {Q = S.Request} (FinishAt k) (mark_of result) ≡ true }
         ensures bounds { self.new.bounds ≡ self.old.bounds }
     {
         let Some((server, work)) = self.in_hand.take_work(k) else {
@@ -242,9 +258,8 @@ impl<S: Service> World<S> {
 
     // An envelope in flight is lost.
     fn lose(&mut self, place: usize) -> Result<WorldAnswer<S::Reply>, WorldFault>
-        ensures stands { (w : WorldState S.Request) → StandsFor self.old w
-            → Follows self.new result
-            (outcome (record { reply_of = S.reply_of; key_of = S.key_of }) w (mark_of result) (LoseAt place)) }
+        ensures stands { GoesAs (record { reply_of = S.reply_of; key_of = S.key_of }) self.old result self.new (LoseAt place) }
+        ensures marks { may_go {Q = S.Request} (LoseAt place) (mark_of result) ≡ true }
         ensures bounds { self.new.bounds ≡ self.old.bounds }
     {
         if place >= self.in_flight.len() {
@@ -256,9 +271,8 @@ impl<S: Service> World<S> {
 
     // Admits the server to the shard without a request.
     fn hold(&mut self, k: ShardId, server: ServerId) -> Result<WorldAnswer<S::Reply>, WorldFault>
-        ensures stands { (w : WorldState S.Request) → StandsFor self.old w
-            → Follows self.new result
-            (outcome (record { reply_of = S.reply_of; key_of = S.key_of }) w (mark_of result) (HoldAt k server)) }
+        ensures stands { GoesAs (record { reply_of = S.reply_of; key_of = S.key_of }) self.old result self.new (HoldAt k server) }
+        ensures marks { may_go {Q = S.Request} (HoldAt k server) (mark_of result) ≡ true }
         ensures bounds { self.new.bounds ≡ self.old.bounds }
     {
         if k.index() >= self.table.count() {
@@ -275,9 +289,8 @@ impl<S: Service> World<S> {
 
     // Ends an admission without a request.
     fn free(&mut self, k: ShardId) -> Result<WorldAnswer<S::Reply>, WorldFault>
-        ensures stands { (w : WorldState S.Request) → StandsFor self.old w
-            → Follows self.new result
-            (outcome (record { reply_of = S.reply_of; key_of = S.key_of }) w (mark_of result) (FreeAt k)) }
+        ensures stands { GoesAs (record { reply_of = S.reply_of; key_of = S.key_of }) self.old result self.new (FreeAt k) }
+        ensures marks { may_go {Q = S.Request} (FreeAt k) (mark_of result) ≡ true }
         ensures bounds { self.new.bounds ≡ self.old.bounds }
     {
         if k.index() >= self.table.count() {
@@ -319,7 +332,8 @@ fn send_on<Q: Drop, R>(
     envelope: Envelope<Q>,
 ) -> WorldAnswer<R>
     requires room { vec_len in_flight.old < vec_capacity in_flight.old }
-    ensures { (result, in_flight.new.items) ≡ after_hop in_flight.old.items (forwarded envelope state.now at) }
+    ensures hop { (result, in_flight.new.items) ≡ after_hop in_flight.old.items (forwarded envelope state.now at) }
+    ensures plain { mark_of (Ok result) ≡ Plain }
 {
     match envelope.forwarded(state, at) {
         Ok((to, envelope)) => {

@@ -24,12 +24,11 @@ use std::test::Fail;
 // Shards 0 and 1, of the keys below and from `m` on, that keep two requests each; and servers 1 and 2.
 fn new_world(alloc: Global) -> Result<World<CounterText>, Fail> {
     let layout = Layout::new(alloc, &[b"", b"m"])?;
-    let servers = [server(1)?, server(2)?];
+    let desk = Desk::plain(alloc, layout.count(), &[server(1)?, server(2)?])?;
     let mut bodies = Vec::new(alloc);
     for _ in 0..layout.count() {
         bodies.push(CounterText::new(alloc, 2))?;
     }
-    let desk = Desk::plain(alloc, layout.count(), &servers)?;
     let setup = Setup {
         layout,
         desk,
@@ -59,7 +58,7 @@ enum Told {
     Fault(WorldFault),
 }
 
-fn answer(world: &mut World<CounterText>, step: Step<Request>) -> Told {
+fn answer_of(world: &mut World<CounterText>, step: Step<Request>) -> Told {
     let result = match world.step(step) {
         Ok(result) => result,
         Err(fault) => return Told::Fault(fault),
@@ -82,31 +81,20 @@ fn answer(world: &mut World<CounterText>, step: Step<Request>) -> Told {
 
 #[test]
 fn executes_a_request(rt: HostRuntime) -> Result<(), Fail> {
-    let one = server(1)?;
-    let k = shard(1)?;
-    let send = Step::Send(one, 7, put(rt.alloc())?);
+    let (one, k, request) = (server(1)?, shard(1)?, put(rt.alloc())?);
     let mut world = new_world(rt.alloc())?;
-    assert!(rt; answer(&mut world, change(k, Change::Assign(one))) == Told::Made);
-    assert!(rt; answer(&mut world, send) == Told::Sent);
-    assert!(rt; answer(&mut world, Step::Deliver(0)) == Told::Began(one));
-    match world.step(Step::Finish(k))? {
-        WorldAnswer::Replied {
-            number,
-            server,
-            reply,
-            place,
-        } => {
-            assert_eq!(rt; (number, server.number(), place), (7, 1, 0));
-            assert!(rt; matches!(reply, Reply::Done));
-        }
-        _ => panic!(rt; "not executed"),
-    }
+    world.step(Step::Control(Command::Change(k, Change::Assign(one))))?;
+    world.step(Step::Send(one, 7, request))?;
+    world.step(Step::Deliver(0))?;
+    let answer = world.step(Step::Finish(k))?;
+    assert!(rt; matches!(&answer, WorldAnswer::Replied { number: 7, place: 0, .. }));
+    assert!(rt; matches!(answer, WorldAnswer::Replied { server, reply: Reply::Done, .. } if server == one));
     let expected = Record {
         stand: Stand::Serving(one),
         admitted: false,
         generation: 3,
     };
-    assert!(rt; answer(&mut world, Step::Look(k)) == Told::Seen(expected));
+    assert!(rt; answer_of(&mut world, Step::Look(k)) == Told::Seen(expected));
     Ok(())
 }
 
@@ -117,15 +105,15 @@ fn refuses_by_the_record(rt: HostRuntime) -> Result<(), Fail> {
     let assign = change(shard(1)?, Change::Assign(one));
     let mut world = new_world(rt.alloc())?;
     for request in sends {
-        assert!(rt; answer(&mut world, Step::Send(one, 0, request)) == Told::Sent);
+        assert!(rt; answer_of(&mut world, Step::Send(one, 0, request)) == Told::Sent);
     }
     let vacant = Refusal::Admit(AdmitFault::Vacant);
-    assert!(rt; answer(&mut world, Step::Deliver(0)) == Told::Refused(vacant));
-    answer(&mut world, assign);
-    assert!(rt; answer(&mut world, Step::Deliver(0)) == Told::Began(one));
+    assert!(rt; answer_of(&mut world, Step::Deliver(0)) == Told::Refused(vacant));
+    answer_of(&mut world, assign);
+    assert!(rt; answer_of(&mut world, Step::Deliver(0)) == Told::Began(one));
     let admitted = Refusal::Admit(AdmitFault::Admitted);
-    assert!(rt; answer(&mut world, Step::Deliver(0)) == Told::Refused(admitted));
-    assert!(rt; answer(&mut world, Step::Deliver(0)) == Told::Fault(WorldFault::NoEnvelope));
+    assert!(rt; answer_of(&mut world, Step::Deliver(0)) == Told::Refused(admitted));
+    assert!(rt; answer_of(&mut world, Step::Deliver(0)) == Told::Fault(WorldFault::NoEnvelope));
     Ok(())
 }
 
@@ -134,15 +122,15 @@ fn keeps_so_many_requests(rt: HostRuntime) -> Result<(), Fail> {
     let two = server(2)?;
     let k = shard(1)?;
     let mut world = new_world(rt.alloc())?;
-    answer(&mut world, change(k, Change::Assign(two)));
+    answer_of(&mut world, change(k, Change::Assign(two)));
     for place in 0..2 {
-        answer(&mut world, Step::Send(two, place, put(rt.alloc())?));
-        answer(&mut world, Step::Deliver(0));
-        assert!(rt; answer(&mut world, Step::Finish(k)) == Told::Replied(place, two, place));
+        answer_of(&mut world, Step::Send(two, place, put(rt.alloc())?));
+        answer_of(&mut world, Step::Deliver(0));
+        assert!(rt; answer_of(&mut world, Step::Finish(k)) == Told::Replied(place, two, place));
     }
-    answer(&mut world, Step::Send(two, 2, put(rt.alloc())?));
-    answer(&mut world, Step::Deliver(0));
-    assert!(rt; answer(&mut world, Step::Finish(k)) == Told::Refused(Refusal::KeptFull));
+    answer_of(&mut world, Step::Send(two, 2, put(rt.alloc())?));
+    answer_of(&mut world, Step::Deliver(0));
+    assert!(rt; answer_of(&mut world, Step::Finish(k)) == Told::Refused(Refusal::KeptFull));
     Ok(())
 }
 
@@ -164,13 +152,13 @@ fn names_the_first_fault(rt: HostRuntime) -> Result<(), Fail> {
         (Command::Change(k, Change::Pause), CommandFault::WrongPhase),
     ];
     let mut world = new_world(rt.alloc())?;
-    assert!(rt; answer(&mut world, Step::Look(unknown)) == Told::Fault(WorldFault::UnknownShard));
-    assert!(rt; answer(&mut world, Step::Finish(k)) == Told::Fault(WorldFault::NotHeld));
-    assert!(rt; answer(&mut world, Step::Finish(unknown)) == Told::Fault(WorldFault::NotHeld));
-    assert!(rt; answer(&mut world, send) == Told::Fault(WorldFault::UnknownServer));
+    assert!(rt; answer_of(&mut world, Step::Look(unknown)) == Told::Fault(WorldFault::UnknownShard));
+    assert!(rt; answer_of(&mut world, Step::Finish(k)) == Told::Fault(WorldFault::NotHeld));
+    assert!(rt; answer_of(&mut world, Step::Finish(unknown)) == Told::Fault(WorldFault::NotHeld));
+    assert!(rt; answer_of(&mut world, send) == Told::Fault(WorldFault::UnknownServer));
     for (command, fault) in cases {
         let expected = Told::Fault(WorldFault::Command(fault));
-        assert!(rt; answer(&mut world, Step::Control(command)) == expected);
+        assert!(rt; answer_of(&mut world, Step::Control(command)) == expected);
     }
     Ok(())
 }

@@ -12,11 +12,11 @@ fn inc(alloc: Global) -> Result<Request, Fail> {
 
 // What the envelope first in flight is answered in the course of a migration of the shard.
 fn delivered_while_migrating(world: &mut World<CounterText>, k: ShardId, next: ServerId) -> Told {
-    answer(world, change(k, Change::PrepareAddShard(next)));
-    answer(world, change(k, Change::PrepareDropShard));
-    let delivered = answer(world, Step::Deliver(0));
-    answer(world, change(k, Change::AddShard));
-    answer(world, change(k, Change::DropShard));
+    answer_of(world, change(k, Change::PrepareAddShard(next)));
+    answer_of(world, change(k, Change::PrepareDropShard));
+    let delivered = answer_of(world, Step::Deliver(0));
+    answer_of(world, change(k, Change::AddShard));
+    answer_of(world, change(k, Change::DropShard));
     delivered
 }
 
@@ -26,17 +26,17 @@ fn envelope_goes_round(rt: HostRuntime) -> Result<(), Fail> {
     let send = Step::Send(one, 0, inc(rt.alloc())?);
     let later = Step::Send(two, 1, inc(rt.alloc())?);
     let mut world = new_world(rt.alloc())?;
-    answer(&mut world, change(k, Change::Assign(one)));
-    assert!(rt; answer(&mut world, send) == Told::Sent);
+    answer_of(&mut world, change(k, Change::Assign(one)));
+    assert!(rt; answer_of(&mut world, send) == Told::Sent);
     for next in [two, one, two, one] {
         assert!(rt; delivered_while_migrating(&mut world, k, next) == Told::Forwarded(next));
     }
     let last = delivered_while_migrating(&mut world, k, two);
     assert!(rt; last == Told::Refused(Refusal::TooManyHops));
-    assert!(rt; answer(&mut world, Step::Deliver(0)) == Told::Fault(WorldFault::NoEnvelope));
-    assert!(rt; answer(&mut world, later) == Told::Sent);
-    assert!(rt; answer(&mut world, Step::Lose(0)) == Told::Made);
-    assert!(rt; answer(&mut world, Step::Deliver(0)) == Told::Fault(WorldFault::NoEnvelope));
+    assert!(rt; answer_of(&mut world, Step::Deliver(0)) == Told::Fault(WorldFault::NoEnvelope));
+    assert!(rt; answer_of(&mut world, later) == Told::Sent);
+    assert!(rt; answer_of(&mut world, Step::Lose(0)) == Told::Made);
+    assert!(rt; answer_of(&mut world, Step::Deliver(0)) == Told::Fault(WorldFault::NoEnvelope));
     Ok(())
 }
 
@@ -45,22 +45,22 @@ fn holds_and_frees(rt: HostRuntime) -> Result<(), Fail> {
     let (one, two, k) = names()?;
     let send = Step::Send(one, 0, inc(rt.alloc())?);
     let mut world = new_world(rt.alloc())?;
-    answer(&mut world, change(k, Change::Assign(one)));
-    assert!(rt; answer(&mut world, Step::Hold(k, one)) == Told::Made);
+    answer_of(&mut world, change(k, Change::Assign(one)));
+    assert!(rt; answer_of(&mut world, Step::Hold(k, one)) == Told::Made);
     let held = Record {
         stand: Stand::Serving(one),
         admitted: true,
         generation: 2,
     };
     let busy = WorldFault::Command(CommandFault::Busy(held));
-    assert!(rt; answer(&mut world, change(k, Change::PrepareAddShard(two))) == Told::Fault(busy));
-    answer(&mut world, send);
+    assert!(rt; answer_of(&mut world, change(k, Change::PrepareAddShard(two))) == Told::Fault(busy));
+    answer_of(&mut world, send);
     let admitted = Refusal::Admit(AdmitFault::Admitted);
-    assert!(rt; answer(&mut world, Step::Deliver(0)) == Told::Refused(admitted));
-    assert!(rt; answer(&mut world, Step::Finish(k)) == Told::Fault(WorldFault::NotHeld));
-    assert!(rt; answer(&mut world, Step::Free(k)) == Told::Made);
-    assert!(rt; answer(&mut world, change(k, Change::PrepareAddShard(two))) == Told::Made);
-    assert!(rt; answer(&mut world, Step::Free(k)) == Told::Fault(WorldFault::NotHeld));
+    assert!(rt; answer_of(&mut world, Step::Deliver(0)) == Told::Refused(admitted));
+    assert!(rt; answer_of(&mut world, Step::Finish(k)) == Told::Fault(WorldFault::NotHeld));
+    assert!(rt; answer_of(&mut world, Step::Free(k)) == Told::Made);
+    assert!(rt; answer_of(&mut world, change(k, Change::PrepareAddShard(two))) == Told::Made);
+    assert!(rt; answer_of(&mut world, Step::Free(k)) == Told::Fault(WorldFault::NotHeld));
     let prepared = Record {
         stand: Stand::Prepared {
             owner: one,
@@ -69,7 +69,7 @@ fn holds_and_frees(rt: HostRuntime) -> Result<(), Fail> {
         admitted: false,
         generation: 4,
     };
-    assert!(rt; answer(&mut world, Step::Look(k)) == Told::Seen(prepared));
+    assert!(rt; answer_of(&mut world, Step::Look(k)) == Told::Seen(prepared));
     Ok(())
 }
 
@@ -79,12 +79,12 @@ fn frees_no_request(rt: HostRuntime) -> Result<(), Fail> {
     let send = Step::Send(one, 7, inc(rt.alloc())?);
     let mut world = new_world(rt.alloc())?;
     let vacant = WorldFault::Admit(AdmitFault::Vacant);
-    assert!(rt; answer(&mut world, Step::Hold(k, one)) == Told::Fault(vacant));
-    answer(&mut world, change(k, Change::Assign(one)));
-    answer(&mut world, send);
-    assert!(rt; answer(&mut world, Step::Deliver(0)) == Told::Began(one));
-    assert!(rt; answer(&mut world, Step::Free(k)) == Told::Fault(WorldFault::NotHeld));
-    assert!(rt; answer(&mut world, Step::Finish(k)) == Told::Replied(7, one, 0));
+    assert!(rt; answer_of(&mut world, Step::Hold(k, one)) == Told::Fault(vacant));
+    answer_of(&mut world, change(k, Change::Assign(one)));
+    answer_of(&mut world, send);
+    assert!(rt; answer_of(&mut world, Step::Deliver(0)) == Told::Began(one));
+    assert!(rt; answer_of(&mut world, Step::Free(k)) == Told::Fault(WorldFault::NotHeld));
+    assert!(rt; answer_of(&mut world, Step::Finish(k)) == Told::Replied(7, one, 0));
     Ok(())
 }
 
@@ -115,13 +115,13 @@ fn pauses_and_reassigns(rt: HostRuntime) -> Result<(), Fail> {
         } else {
             Told::Fault(same)
         };
-        assert!(rt; answer(&mut world, change(k, step)) == told);
+        assert!(rt; answer_of(&mut world, change(k, step)) == told);
         let expected = Record {
             stand,
             admitted: false,
             generation,
         };
-        assert!(rt; answer(&mut world, Step::Look(k)) == Told::Seen(expected));
+        assert!(rt; answer_of(&mut world, Step::Look(k)) == Told::Seen(expected));
     }
     Ok(())
 }

@@ -2,7 +2,7 @@ use Rattle.std.proofs.Common.{length, subst}
 use Rattle.sm_ownership.specs.History.{IsLegal}
 use Rattle.sm_table.specs.World.{empty_world, world_of}
 use Rattle.sm_table.proofs.Extensions.{extends_after}
-use Rattle.sm_table.proofs.Soundness.{sound_world}
+use Rattle.sm_table.specs.lemmas.Soundness.{sound_world}
 use Rattle.sm_table.proofs.laws.legal_history.Goals as goal
 
 pub returns : goal.returns

@@ -16,13 +16,13 @@ invariant_of-self g c =
     let IsThere : Flight g.row.S-Request.Denot → Type 0 = λ flight. flight.envelope.shard < length c.self.inside.in_hand in
     let left = subst (λ flights. All IsThere flights) (sym c.remove-to.ensures.items) (flights-remove _ c.self.invariant c.args.place) in
     let onward = flights-hop _ c.self.invariant g.row.S-Reply.Denot c.remove-to.new.self.items c.remove-to.result.envelope c.remove-to.result.to (forward_to c.record-state.result c.remove-to.result.to) left (omega (arith, there, c.self.invariant.table)) in
-    IsTogether-in_flight _ c.self.invariant _ (subst (λ flights. All IsThere flights) (sym (ap (λ pair. pair.1) c.send_on.ensures)) onward)
+    IsTogether-in_flight _ c.self.invariant _ (subst (λ flights. All IsThere flights) (sym (ap (λ pair. pair.1) c.send_on.ensures.hop)) onward)
 
 pub returns-then-is_some-clause-stands : goal.returns-then-is_some-clause-stands
 returns-then-is_some-clause-stands g c = λ w stands.
     let place_there : c.args.place < length c.self.inside.in_flight.items = omega (arith, c.self.inside.in_flight.ok.0) in
     let there : slice_get c.self.inside.in_flight.items c.args.place ≡ Some c.remove-to.result = slice_get_read c.self.inside.in_flight.items (length c.self.inside.in_flight.items) c.args.place c.remove-to.result refl place_there c.remove-to.ensures.value in
-    forwarded_on (record { reply_of = g.S.Service.reply_of; key_of = g.S.Service.key_of }) _ _ c.self.view_is w stands c.args.place c.remove-to.result there c.remove-to.new.self.items c.remove-to.ensures.items c.shard-k.result c.shard-k.ensures c.record-state.result c.record-state.ensures (rw c.forward_to.ensures at (sym c.if-is_some.ensures)) c.send_on.result c.send_on.new.in_flight.items c.send_on.ensures
+    forwarded_on (record { reply_of = g.S.Service.reply_of; key_of = g.S.Service.key_of }) _ _ c.self.view_is w stands c.args.place c.remove-to.result there c.remove-to.new.self.items c.remove-to.ensures.items c.shard-k.result c.shard-k.ensures c.record-state.result c.record-state.ensures (rw c.forward_to.ensures at (sym c.if-is_some.ensures)) c.send_on.result c.send_on.new.in_flight.items c.send_on.ensures.hop
 
 pub invariant_of-self-else-is_some : goal.invariant_of-self-else-is_some
 invariant_of-self-else-is_some g c =

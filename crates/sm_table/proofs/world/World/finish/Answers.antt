@@ -1,7 +1,7 @@
 use Rattle.std.proofs.Common.{length, refl, ◌∙◌, ap}
 use Rattle.std.proofs.lemmas.List.{length-set}
 use Rattle.sm_table.proofs.Endings.{hand-from_work, replied, full, unserved}
-use Rattle.sm_table.proofs.Entries.{hand_within}
+use Rattle.sm_table.specs.lemmas.Entries.{hand_within}
 use Rattle.sm_table.proofs.Fitting.{IsTogether-done}
 use Rattle.sm_table.proofs.world.World.finish.Goals as goal
 

@@ -4,7 +4,7 @@ use Rattle.std.proofs.lemmas.List.{length-map}
 use Rattle.std.proofs.lemmas.List.Elements.{All-map}
 use Rattle.sm_ranges.specs.ServerId.{IsServer}
 use Rattle.sm_ownership.specs.History.{vacant}
-use Rattle.sm_table.specs.Setup.{frame_of}
+use Rattle.sm_table.specs.Standing.{setup_frame}
 use Rattle.sm_table.proofs.Empties.{StandsFor-empty, IsTogether-empty}
 use Rattle.sm_table.proofs.world.World.new.Goals as goal
 
@@ -20,7 +20,7 @@ invariant_of-result g c =
 pub returns : goal.returns
 returns g c =
     let bodies : length c.args.bodies.items ≡ length c.args.setup.layout = omega (arith, c.args.bodies.ok.0, c.requires.bodies) in
-    StandsFor-empty (frame_of c.args.setup (map g.S.Service.limit c.args.bodies.items)) _
+    StandsFor-empty (setup_frame c.args.setup (map g.S.Service.limit c.args.bodies.items)) _
     (record { layout = c.count-count.ensures.is_layout; servers = subst (λ desk. All IsServer desk.servers) c.desk.view_is c.desk.invariant })
     refl refl c.requires.vacant
     (c.in_ok-new.ensures.records ∙ ap (λ count. replicate count vacant) c.count-count.ensures.value)

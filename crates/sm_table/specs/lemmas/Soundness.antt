@@ -26,11 +26,12 @@ use Rattle.sm_desk.specs.Desk.{is_known, change_fault}
 use Rattle.sm_envelope.specs.Envelope.{EnvelopeView, one_hop_more, sent_on}
 use Rattle.sm_envelope.specs.declared.envelope.TheConstants.{MOST_HOPS}
 use Rattle.sm_ownership.specs.History.{vacant, record_at, kept}
-use Rattle.sm_table.specs.World.{Service, Frame, WorldState, Mark, Plain, Unmade, Unserved, Outcome, count_of, world_record, desk_of, table_fault, controlled, after_look, after_send, flight_to, reached, after_hop, hopped, arrived, without_flight, delivered, after_lose, with_room, worked, served, held, after_hold, let_go, freed, after_free, empty_world, next, world_after, world_of}
-use Rattle.sm_table.specs.Standing.{IsFrame, IsFlight, NamesKnown, IsHeld, IsSound}
+use Rattle.sm_body.specs.Service.{Service}
+use Rattle.sm_table.specs.World.{Frame, WorldState, Mark, Plain, Unmade, Unserved, Outcome, count_of, world_record, desk_of, table_fault, controlled, after_look, after_send, flight_to, reached, after_hop, hopped, arrived, without_flight, delivered, after_lose, with_room, worked, served, held, after_hold, let_go, freed, after_free, empty_world, next, world_after, world_of}
+use Rattle.sm_table.specs.Standing.{IsFrame, IsFlight, NamesServersOf, AgreesWithHand, IsSound}
 use Rattle.sm_ownership.specs.lemmas.Growth.{record_at-empty}
-use Rattle.sm_table.proofs.Names.{known_forward}
-use Rattle.sm_table.proofs.Entries.{sound_change, sound_admit, sound_done}
+use Rattle.sm_table.specs.lemmas.Names.{known_forward}
+use Rattle.sm_table.specs.lemmas.Entries.{sound_change, sound_admit, sound_done}
 
 -- the empty world is sound
 pub sound_empty : {Q : Type 0} (frame : Frame) → IsFrame frame → IsSound {Q = Q} (empty_world frame)
@@ -38,13 +39,13 @@ sound_empty {Q = Q} frame is = record {
   frame = is;
   legal = tt;
   own_server = refl;
-  named = λ shard within. subst (λ (state : Record). NamesKnown frame.servers state.stand) (sym (record_at-empty (length frame.bounds) shard)) tt;
+  named = λ shard within. subst (λ (state : Record). NamesServersOf frame.servers state.stand) (sym (record_at-empty (length frame.bounds) shard)) tt;
   flights = All-nil (IsFlight frame);
   hands = length-replicate (length frame.bounds) None;
   held = λ shard within. held shard within;
 }
   where
-    held : (shard : ℕ) → shard < length frame.bounds → IsHeld {Q = Q} [] (record_at (replicate (length frame.bounds) vacant) shard).admitted shard (slice_index_or (replicate (length frame.bounds) None) shard None)
+    held : (shard : ℕ) → shard < length frame.bounds → AgreesWithHand {Q = Q} [] (record_at (replicate (length frame.bounds) vacant) shard).admitted shard (slice_index_or (replicate (length frame.bounds) None) shard None)
     held shard within =
         let nothing : Option (InHand Q) = None in
         let free : slice_index_or (replicate (length frame.bounds) nothing) shard nothing ≡ nothing = get_or-replicate (length frame.bounds) shard nothing nothing within in
@@ -60,7 +61,7 @@ known_server (first ∷ servers) server all known =
     (or_cases (first == server) (is_known servers server) known)
 
 -- a key's shard is there
-shard_within : (bounds : List (List ℕ)) (key : List ℕ) → IsLayout bounds → shard_of bounds key < length bounds
+pub shard_within : (bounds : List (List ℕ)) (key : List ℕ) → IsLayout bounds → shard_of bounds key < length bounds
 shard_within bounds key layout =
     let some = layout.some in
     let few = count_by-le-length (λ bound. is_at_most bound key) bounds in

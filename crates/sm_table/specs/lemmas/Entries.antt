@@ -22,10 +22,10 @@ use Rattle.sm_desk.specs.Desk.{is_unknown, stand_at, change_fault, command_fault
 use Rattle.sm_desk.specs.lemmas.Changes.{let_through}
 use Rattle.sm_ownership.specs.History.{vacant, after_kind, admits_only, acts_as, fits}
 use Rattle.sm_table.specs.World.{WorldState, count_of, world_table, world_record, with_entry, with_hand, desk_of, table_fault, ended}
-use Rattle.sm_table.specs.Standing.{NamesKnown, IsHeld, IsSound}
+use Rattle.sm_table.specs.Standing.{NamesServersOf, AgreesWithHand, IsSound}
 use Rattle.sm_ownership.specs.lemmas.Faults.{change_fits-no_fault, admit_fault-none}
 use Rattle.sm_ownership.specs.Tables.{record_fault}
-use Rattle.sm_table.proofs.Names.{names_after}
+use Rattle.sm_table.specs.lemmas.Names.{names_after}
 use Rattle.sm_ownership.specs.lemmas.Growth.{length-table_of, legal-push, record_at-push, record_at-push_other}
 
 list_all-reverse : {X : Type 0} (test : X → Bool) (xs : List X) → list_all test (reverse xs) ≡ list_all test xs
@@ -56,12 +56,12 @@ acts_as_itself history actor own =
 
 module _ {Q : Type 0} where
   -- an entry of another shard leaves who holds this one
-  held_other : (history : List (Entry Q)) (entry : Entry Q) (admitted : Bool) (shard : ℕ) (hand : Option (InHand Q)) → (entry.shard == shard) ≡ false → IsHeld history admitted shard hand → IsHeld (history ++ entry ∷ []) admitted shard hand
+  held_other : (history : List (Entry Q)) (entry : Entry Q) (admitted : Bool) (shard : ℕ) (hand : Option (InHand Q)) → (entry.shard == shard) ≡ false → AgreesWithHand history admitted shard hand → AgreesWithHand (history ++ entry ∷ []) admitted shard hand
   held_other history entry admitted shard None other held = held
   held_other history entry admitted shard (Some hand) other held = (held.0, rw (reverse-append history (entry ∷ [])) (rw other held.1))
 
   -- nothing is in hand at an idle record, whatever is written next
-  held_idle : (history longer : List (Entry Q)) (admitted : Bool) (shard : ℕ) (hand : Option (InHand Q)) → admitted ≡ false → IsHeld history admitted shard hand → IsHeld longer admitted shard hand
+  held_idle : (history longer : List (Entry Q)) (admitted : Bool) (shard : ℕ) (hand : Option (InHand Q)) → admitted ≡ false → AgreesWithHand history admitted shard hand → AgreesWithHand longer admitted shard hand
   held_idle history longer admitted shard None idle held = held
   held_idle history longer admitted shard (Some hand) idle held = absurd (true≢false (sym held.0 ∙ idle))
 
@@ -79,37 +79,37 @@ record IsNext {Q : Type 0} (w : WorldState Q) (entry : Entry Q) (hands : List (O
   own_server : admits_only entry.actor entry.kind ≡ true
   places : length hands ≡ count_of w
   others : (shard : ℕ) → shard ≢ entry.shard → slice_index_or hands shard None ≡ slice_index_or w.in_hand shard None
-  named : NamesKnown w.frame.servers (after_kind (world_record w entry.shard) entry.kind).stand
-  here : IsHeld (w.history ++ entry ∷ []) (after_kind (world_record w entry.shard) entry.kind).admitted entry.shard (slice_index_or hands entry.shard None)
+  named : NamesServersOf w.frame.servers (after_kind (world_record w entry.shard) entry.kind).stand
+  here : AgreesWithHand (w.history ++ entry ∷ []) (after_kind (world_record w entry.shard) entry.kind).admitted entry.shard (slice_index_or hands entry.shard None)
 
 module _ {Q : Type 0} (w : WorldState Q) (entry : Entry Q) (hands : List (Option (InHand Q))) (sound : IsSound w) (next : IsNext w entry hands) where
   abbrev grown : WorldState Q
   grown = record w { history = w.history ++ entry ∷ []; in_hand = hands }
 
   abbrev HeldAt : ℕ → Type 0
-  HeldAt shard = IsHeld grown.history (world_record grown shard).admitted shard (slice_index_or hands shard None)
+  HeldAt shard = AgreesWithHand grown.history (world_record grown shard).admitted shard (slice_index_or hands shard None)
 
   held_own : HeldAt entry.shard
   held_own =
       let at = ap (λ state. state.admitted) (record_at-push (count_of w) w.frame.ceiling w.history entry next.fit) in
-      subst (λ admitted. IsHeld grown.history admitted entry.shard (slice_index_or hands entry.shard None)) (sym at) next.here
+      subst (λ admitted. AgreesWithHand grown.history admitted entry.shard (slice_index_or hands entry.shard None)) (sym at) next.here
 
   held_apart : (shard : ℕ) → shard < count_of w → shard ≢ entry.shard → HeldAt shard
   held_apart shard within apart =
       let at = ap (λ state. state.admitted) (record_at-push_other (count_of w) w.frame.ceiling w.history entry shard apart next.fit) in
       let other : (entry.shard == shard) ≡ false = ne_eqb entry.shard shard (λ same. apart (sym same)) in
-      let before : IsHeld w.history (world_record grown shard).admitted shard (slice_index_or w.in_hand shard None) = subst (λ admitted. IsHeld w.history admitted shard (slice_index_or w.in_hand shard None)) (sym at) (sound.held shard within) in
+      let before : AgreesWithHand w.history (world_record grown shard).admitted shard (slice_index_or w.in_hand shard None) = subst (λ admitted. AgreesWithHand w.history admitted shard (slice_index_or w.in_hand shard None)) (sym at) (sound.held shard within) in
       held_other w.history entry (world_record grown shard).admitted shard (slice_index_or hands shard None) other (rw (next.others shard apart) before)
 
   abbrev NamedAt : ℕ → Type 0
-  NamedAt shard = NamesKnown w.frame.servers (world_record grown shard).stand
+  NamedAt shard = NamesServersOf w.frame.servers (world_record grown shard).stand
 
   named_own : NamedAt entry.shard
-  named_own = subst (λ (state : Record). NamesKnown w.frame.servers state.stand) (sym (record_at-push (count_of w) w.frame.ceiling w.history entry next.fit)) next.named
+  named_own = subst (λ (state : Record). NamesServersOf w.frame.servers state.stand) (sym (record_at-push (count_of w) w.frame.ceiling w.history entry next.fit)) next.named
 
   named_apart : (shard : ℕ) → shard < count_of w → shard ≢ entry.shard → NamedAt shard
   named_apart shard within apart =
-      subst (λ (state : Record). NamesKnown w.frame.servers state.stand) (sym (record_at-push_other (count_of w) w.frame.ceiling w.history entry shard apart next.fit)) (sound.named shard within)
+      subst (λ (state : Record). NamesServersOf w.frame.servers state.stand) (sym (record_at-push_other (count_of w) w.frame.ceiling w.history entry shard apart next.fit)) (sound.named shard within)
 
   -- a world stays sound with an entry that may come next
   grown_sound : IsSound grown
@@ -191,7 +191,7 @@ module _ {Q : Type 0} (w : WorldState Q) (sound : IsSound w) where
       let long = sound.hands in
       let there : shard < length w.in_hand = hand_within w.in_hand shard hand is in
       let inside : shard < length (world_table w) = omega arith in
-      let held : IsHeld w.history (world_record w shard).admitted shard (Some hand) = subst (λ one. IsHeld w.history (world_record w shard).admitted shard one) is (sound.held shard (omega arith)) in
+      let held : AgreesWithHand w.history (world_record w shard).admitted shard (Some hand) = subst (λ one. AgreesWithHand w.history (world_record w shard).admitted shard one) is (sound.held shard (omega arith)) in
       let freed : slice_index_or (slice_set w.in_hand shard None) shard None ≡ None = get_or-set_same w.in_hand shard None None there in
       grown_sound w (record { actor = hand.server; shard = shard; kind = Done request }) (slice_set w.in_hand shard None) sound (record {
         fit = and_from _ _ (lt-ltb _ _ inside) (and_from _ _ held.0 held.1);
