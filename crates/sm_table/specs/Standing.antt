@@ -4,8 +4,7 @@ use Rattle.std.specs.List.{list_all}
 use Rattle.sm_body.specs.Service.{Service}
 use Rattle.sm_ranges.specs.Ranges.{IsLayout}
 use Rattle.sm_ranges.specs.ServerId.{IsServer}
-use Rattle.sm_ranges.specs.declared.stand.Stand.{Stand}
-use Rattle.sm_ranges.specs.declared.stand.Stand.TheVariants.{Vacant, Serving, Prepared, Forwarding, Taken, Paused}
+use Rattle.sm_ranges.specs.Stand.{AllNamed}
 use Rattle.sm_ownership.specs.declared.entry.Entry.{Entry}
 use Rattle.sm_ownership.specs.declared.record.Record.{Record}
 use Rattle.sm_table.specs.declared.flight.Flight.{Flight}
@@ -27,6 +26,10 @@ pub record IsFrame (frame : Frame) : Type 0 where
 abbrev pub setup_frame : Setup → List ℕ → Frame
 setup_frame setup limits = record { bounds = setup.layout; servers = setup.desk.servers; ceiling = setup.ceiling; limits = limits }
 
+-- the server exists
+abbrev pub IsThere : List ℕ → ℕ → Type 0
+IsThere servers server = is_known servers server ≡ true
+
 -- an envelope is for a shard that is there, and goes to a server that is
 pub record IsFlight {Q : Type 0} (frame : Frame) (flight : Flight Q) : Type 0 where
   pub shard : flight.envelope.shard < length frame.bounds
@@ -37,21 +40,12 @@ abbrev pub AgreesWithHand : {Q : Type 0} → List (Entry Q) → Bool → ℕ →
 AgreesWithHand history admitted shard None = admitted ≡ false
 AgreesWithHand history admitted shard (Some hand) = (admitted ≡ true) × (is_admission_of hand.server (latest_of (reverse history) shard) ≡ true)
 
--- the servers that a stand names exist
-abbrev pub NamesServersOf : List ℕ → Stand → Type 0
-NamesServersOf servers Vacant = Unit {0}
-NamesServersOf servers (Serving owner) = is_known servers owner ≡ true
-NamesServersOf servers (Prepared owner next) = (is_known servers owner ≡ true) × (is_known servers next ≡ true)
-NamesServersOf servers (Forwarding owner next) = (is_known servers owner ≡ true) × (is_known servers next ≡ true)
-NamesServersOf servers (Taken owner previous) = (is_known servers owner ≡ true) × (is_known servers previous ≡ true)
-NamesServersOf servers (Paused owner) = is_known servers owner ≡ true
-
 -- what holds of each world that steps lead to
 pub record IsSound {Q : Type 0} (w : WorldState Q) : Type 0 where
   pub frame : IsFrame w.frame
   pub legal : IsLegal (count_of w) w.frame.ceiling w.history
   pub own_server : list_all (λ entry. admits_only entry.actor entry.kind) w.history ≡ true
-  pub named : (shard : ℕ) → shard < count_of w → NamesServersOf w.frame.servers (world_record w shard).stand
+  pub named : (shard : ℕ) → shard < count_of w → AllNamed (IsThere w.frame.servers) (world_record w shard).stand
   pub flights : All (IsFlight w.frame) w.in_flight
   pub hands : length w.in_hand ≡ count_of w
   pub held : (shard : ℕ) → shard < count_of w → AgreesWithHand w.history (world_record w shard).admitted shard (slice_index_or w.in_hand shard None)

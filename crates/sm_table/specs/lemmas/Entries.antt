@@ -8,6 +8,7 @@ use Rattle.std.proofs.lemmas.Bool.Decides.{nat_tests}
 use Rattle.std.proofs.lemmas.List.{reverse-append, get_or-set_same, get_or-set_other, get_or_past, get_or-map, length-map, length-set}
 use Rattle.std.proofs.lemmas.List.Folds.{list_all-append}
 use Rattle.sm_ranges.specs.ServerId.{IsServer}
+use Rattle.sm_ranges.specs.Stand.{AllNamed}
 use Rattle.sm_ranges.specs.declared.stand.Stand.TheVariants.{Vacant}
 use Rattle.sm_ownership.specs.declared.change.Change.{Change}
 use Rattle.sm_ownership.specs.declared.change.PhaseFault.{PhaseFault}
@@ -22,7 +23,7 @@ use Rattle.sm_desk.specs.Desk.{is_unknown, stand_at, change_fault, command_fault
 use Rattle.sm_desk.specs.lemmas.Changes.{let_through}
 use Rattle.sm_ownership.specs.History.{vacant, after_kind, admits_only, acts_as, fits}
 use Rattle.sm_table.specs.World.{WorldState, count_of, world_table, world_record, with_entry, with_hand, desk_of, table_fault, ended}
-use Rattle.sm_table.specs.Standing.{NamesServersOf, AgreesWithHand, IsSound}
+use Rattle.sm_table.specs.Standing.{IsThere, AgreesWithHand, IsSound}
 use Rattle.sm_ownership.specs.lemmas.Faults.{change_fits-no_fault, admit_fault-none}
 use Rattle.sm_ownership.specs.Tables.{record_fault}
 use Rattle.sm_table.specs.lemmas.Names.{names_after}
@@ -79,7 +80,7 @@ record IsNext {Q : Type 0} (w : WorldState Q) (entry : Entry Q) (hands : List (O
   own_server : admits_only entry.actor entry.kind ≡ true
   places : length hands ≡ count_of w
   others : (shard : ℕ) → shard ≢ entry.shard → slice_index_or hands shard None ≡ slice_index_or w.in_hand shard None
-  named : NamesServersOf w.frame.servers (after_kind (world_record w entry.shard) entry.kind).stand
+  named : AllNamed (IsThere w.frame.servers) (after_kind (world_record w entry.shard) entry.kind).stand
   here : AgreesWithHand (w.history ++ entry ∷ []) (after_kind (world_record w entry.shard) entry.kind).admitted entry.shard (slice_index_or hands entry.shard None)
 
 module _ {Q : Type 0} (w : WorldState Q) (entry : Entry Q) (hands : List (Option (InHand Q))) (sound : IsSound w) (next : IsNext w entry hands) where
@@ -102,14 +103,14 @@ module _ {Q : Type 0} (w : WorldState Q) (entry : Entry Q) (hands : List (Option
       held_other w.history entry (world_record grown shard).admitted shard (slice_index_or hands shard None) other (rw (next.others shard apart) before)
 
   abbrev NamedAt : ℕ → Type 0
-  NamedAt shard = NamesServersOf w.frame.servers (world_record grown shard).stand
+  NamedAt shard = AllNamed (IsThere w.frame.servers) (world_record grown shard).stand
 
   named_own : NamedAt entry.shard
-  named_own = subst (λ (state : Record). NamesServersOf w.frame.servers state.stand) (sym (record_at-push (count_of w) w.frame.ceiling w.history entry next.fit)) next.named
+  named_own = subst (λ (state : Record). AllNamed (IsThere w.frame.servers) state.stand) (sym (record_at-push (count_of w) w.frame.ceiling w.history entry next.fit)) next.named
 
   named_apart : (shard : ℕ) → shard < count_of w → shard ≢ entry.shard → NamedAt shard
   named_apart shard within apart =
-      subst (λ (state : Record). NamesServersOf w.frame.servers state.stand) (sym (record_at-push_other (count_of w) w.frame.ceiling w.history entry shard apart next.fit)) (sound.named shard within)
+      subst (λ (state : Record). AllNamed (IsThere w.frame.servers) state.stand) (sym (record_at-push_other (count_of w) w.frame.ceiling w.history entry shard apart next.fit)) (sound.named shard within)
 
   -- a world stays sound with an entry that may come next
   grown_sound : IsSound grown

@@ -10,6 +10,7 @@ use Rattle.std.proofs.lemmas.Option.{slice_get_within, get_or_from_slice_get}
 use Rattle.sm_ranges.specs.Ranges.{IsLayout, shard_of}
 use Rattle.sm_ranges.specs.KeyOrder.{is_at_most}
 use Rattle.sm_ranges.specs.ServerId.{IsServer}
+use Rattle.sm_ranges.specs.Stand.{AllNamed}
 use Rattle.sm_ownership.specs.declared.admit_fault.AdmitFault.{AdmitFault}
 use Rattle.sm_ownership.specs.declared.change.Change.{Change}
 use Rattle.sm_desk.specs.declared.command.CommandFault.{CommandFault}
@@ -28,7 +29,7 @@ use Rattle.sm_envelope.specs.declared.envelope.TheConstants.{MOST_HOPS}
 use Rattle.sm_ownership.specs.History.{vacant, record_at, kept}
 use Rattle.sm_body.specs.Service.{Service}
 use Rattle.sm_table.specs.World.{Frame, WorldState, Mark, Plain, Unmade, Unserved, Outcome, count_of, world_record, desk_of, table_fault, controlled, after_look, after_send, flight_to, reached, after_hop, hopped, arrived, without_flight, delivered, after_lose, with_room, worked, served, held, after_hold, let_go, freed, after_free, empty_world, next, world_after, world_of}
-use Rattle.sm_table.specs.Standing.{IsFrame, IsFlight, NamesServersOf, AgreesWithHand, IsSound}
+use Rattle.sm_table.specs.Standing.{IsFrame, IsFlight, IsThere, AgreesWithHand, IsSound}
 use Rattle.sm_ownership.specs.lemmas.Growth.{record_at-empty}
 use Rattle.sm_table.specs.lemmas.Names.{known_forward}
 use Rattle.sm_table.specs.lemmas.Entries.{sound_change, sound_admit, sound_done}
@@ -39,7 +40,7 @@ sound_empty {Q = Q} frame is = record {
   frame = is;
   legal = tt;
   own_server = refl;
-  named = λ shard within. subst (λ (state : Record). NamesServersOf frame.servers state.stand) (sym (record_at-empty (length frame.bounds) shard)) tt;
+  named = λ shard within. subst (λ (state : Record). AllNamed (IsThere frame.servers) state.stand) (sym (record_at-empty (length frame.bounds) shard)) (tt, tt);
   flights = All-nil (IsFlight frame);
   hands = length-replicate (length frame.bounds) None;
   held = λ shard within. held shard within;
