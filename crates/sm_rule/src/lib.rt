@@ -12,6 +12,4 @@ pub mod make_fault;
 pub mod pass;
 pub mod permit;
 mod rule;
-#[cfg(test)]
-mod tests;
 pub mod view;

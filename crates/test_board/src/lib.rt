@@ -1,0 +1,7 @@
+//! Tests of what a shard's body does, and of boards that threads share.
+#![tactic(auto)]
+
+#[cfg(test)]
+mod rule;
+#[cfg(test)]
+mod service;
