@@ -1,12 +1,7 @@
 -- Key maps: pairs of a key and what it holds, and what each request replies and changes there.
-use Rattle.std.specs.Prelude.{◌≡◌, ℕ, ◌<◌, ◌≤◌, ◌-◌, ◌^◌, ℤ, pos, neg_ℤ, ◌+ℤ◌, int_le, Bool, ◌&&◌, List, ◌∷◌, ◌++◌, Option, Some, None, AllPairs, filter, find, length, nat_le, if◌then◌else◌}
-use Rattle.std.specs.List.{HoldsAt}
-use Rattle.std.specs.List.Sorted.{IsPartitionPoint}
+use Rattle.std.specs.Prelude.{ℕ, ◌-◌, ◌^◌, ℤ, pos, neg_ℤ, ◌+ℤ◌, int_le, Bool, ◌&&◌, List, Option, Some, None, find, length, nat_le, if◌then◌else◌}
 use Rattle.std.specs.Option.{option_map}
-use Rattle.std.specs.Ordering.{nat_cmp, is_lt, is_gt, is_eq}
-use Rattle.std.specs.declared.cmp.Ordering.{Ordering}
-use Rattle.std.specs.declared.cmp.Ordering.TheVariants.{Less, Equal, Greater}
-use Rattle.std.specs.Cmp.Lexicographic.{slice_cmp}
+use Rattle.sm_ranges.specs.Keyed.{IsInKeyOrder, has_key, with_key}
 use Rattle.sm_service.specs.declared.held.TheConstants.{MAX_TEXT}
 use Rattle.sm_service.specs.declared.held.Held.{Held}
 use Rattle.sm_service.specs.declared.held.Held.TheVariants.{Text, Count}
@@ -17,41 +12,20 @@ use Rattle.sm_service.specs.declared.reply.Reply.TheVariants.{Text as ReplyText,
 use Rattle.sm_service.specs.declared.request.Request.{Request}
 use Rattle.sm_service.specs.declared.request.Request.TheVariants.{Get, Put, Inc}
 
--- the order of two keys: their bytes are compared as numbers, and a proper prefix comes first
-abbrev pub key_cmp : List ℕ → List ℕ → Ordering
-key_cmp = slice_cmp nat_cmp
+abbrev pub key_of_pair : Pair → List ℕ
+key_of_pair pair = pair.key
 
 -- the pairs are in the order of their keys, and no key comes twice
 abbrev pub IsKeyMap : List Pair → Type 0
-IsKeyMap m = AllPairs (λ pair later. key_cmp pair.key later.key ≡ Less) m
-
--- the pair's key is below, the same as, or above this one
-abbrev pub is_below : List ℕ → Pair → Bool
-is_below key pair = is_lt (key_cmp pair.key key)
-
-abbrev pub is_at : List ℕ → Pair → Bool
-is_at key pair = is_eq (key_cmp pair.key key)
-
-abbrev pub is_above : List ℕ → Pair → Bool
-is_above key pair = is_gt (key_cmp pair.key key)
+IsKeyMap m = IsInKeyOrder key_of_pair m
 
 -- what the map holds at the key
 abbrev pub held_at : List Pair → List ℕ → Option Held
-held_at m key = option_map (λ pair. pair.value) (find (is_at key) m)
+held_at m key = option_map (λ pair. pair.value) (find (has_key key_of_pair key) m)
 
 -- the map that holds the value at the key, and else what m holds
 abbrev pub holding : List Pair → List ℕ → Held → List Pair
-holding m key value = filter (is_below key) m ++ record { key = key; value = value } ∷ filter (is_above key) m
-
--- the pair with the key stands at this place
-pub record IsPlaceOf (m : List Pair) (key : List ℕ) (at : ℕ) : Type 0 where
-  pub within : at < length m
-  pub same : HoldsAt (λ pair. key_cmp pair.key key ≡ Equal) m at
-
--- no pair has the key, and a pair with it would go to this place
-pub record IsGapFor (m : List Pair) (key : List ℕ) (at : ℕ) : Type 0 where
-  pub within : at ≤ length m
-  pub apart : IsPartitionPoint (λ pair. key_cmp pair.key key ≡ Less) (λ pair. key_cmp pair.key key ≡ Greater) m at
+holding m key value = with_key key_of_pair m key (record { key = key; value = value })
 
 -- the reply to a Get, by what the key holds
 abbrev pub get_reply : Option Held → Reply

@@ -1,5 +1,7 @@
 ghost use Rattle.std.specs.Prelude.{◌≡◌, [], IfOk, IfErr, OnOk, OnErr, option_copied};
-ghost use Rattle.sm_service.specs.KeyMap.{key_cmp, held_at, holding, IsPlaceOf, IsGapFor};
+ghost use Rattle.sm_ranges.specs.KeyOrder.{key_cmp};
+ghost use Rattle.sm_ranges.specs.Keyed.{IsKeyGap, IsKeyPlace};
+ghost use Rattle.sm_service.specs.KeyMap.{held_at, holding, key_of_pair};
 
 use crate::held::Held;
 use crate::pair::Pair;
@@ -65,8 +67,8 @@ impl PairMap {
 
     // Where the key's pair stands, or where it would go.
     fn search(&self, key: &[u8]) -> Result<usize, usize>
-        ensures found { IfOk result (IsPlaceOf self.now key.now) }
-        ensures absent { IfErr result (IsGapFor self.now key.now) }
+        ensures found { IfOk result (IsKeyPlace key_of_pair self.now key.now) }
+        ensures absent { IfErr result (IsKeyGap key_of_pair self.now key.now) }
     {
         self.pairs
             .as_slice()
