@@ -83,7 +83,14 @@ def head_of(lines):
 
 
 def spec_file(crate, module):
-    return CRATES / crate / "specs" / (module.replace(".", "/") + ".antt")
+    """Returns the file of a module of the crate's specs/, or of the crate below whose module it passes on."""
+    folder = CRATES / crate / "specs"
+    file, listed = folder / (module.replace(".", "/") + ".antt"), folder / "Lib.antt"
+    if not file.exists() and listed.exists():
+        for below, passed in re.findall(r"(?m)^pub use Rattle\.(\w+)\.specs\.([\w.]+)$", listed.read_text(encoding="utf-8")):
+            if passed.rpartition(".")[2] == module:
+                return spec_file(below, passed)
+    return file
 
 
 def items_of(file):
