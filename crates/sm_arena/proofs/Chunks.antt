@@ -8,7 +8,7 @@ use Rattle.std.proofs.lemmas.List.Folds.{sum_by-replicate}
 use Rattle.sm_arena.specs.declared.span.Span.{Span}
 use Rattle.sm_arena.specs.declared.block.Block.{Block}
 use Rattle.sm_arena.specs.declared.blocks.Blocks.{Blocks}
-use Rattle.sm_arena.specs.Blocks.{chunks_in, chunks_of, bytes_at, total, IsWriting, IsFilled, HasRoom}
+use Rattle.sm_arena.specs.Blocks.{chunks_in, chunks_of, bytes_at, total, IsWriting, IsFilled, HasSpace}
 
 pub is_nil : (xs : List ℕ) → length xs ≤ 0 → xs ≡ []
 is_nil [] le = refl
@@ -110,7 +110,7 @@ module _ (old : List Block) (place : ℕ) (piece : List ℕ) (inside : place < l
   was : get_or (chunks_in old) place [] ≡ block.chunk.bytes
   was = get_or-map (λ (b : Block). b.chunk.bytes) old place block [] inside ∙ ap (λ (b : Block). b.chunk.bytes) at
 
-  room : (count : ℕ) → HasRoom old place (length piece + count) → HasRoom (set old place block') place count
+  room : (count : ℕ) → HasSpace old place (length piece + count) → HasSpace (set old place block') place count
   room count has =
       let here : (d : Block) → get_or (set old place block') place d ≡ block' = λ d. get_or-set_same old place block' d inside in
       let before : length block.chunk.bytes + (length piece + count) ≤ block.size = rw at at (has.1 block) in
@@ -126,7 +126,7 @@ module _ (old : List Block) (place : ℕ) (piece : List ℕ) (inside : place < l
 pub fills_nothing : (old : List Block) (place : ℕ) → IsFilled old place [] old
 fills_nothing old place = record {
   chunks = sym (ap (λ (l : List ℕ). set (chunks_in old) place l) (append-nil (get_or (chunks_in old) place [])) ∙ set-get_or (chunks_in old) place []);
-  room = λ count has. let same : 0 + count ≡ count = omega arith in subst (λ (n : ℕ). HasRoom old place n) same has;
+  room = λ count has. let same : 0 + count ≡ count = omega arith in subst (λ (n : ℕ). HasSpace old place n) same has;
 }
 
 -- one piece after the other
@@ -139,7 +139,7 @@ fills_both a b c place p q inside first second =
     (λ i. set (first.chunks i) place (middle i ++ q)) ∙ (set-set (chunks_in a) place (x ++ p) ((x ++ p) ++ q) ∙ ap (λ (l : List ℕ). set (chunks_in a) place l) (append_assoc x p q)) in
     record {
       chunks = second.chunks ∙ last;
-      room = λ count has. second.room count (first.room (length q + count) (subst (λ (n : ℕ). HasRoom a place n) (omega (arith, length-append p q)) has));
+      room = λ count has. second.room count (first.room (length q + count) (subst (λ (n : ℕ). HasSpace a place n) (omega (arith, length-append p q)) has));
     }
 
 pub writes : (old : List (List ℕ)) (middle new : List Block) (k place : ℕ) (piece : List ℕ) → chunks_in middle ≡ old ++ replicate k [] → place < length middle → IsFilled middle place piece new
@@ -187,10 +187,10 @@ module _ (old now : List Block) (place : ℕ) (span : Span) (copied count : ℕ)
   pub part_there : length (bytes_at (chunks_in now) part) ≡ count
   part_there = ap length part_stays ∙ part_inside (chunks_in old) span copied count within full
 
-  pub part_room : HasRoom old place span.length → HasRoom now place count
+  pub part_room : HasSpace old place span.length → HasSpace now place count
   part_room has =
       let b : List ℕ = bytes_at (chunks_in old) span in
-      let room : HasRoom old place (length (take copied b) + count) = (has.0, λ d. omega (arith, has.1 d, length-take copied b, full, within)) in
+      let room : HasSpace old place (length (take copied b) + count) = (has.0, λ d. omega (arith, has.1 d, length-take copied b, full, within)) in
       filled.room count room
 
   pub part_filled : (new : List Block) → IsFilled now place (bytes_at (chunks_in now) part) new → IsFilled old place (take (copied + count) (bytes_at (chunks_in old) span)) new

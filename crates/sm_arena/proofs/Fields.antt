@@ -10,9 +10,11 @@ use denote.Builtin.{usize}
 use denote.RawPtr.{Ptr, RawPtr, ptr_val}
 use denote.Shadow.{shadow, makes_shadow}
 use denote.Struct.Struct.{Struct}
-use Rattle.sm_arena.proofs.EmptyStruct.{empty_row}
 
 -- what a struct owns does not read its name
+abbrev empty_row : RattleType
+empty_row = Struct (record { name = []; args = []; types = []; fields = [] })
+
 abbrev fields_row : RattleType
 fields_row = Struct (record { name = []; args = []; types = []; fields = RawPtr ∷ usize ∷ usize ∷ empty_row ∷ [] })
 

@@ -1,6 +1,5 @@
 pub mod Bytes
 pub mod Chunks
-pub mod EmptyStruct
 pub mod Fields
 pub mod Following
 pub mod Placing

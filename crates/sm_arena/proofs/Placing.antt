@@ -7,29 +7,12 @@ use Rattle.std.proofs.lemmas.Bool.Decides.{nat_tests}
 use Rattle.std.proofs.lemmas.List.Sums.{sum_by-cons, sum_by_push}
 use Rattle.std.proofs.lemmas.List.Elements.{All-push}
 use Rattle.sm_arena.specs.declared.span.Span.{Span}
-use Rattle.sm_arena.specs.Pieces.{same_span, piece_of, IsPlaced, bytes_of}
+use Rattle.sm_arena.specs.Pieces.{Places, same_span, piece_of, IsPlaced, bytes_of}
 use Rattle.sm_arena.specs.Blocks.{bytes_at, total, IsWriting, IsWritingPair}
 use Rattle.sm_arena.specs.Value.{ArenaValue, IsPlacing, IsPlacingPair, times_forgotten, dead_of, live_of, forgetting}
-use Rattle.sm_arena.specs.Kept.{Lies, times_placed, IsHeld}
+use Rattle.sm_arena.specs.Kept.{Lies, pieces_in, lying, times_placed, IsArena}
+use Rattle.sm_arena.specs.lemmas.Pieces.{span_of_same, same_itself, placed_or_none, piece_behind, placed_stays, same_sum}
 use Rattle.sm_arena.proofs.Chunks.{is_nil}
-
-abbrev Places : Type 0
-Places = List (Span × List ℕ)
-
-chunk_of_same : (a b : Span) → same_span a b ≡ true → a.chunk ≡ b.chunk
-chunk_of_same a b e = grind (arith)
-
-start_of_same : (a b : Span) → same_span a b ≡ true → a.start ≡ b.start
-start_of_same a b e = grind (arith)
-
-length_of_same : (a b : Span) → same_span a b ≡ true → a.length ≡ b.length
-length_of_same a b e = grind (arith)
-
-span_of_same : (a b : Span) → same_span a b ≡ true → a ≡ b
-span_of_same a b e = λ i. record { chunk = chunk_of_same a b e i; start = start_of_same a b e i; length = length_of_same a b e i }
-
-same_itself : (a : Span) → same_span a a ≡ true
-same_itself a = grind (arith)
 
 flipped : (a b : Span) → same_span a b ≡ false → same_span b a ≡ false
 flipped a b e = by (same_span b a) refl
@@ -43,38 +26,22 @@ once b = cond b 1 0
 
 -- ---- what lies at a span
 
-found : (cs : List (List ℕ)) (e : Span × List ℕ) (rest : Option (List ℕ)) (s : Span) (y : Bool) → same_span e.0 s ≡ y → Lies cs e → (IsSome rest → (rest ≡ Some (bytes_at cs s)) × (length (bytes_at cs s) ≡ s.length))
-    → IsSome (cond y (Some e.1) rest) → (cond y (Some e.1) rest ≡ Some (bytes_at cs s)) × (length (bytes_at cs s) ≡ s.length)
-found cs e rest s true same lies more is = subst (λ (t : Span). (Some e.1 ≡ Some (bytes_at cs t)) × (length (bytes_at cs t) ≡ t.length)) (span_of_same e.0 s same) (ap Some (sym lies.0), ap length lies.0 ∙ lies.1)
-found cs e rest s false same lies more is = more is
+found : (cs : List (List ℕ)) (e : Span × List ℕ) (es : Places) (s : Span) (y : Bool) → same_span e.0 s ≡ y → Lies cs e → (IsPlaced es s → (piece_of es s ≡ Some (bytes_at cs s)) × (length (bytes_at cs s) ≡ s.length))
+    → IsSome (piece_behind y e es s) → (piece_behind y e es s ≡ Some (bytes_at cs s)) × (length (bytes_at cs s) ≡ s.length)
+found cs e es s true same lies more is = subst (λ (t : Span). (Some e.1 ≡ Some (bytes_at cs t)) × (length (bytes_at cs t) ≡ t.length)) (span_of_same e.0 s same) (ap Some (sym lies.0), ap length lies.0 ∙ lies.1)
+found cs e es s false same lies more is = more is
 
 -- where a piece was placed, it lies
 pub lies_at : (cs : List (List ℕ)) (es : Places) (s : Span) → All (Lies cs) es → IsPlaced es s → (piece_of es s ≡ Some (bytes_at cs s)) × (length (bytes_at cs s) ≡ s.length)
 lies_at cs [] s all is = absurd (false≢true is)
-lies_at cs (e ∷ es) s all is = found cs e (piece_of es s) s (same_span e.0 s) refl (all 0 e (omega arith)) (lies_at cs es s (λ k d lt. all (suc k) d (omega (arith, lt)))) is
-
-placed_or_none : (es : Places) (s : Span) → (piece_of es s ≡ None) ⊎ IsPlaced es s
-placed_or_none es s = by (piece_of es s) refl
-  where
-    by : (o : Option (List ℕ)) → piece_of es s ≡ o → (piece_of es s ≡ None) ⊎ IsPlaced es s
-    by None e = inl e
-    by (Some x) e = inr (rw e refl)
-
--- what was placed stays
-placed_stays : (es : Places) (e : Span × List ℕ) (s : Span) → IsPlaced es s → piece_of (es ++ e ∷ []) s ≡ piece_of es s
-placed_stays [] e s is = absurd (false≢true is)
-placed_stays (x ∷ es) e s is = by (same_span x.0 s) is (placed_stays es e s)
-  where
-    by : (b : Bool) → IsSome (cond b (Some x.1) (piece_of es s)) → (IsPlaced es s → piece_of (es ++ e ∷ []) s ≡ piece_of es s) → cond b (Some x.1) (piece_of (es ++ e ∷ []) s) ≡ cond b (Some x.1) (piece_of es s)
-    by true is again = refl
-    by false is again = again is
+lies_at cs (e ∷ es) s all is = found cs e es s (same_span e.0 s) refl (all 0 e (omega arith)) (lies_at cs es s (λ k d lt. all (suc k) d (omega (arith, lt)))) is
 
 -- a new span reads what is placed at it
 new_reads : (es : Places) (s : Span) (piece : List ℕ) → piece_of es s ≡ None → piece_of (es ++ (s, piece) ∷ []) s ≡ Some piece
 new_reads [] s piece none = rw (same_itself s) refl
 new_reads (x ∷ es) s piece none = by (same_span x.0 s) none (new_reads es s piece)
   where
-    by : (b : Bool) → cond b (Some x.1) (piece_of es s) ≡ None → (piece_of es s ≡ None → piece_of (es ++ (s, piece) ∷ []) s ≡ Some piece) → cond b (Some x.1) (piece_of (es ++ (s, piece) ∷ []) s) ≡ Some piece
+    by : (b : Bool) → piece_behind b x es s ≡ None → (piece_of es s ≡ None → piece_of (es ++ (s, piece) ∷ []) s ≡ Some piece) → piece_behind b x (es ++ (s, piece) ∷ []) s ≡ Some piece
     by true none again = cc
     by false none again = again none
 
@@ -83,21 +50,11 @@ never_placed : (es : Places) (s : Span) → piece_of es s ≡ None → times_pla
 never_placed [] s none = refl
 never_placed (x ∷ es) s none = by (same_span x.0 s) refl none (never_placed es s)
   where
-    by : (b : Bool) → same_span x.0 s ≡ b → cond b (Some x.1) (piece_of es s) ≡ None → (piece_of es s ≡ None → times_placed es s ≡ 0) → times_placed (x ∷ es) s ≡ 0
+    by : (b : Bool) → same_span x.0 s ≡ b → piece_behind b x es s ≡ None → (piece_of es s ≡ None → times_placed es s ≡ 0) → times_placed (x ∷ es) s ≡ 0
     by true e none again = cc
     by false e none again = let zero_here : once (same_span x.0 s) ≡ once false = ap once e in omega (arith, again none, zero_here, sum_by-cons (λ (e : Span × List ℕ). cond (same_span e.0 s) 1 0) x es)
 
 -- ---- the lengths that are forgotten
-
--- they stay where each span of the list reads the same
-same_sum : (old new : Places) (l : List Span) → ((s : Span) → 0 < count_by (λ t. same_span t s) l → piece_of new s ≡ piece_of old s) → sum_by (λ s. length (bytes_of new s)) l ≡ sum_by (λ s. length (bytes_of old s)) l
-same_sum old new [] keeps = refl
-same_sum old new (x ∷ l) keeps =
-    let one : once (same_span x x) ≡ once true = ap once (same_itself x) in
-    let here : piece_of new x ≡ piece_of old x = keeps x (omega (arith, one, sum_by-cons (λ t. cond (same_span t x) 1 0) x l)) in
-    let long : length (bytes_of new x) ≡ length (bytes_of old x) = ap (λ (o : Option (List ℕ)). length (unwrap_or o [])) here in
-    let there : sum_by (λ s. length (bytes_of new s)) l ≡ sum_by (λ s. length (bytes_of old s)) l = same_sum old new l (λ s lt. keeps s (omega (arith, sum_by-cons (λ t. cond (same_span t s) 1 0) x l))) in
-    omega (arith, long, there, sum_by-cons (λ s. length (bytes_of new s)) x l, sum_by-cons (λ s. length (bytes_of old s)) x l)
 
 cond_none : (b : Bool) (n : ℕ) → n ≤ 0 → cond b n 0 ≡ n
 cond_none true n none = refl
@@ -105,7 +62,7 @@ cond_none false n none = omega (arith, none)
 
 -- ---- placing: v and w are the arena before and after
 
-module _ (cs more : List (List ℕ)) (here away : ℕ) (v w : ArenaValue) (held : IsHeld cs here away v) (span : Span) (piece : List ℕ) (placed : w.placed ≡ v.placed ++ (span, piece) ∷ []) (forgotten : w.forgotten ≡ v.forgotten)
+module _ (cs more : List (List ℕ)) (here away : ℕ) (v w : ArenaValue) (held : IsArena cs here away v) (span : Span) (piece : List ℕ) (placed : w.placed ≡ v.placed ++ (span, piece) ∷ []) (forgotten : w.forgotten ≡ v.forgotten)
     (moves : (e : Span × List ℕ) → Lies cs e → Lies more e) (there : Lies more (span, piece)) (fresh : 0 < length piece → piece_of v.placed span ≡ None) (room : total more ≡ total cs + length piece) where
   same_times : (s : Span) → times_forgotten w s ≡ times_forgotten v s
   same_times s = ap (λ (l : List Span). count_by (λ t. same_span t s) l) forgotten
@@ -150,7 +107,7 @@ module _ (cs more : List (List ℕ)) (here away : ℕ) (v w : ArenaValue) (held 
           let none : times_placed v.placed s ≡ 0 = subst (λ (t : Span). times_placed v.placed t ≡ 0) same (never_placed v.placed span (fresh long)) in
           omega (arith, more_once, none)
 
-  pub held_placed : IsHeld more (here + length piece) away w
+  pub held_placed : IsArena more (here + length piece) away w
   held_placed = record {
     lies = subst (λ (es : Places). All (Lies more) es) (sym placed) (All-push (Lies more) v.placed (span, piece) (λ k d lt. moves (get_or v.placed k d) (held.lies k d lt)) there);
     distinct = distinct;
@@ -176,8 +133,26 @@ module _ (cs more : List (List ℕ)) (here away : ℕ) (v w : ArenaValue) (held 
           let nothing : bytes_at cs span ≡ [] = is_nil (bytes_at cs span) (omega (arith, lies.1, there.1, empty)) in
           stays span is ∙ (lies.0 ∙ (ap (λ (x : List ℕ). Some x) nothing ∙ ap (λ (x : List ℕ). Some x) (sym (is_nil piece empty))))
 
+-- the pieces of these spans, once a further one is written
+pieces_grow : (cs more : List (List ℕ)) (spans : List Span) (span : Span) (piece : List ℕ) → All (Lies cs) (pieces_in cs spans) → IsWriting cs piece span more
+    → pieces_in more (spans ++ span ∷ []) ≡ pieces_in cs spans ++ (span, piece) ∷ []
+pieces_grow cs more [] span piece lie written = ap (λ (l : List ℕ). (span, l) ∷ []) written.reads
+pieces_grow cs more (s ∷ spans) span piece lie written =
+    let full : length (bytes_at cs s) ≡ s.length = (lie 0 (s, []) (omega arith)).1 in
+    let rest : pieces_in more (spans ++ span ∷ []) ≡ pieces_in cs spans ++ (span, piece) ∷ [] = pieces_grow cs more spans span piece (λ k d lt. lie (suc k) d (omega (arith, lt))) written in
+    λ i. (s, written.keeps s full i) ∷ rest i
+
 -- a piece that was written
-module _ (cs more : List (List ℕ)) (here away : ℕ) (v w : ArenaValue) (held : IsHeld cs here away v) (span : Span) (piece : List ℕ) (placed : w.placed ≡ v.placed ++ (span, piece) ∷ []) (forgotten : w.forgotten ≡ v.forgotten) (written : IsWriting cs piece span more) where
+module _ (cs more : List (List ℕ)) (here away : ℕ) (spans gone : List Span) (held : IsArena cs here away (lying cs spans gone)) (span : Span) (piece : List ℕ) (written : IsWriting cs piece span more) where
+  abbrev v : ArenaValue
+  v = lying cs spans gone
+
+  abbrev w : ArenaValue
+  w = lying more (spans ++ span ∷ []) gone
+
+  placed : w.placed ≡ v.placed ++ (span, piece) ∷ []
+  placed = pieces_grow cs more spans span piece held.lies written
+
   moved : (e : Span × List ℕ) → Lies cs e → Lies more e
   moved e lies = (written.keeps e.0 (ap length lies.0 ∙ lies.1) ∙ lies.0, lies.1)
 
@@ -188,28 +163,25 @@ module _ (cs more : List (List ℕ)) (here away : ℕ) (v w : ArenaValue) (held 
       by (inl none) = none
       by (inr is) = absurd (omega (arith, some, written.whole, (lies_at cs v.placed span held.lies is).1, ap length written.fresh))
 
-  pub held_written : IsHeld more (here + length piece) away w
-  held_written = held_placed cs more here away v w held span piece placed forgotten moved (written.reads, sym written.whole) is_new written.total
+  pub held_written : IsArena more (here + length piece) away (lying more (spans ++ span ∷ []) gone)
+  held_written = held_placed cs more here away v w held span piece placed refl moved (written.reads, sym written.whole) is_new written.total
 
-  pub is_placing_written : IsPlacing v piece span w
-  is_placing_written = is_placing cs more here away v w held span piece placed forgotten moved (written.reads, sym written.whole) is_new written.total
+  pub is_placing_written : IsPlacing (lying cs spans gone) piece span (lying more (spans ++ span ∷ []) gone)
+  is_placing_written = is_placing cs more here away v w held span piece placed refl moved (written.reads, sym written.whole) is_new written.total
 
 -- two pieces that were written
-module _ (cs more : List (List ℕ)) (here away : ℕ) (v w : ArenaValue) (held : IsHeld cs here away v) (s t : Span) (first second : List ℕ) (placed : w.placed ≡ (v.placed ++ (s, first) ∷ []) ++ (t, second) ∷ []) (forgotten : w.forgotten ≡ v.forgotten) (written : IsWritingPair cs first second (s, t) more) where
-  abbrev between : ArenaValue
-  between = record { placed = v.placed ++ (s, first) ∷ []; forgotten = v.forgotten }
+module _ (cs more : List (List ℕ)) (here away : ℕ) (spans gone : List Span) (held : IsArena cs here away (lying cs spans gone)) (s t : Span) (first second : List ℕ) (written : IsWritingPair cs first second (s, t) more) where
+  held_between : IsArena written.middle (here + length first) away (lying written.middle (spans ++ s ∷ []) gone)
+  held_between = held_written cs written.middle here away spans gone held s first written.one
 
-  held_between : IsHeld written.middle (here + length first) away between
-  held_between = held_written cs written.middle here away v between held s first refl refl written.one
+  pub held_pair : IsArena more (here + length first + length second) away (lying more ((spans ++ s ∷ []) ++ t ∷ []) gone)
+  held_pair = held_written written.middle more (here + length first) away (spans ++ s ∷ []) gone held_between t second written.other
 
-  pub held_pair : IsHeld more (here + length first + length second) away w
-  held_pair = held_written written.middle more (here + length first) away between w held_between t second placed forgotten written.other
-
-  pub is_placing_pair : IsPlacingPair v first second (s, t) w
+  pub is_placing_pair : IsPlacingPair (lying cs spans gone) first second (s, t) (lying more ((spans ++ s ∷ []) ++ t ∷ []) gone)
   is_placing_pair = record {
-    middle = between;
-    one = is_placing_written cs written.middle here away v between held s first refl refl written.one;
-    other = is_placing_written written.middle more (here + length first) away between w held_between t second placed forgotten written.other;
+    middle = lying written.middle (spans ++ s ∷ []) gone;
+    one = is_placing_written cs written.middle here away spans gone held s first written.one;
+    other = is_placing_written written.middle more (here + length first) away (spans ++ s ∷ []) gone held_between t second written.other;
   }
 
 -- ---- forgetting
@@ -258,7 +230,7 @@ one_length : (es : Places) (s : Span) → IsPlaced es s → times_placed es s �
 one_length [] s is few = absurd (false≢true is)
 one_length (x ∷ es) s is few = by (same_span x.0 s) refl is (one_length es s)
   where
-    by : (b : Bool) → same_span x.0 s ≡ b → IsSome (cond b (Some x.1) (piece_of es s)) → (IsPlaced es s → times_placed es s ≤ 1 → sum_by (λ (e : Span × List ℕ). cond (same_span e.0 s) (length e.1) 0) es ≡ length (bytes_of es s)) → sum_by (λ (e : Span × List ℕ). cond (same_span e.0 s) (length e.1) 0) (x ∷ es) ≡ length (unwrap_or (cond b (Some x.1) (piece_of es s)) [])
+    by : (b : Bool) → same_span x.0 s ≡ b → IsSome (piece_behind b x es s) → (IsPlaced es s → times_placed es s ≤ 1 → sum_by (λ (e : Span × List ℕ). cond (same_span e.0 s) (length e.1) 0) es ≡ length (bytes_of es s)) → sum_by (λ (e : Span × List ℕ). cond (same_span e.0 s) (length e.1) 0) (x ∷ es) ≡ length (unwrap_or (piece_behind b x es s) [])
     by true e is again =
         let whole : cond (same_span x.0 s) (length x.1) 0 ≡ length x.1 = ap (λ (b : Bool). cond b (length x.1) 0) e in
         let rest : times_placed es s ≡ 0 = omega (arith, few, sum_by-cons (λ (e : Span × List ℕ). cond (same_span e.0 s) 1 0) x es, ap once e) in
@@ -268,7 +240,7 @@ one_length (x ∷ es) s is few = by (same_span x.0 s) refl is (one_length es s)
         let rest : times_placed es s ≤ 1 = omega (arith, few, sum_by-cons (λ (e : Span × List ℕ). cond (same_span e.0 s) 1 0) x es) in
         omega (arith, nothing, again is rest, sum_by-cons (λ (e : Span × List ℕ). cond (same_span e.0 s) (length e.1) 0) x es)
 
-module _ (cs : List (List ℕ)) (here away : ℕ) (v : ArenaValue) (held : IsHeld cs here away v) (span : Span) (is : IsPlaced v.placed span) (kept : 0 < length (bytes_of v.placed span) → times_forgotten v span ≡ 0) (long : 0 < span.length) where
+module _ (cs : List (List ℕ)) (here away : ℕ) (v : ArenaValue) (held : IsArena cs here away v) (span : Span) (is : IsPlaced v.placed span) (kept : 0 < length (bytes_of v.placed span) → times_forgotten v span ≡ 0) (long : 0 < span.length) where
   pub size : length (bytes_of v.placed span) ≡ span.length
   size = ap (λ (o : Option (List ℕ)). length (unwrap_or o [])) (lies_at cs v.placed span held.lies is).0 ∙ (lies_at cs v.placed span held.lies is).1
 
@@ -290,8 +262,8 @@ module _ (cs : List (List ℕ)) (here away : ℕ) (v : ArenaValue) (held : IsHel
   pub was_live : span.length ≤ here
   was_live = omega (arith, held.live, live_after)
 
-  held_now : IsHeld cs (here - span.length) (away + span.length) now
-  held_now = record {
+  pub held_forgotten : IsArena cs (here - span.length) (away + span.length) now
+  held_forgotten = record {
     lies = held.lies;
     distinct = held.distinct;
     placed = λ s lt. there s lt (same_span span s) refl;
@@ -304,43 +276,15 @@ module _ (cs : List (List ℕ)) (here away : ℕ) (v : ArenaValue) (held : IsHel
       there s lt true e = subst (λ (t : Span). IsPlaced v.placed t) (span_of_same span s e) is
       there s lt false e = let nothing : once (same_span span s) ≡ once false = ap once e in held.placed s (omega (arith, lt, times_now s, nothing))
 
-  module _ (w : ArenaValue) (placed : w.placed ≡ v.placed) (forgotten : w.forgotten ≡ v.forgotten ++ span ∷ []) where
-    is_now : w ≡ now
-    is_now = λ i. record { placed = placed i; forgotten = forgotten i }
-
-    pub held_forgotten : IsHeld cs (here - span.length) (away + span.length) w
-    held_forgotten = subst (λ (u : ArenaValue). IsHeld cs (here - span.length) (away + span.length) u) (sym is_now) held_now
-
-    pub forgets : w ≡ forgetting v span
-    forgets =
-        let some : eqb (length (bytes_of v.placed span)) 0 ≡ false = grind (arith, nat_tests, size, long) in
-        rw some is_now
+  pub forgets : now ≡ forgetting v span
+  forgets =
+      let some : eqb (length (bytes_of v.placed span)) 0 ≡ false = grind (arith, nat_tests, size, long) in
+      rw some refl
 
 -- an empty piece is never forgotten
-pub forgets_nothing : (cs : List (List ℕ)) (here away : ℕ) (v : ArenaValue) → IsHeld cs here away v → (span : Span) → IsPlaced v.placed span → span.length ≤ 0 → v ≡ forgetting v span
+pub forgets_nothing : (cs : List (List ℕ)) (here away : ℕ) (v : ArenaValue) → IsArena cs here away v → (span : Span) → IsPlaced v.placed span → span.length ≤ 0 → v ≡ forgetting v span
 forgets_nothing cs here away v held span is none =
     let lies = lies_at cs v.placed span held.lies is in
     let size : length (bytes_of v.placed span) ≡ span.length = ap (λ (o : Option (List ℕ)). length (unwrap_or o [])) lies.0 ∙ lies.1 in
     let nothing : eqb (length (bytes_of v.placed span)) 0 ≡ true = grind (arith, nat_tests, size, none) in
     rw nothing refl
-
--- ---- for callers: what was placed stays placed
-
-pub placed_now : (old : ArenaValue) (piece : List ℕ) (span : Span) (new : ArenaValue) → IsPlacing old piece span new → IsPlaced new.placed span
-placed_now old piece span new placing = rw placing.reads refl
-
-pub placed_later : (old : ArenaValue) (piece : List ℕ) (span : Span) (new : ArenaValue) → IsPlacing old piece span new → (s : Span) → IsPlaced old.placed s → IsPlaced new.placed s
-placed_later old piece span new placing s is = rw (placing.placed, placed_stays old.placed (span, piece) s is) is
-
-pub pair_now : (old : ArenaValue) (first second : List ℕ) (s t : Span) (new : ArenaValue) → IsPlacingPair old first second (s, t) new → IsPlaced new.placed s × IsPlaced new.placed t
-pair_now old first second s t new pair = (placed_later pair.middle second t new pair.other s (placed_now old first s pair.middle pair.one), placed_now pair.middle second t new pair.other)
-
-pub pair_later : (old : ArenaValue) (first second : List ℕ) (s t : Span) (new : ArenaValue) → IsPlacingPair old first second (s, t) new → (u : Span) → IsPlaced old.placed u → IsPlaced new.placed u
-pair_later old first second s t new pair u is = placed_later pair.middle second t new pair.other u (placed_later old first s pair.middle pair.one u is)
-
-pub placed_after : (v : ArenaValue) (span s : Span) → IsPlaced v.placed s → IsPlaced (forgetting v span).placed s
-placed_after v span s is = by (eqb (length (bytes_of v.placed span)) 0)
-  where
-    by : (b : Bool) → IsPlaced (cond b v (record { placed = v.placed; forgotten = v.forgotten ++ span ∷ [] })).placed s
-    by true = is
-    by false = is

@@ -25,8 +25,8 @@ abbrev pub IsGrown : List (List ℕ) → List (List ℕ) → Type 0
 IsGrown old new = (n : ℕ) × (new ≡ old ++ replicate n [])
 
 -- so many bytes can still be written into the block at that place
-abbrev pub HasRoom : List Block → ℕ → ℕ → Type 0
-HasRoom blocks place count =
+abbrev pub HasSpace : List Block → ℕ → ℕ → Type 0
+HasSpace blocks place count =
     (place < length blocks) ×
     ((d : Block) → let block = slice_index_or blocks place d in length block.chunk.bytes + count ≤ block.size)
 
@@ -37,7 +37,7 @@ next_span chunks place count = record { chunk = place; start = length (slice_ind
 -- new is old with the piece written behind the bytes of the block at that place
 pub record IsFilled (old : List Block) (place : ℕ) (piece : List ℕ) (new : List Block) : Type 0 where
   pub chunks : chunks_in new ≡ slice_set (chunks_in old) place (slice_index_or (chunks_in old) place [] ++ piece)
-  pub room : (count : ℕ) → HasRoom old place (length piece + count) → HasRoom new place count
+  pub room : (count : ℕ) → HasSpace old place (length piece + count) → HasSpace new place count
 
 -- new is old with the piece written at the span, where nothing was written before
 pub record IsWriting (old : List (List ℕ)) (piece : List ℕ) (span : Span) (new : List (List ℕ)) : Type 0 where

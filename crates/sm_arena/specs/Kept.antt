@@ -1,25 +1,33 @@
 -- What an arena keeps.
-use Rattle.std.specs.Prelude.{◌≡◌, ◌<◌, ◌≤◌, ◌+◌, ℕ, List, All, length, count_by}
+use Rattle.std.specs.Prelude.{◌≡◌, ◌<◌, ◌≤◌, ◌+◌, ℕ, List, All, length, map, count_by}
 use Rattle.sm_arena.specs.declared.arena.Arena.TheInside.{Inside}
 use Rattle.sm_arena.specs.declared.span.Span.{Span}
 use Rattle.sm_arena.specs.Blocks.{chunks_of, bytes_at, total}
-use Rattle.sm_arena.specs.Pieces.{IsPlaced, same_span}
+use Rattle.sm_arena.specs.Pieces.{Places, IsPlaced, same_span}
 use Rattle.sm_arena.specs.Value.{ArenaValue, dead_of, live_of, times_forgotten}
 
+-- what lies at these spans in the chunks
+abbrev pub pieces_in : List (List ℕ) → List Span → Places
+pieces_in chunks spans = map (λ s. (s, bytes_at chunks s)) spans
+
+-- the arena with these chunks, in which these spans were placed, and these were forgotten
+abbrev pub lying : List (List ℕ) → List Span → List Span → ArenaValue
+lying chunks placed forgotten = record { placed = pieces_in chunks placed; forgotten = forgotten }
+
 abbrev pub value_of : Inside → ArenaValue
-value_of a = record { placed = a.placements.placed; forgotten = a.placements.forgotten }
+value_of a = lying (chunks_of a.blocks) a.placed.items a.forgotten.items
 
 -- the entry's bytes lie at its span
 abbrev pub Lies : List (List ℕ) → Span × List ℕ → Type 0
 Lies chunks e = (bytes_at chunks e.0 ≡ e.1) × (length e.1 ≡ e.0.length)
 
 -- how often a piece was placed at the span
-abbrev pub times_placed : List (Span × List ℕ) → Span → ℕ
+abbrev pub times_placed : Places → Span → ℕ
 times_placed es s = count_by (λ e. same_span e.0 s) es
 
 -- every piece lies at its span in the chunks, spans of bytes are distinct, what was forgotten was placed,
 -- and both counts are exact
-pub record IsHeld (chunks : List (List ℕ)) (here away : ℕ) (v : ArenaValue) : Type 0 where
+pub record IsArena (chunks : List (List ℕ)) (here away : ℕ) (v : ArenaValue) : Type 0 where
   pub lies : All (Lies chunks) v.placed
   pub distinct : (s : Span) → 0 < s.length → times_placed v.placed s ≤ 1
   pub placed : (s : Span) → 0 < times_forgotten v s → IsPlaced v.placed s
@@ -28,4 +36,4 @@ pub record IsHeld (chunks : List (List ℕ)) (here away : ℕ) (v : ArenaValue) 
   pub bounded : here + away ≤ total chunks
 
 abbrev pub IsKept : Inside → Type 0
-IsKept a = IsHeld (chunks_of a.blocks) a.live a.gone (value_of a)
+IsKept a = IsArena (chunks_of a.blocks) a.live a.gone (value_of a)

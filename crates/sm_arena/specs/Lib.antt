@@ -3,3 +3,4 @@ pub mod Value
 pub mod Blocks
 pub mod Kept
 pub mod Ownership
+pub mod lemmas

@@ -2,11 +2,11 @@
 use Rattle.std.specs.Prelude.{◌≡◌, ◌<◌, ℕ, cond, ◌++◌, ◌∷◌, [], ◌==◌, List, Some, None, length, count_by}
 use Rattle.std.specs.List.{sum_by}
 use Rattle.sm_arena.specs.declared.span.Span.{Span}
-use Rattle.sm_arena.specs.Pieces.{same_span, piece_of, bytes_of}
+use Rattle.sm_arena.specs.Pieces.{Places, same_span, piece_of, bytes_of}
 
 -- the pieces with their spans, in the order of their placing, and the spans that were forgotten
 pub record ArenaValue : Type 0 where
-  pub placed : List (Span × List ℕ)
+  pub placed : Places
   pub forgotten : List Span
 
 -- new is old with the piece placed at the span, which is a new one unless the piece is empty

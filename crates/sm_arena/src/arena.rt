@@ -3,8 +3,8 @@ ghost use Rattle.sm_arena.specs.Pieces.{IsPlaced, bytes_of};
 ghost use Rattle.sm_arena.specs.Value.{IsPlacing, IsPlacingPair, forgetting, times_forgotten, dead_of, live_of};
 
 use crate::blocks::Blocks;
-use crate::placements::Placements;
 use crate::span::Span;
+use sm_trace::trace::Trace;
 use std::alloc::{AllocError, Global};
 use std::marker::Model;
 
@@ -17,7 +17,8 @@ pub struct Arena {
     blocks: Blocks,
     live: u128,
     gone: u128,
-    placements: Placements,
+    placed: Trace<Span>,
+    forgotten: Trace<Span>,
 }
 
 impl Model for Arena {
@@ -41,7 +42,8 @@ impl Arena {
             blocks: Blocks::new(alloc),
             live: 0,
             gone: 0,
-            placements: Placements::none(),
+            placed: Trace::empty(),
+            forgotten: Trace::empty(),
         }
     }
 
@@ -57,7 +59,7 @@ impl Arena {
     {
         let span = self.blocks.write(piece)?;
         self.live += piece.len() as u128;
-        self.placements = self.placements.and_placed(&span, piece);
+        self.placed.push(&span);
         Ok(span)
     }
 
@@ -73,10 +75,8 @@ impl Arena {
         let (first_span, second_span) = self.blocks.write_pair(first, second)?;
         self.live += first.len() as u128;
         self.live += second.len() as u128;
-        self.placements = self
-            .placements
-            .and_placed(&first_span, first)
-            .and_placed(&second_span, second);
+        self.placed.push(&first_span);
+        self.placed.push(&second_span);
         Ok((first_span, second_span))
     }
 
@@ -94,7 +94,7 @@ impl Arena {
     {
         let span = self.blocks.write_joined(head, tail)?;
         self.live += span.length as u128;
-        self.placements = self.placements.and_placed(&span, self.blocks.piece(span));
+        self.placed.push(&span);
         Ok(span)
     }
 
@@ -115,7 +115,7 @@ impl Arena {
         if span.length > 0 {
             self.live -= span.length as u128;
             self.gone += span.length as u128;
-            self.placements = self.placements.and_forgotten(&span);
+            self.forgotten.push(&span);
         }
     }
 
@@ -133,6 +133,3 @@ impl Arena {
         self.gone
     }
 }
-
-#[cfg(test)]
-mod tests;

@@ -1,5 +1,5 @@
 ghost use Rattle.std.specs.Prelude.{◌≡◌, ◌<◌, ◌≤◌, ◌++◌, [], length, slice_index_or, IfOk, OnErr, IsTrue};
-ghost use Rattle.sm_arena.specs.Blocks.{chunks_of, bytes_at, next_span, IsWriting, IsWritingPair, IsGrown, IsFilled, HasRoom};
+ghost use Rattle.sm_arena.specs.Blocks.{chunks_of, bytes_at, next_span, IsWriting, IsWritingPair, IsGrown, IsFilled, HasSpace};
 
 use crate::block::Block;
 use crate::span::Span;
@@ -116,7 +116,7 @@ impl Blocks {
 
     // Writes the piece into a block that has room for it, and answers where it lies.
     fn fill(&mut self, place: usize, piece: &[u8]) -> Span
-        requires { HasRoom self.old.blocks.items place (length piece.now) }
+        requires { HasSpace self.old.blocks.items place (length piece.now) }
         ensures span { result ≡ next_span (chunks_of self.old) place (length piece.now) }
         ensures filled { IsFilled self.old.blocks.items place piece.now self.new.blocks.items }
     {
@@ -133,7 +133,7 @@ impl Blocks {
     // that very block.
     fn copy(&mut self, span: Span, place: usize)
         requires inside { length (bytes_at (chunks_of self.old) span) ≡ span.length }
-        requires room { HasRoom self.old.blocks.items place span.length }
+        requires room { HasSpace self.old.blocks.items place span.length }
         ensures { IsFilled self.old.blocks.items place (bytes_at (chunks_of self.old) span) self.new.blocks.items }
     {
         let mut copied = 0;
@@ -151,7 +151,7 @@ impl Blocks {
     // The same of a short span, by a buffer.
     fn copy_part(&mut self, part: Span, place: usize)
         requires inside { length (bytes_at (chunks_of self.old) part) ≡ part.length }
-        requires room { HasRoom self.old.blocks.items place part.length }
+        requires room { HasSpace self.old.blocks.items place part.length }
         requires short { part.length ≤ 1024 }
         ensures { IsFilled self.old.blocks.items place (bytes_at (chunks_of self.old) part) self.new.blocks.items }
     {
@@ -163,7 +163,7 @@ impl Blocks {
 
     // Whether so many bytes can be written into the block that is being filled.
     fn has_room(&self, count: usize) -> bool
-        ensures { IsTrue result → HasRoom self.now.blocks.items self.now.filling count }
+        ensures { IsTrue result → HasSpace self.now.blocks.items self.now.filling count }
     {
         match self.blocks.get(self.filling) {
             Some(block) => count <= block.room(),
@@ -173,7 +173,7 @@ impl Blocks {
 
     // The place of a block into which so many bytes can be written: the one that is being filled, or a new one.
     fn block_for(&mut self, count: usize) -> Result<usize, AllocError>
-        ensures room { IfOk result (λ place. HasRoom self.new.blocks.items place count) }
+        ensures room { IfOk result (λ place. HasSpace self.new.blocks.items place count) }
         ensures grown { IsGrown (chunks_of self.old) (chunks_of self.new) }
         ensures err { OnErr result (chunks_of self.new ≡ chunks_of self.old) }
     {

@@ -4,12 +4,13 @@ use Rattle.std.specs.List.{HoldsAt, insert, remove}
 use Rattle.std.proofs.lemmas.List.{map-set}
 use Rattle.std.proofs.lemmas.List.Sums.{sum_by-set, sum_by-insert, sum_by-remove}
 use Rattle.sm_arena.specs.declared.span.Span.{Span}
-use Rattle.sm_arena.specs.Pieces.{piece_of, bytes_of}
+use Rattle.sm_arena.specs.Pieces.{Places, piece_of, bytes_of}
 use Rattle.sm_arena.specs.Value.{ArenaValue, forgetting}
-use Rattle.sm_map.specs.KeyMap.{Held, Pair, IsGapFor, text_of, size_of}
+use Rattle.sm_ranges.specs.Keyed.{IsKeyGap}
+use Rattle.sm_map.specs.KeyMap.{Held, Pair, key_of, text_of, size_of}
 use Rattle.sm_map.specs.KeyMap.{Text as HeldText}
 use Rattle.sm_map.specs.ArenaMap.{IsRewrite, IsRemoval, IsAddition}
-use Rattle.sm_map.specs.Stored.{Places, IsTidy, IsStored}
+use Rattle.sm_map.specs.Stored.{IsTidy, IsStored}
 use Rattle.sm_map.specs.Slot.{held_in, uses_slot, IsForgettable, forgetting_slot}
 use Rattle.sm_map.specs.Entry.{pair_of, pairs_of, uses_entry, uses_all}
 use Rattle.sm_map.specs.Kept.{IsMap, map_of}
@@ -109,7 +110,7 @@ module _ (v : ArenaValue) (es : List Entry) (m : IsMap v es) (at : ℕ) (within 
       }
 
 -- an entry comes in
-module _ (v : ArenaValue) (es : List Entry) (m : IsMap v es) (e : Entry) (w : ArenaValue) (st : IsStored v (uses_entry e) w) (pair : Pair) (is : pair_of w.placed e ≡ pair) (at : ℕ) (gap : IsGapFor (pairs_of v.placed es) pair.key at) where
+module _ (v : ArenaValue) (es : List Entry) (m : IsMap v es) (e : Entry) (w : ArenaValue) (st : IsStored v (uses_entry e) w) (pair : Pair) (is : pair_of w.placed e ≡ pair) (at : ℕ) (gap : IsKeyGap key_of (pairs_of v.placed es) pair.key at) where
   added_parts : (s : Span) → uses_all (insert es at e) s ≡ uses_all es s + uses_entry e s
   added_parts s = omega (arith, sum_by-insert (λ (x : Entry). uses_entry x s) es at e)
 

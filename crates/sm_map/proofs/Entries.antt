@@ -7,12 +7,15 @@ use Rattle.std.specs.declared.cmp.Ordering.TheVariants.{Less, Equal, Greater}
 use Rattle.std.proofs.lemmas.List.{get_or-map, get_or_default, length-map, map-append, take-map, drop-map}
 use Rattle.std.proofs.lemmas.List.Sums.{sum_by-cons, get_or-le-sum_by}
 use Rattle.sm_arena.specs.declared.span.Span.{Span}
-use Rattle.sm_arena.specs.Pieces.{piece_of, IsPlaced, bytes_of}
+use Rattle.sm_arena.specs.Pieces.{Places, piece_of, IsPlaced, bytes_of}
 use Rattle.sm_arena.specs.Value.{ArenaValue, IsPlacing, IsPlacingPair}
-use Rattle.sm_map.specs.KeyMap.{Pair, key_cmp, IsKeyMap, IsPlaceOf}
+use Rattle.sm_ranges.specs.KeyOrder.{key_cmp}
+use Rattle.sm_ranges.specs.Keyed.{IsKeyPlace}
+use Rattle.sm_ranges.specs.lemmas.Keyed.{below_up_to, above_from}
+use Rattle.sm_map.specs.KeyMap.{Pair, key_of, IsKeyMap}
 use Rattle.sm_map.specs.KeyMap.{Text as HeldText, Count as HeldCount}
 use Rattle.sm_map.specs.ArenaMap.{MapValue}
-use Rattle.sm_map.specs.Stored.{Places, IsStored}
+use Rattle.sm_map.specs.Stored.{IsStored}
 use Rattle.sm_map.specs.Val.{held_of, row_of}
 use Rattle.sm_map.specs.Slot.{held_in, uses_piece, uses_slot, IsReadable}
 use Rattle.sm_map.specs.Entry.{pair_of, pairs_of, uses_entry, uses_all, HasKeys}
@@ -22,7 +25,6 @@ use Rattle.sm_map.specs.declared.slot.Slot.{Slot}
 use Rattle.sm_map.specs.declared.slot.Slot.TheVariants.{Text, Count}
 use Rattle.sm_map.specs.declared.entry.Entry.{Entry}
 use Rattle.sm_map.proofs.Spans.{uses_itself, piece_stored, piece_reads, nothing_stored, both_stored}
-use Rattle.sm_map.proofs.KeyMaps.{below_up_to, above_from}
 
 pub same_held : (old new : Places) (slot : Slot) → ((s : Span) → 0 < uses_slot slot s → piece_of new s ≡ piece_of old s) → held_in new slot ≡ held_in old slot
 same_held old new (Text span) keeps = ap (λ (o : Option (List ℕ)). HeldText (unwrap_or o [])) (keeps span (omega (arith, uses_itself span)))
@@ -96,12 +98,12 @@ module _ (placed : Places) (es : List Entry) (key : List ℕ) (rising : IsKeyMap
   order_there o h d = ap (λ (pair : Pair). key_cmp pair.key key) (get_or-map (pair_of placed) es at e d within) ∙ (ap (λ (k : List ℕ). key_cmp k key) (sym is) ∙ sym h)
 
   pub read_less : Less ≡ key_cmp bytes key → AllWithin (λ (pair : Pair). key_cmp pair.key key ≡ Less) (pairs_of placed es) 0 (at + 1)
-  read_less h = below_up_to (pairs_of placed es) key rising at in_pairs (order_there Less h)
+  read_less h = below_up_to key_of (pairs_of placed es) key rising at in_pairs (order_there Less h)
 
   pub read_greater : Greater ≡ key_cmp bytes key → AllWithin (λ (pair : Pair). key_cmp pair.key key ≡ Greater) (pairs_of placed es) at (length (pairs_of placed es))
-  read_greater h = above_from (pairs_of placed es) key rising at in_pairs (order_there Greater h)
+  read_greater h = above_from key_of (pairs_of placed es) key rising at in_pairs (order_there Greater h)
 
-  pub read_equal : Equal ≡ key_cmp bytes key → IsPlaceOf (pairs_of placed es) key at
+  pub read_equal : Equal ≡ key_cmp bytes key → IsKeyPlace key_of (pairs_of placed es) key at
   read_equal h = record { within = in_pairs; same = order_there Equal h }
 
 -- ---- a new entry

@@ -1,4 +1,3 @@
-pub mod Cuts
 pub mod KeyMaps
 pub mod Ranges
 pub mod Spans

@@ -6,7 +6,8 @@ use Rattle.std.specs.Borrow.{Bor}
 use Rattle.std.proofs.lemmas.Bool.{cases_lt}
 use Rattle.std.proofs.lemmas.List.{take-take, take_all, length-take, map_push}
 use Rattle.std.proofs.lemmas.List.Edits.{between_more}
-use Rattle.sm_map.specs.KeyMap.{Pair, is_below, within, IsEdgeOf}
+use Rattle.sm_ranges.specs.Keyed.{comes_before}
+use Rattle.sm_map.specs.KeyMap.{Pair, key_of, within, IsEdgeOf}
 use Rattle.sm_map.specs.Val.{row_of}
 use Rattle.sm_map.specs.declared.val.Val.{Val}
 
@@ -32,10 +33,10 @@ module _ (p : Pair → Bool) where
 -- the first max of the pairs within a range stand from the edge of its low key on
 pub rows_within : (m : List Pair) (low high : List ℕ) (start end max stop : ℕ) → IsEdgeOf m low start → IsEdgeOf m high end → stop - start ≡ min (end - start) max → between start stop m ≡ take max (within m low high)
 rows_within m low high start end max stop first last long =
-    let part = filter-part (λ (pair : Pair). not (is_below low pair) && is_below high pair) m start end
-    (λ k d lt in_m. ap (λ (b : Bool). not b && is_below high (get_or m k d)) (first.apart.0 k d (omega arith) lt))
-    (λ k d le lt in_m. ap (λ (b : Bool). not b && is_below high (get_or m k d)) (first.apart.1 k d le in_m) ∙ last.apart.0 k d (omega arith) lt)
-    (λ k d le in_m. both_false (is_below low (get_or m k d)) (is_below high (get_or m k d)) (last.apart.1 k d le in_m)) in
+    let part = filter-part (λ (pair : Pair). not (comes_before key_of low pair) && comes_before key_of high pair) m start end
+    (λ k d lt in_m. ap (λ (b : Bool). not b && comes_before key_of high (get_or m k d)) (first.apart.0 k d (omega arith) lt))
+    (λ k d le lt in_m. ap (λ (b : Bool). not b && comes_before key_of high (get_or m k d)) (first.apart.1 k d le in_m) ∙ last.apart.0 k d (omega arith) lt)
+    (λ k d le in_m. both_false (comes_before key_of low (get_or m k d)) (comes_before key_of high (get_or m k d)) (last.apart.1 k d le in_m)) in
     rw (part, long) (shorter (cases_lt max (end - start)))
   where
     both_false : (a b : Bool) → b ≡ false → (not a && b) ≡ false

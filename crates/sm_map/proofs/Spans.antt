@@ -6,28 +6,14 @@ use Rattle.std.proofs.lemmas.Bool.{cases_lt, cond_both}
 use Rattle.std.proofs.lemmas.Bool.Decides.{nat_tests}
 use Rattle.std.proofs.lemmas.List.Sums.{sum_by_push, sum_by-cons}
 use Rattle.sm_arena.specs.declared.span.Span.{Span}
-use Rattle.sm_arena.specs.Pieces.{same_span, piece_of, IsPlaced, bytes_of}
+use Rattle.sm_arena.specs.Pieces.{Places, same_span, piece_of, IsPlaced, bytes_of}
 use Rattle.sm_arena.specs.Value.{ArenaValue, IsPlacing, times_forgotten, forgetting, dead_of}
+use Rattle.sm_arena.specs.lemmas.Pieces.{span_of_same, same_itself, placed_or_none, placed_stays, same_sum}
 use Rattle.sm_map.specs.KeyMap.{text_of}
-use Rattle.sm_map.specs.Stored.{Places, IsTidy, IsStored}
+use Rattle.sm_map.specs.Stored.{IsTidy, IsStored}
 use Rattle.sm_map.specs.Slot.{held_in, uses_piece, uses_slot, IsForgettable, forgetting_slot}
 use Rattle.sm_map.specs.declared.slot.Slot.{Slot}
 use Rattle.sm_map.specs.declared.slot.Slot.TheVariants.{Text, Count}
-
-chunk_of_same : (a b : Span) → same_span a b ≡ true → a.chunk ≡ b.chunk
-chunk_of_same a b e = grind (arith)
-
-start_of_same : (a b : Span) → same_span a b ≡ true → a.start ≡ b.start
-start_of_same a b e = grind (arith)
-
-length_of_same : (a b : Span) → same_span a b ≡ true → a.length ≡ b.length
-length_of_same a b e = grind (arith)
-
-span_of_same : (a b : Span) → same_span a b ≡ true → a ≡ b
-span_of_same a b e = λ i. record { chunk = chunk_of_same a b e i; start = start_of_same a b e i; length = length_of_same a b e i }
-
-same_itself : (a : Span) → same_span a a ≡ true
-same_itself a = grind (arith)
 
 -- a span that a piece uses is the piece's
 used_is : (span s : Span) → 0 < uses_piece span s → span ≡ s
@@ -46,22 +32,6 @@ piece_le span s = by (same_span span s)
     by : (b : Bool) → cond b 1 0 ≤ 1
     by true = omega arith
     by false = omega arith
-
-placed_or_none : (es : Places) (s : Span) → (piece_of es s ≡ None) ⊎ IsPlaced es s
-placed_or_none es s = by (piece_of es s) refl
-  where
-    by : (o : Option (List ℕ)) → piece_of es s ≡ o → (piece_of es s ≡ None) ⊎ IsPlaced es s
-    by None e = inl e
-    by (Some x) e = inr (rw e refl)
-
--- what was placed stays
-placed_stays : (es : Places) (e : Span × List ℕ) (s : Span) → IsPlaced es s → piece_of (es ++ e ∷ []) s ≡ piece_of es s
-placed_stays [] e s is = absurd (false≢true is)
-placed_stays (x ∷ es) e s is = by (same_span x.0 s) is (placed_stays es e s)
-  where
-    by : (b : Bool) → IsSome (cond b (Some x.1) (piece_of es s)) → (IsPlaced es s → piece_of (es ++ e ∷ []) s ≡ piece_of es s) → cond b (Some x.1) (piece_of (es ++ e ∷ []) s) ≡ cond b (Some x.1) (piece_of es s)
-    by true is again = refl
-    by false is again = again is
 
 -- a placed piece is stored for its span
 pub piece_stored : (old : ArenaValue) (piece : List ℕ) (span : Span) (new : ArenaValue) → IsPlacing old piece span new → IsStored old (uses_piece span) new
@@ -129,16 +99,6 @@ module _ (old middle new : ArenaValue) (one other : Span → ℕ) (first : IsSto
     fresh = none_before;
     once = once_in_all;
   }
-
--- the lengths stay where each span of the list reads the same
-same_sum : (old new : Places) (l : List Span) → ((s : Span) → 0 < count_by (λ t. same_span t s) l → piece_of new s ≡ piece_of old s) → sum_by (λ s. length (bytes_of new s)) l ≡ sum_by (λ s. length (bytes_of old s)) l
-same_sum old new [] keeps = refl
-same_sum old new (x ∷ l) keeps =
-    let one : uses_piece x x ≡ 1 = uses_itself x in
-    let here : piece_of new x ≡ piece_of old x = keeps x (omega (arith, one, sum_by-cons (λ t. cond (same_span t x) 1 0) x l)) in
-    let long : length (bytes_of new x) ≡ length (bytes_of old x) = ap (λ (o : Option (List ℕ)). length (unwrap_or o [])) here in
-    let there : sum_by (λ s. length (bytes_of new s)) l ≡ sum_by (λ s. length (bytes_of old s)) l = same_sum old new l (λ s lt. keeps s (omega (arith, sum_by-cons (λ t. cond (same_span t s) 1 0) x l))) in
-    omega (arith, long, there, sum_by-cons (λ s. length (bytes_of new s)) x l, sum_by-cons (λ s. length (bytes_of old s)) x l)
 
 module _ (old : ArenaValue) (uses : Span → ℕ) (new : ArenaValue) (st : IsStored old uses new) (used : Span → ℕ) (tidy : IsTidy old used) where
   same_times : (s : Span) → times_forgotten new s ≡ times_forgotten old s

@@ -2,9 +2,8 @@
 use Rattle.std.specs.Prelude.{ℕ, ◌+◌, List, map, All}
 use Rattle.std.specs.List.{sum_by}
 use Rattle.sm_arena.specs.declared.span.Span.{Span}
-use Rattle.sm_arena.specs.Pieces.{IsPlaced, bytes_of}
+use Rattle.sm_arena.specs.Pieces.{Places, IsPlaced, bytes_of}
 use Rattle.sm_map.specs.KeyMap.{Pair}
-use Rattle.sm_map.specs.Stored.{Places}
 use Rattle.sm_map.specs.Slot.{held_in, uses_piece, uses_slot}
 use Rattle.sm_map.specs.declared.entry.Entry.{Entry}
 

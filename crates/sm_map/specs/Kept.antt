@@ -1,6 +1,6 @@
 -- What an ArenaMap keeps: its entries are those of a key map, and use the spans of its arena.
 use Rattle.std.specs.Prelude.{List}
-use Rattle.sm_arena.specs.Value.{ArenaValue, dead_of}
+use Rattle.sm_arena.specs.Value.{ArenaValue, live_of, dead_of}
 use Rattle.sm_map.specs.KeyMap.{IsKeyMap}
 use Rattle.sm_map.specs.ArenaMap.{MapValue}
 use Rattle.sm_map.specs.Stored.{IsTidy}
@@ -10,7 +10,7 @@ use Rattle.sm_map.specs.declared.arena_map.ArenaMap.TheInside.{Inside}
 
 -- the map that these entries are in an arena
 abbrev pub map_of : ArenaValue → List Entry → MapValue
-map_of v entries = record { pairs = pairs_of v.placed entries; dead = dead_of v }
+map_of v entries = record { pairs = pairs_of v.placed entries; bytes = live_of v; dead = dead_of v }
 
 pub record IsMap (v : ArenaValue) (entries : List Entry) : Type 0 where
   pub rising : IsKeyMap (pairs_of v.placed entries)

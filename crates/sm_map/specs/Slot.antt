@@ -1,11 +1,10 @@
 -- What a slot holds, and which span it uses.
 use Rattle.std.specs.Prelude.{◌≡◌, ◌<◌, ℕ, cond, length}
 use Rattle.sm_arena.specs.declared.span.Span.{Span}
-use Rattle.sm_arena.specs.Pieces.{same_span, IsPlaced, bytes_of}
+use Rattle.sm_arena.specs.Pieces.{Places, same_span, IsPlaced, bytes_of}
 use Rattle.sm_arena.specs.Value.{ArenaValue, times_forgotten, forgetting}
 use Rattle.sm_map.specs.KeyMap.{Held}
 use Rattle.sm_map.specs.KeyMap.{Text as HeldText, Count as HeldCount}
-use Rattle.sm_map.specs.Stored.{Places}
 use Rattle.sm_map.specs.declared.slot.Slot.{Slot}
 use Rattle.sm_map.specs.declared.slot.Slot.TheVariants.{Text, Count}
 

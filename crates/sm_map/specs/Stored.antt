@@ -1,11 +1,8 @@
 -- Spans in use: what is stored in an arena for a slot, an entry or a whole map, by how often each span is used.
-use Rattle.std.specs.Prelude.{◌≡◌, ◌<◌, ◌≤◌, ◌+◌, ℕ, List, None, length}
+use Rattle.std.specs.Prelude.{◌≡◌, ◌<◌, ◌≤◌, ◌+◌, ℕ, None, length}
 use Rattle.sm_arena.specs.declared.span.Span.{Span}
 use Rattle.sm_arena.specs.Pieces.{piece_of, IsPlaced, bytes_of}
 use Rattle.sm_arena.specs.Value.{ArenaValue, times_forgotten}
-
-abbrev pub Places : Type 0
-Places = List (Span × List ℕ)
 
 -- each span in use is placed, and each that holds a byte is used once at most, and then not forgotten
 pub record IsTidy (v : ArenaValue) (uses : Span → ℕ) : Type 0 where

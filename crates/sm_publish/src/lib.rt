@@ -1,9 +1,20 @@
 //! The published map: one publisher of routes, and routers that read the map without a lock and never go back.
+//!
+//! ```rust
+//! let (mut publisher, mut routers) = Publisher::new(&rt, rt.alloc(), 2, 1)?;
+//! let router = &mut routers[0];
+//! assert_eq!(rt; router.route(&layout, b"a"), None);
+//! assert_eq!(rt; publisher.publish(&rt, first), Ok(()));
+//! assert_eq!(rt; router.route(&layout, b"a"), Some(first));
+//! ```
 #![tactic(auto)]
 
-mod publications;
 pub mod publish_fault;
 pub mod publisher;
 mod route_map;
 pub mod router;
 mod rule;
+
+pub use publish_fault::PublishFault;
+pub use publisher::Publisher;
+pub use router::Router;

@@ -117,6 +117,3 @@ fn show<R: Wait>(writer: MapWriter, rt: &R) -> (MapWriter, ())
     shown.unwrap();
     (writer, ())
 }
-
-#[cfg(test)]
-mod tests;

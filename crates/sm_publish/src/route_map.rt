@@ -2,10 +2,10 @@ ghost use Rattle.std.specs.Prelude.{◌≡◌, ◌<◌, [], IfOk};
 ghost use Rattle.sm_ownership.specs.Routes.{routes_of};
 ghost use Rattle.sm_publish.specs.Publishing.{taken};
 
-use crate::publications::Publications;
 use left_right::Absorb;
 use sm_ownership::route::Route;
 use sm_ranges::shard_id::ShardId;
+use sm_trace::trace::Trace;
 use std::alloc::{AllocError, Global};
 use std::marker::Model;
 
@@ -13,7 +13,7 @@ use std::marker::Model;
 #[derive(Drop)]
 pub struct RouteMap {
     routes: Vec<Option<Route>>,
-    publications: Publications,
+    published: Trace<Route>,
 }
 
 impl Model for RouteMap {
@@ -23,9 +23,9 @@ impl Model for RouteMap {
 
     ghost Value = { MapView };
 
-    ghost view = { λ map. record { count = length map.routes.items; published = map.publications.routes } };
+    ghost view = { λ map. record { count = length map.routes.items; published = map.published.items } };
 
-    ghost invariant = { λ map. IsRowOf map.routes.items map.publications.routes };
+    ghost invariant = { λ map. IsRowOf map.routes.items map.published.items };
 }
 
 impl RouteMap {
@@ -35,7 +35,7 @@ impl RouteMap {
     {
         Ok(RouteMap {
             routes: vec![in alloc; None; count]?,
-            publications: Publications::none(),
+            published: Trace::empty(),
         })
     }
 
@@ -67,7 +67,7 @@ impl Absorb<Route> for RouteMap {
     fn absorb_first(&mut self, operation: &Route, _other: &RouteMap) -> Result<(), AllocError> {
         if let Some(place) = self.routes.get_mut(operation.shard.index()) {
             *place = Some(*operation);
-            self.publications = self.publications.and(operation);
+            self.published.push(operation);
         }
         Ok(())
     }

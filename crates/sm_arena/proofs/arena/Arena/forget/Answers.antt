@@ -21,13 +21,13 @@ pub invariant_of-self : goal.invariant_of-self
 invariant_of-self c =
     let is = rw (← c.self.view_is) at c.requires.placed in
     let kept = rw (← c.self.view_is) at c.requires.kept in
-    held_forgotten (chunks_of c.self.inside.blocks) c.self.inside.live c.self.inside.gone _ c.self.invariant c.args.span is kept c.if-span-gt0.true _ c.and_forgotten-self-inside.ensures.placed c.and_forgotten-self-inside.ensures.forgotten
+    rw c.push.ensures (held_forgotten (chunks_of c.self.inside.blocks) c.self.inside.live c.self.inside.gone _ c.self.invariant c.args.span is kept c.if-span-gt0.true)
 
 pub returns-then-span-gt0 : goal.returns-then-span-gt0
 returns-then-span-gt0 c =
     let is = rw (← c.self.view_is) at c.requires.placed in
     let kept = rw (← c.self.view_is) at c.requires.kept in
-    rw (← c.self.view_is) (forgets (chunks_of c.self.inside.blocks) c.self.inside.live c.self.inside.gone _ c.self.invariant c.args.span is kept c.if-span-gt0.true _ c.and_forgotten-self-inside.ensures.placed c.and_forgotten-self-inside.ensures.forgotten)
+    rw (← c.self.view_is, c.push.ensures) (forgets (chunks_of c.self.inside.blocks) c.self.inside.live c.self.inside.gone _ c.self.invariant c.args.span is kept c.if-span-gt0.true)
 
 pub returns-else-span-gt0 : goal.returns-else-span-gt0
 returns-else-span-gt0 c =

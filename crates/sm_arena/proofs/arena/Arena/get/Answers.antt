@@ -7,10 +7,10 @@ use Rattle.sm_arena.proofs.arena.Arena.get.Goals as goal
 pub piece-requires : goal.piece-requires
 piece-requires c =
     let is = subst (λ v. IsPlaced v.placed c.args.span) (sym c.self.view_is) c.requires in
-    (lies_at (chunks_of c.self.inside.blocks) c.self.inside.placements.placed c.args.span c.self.invariant.lies is).1
+    (lies_at (chunks_of c.self.inside.blocks) _ c.args.span c.self.invariant.lies is).1
 
 pub returns : goal.returns
 returns c =
     let is = subst (λ v. IsPlaced v.placed c.args.span) (sym c.self.view_is) c.requires in
-    let lies = lies_at (chunks_of c.self.inside.blocks) c.self.inside.placements.placed c.args.span c.self.invariant.lies is in
+    let lies = lies_at (chunks_of c.self.inside.blocks) _ c.args.span c.self.invariant.lies is in
     rw (← c.self.view_is, lies.0) c.piece.ensures

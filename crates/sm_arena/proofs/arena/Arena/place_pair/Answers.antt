@@ -1,7 +1,5 @@
-use Rattle.std.proofs.Common.{◌∷◌, [], ◌++◌, List, ℕ, ap, ◌∙◌, arith}
-use Rattle.sm_arena.specs.declared.span.Span.{Span}
+use Rattle.std.proofs.Common.{arith}
 use Rattle.sm_arena.specs.Blocks.{chunks_of}
-use Rattle.sm_arena.specs.Kept.{value_of}
 use Rattle.sm_arena.proofs.Chunks.{total_fits}
 use Rattle.sm_arena.proofs.Placing.{held_pair, is_placing_pair}
 use Rattle.sm_arena.proofs.arena.Arena.place_pair.Goals as goal
@@ -18,14 +16,12 @@ overflow_add-self-2 c =
 
 pub invariant_of-self-2 : goal.invariant_of-self-2
 invariant_of-self-2 c =
-    let placed = c.and_placed-self-inside.ensures.placed ∙ ap (λ (es : List (Span × List ℕ)). es ++ (c.in_ok-first_span.second_span, c.args.second.now) ∷ []) c.and_placed.ensures.placed in
-    held_pair (chunks_of c.self.inside.blocks) (chunks_of c.write_pair.new.self) c.self.inside.live c.self.inside.gone (value_of c.self.inside) (record { placed = c.and_placed-self-inside.result.placed; forgotten = c.and_placed-self-inside.result.forgotten })
-    c.self.invariant c.in_ok-first_span.first_span c.in_ok-first_span.second_span c.args.first.now c.args.second.now placed (c.and_placed-self-inside.ensures.forgotten ∙ c.and_placed.ensures.forgotten) c.in_ok-first_span.ensures.written
+    rw (c.push-2.ensures, c.push.ensures) (
+    held_pair (chunks_of c.self.inside.blocks) (chunks_of c.write_pair.new.self) c.self.inside.live c.self.inside.gone c.self.inside.placed.items c.self.inside.forgotten.items c.self.invariant c.in_ok-first_span.first_span c.in_ok-first_span.second_span c.args.first.now c.args.second.now c.in_ok-first_span.ensures.written
+    )
 
 pub returns-clause-placed : goal.returns-clause-placed
 returns-clause-placed c =
-    let placed = c.and_placed-self-inside.ensures.placed ∙ ap (λ (es : List (Span × List ℕ)). es ++ (c.in_ok-first_span.second_span, c.args.second.now) ∷ []) c.and_placed.ensures.placed in
-    rw (← c.self.view_is) (
-    is_placing_pair (chunks_of c.self.inside.blocks) (chunks_of c.write_pair.new.self) c.self.inside.live c.self.inside.gone (value_of c.self.inside) (record { placed = c.and_placed-self-inside.result.placed; forgotten = c.and_placed-self-inside.result.forgotten })
-    c.self.invariant c.in_ok-first_span.first_span c.in_ok-first_span.second_span c.args.first.now c.args.second.now placed (c.and_placed-self-inside.ensures.forgotten ∙ c.and_placed.ensures.forgotten) c.in_ok-first_span.ensures.written
+    rw (← c.self.view_is, c.push-2.ensures, c.push.ensures) (
+    is_placing_pair (chunks_of c.self.inside.blocks) (chunks_of c.write_pair.new.self) c.self.inside.live c.self.inside.gone c.self.inside.placed.items c.self.inside.forgotten.items c.self.invariant c.in_ok-first_span.first_span c.in_ok-first_span.second_span c.args.first.now c.args.second.now c.in_ok-first_span.ensures.written
     )

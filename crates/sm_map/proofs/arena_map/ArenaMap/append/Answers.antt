@@ -10,21 +10,16 @@ append_at-requires-clause-text c d =
     let text = text_here _ _ c.find.ensures.rising _ c.in-Ok.ensures.found d in
     cc
 
-pub returns-in-Ok-clause-ok : goal.returns-in-Ok-clause-ok
-returns-in-Ok-clause-ok c =
+pub returns-clause-ok : goal.returns-clause-ok
+returns-clause-ok c =
     let any : Pair = record { key = c.args.key.now; value = HeldText [] } in
     rw (text_here _ _ c.find.ensures.rising _ c.in-Ok.ensures.found any) (rewrite_holds _ _ _ c.find.ensures.rising _ _ c.in-Ok.ensures.found (λ (pair : Pair). HeldText (text_of (Some pair.value) ++ c.args.tail.now)) any c.append_at.ensures.ok)
 
-pub returns-in-Ok-clause-dead : goal.returns-in-Ok-clause-dead
-returns-in-Ok-clause-dead c = rewrite_dead _ _ _ c.find.ensures.rising _ _ c.in-Ok.ensures.found (λ (pair : Pair). HeldText (text_of (Some pair.value) ++ c.args.tail.now)) (record { key = c.args.key.now; value = HeldText [] }) c.append_at.ensures.ok
+pub returns-clause-dead : goal.returns-clause-dead
+returns-clause-dead c = rewrite_dead _ _ _ c.find.ensures.rising _ _ c.in-Ok.ensures.found (λ (pair : Pair). HeldText (text_of (Some pair.value) ++ c.args.tail.now)) (record { key = c.args.key.now; value = HeldText [] }) c.append_at.ensures.ok
 
 -- the key holds a text, so it is there
-pub returns-in-Err-clause-ok : goal.returns-in-Err-clause-ok
-returns-in-Err-clause-ok c =
-    let none = held_nowhere _ _ c.find.ensures.rising _ c.in-Err.ensures.absent in
-    cc
-
-pub returns-in-Err-clause-dead : goal.returns-in-Err-clause-dead
-returns-in-Err-clause-dead c =
+pub unreachable-requires : goal.unreachable-requires
+unreachable-requires c =
     let none = held_nowhere _ _ c.find.ensures.rising _ c.in-Err.ensures.absent in
     cc

@@ -1,0 +1,34 @@
+ghost use Rattle.std.specs.Prelude.{◌≡◌};
+ghost use Rattle.std.specs.Borrow.{ftrue};
+
+use std::marker::{Model, PhantomData};
+
+/// What a value was when it was lent, for proofs alone: it takes no memory.
+pub struct Shadow<T> {
+    of: PhantomData<T>,
+    pub ghost value: { T },
+}
+
+impl<T> Model for Shadow<T> {
+    ghost also_owns = { λ _. ftrue };
+}
+
+// It has no bytes.
+unsafe impl<T: Send> Send for Shadow<T> {}
+
+unsafe impl<T: Sync> Sync for Shadow<T> {}
+
+impl<T> Drop for Shadow<T> {
+    fn drop(self) {
+        let Shadow { of: _ } = self;
+    }
+}
+
+impl<T> Shadow<T> {
+    /// What the value is now.
+    pub fn of(value: &T) -> Shadow<T>
+        ensures { result.value ≡ value.now }
+    {
+        Shadow { of: PhantomData }
+    }
+}

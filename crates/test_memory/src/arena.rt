@@ -1,0 +1,237 @@
+ghost use Rattle.sm_arena.specs.Pieces.{IsPlaced};
+ghost use Rattle.sm_arena.specs.declared.span.Span.{Span as Place};
+
+use sm_arena::{Arena, Span};
+use std::alloc::{AllocError, Global};
+use std::process::Abort;
+use std::test::Fail;
+use std::thread;
+
+// So many bytes that count up and round from `first` on.
+fn bytes_from(alloc: Global, first: u8, count: usize) -> Result<Vec<u8>, AllocError> {
+    let mut bytes = Vec::with_capacity(alloc, count)?;
+    let mut next = first;
+    for _ in 0..count {
+        bytes.push(next)?;
+        next = next.wrapping_add(1);
+    }
+    Ok(bytes)
+}
+
+#[test]
+#[tactic(auto, using(sm_arena::specs::lemmas::Placing::placed_now, sm_arena::specs::lemmas::Placing::placed_later, sm_arena::specs::lemmas::Placing::placed_after))]
+fn arena_and_rebuild(rt: HostRuntime) -> Result<(), Fail> {
+    let mut arena = Arena::new(rt.alloc());
+    let s = arena.place(b"abc")?;
+    let t = arena.place(b"")?;
+    assert_eq!(rt; arena.bytes(), 3);
+    assert_eq!(rt; arena.dead(), 0);
+    arena.forget(s);
+    assert_eq!(rt; arena.bytes(), 0);
+    assert_eq!(rt; arena.dead(), 3);
+    assert_eq!(rt; arena.get(s), b"abc".as_slice());
+    assert_eq!(rt; arena.get(t), b"".as_slice());
+    Ok(())
+}
+
+#[test]
+#[tactic(auto, using(sm_arena::specs::lemmas::Placing::placed_now, sm_arena::specs::lemmas::Placing::placed_later, sm_arena::specs::lemmas::Placing::placed_after))]
+fn empty_piece_is_never_dead(rt: HostRuntime) -> Result<(), Fail> {
+    let mut arena = Arena::new(rt.alloc());
+    let t = arena.place(b"")?;
+    arena.forget(t);
+    assert_eq!(rt; arena.bytes(), 0);
+    assert_eq!(rt; arena.dead(), 0);
+    assert_eq!(rt; arena.get(t), b"".as_slice());
+    Ok(())
+}
+
+// Places so many further pieces, of 0 to 199 bytes.
+#[tactic(auto, using(sm_arena::specs::lemmas::Placing::placed_later))]
+fn place_further(alloc: Global, arena: &mut Arena, count: usize) -> Result<(), AllocError>
+    ensures { (s : Place) → IsPlaced arena.old.placed s → IsPlaced arena.new.placed s }
+{
+    for turn in 0..count {
+        let bytes = bytes_from(alloc, 7, turn % 200)?;
+        arena.place(bytes.as_slice())?;
+    }
+    Ok(())
+}
+
+#[test]
+#[tactic(auto, using(sm_arena::specs::lemmas::Placing::placed_now, sm_arena::specs::lemmas::Placing::placed_later))]
+fn lengths_round_a_chunk_read_back(rt: HostRuntime) -> Result<(), Fail> {
+    let mut arena = Arena::new(rt.alloc());
+    let none = arena.place(b"")?;
+    let one = arena.place(b"1")?;
+    let below = bytes_from(rt.alloc(), 10, 65_535)?;
+    let under = arena.place(below.as_slice())?;
+    let equal = bytes_from(rt.alloc(), 60, 65_536)?;
+    let whole = arena.place(equal.as_slice())?;
+    let above = bytes_from(rt.alloc(), 110, 65_537)?;
+    let over = arena.place(above.as_slice())?;
+    place_further(rt.alloc(), &mut arena, 1_000)?;
+    assert_eq!(rt; arena.bytes(), 196_609 + 99_500);
+    assert_eq!(rt; arena.get(none), b"".as_slice());
+    assert_eq!(rt; arena.get(one), b"1".as_slice());
+    assert_eq!(rt; arena.get(under), below.as_slice());
+    assert_eq!(rt; arena.get(whole), equal.as_slice());
+    assert_eq!(rt; arena.get(over), above.as_slice());
+    Ok(())
+}
+
+#[test]
+#[tactic(auto, using(sm_arena::specs::lemmas::Placing::pair_now, sm_arena::specs::lemmas::Placing::pair_later))]
+fn pairs_read_back(rt: HostRuntime) -> Result<(), Fail> {
+    let mut arena = Arena::new(rt.alloc());
+    let (key, text) = arena.place_pair(b"key", b"text")?;
+    let (short, empty) = arena.place_pair(b"k", b"")?;
+    let (none, nothing) = arena.place_pair(b"", b"")?;
+    assert_eq!(rt; arena.bytes(), 3 + 4 + 1);
+    assert_eq!(rt; arena.get(key), b"key".as_slice());
+    assert_eq!(rt; arena.get(text), b"text".as_slice());
+    assert_eq!(rt; arena.get(short), b"k".as_slice());
+    assert_eq!(rt; arena.get(empty), b"".as_slice());
+    assert_eq!(rt; arena.get(none), b"".as_slice());
+    assert_eq!(rt; arena.get(nothing), b"".as_slice());
+    Ok(())
+}
+
+#[test]
+#[tactic(auto, using(sm_arena::specs::lemmas::Placing::placed_now, sm_arena::specs::lemmas::Placing::placed_later))]
+fn joined_pieces_read_back(rt: HostRuntime) -> Result<(), Fail> {
+    let mut arena = Arena::new(rt.alloc());
+    let none = arena.place(b"")?;
+    let abc = arena.place(b"abc")?;
+    let again = arena.concat(abc, b"")?;
+    let longer = arena.concat(abc, b"def")?;
+    let nothing = arena.concat(none, b"")?;
+    let alone = arena.concat(none, b"def")?;
+    assert_eq!(rt; arena.bytes(), 3 + 3 + 6 + 3);
+    assert_eq!(rt; arena.get(abc), b"abc".as_slice());
+    assert_eq!(rt; arena.get(again), b"abc".as_slice());
+    assert_eq!(rt; arena.get(longer), b"abcdef".as_slice());
+    assert_eq!(rt; arena.get(nothing), b"".as_slice());
+    assert_eq!(rt; arena.get(alone), b"def".as_slice());
+    Ok(())
+}
+
+// The joined piece has a block of its own, and so has the next one.
+#[test]
+#[tactic(auto, using(sm_arena::specs::lemmas::Placing::placed_now, sm_arena::specs::lemmas::Placing::placed_later))]
+fn long_pieces_are_joined(rt: HostRuntime) -> Result<(), Fail> {
+    let mut arena = Arena::new(rt.alloc());
+    let front = bytes_from(rt.alloc(), 5, 40_000)?;
+    let rest = bytes_from(rt.alloc(), 69, 30_000)?;
+    let whole = bytes_from(rt.alloc(), 5, 70_000)?;
+    let head = arena.place(front.as_slice())?;
+    let joined = arena.concat(head, rest.as_slice())?;
+    let last = arena.concat(joined, b"!")?;
+    assert_eq!(rt; arena.bytes(), 40_000 + 70_000 + 70_001);
+    assert_eq!(rt; arena.get(joined), whole.as_slice());
+    assert!(rt; arena.get(last).starts_with(whole.as_slice()));
+    assert!(rt; arena.get(last).ends_with(b"!"));
+    Ok(())
+}
+
+// Whether the arena, which is dropped here, has the piece at the span.
+fn ends_with(arena: Arena, span: Span, piece: &[u8]) -> bool
+    requires { IsPlaced arena.placed span }
+{
+    arena.get(span) == piece
+}
+
+#[test]
+#[tactic(auto, using(sm_arena::specs::lemmas::Placing::placed_now, sm_arena::specs::lemmas::Placing::placed_later))]
+fn arena_goes_to_a_thread(rt: HostRuntime) -> Result<(), Fail> {
+    let bytes = bytes_from(rt.alloc(), 3, 70_000)?;
+    let mut arena = Arena::new(rt.alloc());
+    let short = arena.place(b"abc")?;
+    let long = arena.place(bytes.as_slice())?;
+    let mut other = Arena::new(rt.alloc());
+    let alone = other.place(b"there")?;
+    let (first, second) = thread::join(
+        &rt,
+        move || arena.get(short) == b"abc".as_slice() && ends_with(arena, long, bytes.as_slice()),
+        move || ends_with(other, alone, b"there"),
+    );
+    assert!(rt; first && second);
+    Ok(())
+}
+
+// Places the piece, or finds the arena as it was.
+#[tactic(auto, using(sm_arena::specs::lemmas::Placing::placed_now, sm_arena::specs::lemmas::Placing::placed_later))]
+fn place_or_nothing(rt: &impl Abort, arena: &mut Arena, piece: &[u8])
+    ensures { (s : Place) → IsPlaced arena.old.placed s → IsPlaced arena.new.placed s }
+{
+    let before = arena.bytes();
+    match arena.place(piece) {
+        Ok(span) => {
+            assert_eq!(*rt; arena.get(span), piece);
+            assert_eq!(*rt; arena.bytes(), before.wrapping_add(piece.len() as u128));
+        }
+        Err(AllocError) => assert_eq!(*rt; arena.bytes(), before),
+    }
+    assert_eq!(*rt; arena.dead(), 0);
+}
+
+// Places the piece at the span with a further byte, or finds the arena as it was.
+#[tactic(auto, using(sm_arena::specs::lemmas::Placing::placed_now, sm_arena::specs::lemmas::Placing::placed_later))]
+fn concat_or_nothing(rt: &impl Abort, arena: &mut Arena, head: Span)
+    requires { IsPlaced arena.old.placed head }
+    ensures { (s : Place) → IsPlaced arena.old.placed s → IsPlaced arena.new.placed s }
+{
+    let before = arena.bytes();
+    match arena.concat(head, b"!") {
+        Ok(span) => {
+            assert!(*rt;
+                arena.get(span).starts_with(arena.get(head)) && arena.get(span).ends_with(b"!")
+            );
+            assert!(*rt; arena.bytes() > before);
+        }
+        Err(AllocError) => assert_eq!(*rt; arena.bytes(), before),
+    }
+    assert_eq!(*rt; arena.dead(), 0);
+}
+
+// Places both pieces, or finds the arena as it was.
+#[tactic(auto, using(sm_arena::specs::lemmas::Placing::pair_now, sm_arena::specs::lemmas::Placing::pair_later))]
+fn pair_or_nothing(rt: &impl Abort, arena: &mut Arena, first: &[u8], second: &[u8])
+    ensures { (s : Place) → IsPlaced arena.old.placed s → IsPlaced arena.new.placed s }
+{
+    let before = arena.bytes();
+    match arena.place_pair(first, second) {
+        Ok((one, other)) => {
+            assert_eq!(*rt; arena.get(one), first);
+            assert_eq!(*rt; arena.get(other), second);
+            assert!(*rt; arena.bytes() > before);
+        }
+        Err(AllocError) => assert_eq!(*rt; arena.bytes(), before),
+    }
+    assert_eq!(*rt; arena.dead(), 0);
+}
+
+// Passes with each allocation refused in turn (`rt try --test --fail-alloc N`).
+#[test]
+#[tactic(auto, using(sm_arena::specs::lemmas::Placing::placed_now, sm_arena::specs::lemmas::Placing::placed_later))]
+fn refused_memory_changes_nothing(rt: HostRuntime) -> Result<(), Fail> {
+    let mut arena = Arena::new(rt.alloc());
+    let (Ok(short), Ok(long)) = (
+        bytes_from(rt.alloc(), 1, 40_000),
+        bytes_from(rt.alloc(), 2, 80_000),
+    ) else {
+        return Ok(());
+    };
+    let Ok(span) = arena.place(b"first") else {
+        return Ok(());
+    };
+    for _ in 0..8 {
+        place_or_nothing(&rt, &mut arena, short.as_slice());
+        place_or_nothing(&rt, &mut arena, b"");
+        place_or_nothing(&rt, &mut arena, long.as_slice());
+        concat_or_nothing(&rt, &mut arena, span);
+        pair_or_nothing(&rt, &mut arena, short.as_slice(), long.as_slice());
+        assert_eq!(rt; arena.get(span), b"first".as_slice());
+    }
+    Ok(())
+}

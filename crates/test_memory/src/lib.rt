@@ -1,0 +1,11 @@
+//! Tests of what proofs alone read, the arena, the key map over it, and the published map.
+#![tactic(auto)]
+
+#[cfg(test)]
+mod arena;
+#[cfg(test)]
+mod map;
+#[cfg(test)]
+mod publish;
+#[cfg(test)]
+mod trace;

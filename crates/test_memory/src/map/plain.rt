@@ -1,0 +1,69 @@
+use sm_map::Val;
+use std::alloc::{AllocError, Global};
+
+// What a row holds: a text, or a count.
+#[derive(Drop)]
+pub enum Held {
+    Text(Vec<u8>),
+    Count(i64),
+}
+
+// A plain list of rows in the order of their keys, which each operation goes through from its begin.
+#[derive(Drop)]
+pub struct Plain {
+    rows: Vec<(Vec<u8>, Held)>,
+}
+
+impl Plain {
+    pub fn new(alloc: Global) -> Plain {
+        Plain {
+            rows: Vec::new(alloc),
+        }
+    }
+
+    pub fn within(
+        &self,
+        alloc: Global,
+        low: &[u8],
+        high: &[u8],
+        max: usize,
+    ) -> Result<Vec<(&[u8], Val<'_>)>, AllocError> {
+        let mut seen = Vec::new(alloc);
+        for (key, held) in &self.rows {
+            if seen.len() < max && key.as_slice() >= low && key.as_slice() < high {
+                let value = match held {
+                    Held::Text(text) => Val::Text(text),
+                    Held::Count(count) => Val::Count(*count),
+                };
+                seen.push((key.as_slice(), value))?;
+            }
+        }
+        Ok(seen)
+    }
+
+    pub fn remove(&mut self, key: &[u8]) -> bool {
+        let before = self.rows.len();
+        self.rows.retain(|row| row.0.as_slice() != key);
+        self.rows.len() < before
+    }
+
+    pub fn put(&mut self, key: Vec<u8>, held: Held) -> Result<(), AllocError> {
+        self.remove(&key);
+        let below = self.rows.iter().filter(|row| row.0 < key).count();
+        let at = below.min(self.rows.len());
+        self.rows.insert(at, (key, held))?;
+        Ok(())
+    }
+
+    pub fn append(&mut self, key: &[u8], tail: &[u8]) -> Result<bool, AllocError> {
+        for row in self.rows.iter_mut() {
+            if row.0.as_slice() == key {
+                if let Held::Text(text) = &mut row.1 {
+                    text.extend_from_slice(tail)?;
+                    return Ok(true);
+                }
+            }
+        }
+        Ok(false)
+    }
+}
