@@ -8,7 +8,7 @@
 //!     Ok(forwarded) => forwarded,
 //!     Err(_) => return Err("not forwarded by the owner".into()),
 //! };
-//! assert_eq!(rt; (to, envelope.hops(), envelope.mode()), (next, 1, Mode::Forwarded(owner)));
+//! assert_eq!(rt; (to, envelope.hops()), (next, 1));
 //! ```
 #![tactic(auto)]
 

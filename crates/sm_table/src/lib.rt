@@ -6,7 +6,7 @@
 //! world.step(Step::Send(one, 7, request))?;
 //! world.step(Step::Deliver(0))?;
 //! let answer = world.step(Step::Finish(k))?;
-//! assert!(rt; matches!(&answer, WorldAnswer::Replied { number: 7, place: 0, .. }));
+//! assert!(rt; matches!(&answer, WorldAnswer::Replied { place: 0, .. }));
 //! ```
 #![tactic(auto)]
 
@@ -24,11 +24,10 @@ pub mod world_fault;
 pub use flight::Flight;
 pub use in_hand::{InHand, Work};
 pub use setup::Setup;
+pub use sm_desk::{Command, CommandFault, Desk, command, desk};
+pub use sm_envelope::{Envelope, Refusal, Shell, envelope, refusal, shell};
+pub use sm_ownership::{admit_fault, change, change_fault, entry, mode, record, route, table};
 pub use step::Step;
 pub use world::World;
 pub use world_answer::WorldAnswer;
 pub use world_fault::WorldFault;
-
-pub use sm_desk::{Command, CommandFault, Desk, command, desk};
-pub use sm_envelope::{Envelope, Refusal, Shell, envelope, refusal, shell};
-pub use sm_ownership::{admit_fault, change, change_fault, entry, mode, record, route, table};

@@ -23,8 +23,12 @@ fn is_forwarded(rt: HostRuntime) -> Result<(), Fail> {
         Ok(forwarded) => forwarded,
         Err(_) => return Err("not forwarded by the owner".into()),
     };
-    assert_eq!(rt; (to, envelope.hops(), envelope.mode()), (next, 1, Mode::Forwarded(owner)));
-    assert_eq!(rt; (envelope.number(), envelope.shard(), *envelope.request()), (7, k, b'a'));
+    assert_eq!(rt; (to, envelope.hops()), (next, 1));
+    assert_eq!(rt; envelope.mode(), Mode::Forwarded(owner));
+    assert_eq!(rt;
+        (envelope.number(), envelope.shard(), *envelope.request()),
+        (7, k, b'a')
+    );
     Ok(())
 }
 

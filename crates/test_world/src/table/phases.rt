@@ -53,7 +53,9 @@ fn holds_and_frees(rt: HostRuntime) -> Result<(), Fail> {
         generation: 2,
     };
     let busy = WorldFault::Command(CommandFault::Busy(held));
-    assert!(rt; answer_of(&mut world, change(k, Change::PrepareAddShard(two))) == Told::Fault(busy));
+    assert!(rt;
+        answer_of(&mut world, change(k, Change::PrepareAddShard(two))) == Told::Fault(busy)
+    );
     answer_of(&mut world, send);
     let admitted = Refusal::Admit(AdmitFault::Admitted);
     assert!(rt; answer_of(&mut world, Step::Deliver(0)) == Told::Refused(admitted));
