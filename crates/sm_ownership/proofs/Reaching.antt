@@ -12,7 +12,7 @@ use Rattle.sm_ownership.specs.declared.entry.Kind.TheVariants.{Change as Changed
 use Rattle.sm_ownership.specs.declared.record.Record.{Record}
 use Rattle.sm_ownership.specs.lemmas.Growth.{record_at-empty, record_at-latest, record_at-latest_other}
 use Rattle.sm_ownership.specs.History.{IsLegal, IsLegalLatest, after_kind, record_at, table_of, table_of_latest}
-use Rattle.sm_ownership.specs.Reach.{IsApart, IsForwarded, IsReached, IsServed, Takes}
+use Rattle.sm_ownership.specs.Reach.{IsApart, IsForwarded, IsReached, IsServed, AcceptsForwarded}
 use Rattle.sm_ownership.specs.Rules.{stand_after}
 
 unless_owner : (owner next : ℕ) (same : Bool) → (next == owner) ≡ same → IsApart (unwrap_or (if same then None else Some (Prepared owner next)) (Serving owner))
@@ -71,10 +71,10 @@ forwarding owner next apart = record {
   executes = refl;
   takes = and_from (next == next) (owner == owner) (itself next) (itself owner);
   keeps = rw (ne_eqb owner next apart) refl;
-  takes_when_added = λ added is. one_of_some (λ stand. Takes stand owner next) (Taken next owner) added is (itself next);
+  takes_when_added = λ added is. one_of_some (λ stand. AcceptsForwarded stand owner next) (Taken next owner) added is (itself next);
   takes_when_dropped = λ dropped is. absurd cc;
-  takes_after_both = λ added dropped is later. one_of_some (λ stand. stand_after stand DropShard ≡ Some dropped → Takes dropped owner next) (Taken next owner) added is
-      (λ dropped_is. one_of_some (λ stand. Takes stand owner next) (Serving next) dropped dropped_is (itself next)) later;
+  takes_after_both = λ added dropped is later. one_of_some (λ stand. stand_after stand DropShard ≡ Some dropped → AcceptsForwarded dropped owner next) (Taken next owner) added is
+      (λ dropped_is. one_of_some (λ stand. AcceptsForwarded stand owner next) (Serving next) dropped dropped_is (itself next)) later;
 }
 
 -- the previous owner forwards to the owner
@@ -85,7 +85,7 @@ taken owner previous apart = record {
   takes = itself owner;
   keeps = rw (ne_eqb previous owner (λ same. apart (sym same))) refl;
   takes_when_added = λ added is. absurd cc;
-  takes_when_dropped = λ dropped is. one_of_some (λ stand. Takes stand previous owner) (Serving owner) dropped is (itself owner);
+  takes_when_dropped = λ dropped is. one_of_some (λ stand. AcceptsForwarded stand previous owner) (Serving owner) dropped is (itself owner);
   takes_after_both = λ added dropped is later. absurd cc;
 }
 

@@ -23,20 +23,20 @@ IsReached (Forwarding owner next) server = owner ≡ server
 IsReached (Taken owner previous) server = (owner ≡ server) ⊎ (previous ≡ server)
 IsReached (Paused owner) server = ⊥
 
--- what the server forwarded is executed by the other one
-abbrev pub Takes : Stand → ℕ → ℕ → Type 0
-Takes stand from to = IsTrue (accepts_at stand to (Forwarded from))
+-- what the first server forwarded is executed by the second one
+abbrev pub AcceptsForwarded : Stand → ℕ → ℕ → Type 0
+AcceptsForwarded stand from to = IsTrue (accepts_at stand to (Forwarded from))
 
 -- the server forwards to the executor, which takes it and forwards nothing, and takes it also at the stands that the
 -- migration comes to when the shard is added there, and when it is dropped here
 pub record IsForwarded (stand : Stand) (server executor : ℕ) : Type 0 where
   pub forwards : forward_at stand server ≡ Some executor
   pub executes : executor_of stand ≡ Some executor
-  pub takes : Takes stand server executor
+  pub takes : AcceptsForwarded stand server executor
   pub keeps : forward_at stand executor ≡ None
-  pub takes_when_added : (added : Stand) → stand_after stand AddShard ≡ Some added → Takes added server executor
-  pub takes_when_dropped : (dropped : Stand) → stand_after stand DropShard ≡ Some dropped → Takes dropped server executor
-  pub takes_after_both : (added dropped : Stand) → stand_after stand AddShard ≡ Some added → stand_after added DropShard ≡ Some dropped → Takes dropped server executor
+  pub takes_when_added : (added : Stand) → stand_after stand AddShard ≡ Some added → AcceptsForwarded added server executor
+  pub takes_when_dropped : (dropped : Stand) → stand_after stand DropShard ≡ Some dropped → AcceptsForwarded dropped server executor
+  pub takes_after_both : (added dropped : Stand) → stand_after stand AddShard ≡ Some added → stand_after added DropShard ≡ Some dropped → AcceptsForwarded dropped server executor
 
 -- the server executes what comes to it directly, or forwards it to the executor
 abbrev pub IsServed : Stand → ℕ → Type 0

@@ -36,11 +36,15 @@ record_fault ceiling state =
     else if state.admitted then Some (Busy state)
     else None
 
+-- the first reason for which a record doesn't allow a change
+abbrev pub change_fault : ℕ → Record → Change → Option ChangeFault
+change_fault ceiling state change = option_or (option_map change_fault_of (phase_fault state.stand change)) (record_fault ceiling state)
+
 -- the first reason for which the table refuses a change of a shard
 abbrev pub apply_fault : TableView → ℕ → Change → Option ChangeFault
 apply_fault table shard change =
     if not (nat_lt shard (length table.records)) then Some UnknownShard
-    else option_or (option_map change_fault_of (phase_fault (record_at table.records shard).stand change)) (record_fault table.ceiling (record_at table.records shard))
+    else change_fault table.ceiling (record_at table.records shard) change
 
 -- the table with another record of a shard
 abbrev pub with_record : TableView → ℕ → Record → TableView

@@ -1,6 +1,7 @@
 //! Laws of the definitions: what holds of every history.
 
-ghost use Rattle.std.specs.Prelude.{◌≡◌, ◌≢◌, ℕ, ◌<◌, ◌≤◌, ◌↔◌, ◌==◌, IsTrue, Option, Some, None, List, [], ◌∷◌, ◌++◌, All, count_by, if◌then◌else◌, length, reverse};
+ghost use Rattle.std.specs.Prelude.{◌≡◌, ◌≢◌, ℕ, ◌+◌, ◌<◌, ◌≤◌, ◌↔◌, ◌==◌, nat_lt, IsTrue, Option, Some, None, List, [], ◌∷◌, ◌++◌, All, count_by, if◌then◌else◌, length, reverse};
+ghost use Rattle.sm_ownership.specs.declared.admit_fault.AdmitFault.TheVariants.{Admitted, Spent};
 ghost use Rattle.sm_ownership.specs.declared.change.Change.{Change};
 ghost use Rattle.sm_ownership.specs.declared.entry.Entry.{Entry};
 ghost use Rattle.sm_ownership.specs.declared.entry.Kind.TheVariants.{Change as Changed, Admit, Done};
@@ -8,7 +9,7 @@ ghost use Rattle.sm_ownership.specs.declared.mode.Mode.{Mode};
 ghost use Rattle.sm_ownership.specs.declared.record.Record.{Record};
 ghost use Rattle.sm_ownership.specs.History.{IsLegal, acts_as, admit_fits, admitted, change_fits, is_admission_of, kept, latest_of, record_at, table_of};
 ghost use Rattle.sm_ownership.specs.Reach.{IsApart, IsReached, IsServed};
-ghost use Rattle.sm_ownership.specs.Rules.{admit_fault, executor, phase_fault};
+ghost use Rattle.sm_ownership.specs.Rules.{accepts, admit_fault, executor, phase_fault};
 ghost use Rattle.sm_ownership.specs.Tables.{apply_fault, record_fault, table_admitted, table_changed, table_done, table_view};
 
 /// The control may make exactly the changes that no fault stops. Legality says it in its own words: the record is idle,
@@ -126,11 +127,19 @@ pub fn two_servers<Q>()
         → IsApart (record_at (table_of count ceiling history) shard).stand }
 {}
 
-/// No phase of a migration refuses by its stand what reaches the shard's owner, or its previous owner until that one drops
-/// the shard: the server executes it, or forwards it to the executor, which executes it and forwards nothing, also where
-/// the migration has gone on meanwhile.
+/// While a shard is neither vacant nor paused, no phase of a migration refuses by its stand what reaches the shard's owner, or
+/// its previous owner until that one drops the shard: the server executes it, or forwards it to the executor, which executes
+/// it and forwards nothing, also where the migration has gone on meanwhile.
 pub fn no_phase_refuses<Q>()
     ensures { (count ceiling : ℕ) (history : List (Entry Q)) (shard server : ℕ) → IsLegal count ceiling history
         → let stand = (record_at (table_of count ceiling history) shard).stand in
         IsReached stand server → IsServed stand server }
+{}
+
+/// A request that a record accepts is refused for no other reason than that the shard is admitted, or that its generations
+/// are spent.
+pub fn accepted_is_admitted()
+    ensures { (ceiling : ℕ) (state : Record) (server : ℕ) (mode : Mode) → IsTrue (accepts state server mode)
+        → admit_fault ceiling state server mode
+        ≡ (if state.admitted then Some Admitted else if nat_lt ceiling (state.generation + 2) then Some Spent else None) }
 {}

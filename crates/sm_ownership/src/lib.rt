@@ -1,5 +1,19 @@
 //! The ownership table of the shards: what a record of it says, which changes and admissions it refuses, the histories
 //! that it stands for, and the laws that hold of each of them.
+//!
+//! ```rust
+//! let (one, two) = (ServerId::of(1), ServerId::of(2));
+//! let serving = Record {
+//!     stand: Stand::Serving(one),
+//!     admitted: false,
+//!     generation: 1,
+//! };
+//! let prepared = serving.changed(Change::PrepareAddShard(two), MAX_GENERATION)?;
+//! let forwarding = prepared.changed(Change::PrepareDropShard, MAX_GENERATION)?;
+//! assert!(rt; forwarding.executor() == Some(two));
+//! assert!(rt; forwarding.forward_to(one) == Some(two));
+//! assert!(rt; forwarding.accepts(two, Mode::Forwarded(one)));
+//! ```
 #![tactic(auto)]
 
 pub mod admit_fault;
@@ -11,3 +25,12 @@ pub mod mode;
 pub mod record;
 pub mod route;
 pub mod table;
+
+pub use admit_fault::AdmitFault;
+pub use change::{Change, PhaseFault};
+pub use change_fault::ChangeFault;
+pub use entry::{Entry, Kind};
+pub use mode::Mode;
+pub use record::Record;
+pub use route::Route;
+pub use table::Table;

@@ -5,6 +5,7 @@ use sm_ranges::server_id::ServerId;
 pub enum Mode {
     /// From a client.
     Direct,
-    /// From this server, which forwarded it.
+    /// From another server, as one that this server forwarded. Any number may stand here: it counts only where it is the
+    /// owner of a shard that is being forwarded.
     Forwarded(ServerId),
 }

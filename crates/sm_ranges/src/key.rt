@@ -86,29 +86,3 @@ impl Key {
         })
     }
 }
-
-#[cfg(test)]
-mod tests {
-    use super::*;
-    use std::test::Fail;
-
-    #[test]
-    fn holds_its_bytes(rt: HostRuntime) -> Result<(), Fail> {
-        let key = Key::new(rt.alloc(), b"m\x00")?;
-        assert_eq!(rt; key.as_bytes(), b"m\x00".as_slice());
-        assert_eq!(rt; key.try_clone(rt.alloc())?.as_bytes(), b"m\x00".as_slice());
-        assert_eq!(rt; Key::new(rt.alloc(), &[0xFF; 255])?.as_bytes().len(), 255);
-        Ok(())
-    }
-
-    #[test]
-    fn refuses_other_lengths(rt: HostRuntime) {
-        let cases: [(&[u8], KeyFault); 2] = [
-            (b"", KeyFault::Empty),
-            (&[0; 256], KeyFault::TooLong),
-        ];
-        for (bytes, fault) in &cases {
-            assert_eq!(rt; Key::new(rt.alloc(), bytes).err(), Some(*fault));
-        }
-    }
-}

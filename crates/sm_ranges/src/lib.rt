@@ -1,4 +1,13 @@
 //! The numbers that name shards and servers, who owns a shard, keys, and the layout that gives each key its shard.
+//!
+//! ```rust
+//! let layout = Layout::new(rt.alloc(), &[b"", b"m"])?;
+//! let k = layout.shard_of(b"melon");
+//! assert!(rt; k.number() == 1);
+//! let (low, high) = layout.range(k);
+//! assert!(rt; low == b"m".as_slice());
+//! assert!(rt; high.is_none());
+//! ```
 #![tactic(auto)]
 
 pub mod key;

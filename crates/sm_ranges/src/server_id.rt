@@ -60,22 +60,3 @@ impl fmt::Display for ServerId {
         write!(f, "{}", self.number)
     }
 }
-
-#[cfg(test)]
-mod tests {
-    use super::*;
-    use std::test::Fail;
-
-    #[test]
-    fn goes_from_1_to_4095(rt: HostRuntime) -> Result<(), Fail> {
-        let first = ServerId::new(1).ok_or("server 1")?;
-        let last = ServerId::new(4095).ok_or("server 4095")?;
-        assert_eq!(rt; first.number(), 1);
-        assert_eq!(rt; last.number(), 4095);
-        assert_eq!(rt; ServerId::new(0), None);
-        assert_eq!(rt; ServerId::new(4096), None);
-        assert!(rt; first < last);
-        assert_eq!(rt; format!(in rt.alloc(); "{last}")?.as_str(), "4095");
-        Ok(())
-    }
-}

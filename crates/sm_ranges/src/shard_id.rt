@@ -60,21 +60,3 @@ impl fmt::Display for ShardId {
         write!(f, "{}", self.number)
     }
 }
-
-#[cfg(test)]
-mod tests {
-    use super::*;
-    use std::test::Fail;
-
-    #[test]
-    fn goes_from_0_to_4095(rt: HostRuntime) -> Result<(), Fail> {
-        let first = ShardId::new(0).ok_or("shard 0")?;
-        let last = ShardId::new(4095).ok_or("shard 4095")?;
-        assert_eq!(rt; first.index(), 0);
-        assert_eq!(rt; last.number(), 4095);
-        assert_eq!(rt; ShardId::new(4096), None);
-        assert!(rt; first < last);
-        assert_eq!(rt; format!(in rt.alloc(); "{last}")?.as_str(), "4095");
-        Ok(())
-    }
-}

@@ -1,9 +1,12 @@
 -- What legality asks of an entry, and the faults for which the table refuses one, are the same.
 use Rattle.std.proofs.Common.{◌≡◌, ℕ, ◌+◌, Bool, true, false, not, ◌&&◌, refl, arith}
-use Rattle.std.specs.Prelude.{Some, None, is_none, is_some, nat_lt, nat_le, if◌then◌else◌, ◌==◌}
+use Rattle.std.specs.Prelude.{Option, Some, None, is_none, is_some, nat_lt, nat_le, if◌then◌else◌, ◌==◌}
+use Rattle.std.proofs.lemmas.Bool.{and_parts}
 use Rattle.std.proofs.lemmas.Bool.Decides.{nat_tests}
 use Rattle.sm_ranges.specs.declared.stand.Stand.{Stand}
 use Rattle.sm_ranges.specs.declared.stand.Stand.TheVariants.{Vacant, Serving, Prepared, Forwarding, Taken, Paused}
+use Rattle.sm_ownership.specs.declared.admit_fault.AdmitFault.{AdmitFault}
+use Rattle.sm_ownership.specs.declared.admit_fault.AdmitFault.TheVariants.{Admitted, Spent}
 use Rattle.sm_ownership.specs.declared.change.Change.{Change}
 use Rattle.sm_ownership.specs.declared.change.Change.TheVariants.{Assign, PrepareAddShard, DropShard, Cancel, Reassign}
 use Rattle.sm_ownership.specs.declared.mode.Mode.{Mode}
@@ -71,3 +74,21 @@ none_at (Forwarding owner next) admitted generation ceiling server mode = rw (sp
 -- no fault of admission applies exactly where the record is idle, has room for an admission and its end, and accepts the server
 pub admit_fault-none : (ceiling : ℕ) (state : Record) (server : ℕ) (mode : Mode) → is_none (admit_fault ceiling state server mode) ≡ (not state.admitted && (nat_le (state.generation + 2) ceiling && accepts state server mode))
 admit_fault-none ceiling state server mode = none_at state.stand state.admitted state.generation ceiling server mode
+
+-- what stops a request that the stand accepts
+abbrev fault_of_accepted : ℕ → Bool → ℕ → Option AdmitFault
+fault_of_accepted ceiling admitted generation = if admitted then Some Admitted else if nat_lt ceiling (generation + 2) then Some Spent else None
+
+accepted_at : (stand : Stand) (admitted : Bool) (generation ceiling server : ℕ) (mode : Mode) → accepts_at stand server mode ≡ true → admit_fault ceiling (record { stand = stand; admitted = admitted; generation = generation }) server mode ≡ fault_of_accepted ceiling admitted generation
+accepted_at Vacant admitted generation ceiling server mode accepted = cc
+accepted_at (Paused owner) admitted generation ceiling server mode accepted = cc
+accepted_at (Serving owner) admitted generation ceiling server mode accepted = rw accepted refl
+accepted_at (Prepared owner next) admitted generation ceiling server mode accepted = rw accepted refl
+accepted_at (Taken owner previous) admitted generation ceiling server mode accepted = rw accepted refl
+accepted_at (Forwarding owner next) admitted generation ceiling server mode accepted =
+    let both = and_parts (next == server) (is_forwarded_by owner mode) accepted in
+    rw (both.0, both.1) refl
+
+-- a request that a record accepts is refused for no other reason than that the shard is admitted, or its generations spent
+pub admit_fault-accepted : (ceiling : ℕ) (state : Record) (server : ℕ) (mode : Mode) → accepts state server mode ≡ true → admit_fault ceiling state server mode ≡ (if state.admitted then Some Admitted else if nat_lt ceiling (state.generation + 2) then Some Spent else None)
+admit_fault-accepted ceiling state server mode accepted = accepted_at state.stand state.admitted state.generation ceiling server mode accepted

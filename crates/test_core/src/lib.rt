@@ -1,0 +1,9 @@
+//! Tests of ranges, ownership and words.
+#![tactic(auto)]
+
+#[cfg(test)]
+mod ownership;
+#[cfg(test)]
+mod ranges;
+#[cfg(test)]
+mod word;
