@@ -1,5 +1,5 @@
 -- The servers that a stand names.
-use Rattle.std.specs.Prelude.{ℕ, Bool, false, Option, Some, None, IfSome, ◌==◌, ◌||◌}
+use Rattle.std.specs.Prelude.{ℕ, Bool, false, Option, Some, None, IfSome, unwrap_or, ◌==◌, ◌||◌}
 use Rattle.sm_ranges.specs.declared.stand.Stand.{Stand}
 use Rattle.sm_ranges.specs.declared.stand.Stand.TheVariants.{Vacant, Serving, Prepared, Forwarding, Taken, Paused}
 
@@ -37,3 +37,10 @@ names stand server = names_one (λ named. named == server) stand
 -- each server that the stand names is such
 abbrev pub AllNamed : (ℕ → Type 0) → Stand → Type 0
 AllNamed IsSuch stand = IfSome (owner_of stand) IsSuch × IfSome (other_of stand) IsSuch
+
+-- their numbers, or 0 where the stand names none
+abbrev pub owner_number : Stand → ℕ
+owner_number stand = unwrap_or (owner_of stand) 0
+
+abbrev pub other_number : Stand → ℕ
+other_number stand = unwrap_or (other_of stand) 0

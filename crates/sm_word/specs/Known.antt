@@ -1,4 +1,4 @@
--- Entries that name known servers alone.
+-- Entries of known servers alone.
 use Rattle.std.specs.Prelude.{ℕ, List, All, IfSome}
 use Rattle.sm_ranges.specs.ServerId.{IsServer}
 use Rattle.sm_ownership.specs.declared.change.Change.{Change}
@@ -16,6 +16,6 @@ KnownKind (Changed change) = NewlyNamesServer change
 KnownKind (Admit server mode) = IsServer server
 KnownKind (Done request) = Unit {0}
 
--- each entry names servers 1 to 4,095 alone
+-- each change and each admission is of servers 1 to 4,095
 abbrev pub AreKnown : {Q : Type 0} → List (Entry Q) → Type 0
 AreKnown entries = All (λ entry. KnownKind entry.kind) entries

@@ -2,8 +2,10 @@
 -- or previous server in 12, and the generation in 36.
 use Rattle.std.specs.Prelude.{ℕ, Bool, true, false, Option, Some, None, ◌==◌, if◌then◌else◌, ◌≡◌, ◌≢◌, ◌≤◌, ◌<◌, ◌+◌, ◌*◌, ◌^◌}
 use Rattle.sm_ranges.specs.ServerId.{IsServer}
+use Rattle.sm_ranges.specs.Stand.{owner_number, other_number}
 use Rattle.sm_ranges.specs.declared.stand.Stand.{Stand}
 use Rattle.sm_ranges.specs.declared.stand.Stand.TheVariants.{Vacant, Serving, Prepared, Forwarding, Taken, Paused}
+use Rattle.sm_ownership.specs.declared.record.TheConstants.{MAX_GENERATION}
 use Rattle.sm_ownership.specs.declared.record.Record.{Record}
 
 abbrev pub phase_of : Stand → ℕ
@@ -13,24 +15,6 @@ phase_of (Prepared owner next) = 2
 phase_of (Forwarding owner next) = 3
 phase_of (Taken owner previous) = 4
 phase_of (Paused owner) = 5
-
--- the number of the owner, or 0
-abbrev pub owner_of : Stand → ℕ
-owner_of Vacant = 0
-owner_of (Serving owner) = owner
-owner_of (Prepared owner next) = owner
-owner_of (Forwarding owner next) = owner
-owner_of (Taken owner previous) = owner
-owner_of (Paused owner) = owner
-
--- the number of the next or previous server, or 0
-abbrev pub other_of : Stand → ℕ
-other_of Vacant = 0
-other_of (Serving owner) = 0
-other_of (Prepared owner next) = next
-other_of (Forwarding owner next) = next
-other_of (Taken owner previous) = previous
-other_of (Paused owner) = 0
 
 -- the server of a number, where 0 stands for none
 abbrev pub server_of : ℕ → Option ℕ
@@ -43,7 +27,7 @@ bit_of false = 0
 -- the word of a record
 abbrev pub word_of : Record → ℕ
 word_of state =
-    phase_of state.stand * 2 ^ 61 + bit_of state.admitted * 2 ^ 60 + owner_of state.stand * 2 ^ 48 + other_of state.stand * 2 ^ 36 + state.generation
+    phase_of state.stand * 2 ^ 61 + bit_of state.admitted * 2 ^ 60 + owner_number state.stand * 2 ^ 48 + other_number state.stand * 2 ^ 36 + state.generation
 
 -- a migration is between two servers
 abbrev pub AreTwoServers : ℕ → ℕ → Type 0
@@ -71,4 +55,4 @@ FitsStand (Paused owner) admitted generation = (admitted ≡ false) × (1 ≤ ge
 pub record IsWellFormed (state : Record) : Type 0 where
   pub servers : NamesServers state.stand
   pub parts : FitsStand state.stand state.admitted state.generation
-  pub generation : state.generation < 2 ^ 36
+  pub generation : state.generation ≤ MAX_GENERATION

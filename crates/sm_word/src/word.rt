@@ -1,9 +1,10 @@
-ghost use Rattle.std.specs.Prelude.{◌≡◌, ◌↔◌, ◌≢◌, ◌<◌, ◌≤◌, ◌%◌, ◌*◌, ◌^◌, ℕ, Some, None, IfSome, IfNone, IsTrue, true, false};
+ghost use Rattle.std.specs.Prelude.{◌≡◌, ◌↔◌, ◌≢◌, ◌<◌, ◌≤◌, ◌%◌, ◌*◌, ◌^◌, ℕ, Some, None, IfSome, IfNone, IsTrue, true, false, unwrap_or};
 ghost use Rattle.sm_ownership.specs.declared.record.Record.{Record as RecordValue};
 ghost use Rattle.sm_ownership.specs.History.{after_admit, after_done};
 ghost use Rattle.sm_ranges.specs.declared.stand.Stand.{Stand as StandValue};
 ghost use Rattle.sm_ranges.specs.ServerId.{IsServer};
-ghost use Rattle.sm_word.specs.Word.{IsWellFormed, FitsStand, NamesServers, word_of, phase_of, owner_of, other_of, server_of};
+ghost use Rattle.sm_ranges.specs.Stand.{owner_number, other_number};
+ghost use Rattle.sm_word.specs.Word.{IsWellFormed, FitsStand, NamesServers, word_of, phase_of, server_of};
 
 use sm_ownership::record::Record;
 use sm_ranges::server_id::ServerId;
@@ -29,8 +30,8 @@ pub fn pack(state: Record) -> u64
     let admitted = if state.admitted { ADMITTED } else { 0 };
     phase(state.stand) * PHASE
         + admitted
-        + owner(state.stand) * OWNER
-        + other(state.stand) * OTHER
+        + number(state.stand.owner()) * OWNER
+        + number(state.stand.other()) * OTHER
         + state.generation
 }
 
@@ -104,7 +105,7 @@ pub fn done_word(word: u64) -> u64
 fn known_stand(phase: u64, owner: u16, other: u16) -> Stand
     requires owner { phase ≢ 0 → IsServer owner }
     requires other { 2 ≤ phase → phase ≤ 4 → IsServer other }
-    ensures { (stand : StandValue) → phase_of stand ≡ phase → owner_of stand ≡ owner → other_of stand ≡ other → result ≡ stand }
+    ensures { (stand : StandValue) → phase_of stand ≡ phase → owner_number stand ≡ owner → other_number stand ≡ other → result ≡ stand }
 {
     match phase {
         0 => Stand::Vacant,
@@ -138,39 +139,20 @@ fn phase(stand: Stand) -> u64
     }
 }
 
-// The number of the owner, or 0.
-fn owner(stand: Stand) -> u64
-    ensures { result ≡ owner_of stand }
+// The number of the server, or 0 where there is none.
+fn number(server: Option<ServerId>) -> u64
+    ensures { result ≡ unwrap_or server 0 }
 {
-    match stand {
-        Stand::Vacant => 0,
-        Stand::Serving(owner)
-        | Stand::Prepared { owner, .. }
-        | Stand::Forwarding { owner, .. }
-        | Stand::Taken { owner, .. }
-        | Stand::Paused(owner) => u64::from(owner.number()),
-    }
-}
-
-// The number of the next or previous server, or 0.
-fn other(stand: Stand) -> u64
-    ensures { result ≡ other_of stand }
-{
-    match stand {
-        Stand::Vacant | Stand::Serving(_) | Stand::Paused(_) => 0,
-        Stand::Prepared { next: other, .. }
-        | Stand::Forwarding { next: other, .. }
-        | Stand::Taken {
-            previous: other,
-            ..
-        } => u64::from(other.number()),
+    match server {
+        Some(server) => u64::from(server.number()),
+        None => 0,
     }
 }
 
 // The stand of this phase that names these servers, where there is one.
 fn stand_of(phase: u64, owner: Option<ServerId>, other: Option<ServerId>) -> Option<Stand>
-    ensures some { IfSome result (λ stand. NamesServers stand × (phase_of stand ≡ phase) × (server_of (owner_of stand) ≡ owner) × (server_of (other_of stand) ≡ other)) }
-    ensures none { (stand : StandValue) → NamesServers stand → phase_of stand ≡ phase → server_of (owner_of stand) ≡ owner → server_of (other_of stand) ≡ other → result ≡ Some stand }
+    ensures some { IfSome result (λ stand. NamesServers stand × (phase_of stand ≡ phase) × (server_of (owner_number stand) ≡ owner) × (server_of (other_number stand) ≡ other)) }
+    ensures none { (stand : StandValue) → NamesServers stand → phase_of stand ≡ phase → server_of (owner_number stand) ≡ owner → server_of (other_number stand) ≡ other → result ≡ Some stand }
 {
     let Some(owner) = owner else {
         return if phase == 0 && other.is_none() {

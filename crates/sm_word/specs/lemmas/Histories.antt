@@ -105,14 +105,14 @@ module _ {Q : Type 0} (count ceiling : ℕ) where
 pub formed_change : (state : Record) (change : Change) → IsWellFormed state → NewlyNamesServer change → state.admitted ≡ false → is_some (stand_after state.stand change) ≡ true → state.generation + 1 < 2 ^ 36 → IsWellFormed (after_change state change)
 formed_change state change formed known idle leads low =
     let shaped = subst (λ admitted. IsShapedAt (unwrap_or (stand_after state.stand change) state.stand) admitted (state.generation + 1)) (sym idle) (shaped_change state.stand change state.generation formed.servers known leads) in
-    record { servers = shaped.0; parts = shaped.1; generation = low }
+    record { servers = shaped.0; parts = shaped.1; generation = omega arith }
 
 pub formed_admit : (state : Record) (server : ℕ) (mode : Mode) → IsWellFormed state → accepts_at state.stand server mode ≡ true → state.generation + 1 < 2 ^ 36 → IsWellFormed (after_admit state)
 formed_admit state server mode formed accepted low =
     let shaped = shaped_admit state.stand server mode state.generation formed.servers accepted in
-    record { servers = shaped.0; parts = shaped.1; generation = low }
+    record { servers = shaped.0; parts = shaped.1; generation = omega arith }
 
 pub formed_done : (state : Record) → IsWellFormed state → state.admitted ≡ true → state.generation + 1 < 2 ^ 36 → IsWellFormed (after_done state)
 formed_done state formed busy low =
     let shaped = shaped_done state.stand state.admitted state.generation busy (formed.servers, formed.parts) in
-    record { servers = shaped.0; parts = shaped.1; generation = low }
+    record { servers = shaped.0; parts = shaped.1; generation = omega arith }

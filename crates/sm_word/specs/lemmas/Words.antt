@@ -4,9 +4,10 @@ use Rattle.sm_ranges.specs.declared.stand.Stand.{Stand}
 use Rattle.sm_ranges.specs.declared.stand.Stand.TheVariants.{Vacant, Serving, Prepared, Forwarding, Taken, Paused}
 use Rattle.sm_ownership.specs.declared.record.Record.{Record}
 use Rattle.sm_word.specs.lemmas.Digits.{generation_digits, other_digits, owner_digits, admitted_digit, phase_digits}
-use Rattle.sm_word.specs.Word.{phase_of, owner_of, other_of, bit_of, word_of, NamesServers, IsWellFormed}
+use Rattle.sm_ranges.specs.Stand.{owner_number, other_number}
+use Rattle.sm_word.specs.Word.{phase_of, bit_of, word_of, NamesServers, IsWellFormed}
 
-pub owner_below : (stand : Stand) → NamesServers stand → owner_of stand < 4096
+pub owner_below : (stand : Stand) → NamesServers stand → owner_number stand < 4096
 owner_below Vacant named = omega arith
 owner_below (Serving owner) named = let most = named.1 in omega arith
 owner_below (Prepared owner next) named = let most = named.0.1 in omega arith
@@ -14,7 +15,7 @@ owner_below (Forwarding owner next) named = let most = named.0.1 in omega arith
 owner_below (Taken owner previous) named = let most = named.0.1 in omega arith
 owner_below (Paused owner) named = let most = named.1 in omega arith
 
-pub other_below : (stand : Stand) → NamesServers stand → other_of stand < 4096
+pub other_below : (stand : Stand) → NamesServers stand → other_number stand < 4096
 other_below Vacant named = omega arith
 other_below (Serving owner) named = omega arith
 other_below (Prepared owner next) named = let most = named.1.1 in omega arith
@@ -26,7 +27,7 @@ pub bit_below : (bit : Bool) → bit_of bit < 2
 bit_below true = omega arith
 bit_below false = omega arith
 
-same_stand : (one two : Stand) → phase_of one ≡ phase_of two → owner_of one ≡ owner_of two → other_of one ≡ other_of two → one ≡ two
+same_stand : (one two : Stand) → phase_of one ≡ phase_of two → owner_number one ≡ owner_number two → other_number one ≡ other_number two → one ≡ two
 same_stand Vacant Vacant phase owner other = refl
 same_stand (Serving a) (Serving b) phase owner other = ap Serving owner
 same_stand (Prepared a x) (Prepared b y) phase owner other = λ i. Prepared (owner i) (other i)
@@ -42,27 +43,30 @@ same_bit _ _ bit = absurd (omega arith)
 
 -- the parts of a well-formed record's word
 module _ (state : Record) (formed : IsWellFormed state) where
-  pub word_generation : word_of state % 2 ^ 36 ≡ state.generation
-  word_generation = generation_digits (phase_of state.stand) (bit_of state.admitted) (owner_of state.stand) (other_of state.stand) state.generation formed.generation
+  low : state.generation < 2 ^ 36
+  low = omega (arith, formed.generation)
 
-  pub word_other : word_of state / 2 ^ 36 % 4096 ≡ other_of state.stand
+  pub word_generation : word_of state % 2 ^ 36 ≡ state.generation
+  word_generation = generation_digits (phase_of state.stand) (bit_of state.admitted) (owner_number state.stand) (other_number state.stand) state.generation low
+
+  pub word_other : word_of state / 2 ^ 36 % 4096 ≡ other_number state.stand
   word_other =
-      other_digits (phase_of state.stand) (bit_of state.admitted) (owner_of state.stand) (other_of state.stand) state.generation formed.generation
+      other_digits (phase_of state.stand) (bit_of state.admitted) (owner_number state.stand) (other_number state.stand) state.generation low
       (other_below state.stand formed.servers)
 
-  pub word_owner : word_of state / 2 ^ 48 % 4096 ≡ owner_of state.stand
+  pub word_owner : word_of state / 2 ^ 48 % 4096 ≡ owner_number state.stand
   word_owner =
-      owner_digits (phase_of state.stand) (bit_of state.admitted) (owner_of state.stand) (other_of state.stand) state.generation formed.generation
+      owner_digits (phase_of state.stand) (bit_of state.admitted) (owner_number state.stand) (other_number state.stand) state.generation low
       (other_below state.stand formed.servers) (owner_below state.stand formed.servers)
 
   pub word_admitted : word_of state / 2 ^ 60 % 2 ≡ bit_of state.admitted
   word_admitted =
-      admitted_digit (phase_of state.stand) (bit_of state.admitted) (owner_of state.stand) (other_of state.stand) state.generation formed.generation
+      admitted_digit (phase_of state.stand) (bit_of state.admitted) (owner_number state.stand) (other_number state.stand) state.generation low
       (other_below state.stand formed.servers) (owner_below state.stand formed.servers) (bit_below state.admitted)
 
   pub word_phase : word_of state / 2 ^ 61 ≡ phase_of state.stand
   word_phase =
-      phase_digits (phase_of state.stand) (bit_of state.admitted) (owner_of state.stand) (other_of state.stand) state.generation formed.generation
+      phase_digits (phase_of state.stand) (bit_of state.admitted) (owner_number state.stand) (other_number state.stand) state.generation low
       (other_below state.stand formed.servers) (owner_below state.stand formed.servers) (bit_below state.admitted)
 
 -- well-formed records with one word are one
