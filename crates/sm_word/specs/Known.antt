@@ -1,5 +1,5 @@
 -- Entries of known servers alone.
-use Rattle.std.specs.Prelude.{ℕ, List, All, IfSome}
+use Rattle.std.specs.Prelude.{List, All, IfSome}
 use Rattle.sm_ranges.specs.ServerId.{IsServer}
 use Rattle.sm_ownership.specs.declared.change.Change.{Change}
 use Rattle.sm_ownership.specs.declared.entry.Entry.{Entry}

@@ -1,6 +1,6 @@
 -- The word of a record. From the highest bit: the phase in 3 bits, whether it is admitted in 1, the owner in 12, the next
 -- or previous server in 12, and the generation in 36.
-use Rattle.std.specs.Prelude.{ℕ, Bool, true, false, Option, Some, None, ◌==◌, if◌then◌else◌, ◌≡◌, ◌≢◌, ◌≤◌, ◌<◌, ◌+◌, ◌*◌, ◌^◌}
+use Rattle.std.specs.Prelude.{ℕ, Bool, true, false, Option, Some, None, ◌==◌, if◌then◌else◌, ◌≡◌, ◌≢◌, ◌≤◌, ◌+◌, ◌*◌, ◌^◌}
 use Rattle.sm_ranges.specs.ServerId.{IsServer}
 use Rattle.sm_ranges.specs.Stand.{owner_number, other_number}
 use Rattle.sm_ranges.specs.declared.stand.Stand.{Stand}

@@ -1,7 +1,7 @@
 -- What lasts while a history grows: the record of a shard or else its generation, the stand without the control, and an
 -- admission until its actor ends it.
 use Rattle.std.proofs.Common.{◌≡◌, ◌≢◌, ℕ, ◌<◌, ◌+◌, Bool, true, false, not, List, [], ◌∷◌, ◌++◌, refl, sym, ap, subst, ◌∙◌, arith, ◌⊎◌, ⊎_elim, inl, inr}
-use Rattle.std.specs.Prelude.{All, Option, Some, None, reverse, ◌==◌, ◌||◌}
+use Rattle.std.specs.Prelude.{Option, Some, None, reverse, ◌==◌, ◌||◌}
 use Rattle.std.proofs.lemmas.Bool.{true≢false, and_from, and_parts, cases_eq, eqb-true, ne_eqb, not-true}
 use Rattle.std.proofs.lemmas.List.{reverse-append}
 use Rattle.std.proofs.lemmas.List.Elements.{All-nil, All-cons, All-head, All-tail, All-append}

@@ -1,5 +1,5 @@
 -- Lists in the order of keys: what a place or a gap in one tells, and what a change there leaves.
-use Rattle.std.proofs.Common.{◌≡◌, ℕ, suc, ◌<◌, ◌≤◌, ◌+◌, true, false, List, ◌∷◌, ◌++◌, length, get_or, set, take, drop, Some, None, sym, ap, subst, inl, inr, arith}
+use Rattle.std.proofs.Common.{◌≡◌, ℕ, suc, ◌<◌, ◌≤◌, ◌+◌, false, List, ◌∷◌, length, get_or, set, take, drop, Some, None, sym, ap, subst, inl, inr, arith}
 use Rattle.std.specs.List.{All, AllWithin, HoldsAt, filter, find, insert, remove}
 use Rattle.std.specs.List.Sorted.{IsNonDecreasingBy}
 use Rattle.std.specs.declared.cmp.Ordering.TheVariants.{Less, Equal, Greater}

@@ -1,6 +1,6 @@
 -- The records of a legal history of known servers are well formed.
 use Rattle.std.proofs.Common.{◌≡◌, ◌≢◌, ℕ, ◌<◌, ◌+◌, ◌^◌, Bool, true, false, not, List, [], ◌∷◌, refl, sym, subst, ◌∙◌, arith, ⊎_elim}
-use Rattle.std.specs.Prelude.{All, Some, None, is_some, unwrap_or, ◌==◌, nat_lt, nat_le, if◌then◌else◌}
+use Rattle.std.specs.Prelude.{Some, None, is_some, unwrap_or, ◌==◌, nat_lt, nat_le, if◌then◌else◌}
 use Rattle.std.proofs.lemmas.Bool.{true≢false, and_parts, eq-eqb, not-true}
 use Rattle.std.proofs.lemmas.List.Elements.{All-head, All-tail}
 use Rattle.sm_ranges.specs.ServerId.{IsServer}
