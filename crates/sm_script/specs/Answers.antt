@@ -1,7 +1,15 @@
 -- The text of a script's answers, each without its line feed.
-use Rattle.std.specs.Prelude.{ℕ, Bool, if◌then◌else◌, List, [], ◌∷◌, ◌++◌, length, codes, decimal}
+use Rattle.std.specs.Prelude.{ℕ, Bool, if◌then◌else◌, List, [], ◌∷◌, ◌++◌, length, codes, decimal, Option, unwrap_or}
 use Rattle.std.specs.List.{join_with_byte}
 use Rattle.std.specs.Fmt.{signed_decimal}
+use Rattle.sm_desk.specs.declared.command.CommandFault.{CommandFault}
+use Rattle.sm_desk.specs.declared.command.CommandFault.TheVariants as command
+use Rattle.sm_envelope.specs.declared.refusal.Refusal.{Refusal}
+use Rattle.sm_envelope.specs.declared.refusal.Refusal.TheVariants as request
+use Rattle.sm_ownership.specs.declared.admit_fault.AdmitFault.{AdmitFault}
+use Rattle.sm_ownership.specs.declared.admit_fault.AdmitFault.TheVariants as admit
+use Rattle.sm_ownership.specs.declared.record.Record.{Record}
+use Rattle.sm_ranges.specs.Stand.{other_of, owner_of}
 use Rattle.sm_ranges.specs.declared.stand.Stand.{Stand}
 use Rattle.sm_ranges.specs.declared.stand.Stand.TheVariants.{Vacant, Serving, Prepared, Forwarding, Taken, Paused}
 use Rattle.sm_script.specs.declared.answer.Answer.{Answer}
@@ -9,7 +17,7 @@ use Rattle.sm_script.specs.declared.answer.Answer.TheVariants.{Made, Refused as 
 use Rattle.sm_script.specs.declared.fault.LineFault.{LineFault}
 use Rattle.sm_script.specs.declared.fault.LineFault.TheVariants.{LineTooLong, UnknownWord, BadLine, BadNumber, BadKey, NotHere}
 use Rattle.sm_script.specs.declared.refused.Refused.{Refused}
-use Rattle.sm_script.specs.declared.refused.Refused.TheVariants.{UnknownShard, UnknownServer, WrongPhase, SameServer, Spent, Busy, Vacant as VacantName, Paused as PausedName, NotExecutor, NotYet, Admitted, KeptFull, TooManyHops, NotHeld}
+use Rattle.sm_script.specs.declared.refused.Refused.TheVariants as refused
 use Rattle.sm_service.specs.declared.reply.Reply.{Reply}
 use Rattle.sm_service.specs.declared.reply.Reply.TheVariants.{Nothing, Done, Text, Count, WrongKind, Overflow, TooLong}
 
@@ -22,22 +30,39 @@ line_fault_name BadNumber = codes "BadNumber"
 line_fault_name BadKey = codes "BadKey"
 line_fault_name NotHere = codes "NotHere"
 
--- the name of a refusal
+-- the name of a command's refusal
+abbrev pub command_fault_name : CommandFault → List ℕ
+command_fault_name command.UnknownShard = codes "UnknownShard"
+command_fault_name command.UnknownServer = codes "UnknownServer"
+command_fault_name command.WrongPhase = codes "WrongPhase"
+command_fault_name command.SameServer = codes "SameServer"
+command_fault_name (command.Spent state) = codes "Spent"
+command_fault_name (command.Busy state) = codes "Busy"
+
+-- the name of an admission's refusal
+abbrev pub admit_fault_name : AdmitFault → List ℕ
+admit_fault_name admit.Vacant = codes "Vacant"
+admit_fault_name admit.Paused = codes "Paused"
+admit_fault_name admit.NotExecutor = codes "NotExecutor"
+admit_fault_name admit.NotYet = codes "NotYet"
+admit_fault_name admit.Admitted = codes "Admitted"
+admit_fault_name admit.Spent = codes "Spent"
+
+-- the name of a request's refusal
+abbrev pub refusal_name : Refusal → List ℕ
+refusal_name request.TooManyHops = codes "TooManyHops"
+refusal_name (request.Admit fault) = admit_fault_name fault
+refusal_name request.KeptFull = codes "KeptFull"
+refusal_name request.NoMemory = codes "NoMemory"
+
+-- the name of a call's refusal
 abbrev pub refused_name : Refused → List ℕ
-refused_name UnknownShard = codes "UnknownShard"
-refused_name UnknownServer = codes "UnknownServer"
-refused_name WrongPhase = codes "WrongPhase"
-refused_name SameServer = codes "SameServer"
-refused_name Spent = codes "Spent"
-refused_name Busy = codes "Busy"
-refused_name VacantName = codes "Vacant"
-refused_name PausedName = codes "Paused"
-refused_name NotExecutor = codes "NotExecutor"
-refused_name NotYet = codes "NotYet"
-refused_name Admitted = codes "Admitted"
-refused_name KeptFull = codes "KeptFull"
-refused_name TooManyHops = codes "TooManyHops"
-refused_name NotHeld = codes "NotHeld"
+refused_name refused.UnknownShard = codes "UnknownShard"
+refused_name refused.UnknownServer = codes "UnknownServer"
+refused_name refused.NotHeld = codes "NotHeld"
+refused_name (refused.Command fault) = command_fault_name fault
+refused_name (refused.Admit fault) = admit_fault_name fault
+refused_name (refused.Request refusal) = refusal_name refusal
 
 -- the name of a kind of stand
 abbrev pub stand_name : Stand → List ℕ
@@ -48,35 +73,21 @@ stand_name (Forwarding owner next) = codes "Forwarding"
 stand_name (Taken owner previous) = codes "Taken"
 stand_name (Paused owner) = codes "Paused"
 
--- the number of a stand's owner, or 0 where there is none
-abbrev pub owner_number : Stand → ℕ
-owner_number Vacant = 0
-owner_number (Serving owner) = owner
-owner_number (Prepared owner next) = owner
-owner_number (Forwarding owner next) = owner
-owner_number (Taken owner previous) = owner
-owner_number (Paused owner) = owner
-
--- the number of a stand's next or previous owner, or 0 where there is none
-abbrev pub other_number : Stand → ℕ
-other_number (Prepared owner next) = next
-other_number (Forwarding owner next) = next
-other_number (Taken owner previous) = previous
-other_number _ = 0
+-- the number of a server, or 0 where there is none
+abbrev pub number_of : Option ℕ → ℕ
+number_of server = unwrap_or server 0
 
 -- whether a server is admitted
 abbrev pub admission_name : Bool → List ℕ
 admission_name admitted = if admitted then codes "admitted" else codes "idle"
 
--- the name of a stand, its owner, the next or the previous owner, the admission and the generation, between single spaces
-abbrev pub parts_text : List ℕ → ℕ → ℕ → List ℕ → ℕ → List ℕ
-parts_text name owner other admission generation =
-    join_with_byte 32 (name ∷ decimal owner ∷ decimal other ∷ admission ∷ decimal generation ∷ [])
-
--- a shard's record
-abbrev pub record_text : Stand → Bool → ℕ → List ℕ
-record_text stand admitted generation =
-    parts_text (stand_name stand) (owner_number stand) (other_number stand) (admission_name admitted) generation
+-- a shard's record: its stand, the owner, the next or the previous owner, the admission and the generation, between single spaces
+abbrev pub record_text : Record → List ℕ
+record_text state =
+    join_with_byte 32 (
+    stand_name state.stand ∷ decimal (number_of (owner_of state.stand)) ∷ decimal (number_of (other_of state.stand)) ∷
+    admission_name state.admitted ∷ decimal state.generation ∷ []
+    )
 
 -- a reply of the service
 abbrev pub reply_text : Reply → List ℕ
@@ -95,7 +106,7 @@ place_text server place = codes " @" ++ decimal server ++ codes "#" ++ decimal p
 -- the answer to a line
 abbrev pub answer_text : Answer → List ℕ
 answer_text Made = codes "ok"
-answer_text (IsRefused refused) = codes "refused " ++ refused_name refused
-answer_text (Seen stand admitted generation) = record_text stand admitted generation
+answer_text (IsRefused why) = codes "refused " ++ refused_name why
+answer_text (Seen state) = record_text state
 answer_text (Executed reply server place) = reply_text reply ++ place_text server place
 answer_text (Error fault) = codes "error " ++ line_fault_name fault

@@ -1,12 +1,14 @@
 -- The grammar of a script's lines: the word that each begins with, and what the words after it have to be.
-use Rattle.std.specs.Prelude.{ℕ, Bool, true, false, ◌&&◌, ◌||◌, nat_le, if◌then◌else◌, List, [], ◌∷◌, length, codes, Option, None, Some, is_some, ◌^◌, ◌-◌}
+use Rattle.std.specs.Prelude.{ℕ, Bool, true, false, ◌&&◌, ◌||◌, nat_le, if◌then◌else◌, List, [], ◌∷◌, length, codes, Option, None, Some, is_some}
 use Rattle.std.specs.List.{find}
 use Rattle.std.specs.Str.{bytes_eq}
 use Rattle.std.specs.Option.{option_or}
+use Rattle.sm_ranges.specs.declared.limits.TheConstants.{MAX_KEY, MAX_SERVER, MAX_SHARD}
 use Rattle.sm_script.specs.Words.{is_nil}
 use Rattle.sm_script.specs.Numbers.{number_between, increment_of}
 use Rattle.sm_script.specs.declared.fault.LineFault.{LineFault}
 use Rattle.sm_script.specs.declared.fault.LineFault.TheVariants.{BadLine, BadNumber, BadKey}
+use Rattle.sm_script.specs.declared.shape.TheConstants.{MAX_CLIENTS, MAX_EACH, MAX_PAIRS}
 use Rattle.sm_script.specs.declared.shape.Shape.{Shape}
 use Rattle.sm_script.specs.declared.shape.Shape.TheVariants.{Shard, Server, Key, Text, Increment, Limit, Clients, Each}
 use Rattle.sm_script.specs.declared.word.Word.{Word}
@@ -14,14 +16,14 @@ use Rattle.sm_script.specs.declared.word.Word.TheVariants.{Assign, PrepareAdd, P
 
 -- what a word has to be, as it is written
 abbrev pub accepts : Shape → List ℕ → Bool
-accepts Shard word = is_some (number_between 0 4095 word)
-accepts Server word = is_some (number_between 1 4095 word)
-accepts Key word = nat_le 1 (length word) && nat_le (length word) 255
+accepts Shard word = is_some (number_between 0 MAX_SHARD word)
+accepts Server word = is_some (number_between 1 MAX_SERVER word)
+accepts Key word = nat_le 1 (length word) && nat_le (length word) MAX_KEY
 accepts Text word = true
 accepts Increment word = is_some (increment_of word)
-accepts Limit word = is_some (number_between 0 (2 ^ 32 - 1) word)
-accepts Clients word = is_some (number_between 1 16 word)
-accepts Each word = is_some (number_between 1 10000 word)
+accepts Limit word = is_some (number_between 0 MAX_PAIRS word)
+accepts Clients word = is_some (number_between 1 MAX_CLIENTS word)
+accepts Each word = is_some (number_between 1 MAX_EACH word)
 
 -- the fault where a word isn't of its shape
 abbrev pub refusal : Shape → LineFault

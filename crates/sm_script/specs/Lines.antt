@@ -7,8 +7,11 @@ use Rattle.sm_script.specs.Answers.{line_fault_name}
 use Rattle.sm_script.specs.Words.{words_of}
 use Rattle.sm_script.specs.Numbers.{number, increment_of}
 use Rattle.sm_script.specs.Grammar.{word_among, first_words, request_words, shapes_of, arguments_fault}
-use Rattle.sm_script.specs.declared.command.Command.{Command}
-use Rattle.sm_script.specs.declared.command.Command.TheVariants.{Assign as AssignCommand, PrepareAdd as PrepareAddCommand, PrepareDrop as PrepareDropCommand, Add as AddCommand, Drop as DropCommand, Cancel as CancelCommand, Pause as PauseCommand, Resume as ResumeCommand, Reassign as ReassignCommand, Hold as HoldCommand, Free as FreeCommand, Look as LookCommand, Request as RequestCommand, RequestAt}
+use Rattle.sm_desk.specs.declared.command.Command.TheVariants.{Change as ChangeOf}
+use Rattle.sm_ownership.specs.declared.change.Change.{Change}
+use Rattle.sm_ownership.specs.declared.change.Change.TheVariants as change
+use Rattle.sm_script.specs.declared.call.Call.{Call}
+use Rattle.sm_script.specs.declared.call.Call.TheVariants as call
 use Rattle.sm_script.specs.declared.fault.LineFault.{LineFault}
 use Rattle.sm_script.specs.declared.fault.LineFault.TheVariants.{LineTooLong, UnknownWord, BadLine, BadNumber, NotHere}
 use Rattle.sm_script.specs.declared.fault.ParseFault.{ParseFault}
@@ -32,46 +35,50 @@ request_with Put (key ∷ text) = Ok (PutRequest key (join_with_byte 32 text))
 request_with Inc (key ∷ amount ∷ []) = inc_request key (increment_of amount)
 request_with _ _ = Err NotHere
 
--- the command that the request makes, where there is one
-abbrev pub with_request : (Request → Command) → Result Request LineFault → Result Command LineFault
-with_request command (Ok request) = Ok (command request)
-with_request command (Err fault) = Err fault
+-- a change of the shard
+abbrev pub change_call : ℕ → Change → Call
+change_call shard change = call.Control (ChangeOf shard change)
 
--- the command of a word and the words after it, where nothing is wrong with them
-abbrev pub command_with : Word → List (List ℕ) → Result Command LineFault
-command_with Assign (shard ∷ server ∷ []) = Ok (AssignCommand (number shard) (number server))
-command_with PrepareAdd (shard ∷ server ∷ []) = Ok (PrepareAddCommand (number shard) (number server))
-command_with PrepareDrop (shard ∷ []) = Ok (PrepareDropCommand (number shard))
-command_with Add (shard ∷ []) = Ok (AddCommand (number shard))
-command_with Drop (shard ∷ []) = Ok (DropCommand (number shard))
-command_with Cancel (shard ∷ []) = Ok (CancelCommand (number shard))
-command_with Pause (shard ∷ []) = Ok (PauseCommand (number shard))
-command_with Resume (shard ∷ []) = Ok (ResumeCommand (number shard))
-command_with Reassign (shard ∷ server ∷ []) = Ok (ReassignCommand (number shard) (number server))
-command_with Hold (shard ∷ server ∷ []) = Ok (HoldCommand (number shard) (number server))
-command_with Free (shard ∷ []) = Ok (FreeCommand (number shard))
-command_with Look (shard ∷ []) = Ok (LookCommand (number shard))
-command_with word words = with_request RequestCommand (request_with word words)
+-- the call that makes the request, where there is one
+abbrev pub with_request : (Request → Call) → Result Request LineFault → Result Call LineFault
+with_request made (Ok request) = Ok (made request)
+with_request made (Err fault) = Err fault
 
--- the fault, or else the command
-abbrev pub unless_fault : Option LineFault → Result Command LineFault → Result Command LineFault
-unless_fault None command = command
-unless_fault (Some fault) command = Err fault
+-- the call of a word and the words after it, where nothing is wrong with them
+abbrev pub call_with : Word → List (List ℕ) → Result Call LineFault
+call_with Assign (shard ∷ server ∷ []) = Ok (change_call (number shard) (change.Assign (number server)))
+call_with PrepareAdd (shard ∷ server ∷ []) = Ok (change_call (number shard) (change.PrepareAddShard (number server)))
+call_with PrepareDrop (shard ∷ []) = Ok (change_call (number shard) change.PrepareDropShard)
+call_with Add (shard ∷ []) = Ok (change_call (number shard) change.AddShard)
+call_with Drop (shard ∷ []) = Ok (change_call (number shard) change.DropShard)
+call_with Cancel (shard ∷ []) = Ok (change_call (number shard) change.Cancel)
+call_with Pause (shard ∷ []) = Ok (change_call (number shard) change.Pause)
+call_with Resume (shard ∷ []) = Ok (change_call (number shard) change.Resume)
+call_with Reassign (shard ∷ server ∷ []) = Ok (change_call (number shard) (change.Reassign (number server)))
+call_with Hold (shard ∷ server ∷ []) = Ok (call.Hold (number shard) (number server))
+call_with Free (shard ∷ []) = Ok (call.Free (number shard))
+call_with Look (shard ∷ []) = Ok (call.Look (number shard))
+call_with word words = with_request call.Request (request_with word words)
+
+-- the fault, or else the call
+abbrev pub unless_fault : Option LineFault → Result Call LineFault → Result Call LineFault
+unless_fault None asked = asked
+unless_fault (Some fault) asked = Err fault
 
 -- a word and the words after it
-abbrev pub plain_command : Option Word → List (List ℕ) → Result Command LineFault
-plain_command None words = Err UnknownWord
-plain_command (Some word) words = unless_fault (arguments_fault (shapes_of word) words) (command_with word words)
+abbrev pub plain_call : Option Word → List (List ℕ) → Result Call LineFault
+plain_call None words = Err UnknownWord
+plain_call (Some word) words = unless_fault (arguments_fault (shapes_of word) words) (call_with word words)
 
 -- the request of a word and the words after it, to the server
-abbrev pub at_server : List ℕ → Word → List (List ℕ) → Result Command LineFault
+abbrev pub at_server : List ℕ → Word → List (List ℕ) → Result Call LineFault
 at_server server word words =
-    unless_fault (arguments_fault (Server ∷ shapes_of word) (server ∷ words)) (with_request (RequestAt (number server)) (request_with word words))
+    unless_fault (arguments_fault (Server ∷ shapes_of word) (server ∷ words)) (with_request (call.RequestAt (number server)) (request_with word words))
 
 -- the words after `at`: a server, and a request; whether there is such a request is seen first
-abbrev pub at_command : List (List ℕ) → Result Command LineFault
-at_command (server ∷ request ∷ words) = option_map_or (λ word. at_server server word words) (word_among request_words request) (Err UnknownWord)
-at_command _ = Err BadLine
+abbrev pub at_call : List (List ℕ) → Result Call LineFault
+at_call (server ∷ request ∷ words) = option_map_or (λ word. at_server server word words) (word_among request_words request) (Err UnknownWord)
+at_call _ = Err BadLine
 
 -- what is wrong with the words after `client`: a request
 abbrev pub client_fault : List (List ℕ) → Option LineFault
@@ -80,34 +87,34 @@ client_fault (request ∷ words) =
 client_fault [] = Some BadLine
 
 -- the words of a line, of which the first says how the others are read
-abbrev pub command_of_words : List (List ℕ) → Result Command LineFault
-command_of_words [] = Err UnknownWord
-command_of_words (first ∷ words) =
-    if bytes_eq first (codes "at") then at_command words
+abbrev pub call_of_words : List (List ℕ) → Result Call LineFault
+call_of_words [] = Err UnknownWord
+call_of_words (first ∷ words) =
+    if bytes_eq first (codes "at") then at_call words
     else (if bytes_eq first (codes "client") then unless_fault (client_fault words) (Err NotHere)
-    else plain_command (word_among first_words first) words)
+    else plain_call (word_among first_words first) words)
 
 -- an empty line and a comment ask for nothing, and have no answer
 abbrev pub has_no_answer : List ℕ → Bool
 has_no_answer [] = true
 has_no_answer (byte ∷ bytes) = byte == 35
 
--- a command, where there is no fault
-abbrev pub some_command : Result Command LineFault → Result (Option Command) LineFault
-some_command (Ok command) = Ok (Some command)
-some_command (Err fault) = Err fault
+-- a call, where there is no fault
+abbrev pub some_call : Result Call LineFault → Result (Option Call) LineFault
+some_call (Ok asked) = Ok (Some asked)
+some_call (Err fault) = Err fault
 
 -- what the line asks for, where it asks for anything
-unfoldable pub meaning_of : List ℕ → Result (Option Command) LineFault
+unfoldable pub meaning_of : List ℕ → Result (Option Call) LineFault
 meaning_of line =
     if has_no_answer line then Ok None
     else (if nat_lt MAX_LINE (length line) then Err LineTooLong
-    else some_command (command_of_words (words_of line)))
+    else some_call (call_of_words (words_of line)))
 
--- whether memory is taken for the command
-abbrev pub has_request : Command → Bool
-has_request (RequestCommand request) = true
-has_request (RequestAt server request) = true
+-- whether memory is taken for the call
+abbrev pub has_request : Call → Bool
+has_request (call.Request request) = true
+has_request (call.RequestAt server request) = true
 has_request _ = false
 
 -- why there is no request: the fault, or want of memory for it
@@ -115,22 +122,22 @@ abbrev pub IsRequestFault : ParseFault → Result Request LineFault → Type 0
 IsRequestFault (Line fault) request = request ≡ Err fault
 IsRequestFault NoMemory request = IsOk request
 
--- why there is no command: the fault, or want of memory for its request
-abbrev pub IsFaultIn : ParseFault → Result Command LineFault → Type 0
-IsFaultIn (Line fault) command = command ≡ Err fault
-IsFaultIn NoMemory command = IsOkAnd command (λ made. IsTrue (has_request made))
+-- why there is no call: the fault, or want of memory for its request
+abbrev pub IsFaultIn : ParseFault → Result Call LineFault → Type 0
+IsFaultIn (Line fault) asked = asked ≡ Err fault
+IsFaultIn NoMemory asked = IsOkAnd asked (λ made. IsTrue (has_request made))
 
 -- the same of a whole line
-abbrev pub IsFaultOf : ParseFault → Result (Option Command) LineFault → Type 0
+abbrev pub IsFaultOf : ParseFault → Result (Option Call) LineFault → Type 0
 IsFaultOf (Line fault) meaning = meaning ≡ Err fault
-IsFaultOf NoMemory meaning = IsOkAnd meaning (λ command. IsSomeAnd command (λ made. IsTrue (has_request made)))
+IsFaultOf NoMemory meaning = IsOkAnd meaning (λ asked. IsSomeAnd asked (λ made. IsTrue (has_request made)))
 
 -- what a line beyond the limit asks for: nothing, or its fault
-abbrev pub meaning_if_long : Option LineFault → Result (Option Command) LineFault
+abbrev pub meaning_if_long : Option LineFault → Result (Option Call) LineFault
 meaning_if_long None = Ok None
 meaning_if_long (Some fault) = Err fault
 
--- what is printed of why there is no command
+-- what is printed of why there is no call
 abbrev pub parse_fault_text : ParseFault → List ℕ
 parse_fault_text (Line fault) = line_fault_name fault
 parse_fault_text NoMemory = codes "out of memory"

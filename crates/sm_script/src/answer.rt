@@ -5,8 +5,8 @@ use crate::fault::LineFault;
 use crate::record::append_record;
 use crate::refused::Refused;
 use crate::reply::append_executed;
+use sm_ownership::record::Record;
 use sm_ranges::server_id::ServerId;
-use sm_ranges::stand::Stand;
 use sm_service::reply::Reply;
 use std::alloc::AllocError;
 
@@ -17,12 +17,8 @@ pub enum Answer {
     Made,
     /// What the line asked for was refused.
     Refused(Refused),
-    /// A shard's record: who owns it, whether a server is admitted to it, and its generation.
-    Seen {
-        stand: Stand,
-        admitted: bool,
-        generation: u64,
-    },
+    /// A shard's record.
+    Seen(Record),
     /// A request was executed by the server, and has this place in the list of the shard's kept
     /// requests, from 0.
     Executed {
@@ -45,11 +41,7 @@ impl Answer {
         match self {
             Answer::Made => append_all(out, &[b"ok"]),
             Answer::Refused(refused) => append_all(out, &[b"refused ", refused.name().as_bytes()]),
-            Answer::Seen {
-                stand,
-                admitted,
-                generation,
-            } => append_record(out, stand, *admitted, *generation),
+            Answer::Seen(record) => append_record(out, record),
             Answer::Executed {
                 reply,
                 server,

@@ -5,6 +5,7 @@ ghost use Rattle.sm_script.specs.declared.shape.Shape.TheVariants.{Shard, Server
 
 use crate::number::number_between;
 use sm_ranges::key::{Key, KeyFault};
+use sm_ranges::limits::{MAX_SERVER, MAX_SHARD};
 use sm_ranges::server_id::ServerId;
 use sm_ranges::shard_id::ShardId;
 use std::alloc::{AllocError, Global};
@@ -14,7 +15,7 @@ pub(crate) fn shard(word: &[u8]) -> ShardId
     requires { IsTrue (accepts Shard word.now) }
     ensures { result ≡ number word.now }
 {
-    ShardId::new(number_between(word, 0, 4095).unwrap() as u16).unwrap()
+    ShardId::new(number_between(word, 0, u64::from(MAX_SHARD)).unwrap() as u16).unwrap()
 }
 
 /// The server that the word names.
@@ -22,7 +23,7 @@ pub(crate) fn server(word: &[u8]) -> ServerId
     requires { IsTrue (accepts Server word.now) }
     ensures { result ≡ number word.now }
 {
-    ServerId::new(number_between(word, 1, 4095).unwrap() as u16).unwrap()
+    ServerId::new(number_between(word, 1, u64::from(MAX_SERVER)).unwrap() as u16).unwrap()
 }
 
 /// The key that the word is.

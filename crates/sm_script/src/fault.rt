@@ -54,7 +54,7 @@ impl LineFault {
     }
 }
 
-/// Why a line gives no command.
+/// Why a line makes no call, or can't.
 #[derive(Clone, Copy, Debug, PartialEq, Eq, Drop)]
 pub enum ParseFault {
     /// The line makes no call.

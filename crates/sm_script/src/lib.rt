@@ -1,10 +1,18 @@
 //! The lines of a script: what each asks for, and the text that answers it.
+//!
+//! ```rust
+//! let fault = parse(alloc, b"assign 0").err();
+//! assert_eq!(rt; fault, Some(ParseFault::Line(LineFault::BadLine)));
+//! let mut out = Vec::new(alloc);
+//! Answer::Error(LineFault::BadLine).write_to(&mut out)?;
+//! assert_eq!(rt; out.as_slice(), b"error BadLine".as_slice());
+//! ```
 #![tactic(auto)]
 
 pub mod answer;
 mod append;
 mod argument;
-pub mod command;
+pub mod call;
 pub mod fault;
 pub mod line;
 mod number;
@@ -13,7 +21,11 @@ pub mod refused;
 mod reply;
 mod request;
 mod shape;
-#[cfg(test)]
-mod tests;
 mod word;
 mod words;
+
+pub use answer::Answer;
+pub use call::Call;
+pub use fault::{LineFault, ParseFault};
+pub use line::{MAX_LINE, long_line_fault, parse};
+pub use refused::Refused;

@@ -1,67 +1,68 @@
 ghost use Rattle.std.specs.Prelude.{◌≡◌, ◌<◌, ℕ, List, [], ◌∷◌, ◌++◌, length, IfOk, IfErr, IfNone, IsTrue};
 ghost use Rattle.sm_script.specs.Grammar.{accepts, arguments_fault, shapes_of, word_among, first_words};
-ghost use Rattle.sm_script.specs.Lines.{command_with, unless_fault, at_server, at_command, client_fault, plain_command, command_of_words, has_no_answer, meaning_of, IsFaultIn, IsFaultOf, meaning_if_long};
+ghost use Rattle.sm_script.specs.Lines.{call_with, unless_fault, at_server, at_call, client_fault, plain_call, call_of_words, has_no_answer, meaning_of, IsFaultIn, IsFaultOf, meaning_if_long};
 ghost use Rattle.sm_script.specs.declared.shape.Shape.TheVariants.{Shard, Server};
 
 use crate::argument::{server, shard};
-use crate::command::Command;
+use crate::call::Call;
 use crate::fault::{LineFault, ParseFault};
 use crate::request::request_with;
 use crate::shape::{Shape, arguments_fault, first_fault, fits};
 use crate::word::Word;
 use crate::words::Words;
+use sm_ownership::change::Change;
 use std::alloc::Global;
 
 /// The most bytes that a line may have; a comment may have more.
 pub const MAX_LINE: usize = 70_000;
 
 // A line of a shard and a server.
-fn shard_and_server_command(word: Word, mut words: Words) -> Result<Command, LineFault>
+fn shard_and_server_call(word: Word, mut words: Words) -> Result<Call, LineFault>
     requires shapes { shapes_of word ≡ Shard ∷ Server ∷ [] }
     requires right { arguments_fault (Shard ∷ Server ∷ []) words ≡ None }
-    ensures { result ≡ command_with word words.entry }
+    ensures { result ≡ call_with word words.entry }
 {
     let shard = shard(words.next().unwrap());
     let server = server(words.next().unwrap());
     match word {
-        Word::Assign => Ok(Command::Assign(shard, server)),
-        Word::PrepareAdd => Ok(Command::PrepareAdd(shard, server)),
-        Word::Reassign => Ok(Command::Reassign(shard, server)),
-        Word::Hold => Ok(Command::Hold(shard, server)),
+        Word::Assign => Ok(Call::change(shard, Change::Assign(server))),
+        Word::PrepareAdd => Ok(Call::change(shard, Change::PrepareAddShard(server))),
+        Word::Reassign => Ok(Call::change(shard, Change::Reassign(server))),
+        Word::Hold => Ok(Call::Hold(shard, server)),
         _ => Err(LineFault::NotHere),
     }
 }
 
 // A line of a shard alone.
-fn shard_command(word: Word, mut words: Words) -> Result<Command, LineFault>
+fn shard_call(word: Word, mut words: Words) -> Result<Call, LineFault>
     requires shapes { shapes_of word ≡ Shard ∷ [] }
     requires right { arguments_fault (Shard ∷ []) words ≡ None }
-    ensures { result ≡ command_with word words.entry }
+    ensures { result ≡ call_with word words.entry }
 {
     let shard = shard(words.next().unwrap());
     match word {
-        Word::PrepareDrop => Ok(Command::PrepareDrop(shard)),
-        Word::Add => Ok(Command::Add(shard)),
-        Word::Drop => Ok(Command::Drop(shard)),
-        Word::Cancel => Ok(Command::Cancel(shard)),
-        Word::Pause => Ok(Command::Pause(shard)),
-        Word::Resume => Ok(Command::Resume(shard)),
-        Word::Free => Ok(Command::Free(shard)),
-        Word::Look => Ok(Command::Look(shard)),
+        Word::PrepareDrop => Ok(Call::change(shard, Change::PrepareDropShard)),
+        Word::Add => Ok(Call::change(shard, Change::AddShard)),
+        Word::Drop => Ok(Call::change(shard, Change::DropShard)),
+        Word::Cancel => Ok(Call::change(shard, Change::Cancel)),
+        Word::Pause => Ok(Call::change(shard, Change::Pause)),
+        Word::Resume => Ok(Call::change(shard, Change::Resume)),
+        Word::Free => Ok(Call::Free(shard)),
+        Word::Look => Ok(Call::Look(shard)),
         _ => Err(LineFault::NotHere),
     }
 }
 
-// The command of a word and the words after it, which are right.
-fn command_with(alloc: Global, word: Word, words: Words) -> Result<Command, ParseFault>
+// The call of a word and the words after it, which are right.
+fn call_with(alloc: Global, word: Word, words: Words) -> Result<Call, ParseFault>
     requires { arguments_fault (shapes_of word) words ≡ None }
-    ensures ok { IfOk result (λ command. command_with word words.entry ≡ Ok command) }
-    ensures err { IfErr result (λ fault. IsFaultIn fault (command_with word words.entry)) }
+    ensures ok { IfOk result (λ call. call_with word words.entry ≡ Ok call) }
+    ensures err { IfErr result (λ fault. IsFaultIn fault (call_with word words.entry)) }
 {
     match word {
-        Word::Assign | Word::PrepareAdd | Word::Reassign | Word::Hold => Ok(
-            shard_and_server_command(word, words)?,
-        ),
+        Word::Assign | Word::PrepareAdd | Word::Reassign | Word::Hold => Ok(shard_and_server_call(
+            word, words,
+        )?),
         Word::PrepareDrop
         | Word::Add
         | Word::Drop
@@ -69,8 +70,8 @@ fn command_with(alloc: Global, word: Word, words: Words) -> Result<Command, Pars
         | Word::Pause
         | Word::Resume
         | Word::Free
-        | Word::Look => Ok(shard_command(word, words)?),
-        _ => Ok(Command::Request(request_with(alloc, word, words)?)),
+        | Word::Look => Ok(shard_call(word, words)?),
+        _ => Ok(Call::Request(request_with(alloc, word, words)?)),
     }
 }
 
@@ -90,21 +91,21 @@ fn at_fault(server: &[u8], word: Word, words: &Words) -> Option<LineFault>
 }
 
 // A request to a server.
-fn at_server(alloc: Global, to: &[u8], word: Word, words: Words) -> Result<Command, ParseFault>
-    ensures ok { IfOk result (λ command. at_server to.now word words.entry ≡ Ok command) }
+fn at_server(alloc: Global, to: &[u8], word: Word, words: Words) -> Result<Call, ParseFault>
+    ensures ok { IfOk result (λ call. at_server to.now word words.entry ≡ Ok call) }
     ensures err { IfErr result (λ fault. IsFaultIn fault (at_server to.now word words.entry)) }
 {
     if let Some(fault) = at_fault(to, word, &words) {
         return Err(ParseFault::Line(fault));
     }
     let server = server(to);
-    Ok(Command::RequestAt(server, request_with(alloc, word, words)?))
+    Ok(Call::RequestAt(server, request_with(alloc, word, words)?))
 }
 
-// The command of the words after `at`.
-fn at_command(alloc: Global, mut words: Words) -> Result<Command, ParseFault>
-    ensures ok { IfOk result (λ command. at_command words.entry ≡ Ok command) }
-    ensures err { IfErr result (λ fault. IsFaultIn fault (at_command words.entry)) }
+// The call of the words after `at`.
+fn at_call(alloc: Global, mut words: Words) -> Result<Call, ParseFault>
+    ensures ok { IfOk result (λ call. at_call words.entry ≡ Ok call) }
+    ensures err { IfErr result (λ fault. IsFaultIn fault (at_call words.entry)) }
 {
     let (Some(server), Some(request)) = (words.next(), words.next()) else {
         return Err(ParseFault::Line(LineFault::BadLine));
@@ -128,18 +129,18 @@ fn client_fault(mut words: Words) -> Option<LineFault>
     }
 }
 
-// The command of a line that begins with a word of its own.
-fn plain_command(alloc: Global, first: &[u8], words: Words) -> Result<Command, ParseFault>
-    ensures ok { IfOk result (λ command.
-        plain_command (word_among first_words first.now) words.entry ≡ Ok command) }
+// The call of a line that begins with a word of its own.
+fn plain_call(alloc: Global, first: &[u8], words: Words) -> Result<Call, ParseFault>
+    ensures ok { IfOk result (λ call.
+        plain_call (word_among first_words first.now) words.entry ≡ Ok call) }
     ensures err { IfErr result (λ fault.
-        IsFaultIn fault (plain_command (word_among first_words first.now) words.entry)) }
+        IsFaultIn fault (plain_call (word_among first_words first.now) words.entry)) }
 {
     match Word::among(&Word::FIRST, first) {
         None => Err(ParseFault::Line(LineFault::UnknownWord)),
         Some(word) => match arguments_fault(word.shapes(), &words) {
             Some(fault) => Err(ParseFault::Line(fault)),
-            None => command_with(alloc, word, words),
+            None => call_with(alloc, word, words),
         },
     }
 }
@@ -151,20 +152,20 @@ fn fault_or_not_here(fault: Option<LineFault>) -> ParseFault
     ParseFault::Line(fault.unwrap_or(LineFault::NotHere))
 }
 
-// The command of a line's words.
-fn command_of(alloc: Global, mut words: Words) -> Result<Command, ParseFault>
-    ensures ok { IfOk result (λ command. command_of_words words.entry ≡ Ok command) }
-    ensures err { IfErr result (λ fault. IsFaultIn fault (command_of_words words.entry)) }
+// The call of a line's words.
+fn call_of(alloc: Global, mut words: Words) -> Result<Call, ParseFault>
+    ensures ok { IfOk result (λ call. call_of_words words.entry ≡ Ok call) }
+    ensures err { IfErr result (λ fault. IsFaultIn fault (call_of_words words.entry)) }
 {
     match words.next() {
         None => Err(ParseFault::Line(LineFault::UnknownWord)),
         Some(first) => {
             if first == b"at".as_slice() {
-                at_command(alloc, words)
+                at_call(alloc, words)
             } else if first == b"client".as_slice() {
                 Err(fault_or_not_here(client_fault(words)))
             } else {
-                plain_command(alloc, first, words)
+                plain_call(alloc, first, words)
             }
         }
     }
@@ -188,8 +189,8 @@ fn has_no_answer(line: &[u8]) -> bool
 /// `Line` with the first fault of the line, in the order of `LineFault`; `NoMemory` where memory
 /// for a request was refused.
 #[tactic(auto, unfolding(crate::specs::Lines::meaning_of))]
-pub fn parse(alloc: Global, line: &[u8]) -> Result<Option<Command>, ParseFault>
-    ensures command { IfOk result (λ command. meaning_of line.now ≡ Ok command) }
+pub fn parse(alloc: Global, line: &[u8]) -> Result<Option<Call>, ParseFault>
+    ensures call { IfOk result (λ call. meaning_of line.now ≡ Ok call) }
     ensures fault { IfErr result (λ fault. IsFaultOf fault (meaning_of line.now)) }
 {
     if has_no_answer(line) {
@@ -198,8 +199,8 @@ pub fn parse(alloc: Global, line: &[u8]) -> Result<Option<Command>, ParseFault>
     if line.len() > MAX_LINE {
         return Err(ParseFault::Line(LineFault::LineTooLong));
     }
-    match command_of(alloc, Words::new(line)) {
-        Ok(command) => Ok(Some(command)),
+    match call_of(alloc, Words::new(line)) {
+        Ok(call) => Ok(Some(call)),
         Err(fault) => Err(fault),
     }
 }

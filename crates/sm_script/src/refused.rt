@@ -1,6 +1,9 @@
 ghost use Rattle.std.specs.Prelude.{◌≡◌};
+ghost use Rattle.sm_script.specs.Answers.{command_fault_name, admit_fault_name, refusal_name};
 
-use std::fmt;
+use sm_desk::command::CommandFault;
+use sm_envelope::refusal::Refusal;
+use sm_ownership::admit_fault::AdmitFault;
 
 /// Why a call of a script was refused.
 #[derive(Clone, Copy, Debug, PartialEq, Eq, Drop)]
@@ -9,30 +12,14 @@ pub enum Refused {
     UnknownShard,
     /// There is no such server.
     UnknownServer,
-    /// The change doesn't begin from the shard's stand.
-    WrongPhase,
-    /// The change names the shard's owner as its new server.
-    SameServer,
-    /// The shard's generations are spent.
-    Spent,
-    /// The shard is admitted, and isn't changed meanwhile.
-    Busy,
-    /// Nobody owns the shard.
-    Vacant,
-    /// The shard is paused.
-    Paused,
-    /// Another server executes the shard's requests.
-    NotExecutor,
-    /// The server executes so far only what the owner forwards.
-    NotYet,
-    /// The shard has an admission that hasn't ended.
-    Admitted,
-    /// The shard keeps as many requests as it may.
-    KeptFull,
-    /// The request was forwarded as often as a request may be.
-    TooManyHops,
-    /// The shard has no admission without a request.
+    /// No server holds the shard without a request.
     NotHeld,
+    /// Why a command of the control was refused.
+    Command(CommandFault),
+    /// Why a server was not admitted to a shard.
+    Admit(AdmitFault),
+    /// Why a request was refused.
+    Request(Refusal),
 }
 
 impl Refused {
@@ -45,29 +32,50 @@ impl Refused {
         match self {
             Refused::UnknownShard => "UnknownShard",
             Refused::UnknownServer => "UnknownServer",
-            Refused::WrongPhase => "WrongPhase",
-            Refused::SameServer => "SameServer",
-            Refused::Spent => "Spent",
-            Refused::Busy => "Busy",
-            Refused::Vacant => "Vacant",
-            Refused::Paused => "Paused",
-            Refused::NotExecutor => "NotExecutor",
-            Refused::NotYet => "NotYet",
-            Refused::Admitted => "Admitted",
-            Refused::KeptFull => "KeptFull",
-            Refused::TooManyHops => "TooManyHops",
             Refused::NotHeld => "NotHeld",
+            Refused::Command(fault) => command_fault_name(fault),
+            Refused::Admit(fault) => admit_fault_name(fault),
+            Refused::Request(refusal) => refusal_name(refusal),
         }
     }
 }
 
-impl fmt::Display for Refused {
-    ghost use Rattle.std.specs.Prelude.{Some};
-    ghost use Rattle.sm_script.specs.Answers.{refused_name};
+// The name that an answer gives to the refusal of a command.
+fn command_fault_name(fault: CommandFault) -> &'static str
+    ensures { result.now ≡ command_fault_name fault }
+{
+    match fault {
+        CommandFault::UnknownShard => "UnknownShard",
+        CommandFault::UnknownServer => "UnknownServer",
+        CommandFault::WrongPhase => "WrongPhase",
+        CommandFault::SameServer => "SameServer",
+        CommandFault::Spent(_) => "Spent",
+        CommandFault::Busy(_) => "Busy",
+    }
+}
 
-    ghost output = { λ refused. Some (refused_name refused) };
+// The name that an answer gives to the refusal of an admission.
+fn admit_fault_name(fault: AdmitFault) -> &'static str
+    ensures { result.now ≡ admit_fault_name fault }
+{
+    match fault {
+        AdmitFault::Vacant => "Vacant",
+        AdmitFault::Paused => "Paused",
+        AdmitFault::NotExecutor => "NotExecutor",
+        AdmitFault::NotYet => "NotYet",
+        AdmitFault::Admitted => "Admitted",
+        AdmitFault::Spent => "Spent",
+    }
+}
 
-    fn fmt<W: fmt::Write>(&self, f: &mut fmt::Formatter<W>) -> fmt::Result {
-        f.write_str(self.name())
+// The name that an answer gives to the refusal of a request.
+fn refusal_name(refusal: Refusal) -> &'static str
+    ensures { result.now ≡ refusal_name refusal }
+{
+    match refusal {
+        Refusal::TooManyHops => "TooManyHops",
+        Refusal::Admit(fault) => admit_fault_name(fault),
+        Refusal::KeptFull => "KeptFull",
+        Refusal::NoMemory => "NoMemory",
     }
 }

@@ -4,6 +4,16 @@ ghost use Rattle.sm_script.specs.Grammar.{first_fault, fits, arguments_fault};
 use crate::fault::LineFault;
 use crate::number::{increment, number_between};
 use crate::words::Words;
+use sm_ranges::limits::{MAX_KEY, MAX_SERVER, MAX_SHARD};
+
+/// The greatest number of pairs that a scan may ask for.
+pub(crate) const MAX_PAIRS: u64 = 4_294_967_295;
+
+/// The greatest number of clients that a load may have.
+pub(crate) const MAX_CLIENTS: u64 = 16;
+
+/// The greatest number of requests that each client of a load may make.
+pub(crate) const MAX_EACH: u64 = 10_000;
 
 /// What a word of a line has to be.
 #[derive(Clone, Copy, Debug, PartialEq, Eq, Drop)]
@@ -34,14 +44,14 @@ impl Shape {
         ensures { result ≡ accepts self word.now }
     {
         match self {
-            Shape::Shard => number_between(word, 0, 4095).is_some(),
-            Shape::Server => number_between(word, 1, 4095).is_some(),
-            Shape::Key => !word.is_empty() && word.len() <= 255,
+            Shape::Shard => number_between(word, 0, u64::from(MAX_SHARD)).is_some(),
+            Shape::Server => number_between(word, 1, u64::from(MAX_SERVER)).is_some(),
+            Shape::Key => !word.is_empty() && word.len() <= MAX_KEY,
             Shape::Text => true,
             Shape::Increment => increment(word).is_some(),
-            Shape::Limit => number_between(word, 0, 4294967295).is_some(),
-            Shape::Clients => number_between(word, 1, 16).is_some(),
-            Shape::Each => number_between(word, 1, 10000).is_some(),
+            Shape::Limit => number_between(word, 0, MAX_PAIRS).is_some(),
+            Shape::Clients => number_between(word, 1, MAX_CLIENTS).is_some(),
+            Shape::Each => number_between(word, 1, MAX_EACH).is_some(),
         }
     }
 

@@ -1,16 +1,32 @@
-use crate::answer::Answer;
-use crate::command::Command;
-use crate::fault::{LineFault, ParseFault};
-use crate::line::{MAX_LINE, long_line_fault, parse};
-use crate::refused::Refused;
+//! The lines of scripts, and the texts of their answers.
+
+use sm_desk::{Command, CommandFault};
+use sm_envelope::Refusal;
+use sm_ownership::admit_fault::AdmitFault;
+use sm_ownership::change::Change;
+use sm_ownership::record::Record;
 use sm_ranges::server_id::ServerId;
 use sm_ranges::shard_id::ShardId;
 use sm_ranges::stand::Stand;
+use sm_script::{
+    Answer, Call, LineFault, MAX_LINE, ParseFault, Refused, long_line_fault, parse,
+};
 use sm_service::bytes::Bytes;
 use sm_service::reply::Reply;
 use sm_service::request::Request;
 use std::alloc::{AllocError, Global};
 use std::test::Fail;
+
+#[test]
+fn documented_example(rt: HostRuntime) -> Result<(), Fail> {
+    let alloc = rt.alloc();
+    let fault = parse(alloc, b"assign 0").err();
+    assert_eq!(rt; fault, Some(ParseFault::Line(LineFault::BadLine)));
+    let mut out = Vec::new(alloc);
+    Answer::Error(LineFault::BadLine).write_to(&mut out)?;
+    assert_eq!(rt; out.as_slice(), b"error BadLine".as_slice());
+    Ok(())
+}
 
 // The name of the line's fault, or nothing where it has none.
 fn fault_name(alloc: Global, line: &str) -> &'static str {
@@ -98,26 +114,22 @@ fn shown_request(alloc: Global, request: &Request) -> Result<String, AllocError>
     }
 }
 
-// What a command asks for.
-fn shown(alloc: Global, command: &Command) -> Result<String, AllocError> {
-    let (word, shard, server) = match command {
-        Command::Request(request) => return shown_request(alloc, request),
-        Command::RequestAt(server, request) => {
-            let request = shown_request(alloc, request)?;
-            return format!(in alloc; "at {} {}", server.number(), request.as_str());
-        }
-        Command::Assign(shard, server) => ("assign", shard, Some(server)),
-        Command::PrepareAdd(shard, server) => ("prepare_add", shard, Some(server)),
-        Command::Reassign(shard, server) => ("reassign", shard, Some(server)),
-        Command::Hold(shard, server) => ("hold", shard, Some(server)),
-        Command::PrepareDrop(shard) => ("prepare_drop", shard, None),
-        Command::Add(shard) => ("add", shard, None),
-        Command::Drop(shard) => ("drop", shard, None),
-        Command::Cancel(shard) => ("cancel", shard, None),
-        Command::Pause(shard) => ("pause", shard, None),
-        Command::Resume(shard) => ("resume", shard, None),
-        Command::Free(shard) => ("free", shard, None),
-        Command::Look(shard) => ("look", shard, None),
+// What a change of a shard asks for.
+fn shown_change(
+    alloc: Global,
+    shard: ShardId,
+    change: Change,
+) -> Result<String, AllocError> {
+    let (word, server) = match change {
+        Change::Assign(server) => ("assign", Some(server)),
+        Change::PrepareAddShard(server) => ("prepare_add", Some(server)),
+        Change::PrepareDropShard => ("prepare_drop", None),
+        Change::AddShard => ("add", None),
+        Change::DropShard => ("drop", None),
+        Change::Cancel => ("cancel", None),
+        Change::Pause => ("pause", None),
+        Change::Resume => ("resume", None),
+        Change::Reassign(server) => ("reassign", Some(server)),
     };
     match server {
         Some(server) => format!(in alloc; "{word} {} {}", shard.number(), server.number()),
@@ -125,8 +137,25 @@ fn shown(alloc: Global, command: &Command) -> Result<String, AllocError> {
     }
 }
 
+// What a call asks for.
+fn shown(alloc: Global, call: &Call) -> Result<String, AllocError> {
+    match call {
+        Call::Control(Command::Change(shard, change)) => shown_change(alloc, *shard, *change),
+        Call::Hold(shard, server) => {
+            format!(in alloc; "hold {} {}", shard.number(), server.number())
+        }
+        Call::Free(shard) => format!(in alloc; "free {}", shard.number()),
+        Call::Look(shard) => format!(in alloc; "look {}", shard.number()),
+        Call::Request(request) => shown_request(alloc, request),
+        Call::RequestAt(server, request) => {
+            let request = shown_request(alloc, request)?;
+            format!(in alloc; "at {} {}", server.number(), request.as_str())
+        }
+    }
+}
+
 #[test]
-fn commands_of_lines(rt: HostRuntime) -> Result<(), Fail> {
+fn calls_of_lines(rt: HostRuntime) -> Result<(), Fail> {
     let lines = [
         (b"assign 1 1".as_slice(), "assign 1 1"),
         (b"assign 4095 4095", "assign 4095 4095"),
@@ -160,8 +189,8 @@ fn commands_of_lines(rt: HostRuntime) -> Result<(), Fail> {
         (b"at 2 inc m 12", "at 2 inc [109] 12"),
     ];
     for (line, text) in lines {
-        let command = parse(rt.alloc(), line)?.ok_or("no command")?;
-        let found = shown(rt.alloc(), &command)?;
+        let call = parse(rt.alloc(), line)?.ok_or("no call")?;
+        let found = shown(rt.alloc(), &call)?;
         assert_eq!(rt; found.as_str(), text);
     }
     Ok(())
@@ -184,6 +213,14 @@ fn lines_at_the_limit(rt: HostRuntime) -> Result<(), Fail> {
     Ok(())
 }
 
+fn record(stand: Stand, admitted: bool, generation: u64) -> Record {
+    Record {
+        stand,
+        admitted,
+        generation,
+    }
+}
+
 #[test]
 fn texts_of_answers(rt: HostRuntime) -> Result<(), Fail> {
     let alloc = rt.alloc();
@@ -197,48 +234,43 @@ fn texts_of_answers(rt: HostRuntime) -> Result<(), Fail> {
             "refused UnknownShard",
         ),
         (
-            Answer::Seen {
-                stand: Stand::Vacant,
-                admitted: false,
-                generation: 0,
-            },
+            Answer::Seen(record(Stand::Vacant, false, 0)),
             "Vacant 0 0 idle 0",
         ),
         (
-            Answer::Seen {
-                stand: Stand::Prepared { owner, next },
-                admitted: true,
-                generation: 4,
-            },
+            Answer::Seen(record(Stand::Prepared { owner, next }, true, 4)),
             "Prepared 1 2 admitted 4",
         ),
-        (Answer::Refused(Refused::TooManyHops), "refused TooManyHops"),
+        (
+            Answer::Refused(Refused::Request(Refusal::TooManyHops)),
+            "refused TooManyHops",
+        ),
+        (
+            Answer::Refused(Refused::Request(Refusal::Admit(AdmitFault::NotYet))),
+            "refused NotYet",
+        ),
+        (
+            Answer::Refused(Refused::Admit(AdmitFault::Spent)),
+            "refused Spent",
+        ),
+        (
+            Answer::Refused(Refused::Command(CommandFault::WrongPhase)),
+            "refused WrongPhase",
+        ),
         (Answer::Refused(Refused::NotHeld), "refused NotHeld"),
         (
-            Answer::Seen {
-                stand: Stand::Forwarding { owner, next },
-                admitted: false,
-                generation: 5,
-            },
+            Answer::Seen(record(Stand::Forwarding { owner, next }, false, 5)),
             "Forwarding 1 2 idle 5",
         ),
         (
-            Answer::Seen {
-                stand: Stand::Taken {
+            Answer::Seen(record(Stand::Taken {
                     owner: next,
                     previous: owner,
-                },
-                admitted: false,
-                generation: 6,
-            },
+                }, false, 6)),
             "Taken 2 1 idle 6",
         ),
         (
-            Answer::Seen {
-                stand: Stand::Paused(owner),
-                admitted: false,
-                generation: 68719476735,
-            },
+            Answer::Seen(record(Stand::Paused(owner), false, 68719476735)),
             "Paused 1 0 idle 68719476735",
         ),
         (

@@ -1,0 +1,34 @@
+use sm_desk::command::Command;
+use sm_ownership::change::Change;
+use sm_ranges::server_id::ServerId;
+use sm_ranges::shard_id::ShardId;
+use sm_service::request::Request;
+
+/// What a line of a script asks for.
+#[derive(Debug, Drop)]
+pub enum Call {
+    /// A command of the control: `assign K A`, `drop K` and the other changes of a shard.
+    Control(Command),
+    /// `hold K A`: the server is admitted to the shard without a request.
+    Hold(ShardId, ServerId),
+    /// `free K`: that admission ends.
+    Free(ShardId),
+    /// `look K`: the shard's record.
+    Look(ShardId),
+    /// A request, to the owner in the record of its key's shard.
+    Request(Request),
+    /// `at A REQUEST`: a request, to this server.
+    RequestAt(ServerId, Request),
+}
+
+impl Call {
+    ghost use Rattle.std.specs.Prelude.{◌≡◌};
+    ghost use Rattle.sm_script.specs.Lines.{change_call};
+
+    /// A change of the shard.
+    pub(crate) fn change(shard: ShardId, change: Change) -> Call
+        ensures { result ≡ change_call shard change }
+    {
+        Call::Control(Command::Change(shard, change))
+    }
+}

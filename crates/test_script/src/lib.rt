@@ -1,0 +1,7 @@
+//! Tests of the lines of scripts, and of whole scripts on the model.
+#![tactic(auto)]
+
+#[cfg(test)]
+mod model;
+#[cfg(test)]
+mod script;
