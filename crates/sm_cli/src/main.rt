@@ -1,17 +1,11 @@
 //! The program sm_cli: runs a script of the shard manager, one command at a time.
 #![tactic(auto)]
 
-mod engine;
-mod model_engine;
-mod model_session;
-mod run;
-#[cfg(test)]
-mod tests;
-
 use clap::Command;
 use clap::error::ErrorKind;
-use run::{RunFault, Status, run_model};
 use sm_lines::Watched;
+use sm_model::run_model;
+use sm_run::{RunFault, Status};
 use std::alloc::Global;
 use std::process::ExitCode;
 use std::{env, io};

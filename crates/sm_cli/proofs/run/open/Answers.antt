@@ -1,5 +1,0 @@
-use Rattle.sm_cli.proofs.Openings.{long_opening}
-use Rattle.sm_cli.proofs.run.open.Goals as goal
-
-pub returns-in-Ok-LongLine-clause-opening : goal.returns-in-Ok-LongLine-clause-opening
-returns-in-Ok-LongLine-clause-opening g c = long_opening _ _ _ _ (c.in-Ok-LongLine.ensures.long_line c.in-Ok-LongLine.field-0-is)

@@ -1,4 +1,0 @@
-pub mod Commands
-pub mod Models
-pub mod Runs
-pub mod Script

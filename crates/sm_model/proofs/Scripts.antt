@@ -1,0 +1,101 @@
+-- What a session of the model writes is the script of what it reads.
+use Rattle.std.proofs.Common.{◌≡◌, ◌≤◌, ◌<◌, ◌++◌, ◌∷◌, [], ℕ, List, length, take, drop, ap, sym, ◌∙◌, subst, arith, lit<, inl, inr, Option, Some, None, Result, Ok, Err, OnOk, refl}
+use Rattle.sm_run.specs.declared.outcome.RunFault.{RunFault}
+use Rattle.sm_run.specs.declared.outcome.Status.{Status}
+use Rattle.sm_run.specs.declared.outcome.Status.TheVariants.{Ran, BadSettings}
+use Rattle.std.proofs.lemmas.Bool.{cases_lt}
+use Rattle.std.proofs.lemmas.List.{length-take-le, take-append-drop}
+use Rattle.std.specs.Io.KnownBytes.{Appends}
+use Rattle.sm_lines.specs.Answers.{Answers as AnswersLine, AnswersAll}
+use Rattle.sm_lines.specs.Lines.{lines_of}
+use Rattle.sm_script.specs.declared.line.TheConstants.{MAX_LINE}
+use Rattle.sm_script.specs.Lines.{meaning_of}
+use Rattle.sm_service.specs.declared.request.Request.{Request}
+use Rattle.sm_settings.specs.SettingsLine.{SettingsValues, settings_of}
+use Rattle.sm_table.specs.Standing.{WorldView}
+use Rattle.sm_table.specs.World.{WorldState, empty_world}
+use Rattle.sm_model.specs.Calls.{settings_frame}
+use Rattle.sm_model.specs.Sessions.{IsAt, IsNew, Responds, RespondsLong}
+use Rattle.sm_model.specs.Runs.{WritesScript, WroteScript}
+use Rattle.sm_run.specs.Openings.{RefusedScript, settings_in}
+use Rattle.sm_run.specs.Runs.{RanScript, WritesFor}
+use Rattle.sm_model.specs.Script.{line_response, responded, responses, script, script_with}
+
+-- what a session of the model gives to a line, within the limit or beyond it
+abbrev pub Gives : WorldView Request → List ℕ → List ℕ → WorldView Request → Type 0
+Gives = AnswersLine Responds (λ _ start text. RespondsLong start text) MAX_LINE
+
+pub record IsResponse (w : WorldState Request) (line text : List ℕ) (after : WorldView Request) : Type 0 where
+  pub text_is : text ≡ (line_response w line).0
+  pub stands : IsAt after (line_response w line).1
+
+-- a line beyond the limit has the response of the definitions, as any line that begins so
+long_response : (before : WorldView Request) (w : WorldState Request) (line text : List ℕ) (after : WorldView Request) (whole : List ℕ)
+    → take MAX_LINE line ++ drop MAX_LINE line ≡ whole → MAX_LINE < length whole
+    → IsAt before w → RespondsLong (take MAX_LINE line) text → after ≡ before → 0 < length (take MAX_LINE line) → IsResponse w whole text after
+long_response before w line text after whole is long at responds stays some =
+    let at_whole = subst (λ (l : List ℕ). MAX_LINE < length l → (text ≡ (responded w (meaning_of l)).0) × ((responded w (meaning_of l)).1 ≡ w)) is
+    (responds w (drop MAX_LINE line) some) long in
+    record { text_is = at_whole.0; stands = subst (λ (v : WorldState Request). IsAt after v) (sym at_whole.1) (subst (λ (m : WorldView Request). IsAt m w) (sym stays) at) }
+
+some_front : (line : List ℕ) → MAX_LINE < length line → 0 < length (take MAX_LINE line)
+some_front line long =
+    let short : MAX_LINE ≤ length line = omega arith in
+    let is = length-take-le MAX_LINE line short in
+    subst (λ n. 0 < n) (sym is) (lit< tt)
+
+-- each line has the response of the definitions
+gives_response : (before : WorldView Request) (w : WorldState Request) (line text : List ℕ) (after : WorldView Request)
+    → IsAt before w → Gives before line text after → IsResponse w line text after
+gives_response before w line text after at gives =
+    elim (cases_lt MAX_LINE (length line)) [
+      | inl long ↦ let answered = gives.long long in
+          long_response before w line text after line (take-append-drop MAX_LINE line) long at answered.0 answered.1 (some_front line long)
+      | inr short ↦ let answered = gives.whole short w at in record { text_is = answered.0; stands = answered.1 }
+    ]
+
+-- all lines have the responses of the definitions
+gives_responses : (lines : List (List ℕ)) (before : WorldView Request) (w : WorldState Request) (text : List ℕ) (after : WorldView Request)
+    → IsAt before w → AnswersAll Gives before lines text after → text ≡ responses w lines
+gives_responses [] before w text after at all = all.0
+gives_responses (line ∷ lines) before w text after at (first, rest, between, is, gives, all) =
+    then_rest w line lines text first rest between is (gives_response before w line first between at gives)
+    (λ stands. gives_responses lines between (line_response w line).1 rest after stands all)
+  where
+    then_rest : (w : WorldState Request) (line : List ℕ) (lines : List (List ℕ)) (text first rest : List ℕ) (between : WorldView Request)
+        → text ≡ first ++ rest → IsResponse w line first between
+        → (IsAt between (line_response w line).1 → rest ≡ responses (line_response w line).1 lines) → text ≡ responses w (line ∷ lines)
+    then_rest w line lines text first rest between is one more =
+        is ∙ ap (λ (t : List ℕ). t ++ rest) one.text_is ∙ ap (λ (t : List ℕ). (line_response w line).0 ++ t) (more one.stands)
+
+script_is : (bytes first : List ℕ) (lines : List (List ℕ)) (settings : SettingsValues) → lines_of bytes ≡ first ∷ lines → settings_of first ≡ Ok settings
+    → responses (empty_world (settings_frame settings)) lines ≡ script bytes
+script_is bytes first lines settings are accepted =
+    sym (ap (λ (all : List (List ℕ)). script_with (settings_in all) (drop 1 all)) are ∙ ap (λ read. script_with read lines) accepted)
+
+-- a whole run of the model writes the script
+pub ran_script : (input old new : Option (List ℕ)) → RanScript IsNew Gives input old new → WroteScript input old new
+ran_script None old new ran = tt
+ran_script (Some bytes) old new ran =
+    let s = ran.session in
+    let is = gives_responses ran.lines s.begun (empty_world (settings_frame s.settings)) ran.text s.ended s.began s.answered in
+    subst (λ (t : List ℕ). Appends old new t) (is ∙ script_is bytes ran.first ran.lines s.settings ran.are s.accepted) ran.wrote
+
+-- and so does one whose settings are refused
+pub refused_script : (input old new : Option (List ℕ)) → RefusedScript input old new → WroteScript input old new
+refused_script None old new run = tt
+refused_script (Some bytes) old new run =
+    subst (λ (t : List ℕ). Appends old new t) (sym (ap (λ read. script_with read (drop 1 (lines_of bytes))) run.refused)) run.wrote
+
+-- so does every run that ends
+pub wrote_script : (input old new : Option (List ℕ)) (result : Result Status RunFault)
+    → (result ≡ Ok Ran → RanScript IsNew Gives input old new) → (result ≡ Ok BadSettings → RefusedScript input old new) → OnOk result (WroteScript input old new)
+wrote_script input old new (Ok Ran) ran bad = ran_script input old new (ran refl)
+wrote_script input old new (Ok BadSettings) ran bad = refused_script input old new (bad refl)
+wrote_script input old new (Err fault) ran bad = tt
+
+-- what a run of the model has to write before it comes to a line is the script of the lines before that
+pub writes_script : (before : List (List ℕ)) (text : List ℕ) → WritesFor IsNew Gives before text → WritesScript before text
+writes_script [] text none = none
+writes_script (first ∷ lines) text s =
+    gives_responses lines s.begun (empty_world (settings_frame s.settings)) text s.ended s.began s.answered ∙ sym (ap (λ read. script_with read lines) s.accepted)

@@ -1,0 +1,118 @@
+-- What each call of a script answers on a world, and the world that it leaves.
+use Rattle.std.specs.Prelude.{ℕ, zero, suc, Bool, true, false, Option, Some, None, Result, Ok, Err, if◌then◌else◌, List, [], ◌∷◌, map, length, replicate}
+use Rattle.sm_body.specs.Service.{Service}
+use Rattle.sm_envelope.specs.declared.envelope.TheConstants.{MOST_HOPS}
+use Rattle.sm_envelope.specs.declared.refusal.Refusal.{Refusal}
+use Rattle.sm_envelope.specs.declared.refusal.Refusal.TheVariants as refusal
+use Rattle.sm_ownership.specs.declared.admit_fault.AdmitFault.TheVariants as admit
+use Rattle.sm_ranges.specs.Ranges.{shard_of}
+use Rattle.sm_ranges.specs.Stand.{owner_of}
+use Rattle.sm_script.specs.declared.answer.Answer.{Answer}
+use Rattle.sm_script.specs.declared.answer.Answer.TheVariants.{Made as IsMade, Refused as IsRefused, Seen as IsSeen, Executed}
+use Rattle.sm_script.specs.declared.call.Call.{Call}
+use Rattle.sm_script.specs.declared.call.Call.TheVariants as call
+use Rattle.sm_script.specs.declared.refused.Refused.TheVariants as refused
+use Rattle.sm_service.specs.Service.{reply_after, key_of_request}
+use Rattle.sm_service.specs.declared.reply.Reply.{Reply}
+use Rattle.sm_service.specs.declared.request.Request.{Request}
+use Rattle.sm_settings.specs.SettingsLine.{SettingsValues}
+use Rattle.sm_table.specs.declared.step.Step.{Step}
+use Rattle.sm_table.specs.declared.step.Step.TheVariants.{Control, Look, Send, Deliver, Finish, Hold, Free}
+use Rattle.sm_table.specs.declared.world_answer.WorldAnswer.{WorldAnswer}
+use Rattle.sm_table.specs.declared.world_answer.WorldAnswer.TheVariants.{Made, Seen, Sent, Began, Forwarded, Refused, Replied}
+use Rattle.sm_table.specs.declared.world_fault.WorldFault.{WorldFault}
+use Rattle.sm_table.specs.declared.world_fault.WorldFault.TheVariants as fault
+use Rattle.sm_table.specs.World.{Frame, WorldState, Plain, outcome, world_record}
+
+-- what the sample service means
+abbrev pub counter_text : Service Request Reply
+counter_text = record { reply_of = reply_after; key_of = key_of_request }
+
+-- the frame of the world that settings ask for
+abbrev pub settings_frame : SettingsValues → Frame
+settings_frame settings = record {
+  bounds = settings.bounds;
+  servers = map (λ row. row.id) settings.servers;
+  ceiling = settings.ceiling;
+  limits = replicate (length settings.bounds) settings.kept;
+}
+
+-- the answer to a request that was refused; want of memory has none, as it ends the run
+abbrev pub refused_answer : Refusal → Option Answer
+refused_answer refusal.NoMemory = None
+refused_answer why = Some (IsRefused (refused.Request why))
+
+-- the answer to a call that ended in this step; the last step of a call has one, but for want of memory
+abbrev pub answer_of : Result (WorldAnswer Reply) WorldFault → Option Answer
+answer_of (Ok Made) = Some IsMade
+answer_of (Ok (Seen state)) = Some (IsSeen state)
+answer_of (Ok (Refused why)) = refused_answer why
+answer_of (Ok (Replied number server reply place)) = Some (Executed reply server place)
+answer_of (Err (fault.Command why)) = Some (IsRefused (refused.Command why))
+answer_of (Err (fault.Admit why)) = Some (IsRefused (refused.Admit why))
+answer_of (Err fault.UnknownShard) = Some (IsRefused refused.UnknownShard)
+answer_of (Err fault.UnknownServer) = Some (IsRefused refused.UnknownServer)
+answer_of (Err fault.NotHeld) = Some (IsRefused refused.NotHeld)
+answer_of _ = None
+
+-- a step with ample memory: what it answers, and the world that it leaves
+abbrev pub Stepped : Type 0
+Stepped = Result (WorldAnswer Reply) WorldFault × WorldState Request
+
+abbrev pub stepped : WorldState Request → Step Request → Stepped
+stepped w step = outcome counter_text w Plain step
+
+-- the request is in flight; a server has begun it; a server has forwarded it
+abbrev pub is_sent : Result (WorldAnswer Reply) WorldFault → Bool
+is_sent (Ok Sent) = true
+is_sent _ = false
+
+abbrev pub is_begun : Result (WorldAnswer Reply) WorldFault → Bool
+is_begun (Ok (Began server)) = true
+is_begun _ = false
+
+abbrev pub is_forwarded : Result (WorldAnswer Reply) WorldFault → Bool
+is_forwarded (Ok (Forwarded server)) = true
+is_forwarded _ = false
+
+-- one request at a time is under way, so its envelope is the first in flight: it is delivered, and again after each of so many hops
+abbrev pub after_hops : ℕ → WorldState Request → Stepped
+after_hops zero w = stepped w (Deliver 0)
+after_hops (suc hops) w = let reached = stepped w (Deliver 0) in if is_forwarded reached.0 then after_hops hops reached.1 else reached
+
+-- a request that a server began is finished
+abbrev pub after_arrival : ℕ → Result (WorldAnswer Reply) WorldFault → WorldState Request → Stepped
+after_arrival shard (Ok (Began server)) w = stepped w (Finish shard)
+after_arrival shard result w = (result, w)
+
+-- a request that was sent arrives, and is finished where a server began it
+abbrev pub after_sending : ℕ → Result (WorldAnswer Reply) WorldFault → WorldState Request → Stepped
+after_sending shard (Ok Sent) w = let reached = after_hops MOST_HOPS w in after_arrival shard reached.0 reached.1
+after_sending shard result w = (result, w)
+
+-- a request goes to this server
+abbrev pub requested_at : WorldState Request → Request → ℕ → ℕ → Stepped
+requested_at w request shard server = let sent = stepped w (Send server 0 request) in after_sending shard sent.0 sent.1
+
+-- a request goes to the shard's owner, and is refused where there is none
+abbrev pub requested : WorldState Request → Request → ℕ → Option ℕ → Stepped
+requested w request shard None = (Ok (Refused (refusal.Admit admit.Vacant)), w)
+requested w request shard (Some owner) = requested_at w request shard owner
+
+-- the shard of a request's key
+abbrev pub shard_for : WorldState Request → Request → ℕ
+shard_for w request = shard_of w.frame.bounds (key_of_request request)
+
+-- the steps of a call
+abbrev pub called : WorldState Request → Call → Stepped
+called w (call.Control command) = stepped w (Control command)
+called w (call.Hold shard server) = stepped w (Hold shard server)
+called w (call.Free shard) = stepped w (Free shard)
+called w (call.Look shard) = stepped w (Look shard)
+called w (call.Request request) = requested w request (shard_for w request) (owner_of (world_record w (shard_for w request)).stand)
+called w (call.RequestAt server request) = requested_at w request (shard_for w request) server
+
+-- the world after these calls, one after another
+abbrev pub world_after_calls : WorldState Request → List Call → WorldState Request
+world_after_calls w [] = w
+world_after_calls w (call ∷ calls) = world_after_calls (called w call).1 calls

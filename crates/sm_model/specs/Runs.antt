@@ -1,0 +1,20 @@
+-- What a run of the model has read and written.
+use Rattle.std.specs.Prelude.{◌≡◌, ℕ, List, Option, IsOk, IsErr}
+use Rattle.std.specs.Io.KnownBytes.{Appends}
+use Rattle.sm_lines.specs.Lines.{lines_of}
+use Rattle.sm_model.specs.Script.{script, script_before}
+use Rattle.sm_run.specs.Openings.{IfKnown, settings_in}
+
+-- what was written is the script of the input
+abbrev pub WroteScript : Option (List ℕ) → Option (List ℕ) → Option (List ℕ) → Type 0
+WroteScript input old new = IfKnown input (λ bytes. Appends old new (script bytes))
+
+abbrev pub AcceptsSettings : Option (List ℕ) → Type 0
+AcceptsSettings input = IfKnown input (λ bytes. IsOk (settings_in (lines_of bytes)))
+
+abbrev pub RefusesSettings : Option (List ℕ) → Type 0
+RefusesSettings input = IfKnown input (λ bytes. IsErr (settings_in (lines_of bytes)))
+
+-- what a run has to write before it comes to the line after these: the script of these lines
+abbrev pub WritesScript : List (List ℕ) → List ℕ → Type 0
+WritesScript before text = text ≡ script_before before

@@ -1,0 +1,52 @@
+-- What the program writes for what it reads.
+use Rattle.std.specs.Prelude.{ℕ, Option, Some, None, Result, Ok, Err, List, [], ◌∷◌, ◌++◌, drop}
+use Rattle.sm_lines.specs.Lines.{lines_of}
+use Rattle.sm_script.specs.Answers.{answer_text}
+use Rattle.sm_script.specs.Lines.{meaning_of}
+use Rattle.sm_script.specs.declared.answer.Answer.{Answer}
+use Rattle.sm_script.specs.declared.answer.Answer.TheVariants.{Error}
+use Rattle.sm_script.specs.declared.call.Call.{Call}
+use Rattle.sm_script.specs.declared.fault.LineFault.{LineFault}
+use Rattle.sm_service.specs.declared.request.Request.{Request}
+use Rattle.sm_run.specs.Openings.{settings_in, settings_line}
+use Rattle.sm_settings.specs.SettingsLine.{SettingsValues, settings_of}
+use Rattle.sm_settings.specs.declared.settings_fault.SettingsFault.{SettingsFault}
+use Rattle.sm_table.specs.World.{WorldState, empty_world}
+use Rattle.sm_model.specs.Calls.{answer_of, called, settings_frame}
+
+-- an answer, and the line feed that ends it
+abbrev pub answer_line : Answer → List ℕ
+answer_line answer = answer_text answer ++ 10 ∷ []
+
+abbrev pub optional_line : Option Answer → List ℕ
+optional_line None = []
+optional_line (Some answer) = answer_line answer
+
+-- what is written for a line that was read so, and the world that it leaves
+abbrev pub responded : WorldState Request → Result (Option Call) LineFault → List ℕ × WorldState Request
+responded w (Err fault) = (answer_line (Error fault), w)
+responded w (Ok None) = ([], w)
+responded w (Ok (Some call)) = (optional_line (answer_of (called w call).0), (called w call).1)
+
+-- what is written for a line of a script, and the world that it leaves
+abbrev pub line_response : WorldState Request → List ℕ → List ℕ × WorldState Request
+line_response w line = responded w (meaning_of line)
+
+-- what is written for all lines, one after another
+abbrev pub responses : WorldState Request → List (List ℕ) → List ℕ
+responses w [] = []
+responses w (line ∷ lines) = let first = line_response w line in first.0 ++ responses first.1 lines
+
+-- what is written where the settings in front were read so: their fault, or the answers to the other lines on the world that they ask for
+abbrev pub script_with : Result SettingsValues SettingsFault → List (List ℕ) → List ℕ
+script_with (Err fault) lines = settings_line fault
+script_with (Ok settings) lines = responses (empty_world (settings_frame settings)) lines
+
+-- what the program writes for the bytes that it reads
+abbrev pub script : List ℕ → List ℕ
+script bytes = script_with (settings_in (lines_of bytes)) (drop 1 (lines_of bytes))
+
+-- the script of the lines before one: nothing before the first
+abbrev pub script_before : List (List ℕ) → List ℕ
+script_before [] = []
+script_before (first ∷ lines) = script_with (settings_of first) lines

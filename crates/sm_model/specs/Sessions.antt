@@ -1,0 +1,73 @@
+-- When a session of the model stands at a world of the definitions, and what it answers there.
+use Rattle.std.specs.Prelude.{◌≡◌, ℕ, ◌<◌, ◌++◌, List, [], Some, Result, true, is_some, length}
+use Rattle.sm_envelope.specs.declared.envelope.TheConstants.{MOST_HOPS}
+use Rattle.sm_model.specs.Calls.{Stepped, after_hops, answer_of, called, settings_frame, stepped}
+use Rattle.sm_model.specs.Script.{responded}
+use Rattle.sm_script.specs.Lines.{meaning_of}
+use Rattle.sm_script.specs.declared.answer.Answer.{Answer}
+use Rattle.sm_script.specs.declared.call.Call.{Call}
+use Rattle.sm_script.specs.declared.line.TheConstants.{MAX_LINE}
+use Rattle.sm_service.specs.declared.reply.Reply.{Reply}
+use Rattle.sm_service.specs.declared.request.Request.{Request}
+use Rattle.sm_settings.specs.SettingsLine.{SettingsValues}
+use Rattle.sm_table.specs.declared.step.Step.{Step}
+use Rattle.sm_table.specs.declared.world_answer.WorldAnswer.{WorldAnswer}
+use Rattle.sm_table.specs.declared.world_fault.WorldFault.{WorldFault}
+use Rattle.sm_table.specs.Standing.{Follows, StandsFor, WorldView}
+use Rattle.sm_table.specs.World.{WorldState, Plain, empty_world, mark_of}
+
+-- the session's world is this one, and no request is under way
+pub record IsAt (view : WorldView Request) (w : WorldState Request) : Type 0 where
+  pub world : StandsFor view w
+  pub rest : w.in_flight ≡ []
+
+-- it is at a world of the definitions
+abbrev pub IsIdle : WorldView Request → Type 0
+IsIdle view = (w : WorldState Request) × IsAt view w
+
+-- the session that settings begin: nothing has happened in its world
+abbrev pub IsNew : SettingsValues → WorldView Request → Type 0
+IsNew settings view = IsAt view (empty_world (settings_frame settings))
+
+-- ---- a line
+
+-- at every world the call has this answer, and leaves the world that it should
+abbrev pub GivesAnswer : WorldView Request → Call → Answer → WorldView Request → Type 0
+GivesAnswer before call answer after =
+    (w : WorldState Request) → IsAt before w → (answer_of (called w call).0 ≡ Some answer) × IsAt after (called w call).1
+
+-- at every world the line has this response
+abbrev pub Responds : WorldView Request → List ℕ → List ℕ → WorldView Request → Type 0
+Responds before line text after =
+    (w : WorldState Request) → IsAt before w → (text ≡ (responded w (meaning_of line)).0) × IsAt after (responded w (meaning_of line)).1
+
+-- at every world each line that begins so and is longer than is read has this response, and leaves the world as it is
+abbrev pub RespondsLong : List ℕ → List ℕ → Type 0
+RespondsLong start text =
+    (w : WorldState Request) (rest : List ℕ) → 0 < length start → MAX_LINE < length (start ++ rest)
+    → (text ≡ (responded w (meaning_of (start ++ rest))).0) × ((responded w (meaning_of (start ++ rest))).1 ≡ w)
+
+-- ---- the steps of a call
+
+-- unless memory was refused, the script has an answer to a call that ended so
+abbrev pub HasAnswer : Result (WorldAnswer Reply) WorldFault → Type 0
+HasAnswer ended = mark_of ended ≡ Plain → is_some (answer_of ended) ≡ true
+
+-- at every world the step went as it should
+abbrev pub Steps : WorldView Request → Step Request → Result (WorldAnswer Reply) WorldFault → WorldView Request → Type 0
+Steps before step result after = (w : WorldState Request) → StandsFor before w → Follows after result (stepped w step)
+
+-- at every world the first envelope in flight arrived as it should
+abbrev pub Arrives : WorldView Request → Result (WorldAnswer Reply) WorldFault → WorldView Request → Type 0
+Arrives before result after = (w : WorldState Request) → StandsFor before w → Follows after result (after_hops MOST_HOPS w)
+
+-- the call ended in this step, which has an answer, and the session is at the world that it leaves
+pub record EndsAt (view : WorldView Request) (result : Result (WorldAnswer Reply) WorldFault) (ended : Stepped) : Type 0 where
+  pub answered : result ≡ ended.0
+  pub answers : is_some (answer_of result) ≡ true
+  pub stands : IsAt view ended.1
+
+-- at every world the call ended as it should, unless memory was refused; in both cases no request is under way
+abbrev pub Ends : WorldView Request → Call → Result (WorldAnswer Reply) WorldFault → WorldView Request → Type 0
+Ends before call result after =
+    (w : WorldState Request) → IsAt before w → IsIdle after × (mark_of result ≡ Plain → EndsAt after result (called w call))

@@ -1,0 +1,192 @@
+//! How a call of a script is carried out on a world, step by step.
+
+ghost use Rattle.std.specs.Prelude.{◌≡◌, ◌≢◌, ◌<◌, false, Some, Ok, Err, length, IfOk, OnErr};
+ghost use Rattle.sm_ranges.specs.Ranges.{shard_of};
+ghost use Rattle.sm_service.specs.Service.{key_of_request};
+ghost use Rattle.sm_service.specs.declared.reply.Reply.{Reply as AnyReply};
+ghost use Rattle.sm_table.specs.World.{Plain, Unmade, Unserved, mark_of, may_go};
+ghost use Rattle.sm_model.specs.Calls.{answer_of, is_begun, is_forwarded, is_sent, refused_answer};
+ghost use Rattle.sm_model.specs.Sessions.{Arrives, Ends, HasAnswer, Steps};
+ghost use Rattle.sm_script.specs.declared.call.Call.TheVariants as call;
+
+use sm_envelope::{MOST_HOPS, Refusal};
+use sm_ownership::admit_fault::AdmitFault;
+use sm_ranges::server_id::ServerId;
+use sm_ranges::shard_id::ShardId;
+use sm_script::{Answer, Call, Refused};
+use sm_service::counter_text::CounterText;
+use sm_service::reply::Reply;
+use sm_service::request::Request;
+use sm_table::step::Step;
+use sm_table::world::World;
+use sm_table::world_answer::WorldAnswer;
+use sm_table::world_fault::WorldFault;
+use std::alloc::AllocError;
+
+/// Carries out the call to the step that ends it.
+pub(crate) fn carry_out(
+    world: &mut World<CounterText>,
+    call: Call,
+) -> Result<WorldAnswer<Reply>, WorldFault>
+    ensures { Ends world.old call result world.new }
+{
+    match call {
+        Call::Control(command) => make(world, Step::Control(command)),
+        Call::Hold(shard, server) => make(world, Step::Hold(shard, server)),
+        Call::Free(shard) => make(world, Step::Free(shard)),
+        Call::Look(shard) => make(world, Step::Look(shard)),
+        Call::Request(request) => run_request(world, request),
+        Call::RequestAt(server, request) => {
+            let shard = world.shard_of(&request);
+            run_request_at(world, shard, server, request)
+        }
+    }
+}
+
+/// Makes a step that takes no memory.
+fn make(
+    world: &mut World<CounterText>,
+    step: Step<Request>,
+) -> Result<WorldAnswer<Reply>, WorldFault>
+    requires no_memory { (may_go step Unmade ≡ false) × (may_go step Unserved ≡ false) }
+    ensures steps { Steps world.old step result world.new }
+    ensures bounds { world.new.bounds ≡ world.old.bounds }
+{
+    world.step(step)
+}
+
+/// Has the request executed by the owner of its key's shard.
+fn run_request(
+    world: &mut World<CounterText>,
+    request: Request,
+) -> Result<WorldAnswer<Reply>, WorldFault>
+    ensures { Ends world.old (call.Request request) result world.new }
+{
+    let shard = world.shard_of(&request);
+    match world.record(shard).stand.owner() {
+        Some(owner) => run_request_at(world, shard, owner, request),
+        None => Ok(WorldAnswer::Refused(Refusal::Admit(AdmitFault::Vacant))),
+    }
+}
+
+/// Sends the request of this shard to the server, has it delivered, and finishes it where it began.
+fn run_request_at(
+    world: &mut World<CounterText>,
+    shard: ShardId,
+    server: ServerId,
+    request: Request,
+) -> Result<WorldAnswer<Reply>, WorldFault>
+    requires within { shard < length world.old.bounds }
+    requires shard { shard ≡ shard_of world.old.bounds (key_of_request request) }
+    ensures { Ends world.old (call.RequestAt server request) result world.new }
+{
+    let sent = world.send(server, 0, shard, request);
+    if !is_sent(&sent) {
+        return sent;
+    }
+    let reached = arrive(world);
+    if !is_begun(&reached) {
+        return reached;
+    }
+    world.step(Step::Finish(shard))
+}
+
+/// Has the envelope in flight delivered, and again after each hop, until a server begins its request or refuses it.
+fn arrive(world: &mut World<CounterText>) -> Result<WorldAnswer<Reply>, WorldFault>
+    ensures { Arrives world.old result world.new }
+{
+    for _hop in 0..MOST_HOPS {
+        let reached = make(world, Step::Deliver(0));
+        if !is_forwarded(&reached) {
+            return reached;
+        }
+    }
+    make(world, Step::Deliver(0))
+}
+
+/// Whether the step put a request in flight.
+fn is_sent(answer: &Result<WorldAnswer<Reply>, WorldFault>) -> bool
+    ensures { result ≡ is_sent answer.now }
+{
+    matches!(answer, Ok(WorldAnswer::Sent))
+}
+
+/// Whether the step had a server begin a request.
+fn is_begun(answer: &Result<WorldAnswer<Reply>, WorldFault>) -> bool
+    ensures { result ≡ is_begun answer.now }
+{
+    matches!(answer, Ok(WorldAnswer::Began(_)))
+}
+
+/// Whether the step had a server forward a request.
+fn is_forwarded(answer: &Result<WorldAnswer<Reply>, WorldFault>) -> bool
+    ensures { result ≡ is_forwarded answer.now }
+{
+    matches!(answer, Ok(WorldAnswer::Forwarded(_)))
+}
+
+/// The answer to a call that ended in this step; an error is want of memory.
+pub(crate) fn answer_of(ended: Result<WorldAnswer<Reply>, WorldFault>) -> Result<Answer, AllocError>
+    requires { HasAnswer ended }
+    ensures ok { IfOk result (λ answer. answer_of ended ≡ Some answer) }
+    ensures err { OnErr result (mark_of ended ≢ Plain) }
+{
+    match ended {
+        Ok(made) => answer_of_made(made),
+        Err(fault) => answer_of_fault(fault),
+    }
+}
+
+/// The answer to a call whose last step was made; an error is want of memory.
+fn answer_of_made(made: WorldAnswer<Reply>) -> Result<Answer, AllocError>
+    requires { HasAnswer (Ok made) }
+    ensures ok { IfOk result (λ answer. answer_of (Ok made) ≡ Some answer) }
+    ensures err { OnErr result (mark_of (Ok made) ≢ Plain) }
+{
+    match made {
+        WorldAnswer::Made => Ok(Answer::Made),
+        WorldAnswer::Seen(record) => Ok(Answer::Seen(record)),
+        WorldAnswer::Refused(refusal) => answer_of_refusal(refusal),
+        WorldAnswer::Replied {
+            number: _,
+            server,
+            reply,
+            place,
+        } => Ok(Answer::Executed {
+            reply,
+            server,
+            place,
+        }),
+        WorldAnswer::Sent | WorldAnswer::Began(_) | WorldAnswer::Forwarded(_) => unreachable!(),
+    }
+}
+
+/// The answer to a request that was refused; an error is want of memory.
+fn answer_of_refusal(refusal: Refusal) -> Result<Answer, AllocError>
+    ensures ok { IfOk result (λ answer. refused_answer refusal ≡ Some answer) }
+    ensures err { OnErr result (refusal ≡ Refusal.NoMemory) }
+{
+    match refusal {
+        Refusal::NoMemory => Err(AllocError),
+        Refusal::Admit(_) | Refusal::TooManyHops | Refusal::KeptFull => Ok(Answer::Refused(
+            Refused::Request(refusal),
+        )),
+    }
+}
+
+/// The answer to a call whose last step was refused; an error is want of memory.
+fn answer_of_fault(fault: WorldFault) -> Result<Answer, AllocError>
+    requires { HasAnswer (Err fault) }
+    ensures ok { IfOk result (λ answer. answer_of (Err fault) ≡ Some answer) }
+    ensures err { OnErr result (mark_of {R = AnyReply} (Err fault) ≢ Plain) }
+{
+    match fault {
+        WorldFault::Command(fault) => Ok(Answer::Refused(Refused::Command(fault))),
+        WorldFault::Admit(fault) => Ok(Answer::Refused(Refused::Admit(fault))),
+        WorldFault::UnknownShard => Ok(Answer::Refused(Refused::UnknownShard)),
+        WorldFault::UnknownServer => Ok(Answer::Refused(Refused::UnknownServer)),
+        WorldFault::NotHeld => Ok(Answer::Refused(Refused::NotHeld)),
+        WorldFault::NoMemory => Err(AllocError),
+        WorldFault::NoEnvelope => unreachable!(),
+    }
+}

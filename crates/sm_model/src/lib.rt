@@ -1,0 +1,18 @@
+//! The model: the whole shard manager on one thread, and the scripts that run on it.
+//!
+//! ```rust
+//! let mut written = Vec::new(alloc);
+//! let mut reader = Watched::new(script);
+//! let mut writer = Watched::new(&mut written);
+//! let status = run_model(alloc, &mut reader, &mut writer)?;
+//! assert_eq!(rt; status, Status::Ran);
+//! ```
+#![tactic(auto)]
+
+mod calls;
+pub mod engine;
+pub mod laws;
+pub mod session;
+
+pub use engine::{ModelEngine, run_model};
+pub use session::ModelSession;
