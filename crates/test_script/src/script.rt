@@ -8,9 +8,7 @@ use sm_ownership::record::Record;
 use sm_ranges::server_id::ServerId;
 use sm_ranges::shard_id::ShardId;
 use sm_ranges::stand::Stand;
-use sm_script::{
-    Answer, Call, LineFault, MAX_LINE, ParseFault, Refused, long_line_fault, parse,
-};
+use sm_script::{Answer, Call, LineFault, MAX_LINE, ParseFault, Refused, long_line_fault, parse};
 use sm_service::bytes::Bytes;
 use sm_service::reply::Reply;
 use sm_service::request::Request;
@@ -115,11 +113,7 @@ fn shown_request(alloc: Global, request: &Request) -> Result<String, AllocError>
 }
 
 // What a change of a shard asks for.
-fn shown_change(
-    alloc: Global,
-    shard: ShardId,
-    change: Change,
-) -> Result<String, AllocError> {
+fn shown_change(alloc: Global, shard: ShardId, change: Change) -> Result<String, AllocError> {
     let (word, server) = match change {
         Change::Assign(server) => ("assign", Some(server)),
         Change::PrepareAddShard(server) => ("prepare_add", Some(server)),
@@ -263,10 +257,14 @@ fn texts_of_answers(rt: HostRuntime) -> Result<(), Fail> {
             "Forwarding 1 2 idle 5",
         ),
         (
-            Answer::Seen(record(Stand::Taken {
+            Answer::Seen(record(
+                Stand::Taken {
                     owner: next,
                     previous: owner,
-                }, false, 6)),
+                },
+                false,
+                6,
+            )),
             "Taken 2 1 idle 6",
         ),
         (
