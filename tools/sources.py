@@ -9,6 +9,8 @@ NAME = re.compile(r"(?<![\w.])[A-Za-z_][\w'-]*(?:\.[A-Za-z_][\w'-]*)*")
 IMPORT = re.compile(r"^\s*(?:ghost |pub |unfoldable )*use Rattle\.(\w+)\.(specs|proofs)\.([\w.]+?)(?:\.\{([^}]*)\}| as (\w+))?;?\s*$", re.M)
 PUBLIC_FN = re.compile(r"pub (?:const |unsafe )*fn (\w+)")
 METHOD = re.compile(r"(?:const |unsafe )*fn (\w+)")
+TYPE = re.compile(r"(?m)^pub (?:struct|enum) (\w+)")
+IMPL = re.compile(r"impl(?:<.*?>)? (?:[\w:<>, ']+ for )?(\w+)")
 CLAUSE = re.compile(r"(?:requires|ensures|ghost)\b")
 ITEM = re.compile(r"^(?:(?:pub|abbrev|unfoldable|opaque|data|record)\s+)*([^\s:(){},=]+)")
 
@@ -38,34 +40,41 @@ def imports_of(text):
 
 
 def modules_of(crate):
-    """Yields the files of the crate's public modules. A program has no other crate above it: all of its modules count."""
+    """Yields each file of the crate's modules but for tests, and whether the module is public. In a program, above which there is
+    no crate, each counts as public."""
     source = CRATES / crate / "src"
     is_program = (source / "main.rt").exists()
-    left = [(source / ("main.rt" if is_program else "lib.rt"), source)]
+    left = [(source / ("main.rt" if is_program else "lib.rt"), source, True)]
     while left:
-        file, folder = left.pop()
+        file, folder, is_public = left.pop()
         if not file.exists():
             continue
-        yield file
+        yield file, is_public
         text = without_comments(file.read_text(encoding="utf-8"))
         for tested, shown, name in re.findall(r"^(#\[cfg\(test\)\]\s*)?(pub )?mod (\w+);", text, re.M):
             passed_on = re.search(r"^pub use (?:self::|crate::)?%s::" % name, text, re.M)
-            if not tested and (shown or passed_on or is_program):
-                left.append((folder / (name + ".rt"), folder / name))
+            if not tested:
+                left.append((folder / (name + ".rt"), folder / name, is_program or is_public and bool(shown or passed_on)))
 
 
 def public_functions(crate):
-    """Yields each public function of the crate's public modules, and each method of a public trait."""
-    for file in modules_of(crate):
+    """Yields each public function of the crate: those of public modules, the methods of their types wherever these stand, and the
+    methods of their traits."""
+    files = sorted(modules_of(crate))
+    types = {it for file, is_public in files if is_public for it in TYPE.findall(file.read_text(encoding="utf-8"))}
+    for file, is_public in files:
         lines = file.read_text(encoding="utf-8").split("\n")
-        in_trait = False
+        of_type, in_trait = None, False
         for at, line in enumerate(lines):
-            if re.match(r"pub trait ", line):
-                in_trait = True
+            block = IMPL.match(line)
+            if block:
+                of_type = block[1]
+            elif line.startswith("pub trait "):
+                in_trait = is_public
             elif line == "}":
-                in_trait = False
+                of_type, in_trait = None, False
             found = PUBLIC_FN.match(line.strip()) or in_trait and METHOD.match(line.strip())
-            if found:
+            if found and (is_public or of_type in types):
                 head = head_of(lines[at:])
                 first = next((n for n, it in enumerate(head) if CLAUSE.match(it.strip())), len(head))
                 yield Function(file, found[1], "\n".join(head[:first]), without_comments("\n".join(head[first:])))
