@@ -1,4 +1,18 @@
 //! What a shard's body is: a service that answers requests in turn and keeps each of them.
+//!
+//! A body at its limit hands the request back:
+//! ```rust
+//! let mut body = CounterText::new(alloc, 1);
+//! for request in [get_of(alloc, b"a")?, get_of(alloc, b"b")?] {
+//!     match body.apply(request) {
+//!         Ok(reply) => assert!(rt; matches!(reply, Reply::Nothing)),
+//!         Err((request, fault)) => {
+//!             assert_eq!(rt; fault, ApplyFault::KeptFull);
+//!             assert_eq!(rt; CounterText::key(&request), b"b".as_slice());
+//!         }
+//!     }
+//! }
+//! ```
 #![tactic(auto)]
 
 pub mod service;

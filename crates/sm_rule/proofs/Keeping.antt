@@ -32,8 +32,8 @@ use Rattle.sm_rule.specs.declared.view.Held.{Held}
 use Rattle.sm_rule.specs.declared.view.View.{View}
 use Rattle.sm_rule.specs.Admissions.{HoldsPermit, PermitValue, beyond, held_of}
 use Rattle.sm_rule.specs.Passes.{PassValue, pass_value, slots_of}
-use Rattle.sm_rule.specs.Rule.{AreHome, Fits, Holds, IsHeld, Rule, table_in}
-use Rattle.sm_rule.specs.Steps.{Entered, Exchanged, IsFree, IsWordOf, Loaded, MayAdd, Stored, Takes, is_end}
+use Rattle.sm_rule.specs.Rule.{AreHome, Fits, Holds, HoldsShard, Rule, table_in}
+use Rattle.sm_rule.specs.Steps.{Entered, Exchanged, IsFree, IsWordOf, Loaded, MayAdd, Stored, TakesBody, is_end}
 use Rattle.sm_rule.specs.Views.{Adds, Grows, Looks, adding, entry_of, held_after, list_held, list_with, newcomer, record_in, seeing}
 
 -- the key of a board has its ceiling
@@ -160,7 +160,7 @@ module _ {Q : Type 0} (limits : Limits) (entry : Entry Q) (history : List (Entry
   record_adds = record_at-latest limits.count limits.ceiling entry history fit
 
 -- what a seat holds stays held while others add entries
-held_stays : {Q : Type 0} (limits : Limits) (number : ℕ) (held : Held Q) (entry : Entry Q) (history : List (Entry Q)) → IsLegalLatest limits.count limits.ceiling (entry ∷ history) → held.shard ≢ entry.shard → IsHeld limits number held history → IsHeld limits number held (entry ∷ history)
+held_stays : {Q : Type 0} (limits : Limits) (number : ℕ) (held : Held Q) (entry : Entry Q) (history : List (Entry Q)) → IsLegalLatest limits.count limits.ceiling (entry ∷ history) → held.shard ≢ entry.shard → HoldsShard limits number held history → HoldsShard limits number held (entry ∷ history)
 held_stays limits number held entry history legal apart is =
     let same : record_at (table_in limits (entry ∷ history)) held.shard ≡ record_at (table_in limits history) held.shard =
     ⊎_elim
@@ -202,7 +202,7 @@ abbrev held_now : {Q : Type 0} → Limits → ℕ → List (Entry Q) → List (E
 held_now limits shard entries history = record { shard = shard; state = record_at (table_in limits entries) shard; list = kept history shard }
 
 admits_here : {Q : Type 0} (limits : Limits) (number shard server : ℕ) (mode : Mode) (history : List (Entry Q)) → fits limits.ceiling history (table_in limits history) (entry_of number shard (Admit server mode)) ≡ true → shard < limits.count
-    → IsHeld limits number (held_now limits shard (entry_of number shard (Admit server mode) ∷ history) (reverse (entry_of number shard (Admit server mode) ∷ history))) (entry_of number shard (Admit server mode) ∷ history)
+    → HoldsShard limits number (held_now limits shard (entry_of number shard (Admit server mode) ∷ history) (reverse (entry_of number shard (Admit server mode) ∷ history))) (entry_of number shard (Admit server mode) ∷ history)
 admits_here limits number shard server mode history fit known =
     let here : (shard == shard) ≡ true = eq-eqb shard shard refl in
     let mine : (number == number) ≡ true = eq-eqb number number refl in
@@ -226,7 +226,7 @@ module _ {Q : Type 0} (limits : Limits) (number shard : ℕ) (view : View Q) (hi
   held_is : (kind : Kind Q) → held_after view.limits shard kind (reverse (longer kind)) view.held ≡ held_after limits shard kind (reverse (longer kind)) view.held
   held_is kind = ap (λ (its : Limits). held_after its shard kind (reverse (longer kind)) view.held) before.limits_are
 
-  holds_own : (kind : Kind Q) → IsFree view kind → IsLegalLatest limits.count limits.ceiling (longer kind) → (held : Held Q) → held_after limits shard kind (reverse (longer kind)) view.held ≡ Some held → IsHeld limits number held (longer kind)
+  holds_own : (kind : Kind Q) → IsFree view kind → IsLegalLatest limits.count limits.ceiling (longer kind) → (held : Held Q) → held_after limits shard kind (reverse (longer kind)) view.held ≡ Some held → HoldsShard limits number held (longer kind)
   holds_own (Changed change) free legal held is = absurd (none_some held (sym free ∙ is))
   holds_own (Admit server mode) free legal held is =
       let kind : Kind Q = Admit server mode in
@@ -234,7 +234,7 @@ module _ {Q : Type 0} (limits : Limits) (number shard : ℕ) (view : View Q) (hi
       let here = admits_here limits number shard server mode history legal.0 known in
       let same : held_now limits shard (longer kind) (reverse (longer kind)) ≡ held =
       ap (λ entries. held_now limits shard entries (reverse (longer kind))) (sym turned) ∙ same_some (held_now limits shard (reverse (reverse (longer kind))) (reverse (longer kind))) held is in
-      subst (λ its. IsHeld limits number its (longer kind)) same here
+      subst (λ its. HoldsShard limits number its (longer kind)) same here
   holds_own (Done request) free legal held is = absurd (cc)
 
   fits_own : (kind : Kind Q) → IsFree view kind → ((server : ℕ) → view.server ≡ Some server → admits_only server kind ≡ true) → IsLegalLatest limits.count limits.ceiling (longer kind) → Fits limits number (mine kind) (longer kind)
@@ -379,7 +379,7 @@ module _ {S Q : Type 0} (requests : S → List Q) (limits : Limits) (homes : Lis
     pub valid : Valid homes carried act
     pub slots : length (homes_after homes carried act) ≡ limits.count
     pub at_home : AreHome requests limits (homes_after homes carried act) (entry_of number word kind ∷ history)
-    pub takes : Takes requests kind word carried (adding view word kind (reverse (entry_of number word kind ∷ history))) (carried_after carried act)
+    pub takes : TakesBody requests kind word carried (adding view word kind (reverse (entry_of number word kind ∷ history))) (carried_after carried act)
 
   moves : (kind : Kind Q) → is_end kind ≡ false → kind_fits limits.ceiling history (record_at (table_in limits history) word) number word kind ≡ true → fits limits.ceiling history (table_in limits history) (entry_of number word kind) ≡ true → Moves kind
   moves (Changed change) begins fit fitting =
@@ -399,58 +399,92 @@ module _ {S Q : Type 0} (requests : S → List Q) (limits : Limits) (homes : Lis
       }
   moves (Done request) begins fit fitting = absurd (true≢false begins)
 
--- an exchange that adds an entry where the record is the one read, and else looks
-pub exchanges : {S Q : Type 0} (requests : S → List Q) (limits : Limits) (slots id word old new : ℕ) (me : Me (Option S) (View Q)) (read : Record) (kind : Kind Q)
+-- an exchange of a seat's, which adds an entry where it finds the word expected, and else looks
+module _ {S Q : Type 0} (requests : S → List Q) (limits : Limits) (slots id word old new : ℕ) (me : Me (Option S) (View Q)) (kind : Kind Q) where
+  abbrev Tells : ℕ → Me (Option S) (View Q) → Type 0
+  Tells found after = Exchanged requests kind (step {S = Option S} slots word old new none) me found after
+
+  won_tells : (found : ℕ) (after : Me (Option S) (View Q)) → found ≡ old → Adds me.0 word kind after.0 × IsWordOf new after.0 word × TakesBody requests kind word me.1 after.0 after.1 → Tells found after
+  won_tells found later hit won = ((λ _. won), (λ miss. absurd (miss hit)))
+
+  lost_tells : (found : ℕ) (after : Me (Option S) (View Q)) → found ≢ old → Loaded (step {S = Option S} slots word old new none) me found after → Tells found after
+  lost_tells found later miss lost = ((λ hit. absurd (miss hit)), (λ _. lost))
+
+  -- what it leaves of a table, where the word becomes n
+  abbrev Leaves : State (Option S) (View Q) → ℕ → Type 0
+  Leaves table n =
+      (view : View Q) × (act : Act (Option S)) × Valid table.homes me.1 act × Rule requests limits (stepped table word n id me.1 view act) × Tells (slice_index table.words word) (view, carried_after me.1 act)
+
+  module _ (low : limits.ceiling < 2 ^ 36) (within : word < limits.count) (live : me.0.spent ≡ false) (table : State (Option S) (View Q)) (history : List (Entry Q)) (holds : Holds requests limits table.words table.homes table.views history) (at : get_elem? table.views id ≡ some me.0) where
+    abbrev here : Record
+    here = record_at (table_in limits history) word
+
+    abbrev entry : Entry Q
+    entry = entry_of id word kind
+
+    fit : Fits limits id me.0 history
+    fit = holds.fit id me.0 at live
+
+    found_here : slice_index table.words word ≡ word_of here
+    found_here = word_at table.words (table_in limits history) word holds.words_are
+
+    loses : slice_index table.words word ≢ old → Leaves table (slice_index table.words word)
+    loses miss =
+        let word_is = word_seen limits history me.0.limits word (slice_index table.words word) (sees limits id me.0 history fit word) found_here low holds.legal holds.known in (
+          seeing me.0 (reverse history),
+          keeps,
+          tt,
+          (history, look_keeps requests limits id word table.words table.homes table.views history me.0 holds at live),
+          lost_tells (slice_index table.words word) (seeing me.0 (reverse history), me.1) miss (looks_all limits id me.0 history fit holds.legal, word_is, refl),
+        )
+
+    module _ (read : Record) (formed : IsWellFormed read) (packed : old ≡ word_of read) (written : new ≡ word_of (after_kind read kind)) (may : MayAdd me.0 word read kind) (hit : slice_index table.words word ≡ old) where
+      same : here ≡ read
+      same = word_once here read (well_formed limits.count limits.ceiling history word low holds.legal holds.known) formed (sym found_here ∙ (hit ∙ packed))
+
+      fits_read : kind_fits limits.ceiling history read id word kind ≡ true
+      fits_read =
+          subst (λ (pair : Limits × ℕ). kind_fits pair.0.ceiling history read pair.1 word kind ≡ true) (λ i. (fit.limits_are i, fit.number_is i)) (may.fits history (fit_by_view limits id me.0 history fit))
+
+      fits_here : kind_fits limits.ceiling history here id word kind ≡ true
+      fits_here = subst (λ (state : Record). kind_fits limits.ceiling history state id word kind ≡ true) (sym same) fits_read
+
+      fitting : fits limits.ceiling history (table_in limits history) entry ≡ true
+      fitting = fits_kind limits id word history kind within fits_here
+
+      legal : IsLegalLatest limits.count limits.ceiling (entry ∷ history)
+      legal = (fitting, holds.legal)
+
+      known : AreKnown (entry ∷ history)
+      known = All-cons (λ one. KnownKind one.kind) entry history may.known holds.known
+
+      made : new ≡ word_of (after_kind here kind)
+      made = written ∙ ap (λ (state : Record). word_of (after_kind state kind)) (sym same)
+
+      word_made : IsWordOf new (adding me.0 word kind (reverse (entry ∷ history))) word
+      word_made =
+          word_seen limits (entry ∷ history) me.0.limits word new (sees_own limits id word me.0 history fit within kind) (made ∙ ap word_of (sym (record_adds limits entry history fitting))) low legal known
+
+      move : Moves requests limits table.homes history id word me.0 me.1 within holds.slots holds.home kind
+      move = moves requests limits table.homes history id word me.0 me.1 within holds.slots holds.home kind may.begins fits_here fitting
+
+      wins : Leaves table new
+      wins = (
+        adding me.0 word kind (reverse (entry ∷ history)),
+        move.act,
+        move.valid,
+        (entry ∷ history, adds_keep requests limits id word new table.words table.homes (homes_after table.homes me.1 move.act) table.views history me.0 kind holds within at live move.slots move.at_home may.free may.own_server may.known fitting made),
+        won_tells (slice_index table.words word) (adding me.0 word kind (reverse (entry ∷ history)), carried_after me.1 move.act) hit (adds_all limits id word me.0 history fit within kind legal, word_made, move.takes),
+      )
+
+exchanges : {S Q : Type 0} (requests : S → List Q) (limits : Limits) (slots id word old new : ℕ) (me : Me (Option S) (View Q)) (read : Record) (kind : Kind Q)
     → limits.ceiling < 2 ^ 36 → word < limits.count → me.0.spent ≡ false → IsWellFormed read → old ≡ word_of read → new ≡ word_of (after_kind read kind)
     → MayAdd me.0 word read kind
     → Allows (Rule requests limits) slots id me word (λ n. either (n == old) new n) (Exchanged requests kind (step {S = Option S} slots word old new none) me)
-exchanges {S} {Q} requests limits slots id word old new me read kind low within live formed packed written may table rule size at small =
-    let history = rule.0 in
-    let holds : Holds requests limits table.words table.homes table.views history = rule.1 in
-    let fit = holds.fit id me.0 at live in
-    let here = record_at (table_in limits history) word in
-    let is : slice_index table.words word ≡ word_of here = word_at table.words (table_in limits history) word holds.words_are in
-    let P : ℕ → Type 0 = λ n. (w : View Q) × (a : Act (Option S)) × Valid table.homes me.1 a × Rule requests limits (stepped table word n id me.1 w a) × Exchanged requests kind (step {S = Option S} slots word old new none) me (slice_index table.words word) (w, carried_after me.1 a) in
-    exchanged (slice_index table.words word) old new P
-    (λ hit.
-    let same : here ≡ read = word_once here read (well_formed limits.count limits.ceiling history word low holds.legal holds.known) formed (sym is ∙ (hit ∙ packed)) in
-    let by_view = may.fits history (fit_by_view limits id me.0 history fit) in
-    let at_limits : kind_fits limits.ceiling history read id word kind ≡ true =
-    subst (λ (pair : Limits × ℕ). kind_fits pair.0.ceiling history read pair.1 word kind ≡ true) (λ i. (fit.limits_are i, fit.number_is i)) by_view in
-    let fits_here : kind_fits limits.ceiling history here id word kind ≡ true = subst (λ (state : Record). kind_fits limits.ceiling history state id word kind ≡ true) (sym same) at_limits in
-    let fitting = fits_kind limits id word history kind within fits_here in
-    let entry = entry_of id word kind in
-    let legal : IsLegalLatest limits.count limits.ceiling (entry ∷ history) = (fitting, holds.legal) in
-    let known = All-cons (λ one. KnownKind one.kind) entry history may.known holds.known in
-    let made : new ≡ word_of (after_kind here kind) = written ∙ ap (λ (state : Record). word_of (after_kind state kind)) (sym same) in
-    let move = moves requests limits table.homes history id word me.0 me.1 within holds.slots holds.home kind may.begins fits_here fitting in (
-      adding me.0 word kind (reverse (entry ∷ history)),
-      move.act,
-      move.valid,
-      (entry ∷ history, adds_keep requests limits id word new table.words table.homes (homes_after table.homes me.1 move.act) table.views history me.0 kind holds within at live move.slots move.at_home may.free may.own_server may.known fitting made),
-      (
-        (λ _. (
-          adds_all limits id word me.0 history fit within kind legal,
-          word_seen limits (entry ∷ history) me.0.limits word new (sees_own limits id word me.0 history fit within kind) (made ∙ ap word_of (sym (record_adds limits entry history fitting))) low legal known,
-          move.takes,
-        )),
-        (λ miss. absurd (miss hit)),
-      ),
-    ))
-    (λ miss. (
-      seeing me.0 (reverse history),
-      keeps,
-      tt,
-      (history, look_keeps requests limits id word table.words table.homes table.views history me.0 holds at live),
-      (
-        (λ hit. absurd (miss hit)),
-        (λ _. (
-          looks_all limits id me.0 history fit holds.legal,
-          word_seen limits history me.0.limits word _ (sees limits id me.0 history fit word) is low holds.legal holds.known,
-          refl,
-        )),
-      ),
-    ))
+exchanges requests limits slots id word old new me read kind low within live formed packed written may table rule size at small =
+    exchanged (slice_index table.words word) old new (Leaves requests limits slots id word old new me kind table)
+    (wins requests limits slots id word old new me kind low within live table rule.0 rule.1 at read formed packed written may)
+    (loses requests limits slots id word old new me kind low within live table rule.0 rule.1 at)
 
 pub exchange_allowed : {S Q : Type 0} (requests : S → List Q) (limits : Limits) (slots id shard word old new : ℕ) (me : Me (Option S) (View Q)) (read : Record) (kind : Kind Q)
     → word ≡ shard → limits.ceiling < 2 ^ 36 → shard < limits.count → me.0.spent ≡ false → IsWellFormed read → old ≡ word_of read → new ≡ word_of (after_kind read kind)
@@ -596,6 +630,10 @@ pub beyond_with_gained : {Q : Type 0} (list longer : List Q) → ((request : Opt
 beyond_with_gained list longer gains =
     let same : beyond list longer ≡ gains.0 = ap (beyond list) gains.1 ∙ beyond_with list gains.0 in
     ap (list_with list) same ∙ sym gains.1
+
+-- the slot that is carried, once its body is back
+pub carries_body : {S Q : Type 0} (me : Me (Option S) (View Q)) (view : View Q) (carried : List (ℕ × Option S)) (at shard : ℕ) (body : S) → me ≡ (view, (at, Some body) ∷ rest carried) → carried ≡ (shard, None) ∷ [] → me ≡ (view, (at, Some body) ∷ [])
+carries_body {S} {Q} me view carried at shard body out slots = out ∙ ap (λ (all : List (ℕ × Option S)). (view, (at, Some body) ∷ rest all)) slots
 
 -- the store that spends a permit
 held_some : {Q : Type 0} (held : Option (Held Q)) (shard : ℕ) (state : Record) → option_map {U = ℕ × Record} (λ (one : Held Q). (one.shard, one.state)) held ≡ Some (shard, state) → (one : Held Q) × (held ≡ Some one) × (one.shard ≡ shard) × (one.state ≡ state)

@@ -4,6 +4,7 @@ use Rattle.std.specs.Prelude.{IfSome, Option, Some, None, is_none, is_some, leng
 use Rattle.std.proofs.lemmas.Bool.{and_from, and_parts, cases_eq, eq-eqb, leb-true, lt-ltb, ne_eqb, not-true, true≢false}
 use Rattle.std.proofs.lemmas.List.{append-nil, get_or-set_other, get_or-set_same, length-set}
 use Rattle.atomic_table.specs.Seated.{TableId}
+use Rattle.atomic_table.specs.Table.{rest}
 use Rattle.sm_ranges.specs.ServerId.{IsServer}
 use Rattle.sm_ranges.specs.declared.stand.Stand.{Stand}
 use Rattle.sm_ranges.specs.declared.stand.Stand.TheVariants.{Vacant, Serving, Prepared, Forwarding, Taken, Paused}
@@ -23,18 +24,37 @@ use Rattle.sm_ownership.specs.lemmas.Lasting.{same_or_later, stand_stays}
 use Rattle.sm_ownership.specs.Rules.{accepts, admit_fault, fault_at, phase_fault, stand_after}
 use Rattle.sm_word.specs.lemmas.Histories.{formed_admit, formed_done}
 use Rattle.sm_word.specs.Known.{NewlyNamesServer}
-use Rattle.sm_word.specs.Word.{IsWellFormed}
+use Rattle.sm_word.specs.Word.{IsWellFormed, word_of}
 use Rattle.sm_rule.specs.declared.limits.Limits.{Limits}
 use Rattle.sm_rule.specs.declared.view.View.{View}
 use Rattle.sm_rule.specs.Admissions.{Races, fault_of}
 use Rattle.sm_rule.specs.Boards.{BoardValue}
 use Rattle.sm_rule.specs.Changes.{ChairAdds, ChairLooks, ChairValue, IsChairView, chair_value}
 use Rattle.sm_rule.specs.Passes.{IsPassView, PassAdds, PassLooks, PassValue, pass_value, slots_of}
-use Rattle.sm_rule.specs.Passing.{grows_grows}
+use Rattle.sm_rule.specs.lemmas.Passing.{grows_on}
 use Rattle.sm_rule.specs.Rule.{Fits}
-use Rattle.sm_rule.specs.Steps.{MayAdd, Takes}
+use Rattle.sm_rule.specs.Steps.{IsWordOf, MayAdd, TakesBody}
 use Rattle.sm_rule.specs.Views.{Adds, Grows, Looks, adding, entry_of, held_after, record_in, seeing}
 use Rattle.sm_rule.proofs.Keeping.{same_some}
+
+abbrev board_with : TableId → Limits → BoardValue
+board_with id limits = record { id = id; limits = limits }
+
+-- what a call knows of a board from its value
+module _ (id : TableId) (limits : Limits) (value : BoardValue) (view : board_with id limits ≡ value) where
+  pub same_table : (seat : TableId) → seat ≡ value.id → seat ≡ id
+  same_table seat is = is ∙ sym (ap (λ (board : BoardValue). board.id) view)
+
+  pub in_words : limits.count ≡ id.words → (shard at : ℕ) → shard < value.limits.count → at ≡ shard → at < id.words
+  in_words words shard at within is = let same = ap (λ (board : BoardValue). board.limits.count) view in omega arith
+
+  pub in_key : (key : Limits) → key ≡ limits → (shard : ℕ) → shard < value.limits.count → shard < key.count
+  in_key key is shard within =
+      subst (λ (its : Limits). shard < its.count) (sym (is ∙ ap (λ (board : BoardValue). board.limits) view)) within
+
+-- the record of a word that a view has found
+pub record_found : {Q : Type 0} (view : View Q) (shard word : ℕ) → IsWordOf word view shard → (state : Record) × IsWellFormed state × (word_of state ≡ word)
+record_found view shard word is = (record_in view.limits view.seen shard, is.1, sym is.0)
 
 module _ {Q : Type 0} (u v w : View Q) (first : Looks u v) where
   limits_stay : v.limits ≡ u.limits
@@ -43,17 +63,17 @@ module _ {Q : Type 0} (u v w : View Q) (first : Looks u v) where
   number_stays : v.number ≡ u.number
   number_stays = ap (λ (view : View Q). view.number) first.1
 
+  grows_from : (added : ℕ → List (Entry Q)) → Grows v.limits v.number v.seen w.seen (added v.number) → Grows u.limits u.number u.seen w.seen (added u.number)
+  grows_from added second = grows_on u.limits v.limits u.number v.number u.seen v.seen w.seen added limits_stay number_stays first.0 second
+
   -- a look, and then another
   pub looks_looks : Looks v w → Looks u w
-  looks_looks second =
-      let grows = subst (λ (pair : Limits × ℕ). Grows pair.0 pair.1 v.seen w.seen []) (λ i. (limits_stay i, number_stays i)) second.0 in
-      (grows_grows u.limits u.number u.seen v.seen w.seen [] first.0 grows, second.1 ∙ ap (λ (view : View Q). seeing view w.seen) first.1)
+  looks_looks second = (grows_from (λ _. []) second.0, second.1 ∙ ap (λ (view : View Q). seeing view w.seen) first.1)
 
   -- a look, and then an entry of one's own
   pub looks_adds : (shard : ℕ) (kind : Kind Q) → Adds v shard kind w → Adds u shard kind w
   looks_adds shard kind second =
-      let grows = subst (λ (pair : Limits × ℕ). Grows pair.0 pair.1 v.seen w.seen (entry_of pair.1 shard kind ∷ [])) (λ i. (limits_stay i, number_stays i)) second.0 in
-      (grows_grows u.limits u.number u.seen v.seen w.seen _ first.0 grows, second.1 ∙ ap (λ (view : View Q). adding view shard kind w.seen) first.1)
+      (grows_from (λ number. entry_of number shard kind ∷ []) second.0, second.1 ∙ ap (λ (view : View Q). adding view shard kind w.seen) first.1)
 
   -- a look, and then a lost exchange, which found another record
   pub races : (shard : ℕ) (read found : Record) → Looks v w → read ≡ record_in v.limits v.seen shard → found ≡ record_in w.limits w.seen shard → found ≢ read → Races u.limits u.seen w.seen shard read found
@@ -167,19 +187,25 @@ room_adds u v w looked shard change added room enough =
     subst (λ (its : Limits). its.count ≤ room) (sym (ap (λ (view : View _). view.limits) added.1 ∙ ap (λ (view : View _). view.limits) looked.1)) enough
 
 -- a change takes no slot
-pub changed_slots : {S Q : Type 0} (requests : S → List Q) (kind : Kind Q) (change : Change) (shard : ℕ) (before after : List (ℕ × Option S)) (view : View Q) → kind ≡ Changed change → Takes requests kind shard before view after → after ≡ before
-changed_slots requests kind change shard before after view is takes = subst (λ (one : Kind _). Takes requests one shard before view after) is takes
+pub changed_slots : {S Q : Type 0} (requests : S → List Q) (kind : Kind Q) (change : Change) (shard : ℕ) (before after : List (ℕ × Option S)) (view : View Q) → kind ≡ Changed change → TakesBody requests kind shard before view after → after ≡ before
+changed_slots requests kind change shard before after view is takes = subst (λ (one : Kind _). TakesBody requests one shard before view after) is takes
 
 -- an admission takes its shard's slot, which is then the only one
-pub admitted_slots : {S Q : Type 0} (requests : S → List Q) (kind : Kind Q) (server : ℕ) (mode : Mode) (shard : ℕ) (before after : List (ℕ × Option S)) (view : View Q) → kind ≡ Admit server mode → before ≡ [] → Takes requests kind shard before view after
+pub admitted_slots : {S Q : Type 0} (requests : S → List Q) (kind : Kind Q) (server : ℕ) (mode : Mode) (shard : ℕ) (before after : List (ℕ × Option S)) (view : View Q) → kind ≡ Admit server mode → before ≡ [] → TakesBody requests kind shard before view after
     → (body : S) × (after ≡ (shard, Some body) ∷ []) × (requests body ≡ kept view.seen shard)
 admitted_slots {S} {Q} requests kind server mode shard before after view is none takes =
-    let here : Takes requests (Admit server mode) shard before view after = subst (λ (one : Kind Q). Takes requests one shard before view after) is takes in
+    let here : TakesBody requests (Admit server mode) shard before view after = subst (λ (one : Kind Q). TakesBody requests one shard before view after) is takes in
     (here.0, here.1 ∙ ap (λ carried. (shard, Some here.0) ∷ carried) none, here.2)
 
 -- the slots of a pass that holds nothing
 pub no_slots : {S Q : Type 0} (id : TableId) (view : View Q) (pass : PassValue Q) (carried : List (ℕ × Option S)) → pass_value id view ≡ pass → pass.held ≡ None → carried ≡ slots_of view.held → carried ≡ []
 no_slots id view pass carried of_pass free slots = slots ∙ ap slots_of (ap (λ (it : PassValue _). it.held) of_pass ∙ free)
+
+-- the only slot that is carried, under another name of its place
+pub slot_alone : {X : Type 0} (carried : List (ℕ × X)) (shard at : ℕ) (slot : X) → carried ≡ (shard, slot) ∷ [] → at ≡ shard → (other : X) × (carried ≡ (at, other) ∷ rest carried)
+slot_alone carried shard at slot is same =
+    let here : carried ≡ (at, slot) ∷ [] = is ∙ ap (λ one. (one, slot) ∷ []) (sym same) in
+    (slot, here ∙ ap (λ all. (at, slot) ∷ rest all) (sym here))
 
 abbrev alone : {S : Type 0} → ℕ → S → List (ℕ × Option S)
 alone shard body = (shard, Some body) ∷ []
@@ -203,9 +229,6 @@ module _ {Q : Type 0} (before : PassValue Q) (id later : TableId) (u w : View Q)
   adds_of_pass shard kind added =
       let here : PassAdds (pass_value id u) shard kind (pass_value id w) = (added.0, ap (pass_value id) added.1) in
       subst (λ (pair : PassValue Q × TableId). PassAdds pair.0 shard kind (pass_value pair.1 w)) (λ i. (of_pass i, sym same i)) here
-
-abbrev board_with : TableId → Limits → BoardValue
-board_with id limits = record { id = id; limits = limits }
 
 module _ {Q : Type 0} (before : ChairValue Q) (id later : TableId) (u w : View Q) (of_chair : chair_value id u ≡ before) (same : later ≡ id) (chair : u.number ≡ 0) where
   at_chair : (added : List (Entry Q)) → Grows u.limits u.number u.seen w.seen added → w.limits ≡ u.limits → Grows before.board.limits 0 before.seen w.seen added × ((chair_value later w).board ≡ before.board)

@@ -3,7 +3,7 @@ pub mod Boards
 pub mod Changes
 pub mod Closing
 pub mod Passes
-pub mod Passing
 pub mod Rule
 pub mod Steps
 pub mod Views
+pub mod lemmas

@@ -20,7 +20,7 @@ abbrev pub table_in : {Q : Type 0} → Limits → List (Entry Q) → List Record
 table_in limits history = table_of_latest limits.count limits.ceiling history
 
 -- a seat holds a shard: it is admitted, by this seat's number, and since then nothing happened to it
-pub record IsHeld {Q : Type 0} (limits : Limits) (number : ℕ) (held : Held Q) (history : List (Entry Q)) : Type 0 where
+pub record HoldsShard {Q : Type 0} (limits : Limits) (number : ℕ) (held : Held Q) (history : List (Entry Q)) : Type 0 where
   pub known : held.shard < limits.count
   pub state : record_at (table_in limits history) held.shard ≡ held.state
   pub admitted : held.state.admitted ≡ true
@@ -35,7 +35,7 @@ pub record Fits {Q : Type 0} (limits : Limits) (number : ℕ) (view : View Q) (h
   pub seen : later ++ reverse view.seen ≡ history
   pub others : NoneBy number later
   pub server : (server : ℕ) → view.server ≡ Some server → acts_as history number server ≡ true
-  pub held : (held : Held Q) → view.held ≡ Some held → IsHeld limits number held history
+  pub held : (held : Held Q) → view.held ≡ Some held → HoldsShard limits number held history
 
 -- the bodies of the idle shards are at home, and each keeps what the history kept for its shard
 abbrev pub AreHome : {S Q : Type 0} → (S → List Q) → Limits → List (math.Option (Option S)) → List (Entry Q) → Type 0

@@ -30,15 +30,15 @@ Entered server step first found after =
     × (after.0 ≡ newcomer first.0.limits after.0.number server after.0.seen)
 
 -- an admission takes the shard's slot, with a body that keeps what was kept for the shard; a change takes none
-abbrev pub Takes : {S Q : Type 0} → (S → List Q) → Kind Q → ℕ → List (ℕ × Option S) → View Q → List (ℕ × Option S) → Type 0
-Takes {S} requests (Admit server mode) shard before view after =
+abbrev pub TakesBody : {S Q : Type 0} → (S → List Q) → Kind Q → ℕ → List (ℕ × Option S) → View Q → List (ℕ × Option S) → Type 0
+TakesBody {S} requests (Admit server mode) shard before view after =
     (body : S) × (after ≡ (shard, Some body) ∷ before) × (requests body ≡ kept view.seen shard)
-Takes requests _ shard before view after = after ≡ before
+TakesBody requests _ shard before view after = after ≡ before
 
 -- an exchange that is won adds an admission or a change to all that was seen; one that is lost is a load
 abbrev pub Exchanged : {S Q : Type 0} → (S → List Q) → Kind Q → Step (Option S) → Me (Option S) (View Q) → ℕ → Me (Option S) (View Q) → Type 0
 Exchanged requests kind step before found after =
-    (found ≡ step.first → Adds before.0 step.word kind after.0 × IsWordOf step.second after.0 step.word × Takes requests kind step.word before.1 after.0 after.1)
+    (found ≡ step.first → Adds before.0 step.word kind after.0 × IsWordOf step.second after.0 step.word × TakesBody requests kind step.word before.1 after.0 after.1)
     × (found ≢ step.first → Loaded step before found after)
 
 -- a store adds the end of an admission to all that was seen, which then keeps the request of the end after what was kept at the

@@ -1,15 +1,35 @@
 //! The board: one word and one body for each shard, which threads read, change and borrow in single atomic steps, and
 //! passes, which know the one history that all these steps make.
+//!
+//! A pass is admitted to a shard, has its body apply a request, and ends the admission:
+//! ```rust
+//! let mut pass = board.pass(Some(one));
+//! let Ok(mut permit) = board.admit(&mut pass, k, Mode::Direct) else {
+//!     return Err("the pass is admitted".into());
+//! };
+//! let front = match permit.body().apply(request) {
+//!     Ok(_reply) => board.finish(&mut pass, permit),
+//!     Err((_request, _fault)) => board.finish(&mut pass, permit),
+//! };
+//! ```
 #![tactic(auto)]
 
 pub mod admit_refusal;
 pub mod board;
 pub mod chair;
 pub mod change_refusal;
-mod closing;
 pub mod limits;
 pub mod make_fault;
 pub mod pass;
 pub mod permit;
 mod rule;
 pub mod view;
+
+pub use admit_refusal::AdmitRefusal;
+pub use board::Board;
+pub use chair::Chair;
+pub use change_refusal::ChangeRefusal;
+pub use limits::Limits;
+pub use make_fault::MakeFault;
+pub use pass::Pass;
+pub use permit::{Front, Permit};

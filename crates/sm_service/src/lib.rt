@@ -1,4 +1,13 @@
 //! A sample service: texts and counts by key.
+//!
+//! ```rust
+//! let key = Key::new(alloc, b"user-17")?;
+//! let mut body = CounterText::new(alloc, 100);
+//! let put = Request::Put(key, Bytes::new(alloc, b"hello")?);
+//! assert_eq!(rt; CounterText::key(&put), b"user-17".as_slice());
+//! assert!(rt; matches!(body.apply(put), Ok(Reply::Done)));
+//! assert_eq!(rt; body.kept(), 1);
+//! ```
 #![tactic(auto)]
 
 pub mod bytes;

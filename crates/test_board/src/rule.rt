@@ -3,25 +3,13 @@ ghost use Rattle.std.specs.Prelude.{◌≡◌, ◌<◌, None, IfOk, All, []};
 ghost use Rattle.sm_rule.specs.Changes.{ChairLooks};
 ghost use Rattle.sm_rule.specs.Passes.{PassLooks};
 
-use sm_body::service::Service;
 use sm_ownership::admit_fault::AdmitFault;
 use sm_ownership::change::Change;
 use sm_ownership::mode::Mode;
 use sm_ownership::record::Record;
-use sm_ranges::key::Key;
-use sm_ranges::server_id::ServerId;
-use sm_ranges::shard_id::ShardId;
-use sm_ranges::stand::Stand;
-use sm_rule::admit_refusal::AdmitRefusal;
-use sm_rule::board::Board;
-use sm_rule::chair::Chair;
-use sm_rule::change_refusal::ChangeRefusal;
-use sm_rule::make_fault::MakeFault;
-use sm_rule::pass::Pass;
-use sm_rule::permit::Front;
-use sm_service::bytes::Bytes;
-use sm_service::counter_text::CounterText;
-use sm_service::request::Request;
+use sm_ranges::{Key, ServerId, ShardId, Stand};
+use sm_rule::{AdmitRefusal, Board, Chair, ChangeRefusal, Front, MakeFault, Pass};
+use sm_service::{Bytes, CounterText, Request, Service};
 use std::alloc::{AllocError, Global};
 use std::mem::ManuallyDrop;
 use std::sync::Arc;
@@ -134,7 +122,7 @@ fn serving(owner: ServerId, admitted: bool, generation: u64) -> Record {
     }
 }
 
-fn front(shard: ShardId, generation: u64) -> Front {
+fn front_at(shard: ShardId, generation: u64) -> Front {
     Front { shard, generation }
 }
 
@@ -164,7 +152,7 @@ fn stale_pass_looks(rt: HostRuntime) -> Result<(), Fail> {
     assert_eq!(rt; board.look(&mut second, k), admitted);
     let busy = ChangeRefusal::Busy(admitted);
     assert_eq!(rt; pause(&board, &mut chair, k), Some(Err(busy)));
-    assert_eq!(rt; board.finish(&mut first, permit), front(k, 3));
+    assert_eq!(rt; board.finish(&mut first, permit), front_at(k, 3));
     let last = serving(one, false, 3);
     assert_eq!(rt; board.look(&mut second, k), last);
     let spent = AdmitRefusal::Refused(AdmitFault::Spent, last);
@@ -186,13 +174,20 @@ fn body_comes_home(rt: HostRuntime) -> Result<(), Fail> {
         .ok()
         .ok_or("a board")?;
     assert_eq!(rt; assign(&board, &mut chair, k, one), Some(Ok(())));
+    let request = put_of(rt.alloc()).ok_or("a request")?;
     let mut pass = board.pass(Some(one));
-    let applied = put(&board, &mut pass, rt.alloc(), k);
-    assert_eq!(rt; applied, Some(front(k, 3)));
+    let Ok(mut permit) = board.admit(&mut pass, k, Mode::Direct) else {
+        return Err("the pass is admitted".into());
+    };
+    let front = match permit.body().apply(request) {
+        Ok(_reply) => board.finish(&mut pass, permit),
+        Err((_request, _fault)) => board.finish(&mut pass, permit),
+    };
+    assert_eq!(rt; front, front_at(k, 3));
     let Ok(permit) = board.admit(&mut pass, k, Mode::Direct) else {
         return Err("the pass is admitted again".into());
     };
-    assert_eq!(rt; board.finish(&mut pass, permit), front(k, 5));
+    assert_eq!(rt; board.finish(&mut pass, permit), front_at(k, 5));
     let rows = board.close(chair);
     assert_eq!(rt; rows.len(), 1);
     assert_eq!(rt; rows[0].0, serving(one, false, 5));

@@ -1,7 +1,7 @@
 use Rattle.std.proofs.Common.{◌≡◌, ◌<◌, List, [], ◌∷◌, sym, ap, ◌∙◌, subst, arith}
 use Rattle.std.specs.Prelude.{Option, Some, None}
 use mathlib.Core.Option.{none}
-use Rattle.atomic_table.specs.Table.{Allows, rest, step}
+use Rattle.atomic_table.specs.Table.{Allows, step}
 use Rattle.sm_ownership.specs.declared.entry.Kind.TheVariants.{Done}
 use Rattle.sm_ownership.specs.History.{after_done, kept, kept_of}
 use Rattle.sm_word.specs.Word.{word_of}
@@ -9,7 +9,7 @@ use Rattle.sm_rule.specs.Admissions.{beyond}
 use Rattle.sm_rule.specs.Rule.{Rule}
 use Rattle.sm_rule.specs.Steps.{Stored}
 use Rattle.sm_rule.specs.Views.{list_held, list_with}
-use Rattle.sm_rule.proofs.Keeping.{beyond_with_gained, held_within, list_is, low_key, slot_held, store_allowed}
+use Rattle.sm_rule.proofs.Keeping.{beyond_with_gained, carries_body, held_within, list_is, low_key, slot_held, store_allowed}
 use Rattle.sm_rule.proofs.board.Board.finish_as.Goals as goal
 
 pub store-requires : goal.store-requires
@@ -27,7 +27,7 @@ store-requires g c =
     let same = ap (λ p. p.board.limits.count) of_pass ∙ ap (λ b. b.limits.count) board in
     let slots = c.pass.invariant.1 ∙ slot_held id view c.args.pass.now c.args.permit of_pass c.requires.permit in
     let out = c.exchange.ensures in
-    let carries = out.3 ∙ ap (λ carried. (view, (c.index-at.result, Some c.permit.inside.body) ∷ rest carried)) slots in
+    let carries = carries_body c.exchange.new.seat.me view _ c.index-at.result _ c.permit.inside.body out.3 slots in
     let key = c.self.inside.table.shared.key in
     let gains : (request : Option g.row.S-Request.Denot) × (g.S.Service.requests c.permit.inside.body ≡ list_with (list_held c.args.pass.now.held) request) = (c.requires.body.0, ap g.S.Service.requests body ∙ c.requires.body.1) in
     let allowed = store_allowed id view c.args.pass.now c.args.permit of_pass c.requires.permit g.S.Service.requests key c.self.inside.table.shared.table_id.slots c.exchange.new.seat.id c.index-at.result c.done_word-word.result c.permit.inside.body c.exchange.new.seat.me

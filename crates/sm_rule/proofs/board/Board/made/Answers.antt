@@ -1,6 +1,6 @@
 use Rattle.std.proofs.Common.{◌≡◌, ap, sym, length, replicate, ◌∙◌, arith}
 use Rattle.sm_rule.proofs.Keeping.{begins}
-use Rattle.sm_rule.proofs.board.Board.make.Goals as goal
+use Rattle.sm_rule.proofs.board.Board.made.Goals as goal
 
 pub new-requires : goal.new-requires
 new-requires g c =

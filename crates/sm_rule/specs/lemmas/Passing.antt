@@ -24,6 +24,12 @@ grows_grows limits number one two three added first second = (
   second.3,
 )
 
+-- the same where the second says it of other limits and another number, which are the first's
+pub grows_on : {Q : Type 0} (limits same_limits : Limits) (number same_number : ℕ) (one two three : List (Entry Q)) (added : ℕ → List (Entry Q)) → same_limits ≡ limits → same_number ≡ number → Grows limits number one two [] → Grows same_limits same_number two three (added same_number) → Grows limits number one three (added number)
+grows_on limits same_limits number same_number one two three added limits_are number_is first second =
+    grows_grows limits number one two three (added number) first
+    (subst (λ (pair : Limits × ℕ). Grows pair.0 pair.1 two three (added pair.1)) (λ i. (limits_are i, number_is i)) second)
+
 pub grows_begins : {Q : Type 0} (limits : Limits) (number : ℕ) (before after added : List (Entry Q)) → Grows limits number before after added → Begins before after
 grows_begins limits number before after added grows = (grows.0 ++ added, grows.1 ∙ append_assoc before grows.0 added)
 
@@ -41,17 +47,18 @@ module _ {Q : Type 0} (p q r : PassValue Q) (first : PassLooks p q) where
   server_stays : q.server ≡ p.server
   server_stays = ap (λ (pass : PassValue Q). pass.server) first.1
 
+  grows_from : (added : ℕ → List (Entry Q)) → Grows q.board.limits q.number q.seen r.seen (added q.number) → Grows p.board.limits p.number p.seen r.seen (added p.number)
+  grows_from added second =
+      grows_on p.board.limits q.board.limits p.number q.number p.seen q.seen r.seen added (ap (λ (board : BoardValue). board.limits) board_stays) number_stays first.0 second
+
   -- a look, and then another
   pub looks_looks : PassLooks q r → PassLooks p r
-  looks_looks second =
-      let grows = subst (λ (pair : BoardValue × ℕ). Grows pair.0.limits pair.1 q.seen r.seen []) (λ i. (board_stays i, number_stays i)) second.0 in
-      (grows_grows p.board.limits p.number p.seen q.seen r.seen [] first.0 grows, second.1 ∙ ap (λ (pass : PassValue Q). pass_seeing pass r.seen) first.1)
+  looks_looks second = (grows_from (λ _. []) second.0, second.1 ∙ ap (λ (pass : PassValue Q). pass_seeing pass r.seen) first.1)
 
   -- a look, and then an entry of one's own
   pub looks_adds : (shard : ℕ) (kind : Kind Q) → PassAdds q shard kind r → PassAdds p shard kind r
   looks_adds shard kind second =
-      let grows = subst (λ (pair : BoardValue × ℕ). Grows pair.0.limits pair.1 q.seen r.seen (entry_of pair.1 shard kind ∷ [])) (λ i. (board_stays i, number_stays i)) second.0 in
-      (grows_grows p.board.limits p.number p.seen q.seen r.seen _ first.0 grows, second.1 ∙ ap (λ (pass : PassValue Q). pass_adding pass shard kind r.seen) first.1)
+      (grows_from (λ number. entry_of number shard kind ∷ []) second.0, second.1 ∙ ap (λ (pass : PassValue Q). pass_adding pass shard kind r.seen) first.1)
 
   -- a look, and then an admission
   pub looks_admits : (shard : ℕ) (mode : Mode) → PassAdmitted q shard mode r → PassAdmitted p shard mode r

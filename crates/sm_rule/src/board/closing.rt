@@ -1,15 +1,35 @@
-//! Taking a closed table apart.
+//! The end of a board.
 ghost use Rattle.core.specs.Mem.Slots.{IsFull, slots_items, slots_len};
 ghost use Rattle.std.specs.Prelude.{◌≡◌, ◌≤◌, [], None, length, vec_capacity, if◌then◌else◌};
-ghost use Rattle.sm_rule.specs.Closing.{AreTaken, AreWords};
+ghost use Rattle.sm_rule.specs.Closing.{AreTaken, AreWords, WasClosed};
 
+use super::Board;
+use crate::chair::Chair;
 use atomic_table::Closed;
+use sm_body::service::Service;
 use sm_ownership::record::Record;
 use sm_word::word::record_of_word;
 use std::alloc::Global;
 
-/// Each shard's record, and its body where it isn't admitted.
-pub(crate) fn emptied<S: Drop>(
+impl<S: Service> Board<S> {
+    /// Ends the board: each shard's record, and the body of each idle one, after one legal history that extends what the chair
+    /// had seen by entries of passes. The body of a shard whose permit was never spent isn't there.
+    pub fn close(self, chair: Chair<S>) -> Vec<(Record, Option<S>)>
+        requires board { chair.board ≡ self }
+        ensures { WasClosed S.requests chair result.items }
+    {
+        let Board { table, limits: _ } = self;
+        let Chair {
+            seat,
+            stands: _,
+            room,
+        } = chair;
+        emptied(table.close_with(seat), room)
+    }
+}
+
+// Each shard's record, and its body where it isn't admitted.
+fn emptied<S: Drop>(
     mut closed: Closed<Option<S>, Global>,
     mut rows: Vec<(Record, Option<S>)>,
 ) -> Vec<(Record, Option<S>)>

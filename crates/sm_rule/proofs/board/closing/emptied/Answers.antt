@@ -7,7 +7,7 @@ use Rattle.core.specs.Mem.Slots.{IsFull, slots_filled, slots_items, slots_len}
 use Rattle.sm_ownership.specs.declared.record.Record.{Record}
 use Rattle.sm_rule.specs.Closing.{AreTaken, IsTaken}
 use Rattle.sm_rule.proofs.Ending.{taken_pushed, unset, word_taken}
-use Rattle.sm_rule.proofs.closing.emptied.Goals as goal
+use Rattle.sm_rule.proofs.board.closing.emptied.Goals as goal
 
 pub word-requires : goal.word-requires
 word-requires g c =

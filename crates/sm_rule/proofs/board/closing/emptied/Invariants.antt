@@ -3,7 +3,7 @@ use Rattle.std.specs.Prelude.{vec_capacity}
 use Rattle.core.specs.Mem.Slots.{slots_filled, slots_items, slots_len}
 use Rattle.core.specs.Mem.Slots.Ownership.{Filled}
 use Rattle.sm_rule.specs.Closing.{AreTaken}
-use Rattle.sm_rule.proofs.closing.emptied.Given as goal
+use Rattle.sm_rule.proofs.board.closing.emptied.Given as goal
 
 abbrev pub invariant-loop-shard : goal.invariant-loop-shard
 invariant-loop-shard g l =

@@ -1,0 +1,166 @@
+//! Admissions of passes to shards, and their ends.
+ghost use Rattle.std.specs.Prelude.{◌≡◌, ◌<◌, Option, Some, None, IfErr, IfOk, OnOk, [], ◌∷◌, unwrap_or};
+ghost use Rattle.sm_ownership.specs.declared.entry.Kind.TheVariants.{Admit, Done};
+ghost use Rattle.sm_ownership.specs.History.{kept};
+ghost use Rattle.sm_rule.specs.Admissions.{HoldsPermit, PassAdmitted, RefusedBy, beyond, fault_of};
+ghost use Rattle.sm_rule.specs.Passes.{PassAdds, PassLooks, record_of};
+ghost use Rattle.sm_rule.specs.Views.{list_held, list_with};
+
+use super::Board;
+use crate::admit_refusal::AdmitRefusal;
+use crate::pass::Pass;
+use crate::permit::{Front, Permit};
+use crate::rule::{Asks, Store};
+use crate::view::View;
+use atomic_table::Seat;
+use sm_body::service::Service;
+use sm_ownership::admit_fault::AdmitFault;
+use sm_ownership::mode::Mode;
+use sm_ownership::record::Record;
+use sm_ranges::server_id::ServerId;
+use sm_ranges::shard_id::ShardId;
+use sm_ranges::stand::Stand;
+use sm_word::word::{admit_word, done_word};
+use std::marker::Brand;
+
+impl<S: Service> Board<S> {
+    /// The first reason for which a record of this board doesn't admit the server for a request that came so, if any.
+    pub fn refusal(
+        &self,
+        state: &Record,
+        server: Option<ServerId>,
+        mode: Mode,
+    ) -> Option<AdmitFault>
+        ensures { result ≡ fault_of self.now.limits.ceiling state.now server mode }
+    {
+        match server {
+            Some(server) => state.admit_fault(server, mode, self.limits.ceiling),
+            None => match state.stand {
+                Stand::Vacant => Some(AdmitFault::Vacant),
+                Stand::Paused(_) => Some(AdmitFault::Paused),
+                _ => Some(AdmitFault::NotExecutor),
+            },
+        }
+    }
+
+    /// Admits the pass to the shard, for a request that came to its server so, and gives the permit with the shard's body,
+    /// which keeps what was kept for the shard; or answers the first fault that applies to the record read, or that it was
+    /// overtaken. A refusal adds no entry of the pass. It takes one load and at most one exchange, and waits for nobody.
+    #[inline(always)]
+    pub fn admit(
+        &self,
+        pass: &mut Pass<S>,
+        k: ShardId,
+        mode: Mode,
+    ) -> Result<Permit<S>, AdmitRefusal>
+        requires board { pass.old.board ≡ self.now }
+        requires shard { k < self.now.limits.count }
+        requires free { pass.old.held ≡ None }
+        ensures admitted { OnOk result (PassAdmitted pass.old k mode pass.new) }
+        ensures permit { IfOk result (λ permit. (permit.shard ≡ k) × HoldsPermit pass.new permit) }
+        ensures body { IfOk result (λ permit. S.requests permit.body ≡ kept pass.new.seen k) }
+        ensures held { IfOk result (λ permit. S.requests permit.body ≡ list_held pass.new.held) }
+        ensures refused { IfErr result (λ refusal. PassLooks pass.old pass.new × RefusedBy pass.old pass.new k mode refusal) }
+    {
+        self.admit_as::<Brand>(pass, k, mode)
+    }
+
+    // A call would pass the permit through memory between two atomic steps, which wait for that.
+    #[inline(always)]
+    fn admit_as<B: Asks<S::Request>>(
+        &self,
+        pass: &mut Pass<S>,
+        k: ShardId,
+        mode: Mode,
+    ) -> Result<Permit<S>, AdmitRefusal>
+        requires board { pass.old.board ≡ self.now }
+        requires shard { k < self.now.limits.count }
+        requires free { pass.old.held ≡ None }
+        requires kind { B.kind ≡ Admit (unwrap_or pass.old.server 0) mode }
+        ensures admitted { OnOk result (PassAdmitted pass.old k mode pass.new) }
+        ensures permit { IfOk result (λ permit. (permit.shard ≡ k) × HoldsPermit pass.new permit) }
+        ensures body { IfOk result (λ permit. S.requests permit.body ≡ kept pass.new.seen k) }
+        ensures held { IfOk result (λ permit. S.requests permit.body ≡ list_held pass.new.held) }
+        ensures refused { IfErr result (λ refusal. PassLooks pass.old pass.new × RefusedBy pass.old pass.new k mode refusal) }
+    {
+        let (word, read) = self.load(&mut pass.seat, k, pass.server);
+        match self.refusal(&read, pass.server, mode) {
+            Some(fault) => return Err(AdmitRefusal::Refused(fault, read)),
+            None => {}
+        }
+        let state = Record {
+            stand: read.stand,
+            admitted: true,
+            generation: read.generation + 1,
+        };
+        let next = admit_word(word);
+        match self.exchange::<B>(&mut pass.seat, k, &read, &state, word, next) {
+            Ok(()) => {}
+            Err(found) => return Err(AdmitRefusal::Raced { read, found }),
+        }
+        let body = self.taken(&mut pass.seat, k);
+        Ok(Permit {
+            shard: k,
+            state,
+            word: next,
+            body,
+        })
+    }
+
+    // The body out of the slot that the seat has taken.
+    fn taken(&self, seat: &mut Seat<Option<S>, View<S::Request>>, k: ShardId) -> S
+        requires table { seat.old.table_id ≡ self.now.id }
+        requires slot { (body : S) × (seat.old.me.1 ≡ (k, Some body) ∷ []) }
+        ensures table { seat.new.table_id ≡ seat.old.table_id }
+        ensures body { seat.old.me.1 ≡ (k, Some result) ∷ [] }
+        ensures slot { seat.new.me ≡ (seat.old.me.0, (k, None) ∷ []) }
+    {
+        let Some(body) = self.table.shared.exchange(seat, k.index(), None) else {
+            unreachable!()
+        };
+        body
+    }
+
+    /// Ends the admission of the permit, and gives its body back. The entry keeps the request that the body has gained
+    /// since the admission, or none. It always succeeds, by one store.
+    pub fn finish(&self, pass: &mut Pass<S>, permit: Permit<S>) -> Front
+        requires board { pass.old.board ≡ self.now }
+        requires permit { HoldsPermit pass.old permit }
+        requires body { (request : Option S.Request) × (S.requests permit.body ≡ list_with (list_held pass.old.held) request) }
+        ensures done { (request : Option S.Request) → S.requests permit.body ≡ list_with (list_held pass.old.held) request
+            → PassAdds pass.old permit.shard (Done request) pass.new }
+        ensures kept { kept pass.new.seen permit.shard ≡ S.requests permit.body }
+        ensures board { pass.new.board ≡ pass.old.board }
+        ensures free { pass.new.held ≡ None }
+        ensures shard { result.shard ≡ permit.shard }
+        ensures generation { result.generation ≡ (record_of pass.new permit.shard).generation }
+    {
+        self.finish_as::<Brand>(pass, permit)
+    }
+
+    fn finish_as<B: Asks<S::Request>>(&self, pass: &mut Pass<S>, permit: Permit<S>) -> Front
+        requires board { pass.old.board ≡ self.now }
+        requires permit { HoldsPermit pass.old permit }
+        requires body { (request : Option S.Request) × (S.requests permit.body ≡ list_with (list_held pass.old.held) request) }
+        requires kind { B.kind ≡ Done (beyond (list_held pass.old.held) (S.requests permit.body)) }
+        ensures done { PassAdds pass.old permit.shard (Done (beyond (list_held pass.old.held) (S.requests permit.body))) pass.new }
+        ensures kept { kept pass.new.seen permit.shard ≡ S.requests permit.body }
+        ensures shard { result.shard ≡ permit.shard }
+        ensures generation { result.generation ≡ (record_of pass.new permit.shard).generation }
+    {
+        let Permit {
+            shard,
+            state,
+            word,
+            body,
+        } = permit;
+        let generation = state.generation + 1;
+        let word = done_word(word);
+        let at = shard.index();
+        let _ = self.table.shared.exchange(&mut pass.seat, at, Some(body));
+        self.table
+            .shared
+            .store::<Store<B>>(&mut pass.seat, at, word);
+        Front { shard, generation }
+    }
+}

@@ -1,0 +1,102 @@
+//! Changes of stands by the chair.
+ghost use Rattle.std.specs.Prelude.{◌≡◌, ◌<◌, ◌≤◌, false, None, IfErr, IfOk, OnOk};
+ghost use Rattle.sm_ownership.specs.declared.entry.Kind.TheVariants.{Change as Changed};
+ghost use Rattle.sm_ownership.specs.History.{after_change};
+ghost use Rattle.sm_ownership.specs.Rules.{phase_fault};
+ghost use Rattle.sm_word.specs.Known.{NewlyNamesServer};
+ghost use Rattle.sm_rule.specs.Changes.{ChairAdds, ChairLooks, Forbids, NotMade, record_at_chair};
+
+use super::Board;
+use crate::chair::Chair;
+use crate::change_refusal::ChangeRefusal;
+use crate::rule::Asks;
+use sm_body::service::Service;
+use sm_ownership::change::Change;
+use sm_ownership::record::Record;
+use sm_ranges::shard_id::ShardId;
+use sm_word::word::pack;
+use std::marker::Brand;
+
+impl<S: Service> Board<S> {
+    /// Makes the change, which the shard's stand in all that the chair has seen allows; or answers that the shard's
+    /// generations are spent, that it is admitted, or that it was overtaken. A refusal adds no entry of the chair. It takes
+    /// one load and at most one exchange, and waits for nobody.
+    pub fn change(
+        &self,
+        chair: &mut Chair<S>,
+        k: ShardId,
+        change: Change,
+    ) -> Result<(), ChangeRefusal>
+        requires board { chair.old.board ≡ self.now }
+        requires shard { k < self.now.limits.count }
+        requires fits { phase_fault (record_at_chair chair.old k).stand change ≡ None }
+        ensures made { OnOk result (ChairAdds chair.old k change chair.new) }
+        ensures refused { IfErr result (λ refusal. ChairLooks chair.old chair.new × NotMade chair.old chair.new k refusal) }
+    {
+        self.change_as::<Brand>(chair, k, change)
+    }
+
+    fn change_as<B: Asks<S::Request>>(
+        &self,
+        chair: &mut Chair<S>,
+        k: ShardId,
+        change: Change,
+    ) -> Result<(), ChangeRefusal>
+        requires board { chair.old.board ≡ self.now }
+        requires shard { k < self.now.limits.count }
+        requires fits { phase_fault (record_at_chair chair.old k).stand change ≡ None }
+        requires kind { B.kind ≡ Changed change }
+        ensures made { OnOk result (ChairAdds chair.old k change chair.new) }
+        ensures refused { IfErr result (λ refusal. ChairLooks chair.old chair.new × NotMade chair.old chair.new k refusal) }
+    {
+        let (word, read) = self.load(&mut chair.seat, k, None);
+        let next = self.changed(&read, change)?;
+        let new = pack(next);
+        match self.exchange::<B>(&mut chair.seat, k, &read, &next, word, new) {
+            Ok(()) => {
+                chair.stands[k.index()] = next.stand;
+                Ok(())
+            }
+            Err(found) => Err(ChangeRefusal::Raced { read, found }),
+        }
+    }
+
+    // The record after the change, or why the record read doesn't allow one now.
+    fn changed(&self, read: &Record, change: Change) -> Result<Record, ChangeRefusal>
+        requires fits { phase_fault read.now.stand change ≡ None }
+        requires below { read.now.generation ≤ self.now.limits.ceiling }
+        ensures known { OnOk result (NewlyNamesServer change) }
+        ensures idle { OnOk result (read.now.admitted ≡ false) }
+        ensures below { OnOk result (read.now.generation < self.now.limits.ceiling) }
+        ensures next { IfOk result (λ next. next ≡ after_change read.now change) }
+        ensures refused { IfErr result (λ refusal. Forbids self.now.limits.ceiling read.now refusal) }
+    {
+        if read.generation >= self.limits.ceiling {
+            return Err(ChangeRefusal::Spent(*read));
+        }
+        if read.admitted {
+            return Err(ChangeRefusal::Busy(*read));
+        }
+        names_servers(&change);
+        let Ok(stand) = change.apply_to(read.stand) else {
+            unreachable!()
+        };
+        Ok(Record {
+            stand,
+            admitted: false,
+            generation: read.generation + 1,
+        })
+    }
+}
+
+// The servers that a change names are numbered as servers are. Reading the number tells the proof so, and does nothing else.
+fn names_servers(change: &Change)
+    ensures { NewlyNamesServer change.now }
+{
+    match change {
+        Change::Assign(server) | Change::PrepareAddShard(server) | Change::Reassign(server) => {
+            let _ = server.number();
+        }
+        _ => {}
+    }
+}

@@ -1,0 +1,93 @@
+//! Making a board.
+ghost use Rattle.std.specs.Prelude.{◌≡◌, ◌<◌, ◌≤◌, ◌^◌, All, IfOk, IfSome, IfNone, IsOkUnless, [], Some, length, map, replicate};
+ghost use Rattle.sm_rule.specs.Boards.{make_fault};
+
+use super::Board;
+use crate::chair::Chair;
+use crate::limits::Limits;
+use crate::make_fault::MakeFault;
+use atomic_table::Table;
+use sm_body::service::Service;
+use sm_ranges::limits::MAX_SHARDS;
+use sm_ranges::stand::Stand;
+use std::alloc::{AllocError, Global};
+
+impl<S: Service> Board<S> {
+    /// A board of as many vacant shards as bodies (1 to 4,096), which keep nothing yet, whose generations stay at or below the
+    /// ceiling (3 to 2^36 - 1), and its chair; or the first fault that applies, `NoMemory` only where no other does. The
+    /// bodies are dropped then.
+    pub fn make(
+        alloc: Global,
+        bodies: Vec<S>,
+        ceiling: u64,
+    ) -> Result<(Board<S>, Chair<S>), MakeFault>
+        requires empty { All (λ body. S.requests body ≡ []) bodies.items }
+        ensures count { IfOk result (λ made. made.0.limits.count ≡ length bodies.items) }
+        ensures ceiling { IfOk result (λ made. made.0.limits.ceiling ≡ ceiling) }
+        ensures chair { IfOk result (λ made. made.1 ≡ record { board = made.0; seen = [] }) }
+        ensures fault { IfSome (make_fault (length bodies.items) ceiling) (λ fault. result ≡ Err fault) }
+        ensures no_fault { IfNone (make_fault (length bodies.items) ceiling) (IsOkUnless result MakeFault.NoMemory) }
+    {
+        if let Some(fault) = first_fault(bodies.len(), ceiling) {
+            return Err(fault);
+        }
+        match Board::made(alloc, bodies, ceiling) {
+            Ok(made) => Ok(made),
+            Err(_) => Err(MakeFault::NoMemory),
+        }
+    }
+
+    // The board and its chair, where their sizes have no fault.
+    fn made(alloc: Global, bodies: Vec<S>, ceiling: u64) -> Result<(Board<S>, Chair<S>), AllocError>
+        requires empty { All (λ body. S.requests body ≡ []) bodies.items }
+        requires count { (1 ≤ length bodies.items) × (length bodies.items ≤ 4096) }
+        requires ceiling { ceiling < 2 ^ 36 }
+        ensures count { IfOk result (λ made. made.0.limits.count ≡ length bodies.items) }
+        ensures ceiling { IfOk result (λ made. made.0.limits.ceiling ≡ ceiling) }
+        ensures chair { IfOk result (λ made. made.1 ≡ record { board = made.0; seen = [] }) }
+    {
+        let count = bodies.len();
+        let limits = Limits {
+            count: count as u64,
+            ceiling,
+        };
+        let stands = vec![in alloc; Stand::Vacant; count]?;
+        let room = Vec::with_capacity(alloc, count)?;
+        let words = zeros(alloc, count)?;
+        let slots = homes(alloc, bodies)?;
+        let Ok((table, seat)) = Table::new(alloc, words.as_slice(), slots, &limits) else {
+            return Err(AllocError);
+        };
+        Ok((Board { table, limits }, Chair { seat, stands, room }))
+    }
+}
+
+// The first reason, other than want of memory, for which there is no board of so many shards below this ceiling.
+fn first_fault(count: usize, ceiling: u64) -> Option<MakeFault>
+    ensures fault { result ≡ make_fault count ceiling }
+    ensures sizes { IfNone result ((1 ≤ count) × (count ≤ 4096) × (ceiling < 2 ^ 36)) }
+{
+    if count == 0 {
+        return Some(MakeFault::NoShard);
+    }
+    if count > MAX_SHARDS {
+        return Some(MakeFault::TooMany);
+    }
+    if ceiling < 3 || ceiling > 68_719_476_735 {
+        return Some(MakeFault::BadCeiling);
+    }
+    None
+}
+
+fn zeros(alloc: Global, count: usize) -> Result<Vec<u64>, AllocError>
+    ensures { IfOk result (λ words. words.items ≡ replicate count 0) }
+{
+    Ok(vec![in alloc; 0; count]?)
+}
+
+// The bodies, each in a slot of its own.
+fn homes<S: Drop>(alloc: Global, bodies: Vec<S>) -> Result<Vec<Option<S>>, AllocError>
+    ensures { IfOk result (λ slots. slots.items ≡ map Some bodies.items) }
+{
+    bodies.into_iter().map(Some).collect(alloc)
+}
