@@ -1,6 +1,6 @@
 -- The steps on a board keep its rule.
-use Rattle.std.proofs.Common.{◌≡◌, ◌≢◌, ℕ, zero, suc, ◌+◌, ◌<◌, ◌≤◌, ◌^◌, Bool, true, false, not, ◌&&◌, List, [], ◌∷◌, ◌++◌, length, replicate, refl, sym, ap, ◌∙◌, subst, arith, le_refl, length-append, inl, inr, ◌⊎◌, ⊎_elim}
-use Rattle.std.specs.Prelude.{All, IfSome, Option, Some, None, map, nat_lt, reverse, slice_index, slice_set, ◌==◌}
+use Rattle.std.proofs.Common.{◌≡◌, ◌≢◌, ℕ, zero, suc, ◌<◌, ◌≤◌, ◌^◌, true, false, not, List, [], ◌∷◌, ◌++◌, length, replicate, refl, sym, ap, ◌∙◌, subst, arith, le_refl, length-append, inl, inr, ◌⊎◌, ⊎_elim}
+use Rattle.std.specs.Prelude.{All, IfSome, Option, Some, None, map, reverse, slice_index, slice_set, ◌==◌}
 use mathlib.Core.Option as math
 use Rattle.std.specs.Option.{option_map}
 use Rattle.std.proofs.lemmas.Bool.{and_from, and_parts, cases_eq, eq-eqb, lt-ltb, ne_eqb, not-true, true≢false}
@@ -11,7 +11,7 @@ use mathlib.Core.Option.{some, none, some-injective, some-ne-none}
 use lib.ListN.{get_elem?}
 use lib.LanesLaws.{map-replicate}
 use prog.Atomic.{either}
-use Rattle.atomic_table.specs.Table.{State, Me, Step, step, Act, keeps, takes, gives, Enters, Allows, Valid, carried_after, homes_after, rest, stepped, opening}
+use Rattle.atomic_table.specs.Table.{State, Me, step, Act, keeps, takes, gives, Enters, Allows, Valid, carried_after, homes_after, rest, stepped, opening}
 use Rattle.atomic_table.specs.Seated.{TableId}
 use Rattle.atomic_table.proofs.Lists.{at_set, exchanged, set_else, set_here}
 use Rattle.sm_ownership.specs.declared.change.Change.{Change}
@@ -20,8 +20,8 @@ use Rattle.sm_ownership.specs.declared.entry.Kind.{Kind}
 use Rattle.sm_ownership.specs.declared.entry.Kind.TheVariants.{Change as Changed, Admit, Done}
 use Rattle.sm_ownership.specs.declared.mode.Mode.{Mode}
 use Rattle.sm_ownership.specs.declared.record.Record.{Record}
-use Rattle.sm_ownership.specs.lemmas.Growth.{kept-push_none, kept-push_other, kept-push_some, length-table_of, record_at-empty, record_at-latest, record_at-latest_other}
-use Rattle.sm_ownership.specs.History.{IsLegal, IsLegalLatest, acts_as, admit_fits, admits_only, after_done, after_kind, change_fits, fits, is_admission_of, kept, kept_of, kind_fits, latest_of, record_at, table_of, table_of_latest, vacant, NoneBy}
+use Rattle.sm_ownership.specs.lemmas.Growth.{kept-push_none, kept-push_other, kept-push_some, length-table_of, record_at-latest, record_at-latest_other}
+use Rattle.sm_ownership.specs.History.{IsLegal, IsLegalLatest, acts_as, admit_fits, admits_only, after_done, after_kind, change_fits, fits, is_admission_of, kept, kept_of, kind_fits, latest_of, record_at, table_of_latest, vacant, NoneBy}
 use Rattle.sm_ownership.specs.lemmas.Lasting.{NoneBy-reverse, acts_as-none, acts_as-other, acts_as-own, admission_excludes, latest_of-other, next_record}
 use Rattle.sm_word.specs.lemmas.Histories.{well_formed}
 use Rattle.sm_word.specs.Known.{AreKnown, KnownKind}
@@ -30,11 +30,11 @@ use Rattle.sm_word.specs.lemmas.Words.{word_once}
 use Rattle.sm_rule.specs.declared.limits.Limits.{Limits}
 use Rattle.sm_rule.specs.declared.view.Held.{Held}
 use Rattle.sm_rule.specs.declared.view.View.{View}
-use Rattle.sm_rule.specs.Admissions.{HoldsPermit, PermitValue, beyond, held_of}
+use Rattle.sm_rule.specs.Admissions.{HoldsPermit, PermitValue, beyond}
 use Rattle.sm_rule.specs.Passes.{PassValue, pass_value, slots_of}
 use Rattle.sm_rule.specs.Rule.{AreHome, Fits, Holds, HoldsShard, Rule, table_in}
 use Rattle.sm_rule.specs.Steps.{Entered, Exchanged, IsFree, IsWordOf, Loaded, MayAdd, Stored, TakesBody, is_end}
-use Rattle.sm_rule.specs.Views.{Adds, Grows, Looks, adding, entry_of, held_after, list_held, list_with, newcomer, record_in, seeing}
+use Rattle.sm_rule.specs.Views.{Adds, Looks, adding, entry_of, held_after, list_held, list_with, newcomer, record_in, seeing}
 
 -- the key of a board has its ceiling
 pub low_key : (key limits : Limits) → key ≡ limits → limits.ceiling < 2 ^ 36 → key.ceiling < 2 ^ 36

@@ -1,14 +1,13 @@
 -- What the steps of one call tell together, and what they ask.
-use Rattle.std.proofs.Common.{◌≡◌, ◌≢◌, ℕ, ◌+◌, ◌<◌, ◌≤◌, ◌^◌, Bool, true, false, not, ◌&&◌, List, [], ◌∷◌, ◌++◌, refl, sym, ap, ◌∙◌, subst, arith, append_assoc, ⊎_elim}
-use Rattle.std.specs.Prelude.{IfSome, Option, Some, None, is_none, is_some, length, nat_le, nat_lt, slice_index_or, slice_set, ◌==◌}
-use Rattle.std.proofs.lemmas.Bool.{and_from, and_parts, cases_eq, eq-eqb, leb-true, lt-ltb, ne_eqb, not-true, true≢false}
+use Rattle.std.proofs.Common.{◌≡◌, ◌≢◌, ℕ, ◌+◌, ◌<◌, ◌≤◌, ◌^◌, true, false, not, ◌&&◌, List, [], ◌∷◌, ◌++◌, refl, sym, ap, ◌∙◌, subst, arith, ⊎_elim}
+use Rattle.std.specs.Prelude.{IfSome, Option, Some, None, is_none, is_some, length, nat_le, slice_index_or, slice_set, ◌==◌}
+use Rattle.std.proofs.lemmas.Bool.{and_from, and_parts, cases_eq, eq-eqb, leb-true, lt-ltb, ne_eqb, not-true}
 use Rattle.std.proofs.lemmas.List.{append-nil, get_or-set_other, get_or-set_same, length-set}
 use Rattle.atomic_table.specs.Seated.{TableId}
 use Rattle.atomic_table.specs.Table.{rest}
 use Rattle.sm_ranges.specs.ServerId.{IsServer}
 use Rattle.sm_ranges.specs.declared.stand.Stand.{Stand}
 use Rattle.sm_ranges.specs.declared.stand.Stand.TheVariants.{Vacant, Serving, Prepared, Forwarding, Taken, Paused}
-use Rattle.sm_ownership.specs.declared.admit_fault.AdmitFault.{AdmitFault}
 use Rattle.sm_ownership.specs.declared.admit_fault.AdmitFault.TheVariants.{NotExecutor}
 use Rattle.sm_ownership.specs.declared.change.Change.{Change}
 use Rattle.sm_ownership.specs.declared.entry.Entry.{Entry}
@@ -19,7 +18,7 @@ use Rattle.sm_ownership.specs.declared.record.Record.{Record}
 use Rattle.sm_ownership.specs.lemmas.Ceilings.{within_ceiling}
 use Rattle.sm_ownership.specs.lemmas.Faults.{admit_fault-none, phase_fault-none}
 use Rattle.sm_ownership.specs.lemmas.Growth.{fits-push, legal_prefix, record_at-push_other}
-use Rattle.sm_ownership.specs.History.{IsLegal, acts_as, after_admit, after_done, kept, IsSameOrLater, NoneBy}
+use Rattle.sm_ownership.specs.History.{IsLegal, after_admit, after_done, kept, IsSameOrLater, NoneBy}
 use Rattle.sm_ownership.specs.lemmas.Lasting.{same_or_later, stand_stays}
 use Rattle.sm_ownership.specs.Rules.{accepts, admit_fault, fault_at, phase_fault, stand_after}
 use Rattle.sm_word.specs.lemmas.Histories.{formed_admit, formed_done}
@@ -32,7 +31,6 @@ use Rattle.sm_rule.specs.Boards.{BoardValue}
 use Rattle.sm_rule.specs.Changes.{ChairAdds, ChairLooks, ChairValue, IsChairView, chair_value}
 use Rattle.sm_rule.specs.Passes.{IsPassView, PassAdds, PassLooks, PassValue, pass_value, slots_of}
 use Rattle.sm_rule.specs.lemmas.Passing.{grows_on}
-use Rattle.sm_rule.specs.Rule.{Fits}
 use Rattle.sm_rule.specs.Steps.{IsWordOf, MayAdd, TakesBody}
 use Rattle.sm_rule.specs.Views.{Adds, Grows, Looks, adding, entry_of, held_after, record_in, seeing}
 use Rattle.sm_rule.proofs.Keeping.{same_some}

@@ -11,7 +11,6 @@ use Rattle.sm_ownership.specs.Rules.{admit_fault, fault_at}
 use Rattle.sm_rule.specs.declared.admit_refusal.AdmitRefusal.{AdmitRefusal}
 use Rattle.sm_rule.specs.declared.admit_refusal.AdmitRefusal.TheVariants.{Refused, Raced}
 use Rattle.sm_rule.specs.declared.limits.Limits.{Limits}
-use Rattle.sm_rule.specs.declared.view.Held.{Held}
 use Rattle.sm_rule.specs.Passes.{PassAdds, PassValue, record_of}
 use Rattle.sm_rule.specs.Views.{record_in}
 

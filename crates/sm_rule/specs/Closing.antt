@@ -1,5 +1,5 @@
 -- What the end of a board gives.
-use Rattle.std.specs.Prelude.{ℕ, true, false, ◌≡◌, ◌<◌, List, ◌++◌, Option, Some, None, length, if◌then◌else◌}
+use Rattle.std.specs.Prelude.{ℕ, true, false, ◌≡◌, List, ◌++◌, Option, Some, None, length, if◌then◌else◌}
 use mathlib.Core.Option.{some}
 use lib.ListN.{get_elem?}
 use Rattle.sm_ownership.specs.declared.entry.Entry.{Entry}

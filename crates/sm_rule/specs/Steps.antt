@@ -5,7 +5,7 @@ use Rattle.sm_ownership.specs.declared.entry.Entry.{Entry}
 use Rattle.sm_ownership.specs.declared.entry.Kind.{Kind}
 use Rattle.sm_ownership.specs.declared.entry.Kind.TheVariants.{Change as Changed, Admit, Done}
 use Rattle.sm_ownership.specs.declared.record.Record.{Record}
-use Rattle.sm_ownership.specs.History.{IsLegal, admits_only, after_kind, kept, kept_of, kind_fits, NoneBy}
+use Rattle.sm_ownership.specs.History.{IsLegal, admits_only, kept, kept_of, kind_fits, NoneBy}
 use Rattle.sm_word.specs.Known.{KnownKind}
 use Rattle.sm_word.specs.Word.{IsWellFormed, word_of}
 use Rattle.sm_rule.specs.declared.view.View.{View}

@@ -1,19 +1,18 @@
 -- What several calls with one pass tell together.
-use Rattle.std.proofs.Common.{◌≡◌, ◌≢◌, ℕ, ◌<◌, List, [], ◌∷◌, ◌++◌, refl, sym, ap, ◌∙◌, subst, append_assoc}
+use Rattle.std.proofs.Common.{◌≡◌, ◌≢◌, ℕ, List, [], ◌∷◌, ◌++◌, sym, ap, ◌∙◌, subst, append_assoc}
 use Rattle.std.specs.Prelude.{Option, Some, None}
 use Rattle.std.proofs.lemmas.List.{append-nil}
 use Rattle.std.proofs.lemmas.List.Elements.{All-append}
 use Rattle.sm_ownership.specs.declared.entry.Entry.{Entry}
 use Rattle.sm_ownership.specs.declared.entry.Kind.{Kind}
 use Rattle.sm_ownership.specs.declared.mode.Mode.{Mode}
-use Rattle.sm_ownership.specs.declared.record.Record.{Record}
 use Rattle.sm_rule.specs.declared.admit_refusal.AdmitRefusal.{AdmitRefusal}
 use Rattle.sm_rule.specs.declared.admit_refusal.AdmitRefusal.TheVariants.{Refused, Raced}
 use Rattle.sm_rule.specs.declared.limits.Limits.{Limits}
 use Rattle.sm_rule.specs.Admissions.{Begins, PassAdmitted, Races, RefusedBy, fault_of}
 use Rattle.sm_rule.specs.Boards.{BoardValue}
-use Rattle.sm_rule.specs.Passes.{PassAdds, PassLooks, PassValue, pass_adding, pass_seeing, record_of}
-use Rattle.sm_rule.specs.Views.{Grows, entry_of, record_in}
+use Rattle.sm_rule.specs.Passes.{PassAdds, PassLooks, PassValue, pass_adding, pass_seeing}
+use Rattle.sm_rule.specs.Views.{Grows, entry_of}
 
 -- what grows by entries of others, and then grows on
 pub grows_grows : {Q : Type 0} (limits : Limits) (number : ℕ) (one two three added : List (Entry Q)) → Grows limits number one two [] → Grows limits number two three added → Grows limits number one three added

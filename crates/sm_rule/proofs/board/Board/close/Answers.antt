@@ -1,5 +1,5 @@
-use Rattle.std.proofs.Common.{◌≡◌, ap, sym, subst, ◌∙◌}
-use Rattle.core.specs.Mem.Slots.{slots_items, slots_len}
+use Rattle.std.proofs.Common.{ap, sym, subst, ◌∙◌}
+use Rattle.core.specs.Mem.Slots.{slots_items}
 use Rattle.sm_rule.specs.Closing.{WasClosed}
 use Rattle.sm_rule.proofs.Ending.{are_words, was_closed}
 use Rattle.sm_rule.proofs.Keeping.{low_key}

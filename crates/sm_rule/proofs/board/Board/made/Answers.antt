@@ -1,4 +1,4 @@
-use Rattle.std.proofs.Common.{◌≡◌, ap, sym, length, replicate, ◌∙◌, arith}
+use Rattle.std.proofs.Common.{◌≡◌, length, ◌∙◌, arith}
 use Rattle.sm_rule.proofs.Keeping.{begins}
 use Rattle.sm_rule.proofs.board.Board.made.Goals as goal
 
