@@ -1,5 +1,6 @@
 -- What is published, and what is refused.
 use Rattle.std.specs.Prelude.{ℕ, Bool, false, Option, Some, None, nat_lt, nat_le, not, if◌then◌else◌, List, [], ◌∷◌, ◌++◌}
+use Rattle.atomic_table.specs.Seated.{TableId}
 use Rattle.sm_ownership.specs.declared.route.Route.{Route}
 use Rattle.sm_ownership.specs.Routes.{routes_of}
 use Rattle.sm_publish.specs.declared.publish_fault.PublishFault.{PublishFault}
@@ -9,6 +10,11 @@ use Rattle.sm_publish.specs.declared.publish_fault.PublishFault.TheVariants.{Unk
 pub record MapView : Type 0 where
   pub count : ℕ
   pub published : List Route
+
+-- a publisher: which table its map lies in, and the map
+pub record PublisherView : Type 0 where
+  pub table : TableId
+  pub map : MapView
 
 -- the map after one more publication
 abbrev pub with_route : MapView → Route → MapView

@@ -2,8 +2,14 @@
 use Rattle.std.specs.Prelude.{ℕ, ◌≡◌, List, ◌++◌}
 use mathlib.Core.Option.{some}
 use lib.ListN.{get_elem?}
+use Rattle.atomic_table.specs.Seated.{TableId}
 use Rattle.sm_ownership.specs.declared.route.Route.{Route}
 use Rattle.sm_publish.specs.Publishing.{MapView}
+
+-- a router: which table the map lies in that it reads, and the publications that it has seen there, in order
+pub record RouterView : Type 0 where
+  pub table : TableId
+  pub seen : List Route
 
 -- the publications begin with the earlier ones
 abbrev pub Extends : List Route → List Route → Type 0

@@ -13,26 +13,26 @@ use std::sync::Wait;
 
 /// The one that publishes routes. It is not `Drop`: end it by [`Publisher::end`].
 ///
-/// Contracts see it as its number of shards and what it has published, in order.
+/// Contracts see it as the table that its map lies in, its number of shards, and what it has published, in order.
 pub struct Publisher {
     writer: MapWriter,
 }
 
 impl Model for Publisher {
     ghost use Rattle.std.specs.Prelude.{◌≡◌, [], drop};
-    ghost use Rattle.sm_publish.specs.Publishing.{MapView};
+    ghost use Rattle.sm_publish.specs.Publishing.{PublisherView};
 
-    ghost Value = { MapView };
+    ghost Value = { PublisherView };
 
-    ghost view = { λ publisher. publisher.writer.desk.shown.value };
+    ghost view = { λ publisher. record { table = publisher.writer.desk.place.table_id; map = publisher.writer.desk.shown.value } };
 
     // Routers can see all that was published.
     ghost invariant = { λ publisher. drop publisher.writer.behind publisher.writer.log.items ≡ [] };
 }
 
 impl Publisher {
-    /// A publisher of routes for so many shards, and its routers, of which there is at least one and which have seen nothing.
-    /// All memory is taken first. It may wait only where a router finds no place at the map, of which a new one has enough.
+    /// A publisher of routes for so many shards, and the routers of its map, of which there is at least one and which have
+    /// seen nothing. It may wait only where a router finds no place at the map, of which a new one has enough.
     pub fn new<R: Wait>(
         rt: &R,
         alloc: Global,
@@ -40,8 +40,8 @@ impl Publisher {
         routers: usize,
     ) -> Result<(Publisher, Vec<Router>), AllocError>
         requires { (0 < routers) × (routers < 2 ^ 32) }
-        ensures publisher { IfOk result (λ made. made.0 ≡ record { count = count; published = [] }) }
-        ensures routers { IfOk result (λ made. made.1.items ≡ replicate routers []) }
+        ensures publisher { IfOk result (λ made. made.0.map ≡ record { count = count; published = [] }) }
+        ensures routers { IfOk result (λ made. made.1.items ≡ replicate routers (record { table = made.0.table; seen = [] })) }
     {
         let room = Vec::with_capacity(alloc, routers)?;
         let first = RouteMap::new(alloc, count)?;
@@ -59,12 +59,12 @@ impl Publisher {
     /// Publishes the route, or answers the first fault that applies; a refused route changes nothing.
     /// It may wait for routers that are reading.
     pub fn publish<R: Wait>(&mut self, rt: &R, route: Route) -> Result<(), PublishFault>
-        ensures published { OnOk result (self.new ≡ with_route self.old route) }
+        ensures published { OnOk result (self.new.map ≡ with_route self.old.map route) }
         ensures unchanged { OnErr result (self.new ≡ self.old) }
-        ensures fault { IfSome (publish_fault self.old route) (λ fault. result ≡ Err fault) }
+        ensures fault { IfSome (publish_fault self.old.map route) (λ fault. result ≡ Err fault) }
 
         // Only want of memory refuses a newer route of a shard.
-        ensures no_fault { IfNone (publish_fault self.old route) (IsOkUnless result PublishFault.NoMemory) }
+        ensures no_fault { IfNone (publish_fault self.old.map route) (IsOkUnless result PublishFault.NoMemory) }
     {
         let map = self.writer.published();
         if route.shard.index() >= map.count() {
@@ -96,7 +96,7 @@ fn routers_of(
     mut made: Vec<Router>,
 ) -> Result<Vec<Router>, AllocError>
     requires { (made.items ≡ []) × (count ≤ vec_capacity made) }
-    ensures { IfOk result (λ made. made.items ≡ replicate count []) }
+    ensures { IfOk result (λ made. made.items ≡ replicate count (record { table = writer.now.desk.place.table_id; seen = [] })) }
 {
     for _ in 0..count {
         let router = Router::new(writer.factory().reader()?);

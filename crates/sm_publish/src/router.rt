@@ -13,36 +13,34 @@ use std::marker::Model;
 
 /// A reader of the published map. What it reads may be stale, and it never goes back. It may move to another thread.
 ///
-/// Contracts see it as the publications that it has seen, in order.
+/// Contracts see it as the table that its map lies in, and the publications that it has seen there, in order.
 #[derive(Drop)]
 pub struct Router {
     reader: MapReader,
 }
 
 impl Model for Router {
-    ghost use Rattle.std.specs.Prelude.{List};
     ghost use Rattle.left_right.specs.Sides.{view as seen_by};
-    ghost use Rattle.sm_ownership.specs.declared.route.Route.{Route};
+    ghost use Rattle.sm_publish.specs.Seen.{RouterView};
 
-    ghost Value = { List Route };
+    ghost Value = { RouterView };
 
-    ghost view = { λ router. seen_by router.reader.place };
+    ghost view = { λ router. record { table = router.reader.place.table_id; seen = seen_by router.reader.place } };
 }
 
 impl Router {
     pub(crate) fn new(reader: MapReader) -> Router
-        ensures { result ≡ seen_by reader.place }
+        ensures { result ≡ record { table = reader.place.table_id; seen = seen_by reader.place } }
     {
         Router { reader }
     }
 
-    /// The published route of the key's shard, or none where nothing was published of it. It takes no memory and no lock.
-    ///
-    /// The route is the last one in the publications that the router has then seen, which begin with all that it
-    /// had seen before. Where the read is refused the answer is none, and nothing more is seen.
+    /// The route of the key's shard that was published last of those that the router has then seen, or none where it has
+    /// seen none. What it has seen begins with all that it had seen before. Where the read is refused the answer is none,
+    /// and nothing more is seen.
     pub fn route(&mut self, layout: &Layout, key: &[u8]) -> Option<Route>
-        ensures later { Extends self.new self.old }
-        ensures route { (result ≡ routes_of self.new (shard_of layout.now key.now)) ⊎ ((result ≡ None) × (self.new ≡ self.old)) }
+        ensures later { Extends self.new.seen self.old.seen }
+        ensures route { (result ≡ routes_of self.new.seen (shard_of layout.now key.now)) ⊎ ((result ≡ None) × (self.new.seen ≡ self.old.seen)) }
     {
         replace_with(&mut self.reader, layout.shard_of(key), read)
     }

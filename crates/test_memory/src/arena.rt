@@ -58,79 +58,75 @@ fn place_further(alloc: Global, arena: &mut Arena, count: usize) -> Result<(), A
     Ok(())
 }
 
+// Places the piece and then so many further ones, and tells whether it still reads the same.
+#[tactic(auto, using(sm_arena::specs::lemmas::Placing::placed_now))]
+fn reads_back(
+    alloc: Global,
+    arena: &mut Arena,
+    piece: &[u8],
+    further: usize,
+) -> Result<bool, AllocError> {
+    let span = arena.place(piece)?;
+    place_further(alloc, arena, further)?;
+    Ok(arena.get(span) == piece)
+}
+
+// The longest piece has a mebibyte.
 #[test]
-#[tactic(auto, using(sm_arena::specs::lemmas::Placing::placed_now, sm_arena::specs::lemmas::Placing::placed_later))]
 fn lengths_round_a_chunk_read_back(rt: HostRuntime) -> Result<(), Fail> {
     let mut arena = Arena::new(rt.alloc());
-    let none = arena.place(b"")?;
-    let one = arena.place(b"1")?;
-    let below = bytes_from(rt.alloc(), 10, 65_535)?;
-    let under = arena.place(below.as_slice())?;
-    let equal = bytes_from(rt.alloc(), 60, 65_536)?;
-    let whole = arena.place(equal.as_slice())?;
-    let above = bytes_from(rt.alloc(), 110, 65_537)?;
-    let over = arena.place(above.as_slice())?;
-    place_further(rt.alloc(), &mut arena, 1_000)?;
-    assert_eq!(rt; arena.bytes(), 196_609 + 99_500);
-    assert_eq!(rt; arena.get(none), b"".as_slice());
-    assert_eq!(rt; arena.get(one), b"1".as_slice());
-    assert_eq!(rt; arena.get(under), below.as_slice());
-    assert_eq!(rt; arena.get(whole), equal.as_slice());
-    assert_eq!(rt; arena.get(over), above.as_slice());
+    for count in [0, 1, 65_535, 65_536, 65_537, 1_048_576] {
+        let piece = bytes_from(rt.alloc(), 10, count)?;
+        assert!(rt; reads_back(rt.alloc(), &mut arena, piece.as_slice(), 200)?);
+    }
+    assert_eq!(rt; arena.bytes(), 1_245_185 + 6 * 19_900);
     Ok(())
 }
 
+// Places both pieces, and tells whether they read the same.
+#[tactic(auto, using(sm_arena::specs::lemmas::Placing::pair_now))]
+fn pair_reads_back(arena: &mut Arena, first: &[u8], second: &[u8]) -> Result<bool, AllocError> {
+    let (one, other) = arena.place_pair(first, second)?;
+    Ok(arena.get(one) == first && arena.get(other) == second)
+}
+
 #[test]
-#[tactic(auto, using(sm_arena::specs::lemmas::Placing::pair_now, sm_arena::specs::lemmas::Placing::pair_later))]
 fn pairs_read_back(rt: HostRuntime) -> Result<(), Fail> {
     let mut arena = Arena::new(rt.alloc());
-    let (key, text) = arena.place_pair(b"key", b"text")?;
-    let (short, empty) = arena.place_pair(b"k", b"")?;
-    let (none, nothing) = arena.place_pair(b"", b"")?;
+    assert!(rt; pair_reads_back(&mut arena, b"key", b"text")?);
+    assert!(rt; pair_reads_back(&mut arena, b"k", b"")?);
+    assert!(rt; pair_reads_back(&mut arena, b"", b"")?);
     assert_eq!(rt; arena.bytes(), 3 + 4 + 1);
-    assert_eq!(rt; arena.get(key), b"key".as_slice());
-    assert_eq!(rt; arena.get(text), b"text".as_slice());
-    assert_eq!(rt; arena.get(short), b"k".as_slice());
-    assert_eq!(rt; arena.get(empty), b"".as_slice());
-    assert_eq!(rt; arena.get(none), b"".as_slice());
-    assert_eq!(rt; arena.get(nothing), b"".as_slice());
     Ok(())
 }
 
-#[test]
+// Places the head and the head followed by the tail, and tells whether both read so.
 #[tactic(auto, using(sm_arena::specs::lemmas::Placing::placed_now, sm_arena::specs::lemmas::Placing::placed_later))]
+fn joins(arena: &mut Arena, head: &[u8], tail: &[u8]) -> Result<bool, AllocError> {
+    let span = arena.place(head)?;
+    let joined = arena.concat(span, tail)?;
+    let whole = arena.get(joined);
+    Ok(
+        arena.get(span) == head
+            && whole.starts_with(head)
+            && whole.ends_with(tail)
+            && whole.len() == head.len().wrapping_add(tail.len()),
+    )
+}
+
+// The long joined piece has a block of its own.
+#[test]
 fn joined_pieces_read_back(rt: HostRuntime) -> Result<(), Fail> {
     let mut arena = Arena::new(rt.alloc());
-    let none = arena.place(b"")?;
-    let abc = arena.place(b"abc")?;
-    let again = arena.concat(abc, b"")?;
-    let longer = arena.concat(abc, b"def")?;
-    let nothing = arena.concat(none, b"")?;
-    let alone = arena.concat(none, b"def")?;
-    assert_eq!(rt; arena.bytes(), 3 + 3 + 6 + 3);
-    assert_eq!(rt; arena.get(abc), b"abc".as_slice());
-    assert_eq!(rt; arena.get(again), b"abc".as_slice());
-    assert_eq!(rt; arena.get(longer), b"abcdef".as_slice());
-    assert_eq!(rt; arena.get(nothing), b"".as_slice());
-    assert_eq!(rt; arena.get(alone), b"def".as_slice());
-    Ok(())
-}
-
-// The joined piece has a block of its own, and so has the next one.
-#[test]
-#[tactic(auto, using(sm_arena::specs::lemmas::Placing::placed_now, sm_arena::specs::lemmas::Placing::placed_later))]
-fn long_pieces_are_joined(rt: HostRuntime) -> Result<(), Fail> {
-    let mut arena = Arena::new(rt.alloc());
-    let front = bytes_from(rt.alloc(), 5, 40_000)?;
+    let long = bytes_from(rt.alloc(), 5, 40_000)?;
     let rest = bytes_from(rt.alloc(), 69, 30_000)?;
-    let whole = bytes_from(rt.alloc(), 5, 70_000)?;
-    let head = arena.place(front.as_slice())?;
-    let joined = arena.concat(head, rest.as_slice())?;
-    let last = arena.concat(joined, b"!")?;
-    assert_eq!(rt; arena.bytes(), 40_000 + 70_000 + 70_001);
-    assert_eq!(rt; arena.get(joined), whole.as_slice());
-    assert!(rt; arena.get(last).starts_with(whole.as_slice()));
-    assert!(rt; arena.get(last).ends_with(b"!"));
+    assert!(rt; joins(&mut arena, b"abc", b"def")?);
+    assert!(rt; joins(&mut arena, b"abc", b"")?);
+    assert!(rt; joins(&mut arena, b"", b"def")?);
+    assert!(rt; joins(&mut arena, b"", b"")?);
+    assert_eq!(rt; arena.bytes(), 3 + 6 + 3 + 3 + 3);
+    assert!(rt; joins(&mut arena, long.as_slice(), rest.as_slice())?);
+    assert_eq!(rt; arena.bytes(), 18 + 40_000 + 70_000);
     Ok(())
 }
 
