@@ -81,8 +81,7 @@ impl Arena {
     }
 
     /// Places a copy of the piece at the span followed by the tail, as one piece, and answers the span that reads it from
-    /// now on. The span of a piece that isn't empty is a new one, and the piece at the old one stays. No memory is taken
-    /// but for the new piece.
+    /// now on. The span of a piece that isn't empty is a new one, and the piece at the old one stays.
     ///
     /// # Errors
     ///

@@ -72,7 +72,7 @@ impl ArenaMap {
         self.arena.dead()
     }
 
-    /// What the key holds, or none where it holds nothing. A binary search, which takes no memory.
+    /// What the key holds, or none where it holds nothing.
     pub fn get(&self, key: &[u8]) -> Option<Val<'_>>
         ensures { option_map held_of result ≡ held_at self.now.pairs key.now }
     {
@@ -115,7 +115,7 @@ impl ArenaMap {
         }
     }
 
-    /// Makes the key hold nothing, and tells whether it held something. It takes no memory.
+    /// Makes the key hold nothing, and tells whether it held something.
     pub fn remove(&mut self, key: &[u8]) -> bool
         ensures pairs { self.new.pairs ≡ without self.old.pairs key.now }
         ensures dead { self.new.dead ≡ self.old.dead + size_at self.old.pairs key.now }
@@ -152,7 +152,7 @@ impl ArenaMap {
         Ok(rows)
     }
 
-    /// The same pairs in fresh memory, where nothing is dead. The time is linear in the pairs and their bytes.
+    /// The same pairs in fresh memory, where nothing is dead.
     ///
     /// # Errors
     ///
