@@ -2,6 +2,7 @@
 //!
 //! ```rust
 //! let (mut publisher, mut routers) = Publisher::new(&rt, rt.alloc(), 2, 1)?;
+//! assert_eq!(rt; routers.len(), 1);
 //! let router = &mut routers[0];
 //! assert_eq!(rt; router.route(&layout, b"a"), None);
 //! assert_eq!(rt; publisher.publish(&rt, first), Ok(()));
