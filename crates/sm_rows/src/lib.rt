@@ -1,4 +1,15 @@
 //! The rows of servers, groups and shards, and the rules that they keep.
+//!
+//! ```rust
+//! let server = ServerRow {
+//!     id: ServerId::of(7),
+//!     domain: 4095,
+//!     capacity: 100,
+//! };
+//! assert!(rt; server.is_in_range());
+//! assert!(rt; are_servers(&[server]));
+//! assert!(rt; !are_servers(&[server, server]));
+//! ```
 #![tactic(auto)]
 
 pub mod group_row;
