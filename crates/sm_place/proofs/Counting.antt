@@ -1,18 +1,18 @@
 -- What a stand adds at the cells of its group and its servers' domains.
 use Rattle.std.proofs.Common.{ℕ, ◌+◌, ◌*◌, ◌<◌, ◌≤◌, ◌≡◌, Bool, true, false, cond, eqb, List, length, Option}
 use Rattle.std.proofs.Common.{Some, None, sym, refl, ap, ◌∙◌, inl, inr, arith, ◌||◌, ◌&&◌}
-use Rattle.std.specs.Prelude.{option_map, remove, slice_index}
+use Rattle.std.specs.Prelude.{IfSome, option_map, remove, slice_index}
 use Rattle.std.proofs.lemmas.Bool.{and_from, and_right, eqb-true, eq-eqb}
 use Rattle.std.proofs.lemmas.Bool.Decides.{eqb_tells}
 use Rattle.std.proofs.lemmas.Nat.{same_from_place}
 use Rattle.std.proofs.lemmas.List.Sums.{sum_by-set, sum_by-remove}
 use Rattle.sm_ranges.specs.declared.stand.Stand.{Stand}
-use Rattle.sm_place.specs.Stands.{passes, owner_of, other_of}
-use Rattle.sm_place.specs.declared.server_row.ServerRow.{ServerRow}
+use Rattle.sm_ranges.specs.Stand.{AllNamed, passes, owner_of, other_of}
+use Rattle.sm_rows.specs.declared.server_row.ServerRow.{ServerRow}
 use Rattle.sm_place.specs.declared.shard.Shard.{Shard}
 use Rattle.sm_place.specs.Counters.{AreBelow, HasCells, HasCounts}
-use Rattle.sm_place.specs.Cells.{amount_at, is_hit, cell_of, AreInside, IsIn}
-use Rattle.sm_place.specs.Books.{moved, no_shard, IsKnown, HasRow, NamesKnown, domain_of, shard_at, with_stand}
+use Rattle.sm_place.specs.Cells.{amount_at, is_hit, cell_of, AreInside, AreCells}
+use Rattle.sm_place.specs.Books.{moved, no_shard, IsKnown, domain_of, shard_at, with_stand}
 use Rattle.sm_place.specs.Room.{names_domain, is_in, count_in}
 
 -- two cells are one where the groups and the domains are
@@ -29,7 +29,7 @@ eqb-cell w g b g' d hb hd =
       ]
     ]
 
-pub passes-cell : (servers : List ServerRow) (w g g' d : ℕ) (x : Option ℕ) → AreBelow servers w → HasRow servers x → d < w
+pub passes-cell : (servers : List ServerRow) (w g g' d : ℕ) (x : Option ℕ) → AreBelow servers w → IfSome x (IsKnown servers) → d < w
     → passes (λ at. eqb at (g' * w + d)) (option_map (cell_of servers w g) x)
     ≡ (eqb g g' && passes (λ a. eqb (domain_of servers a) d) x)
 passes-cell servers w g g' d None below row h = sym (and_right (eqb g g') false refl)
@@ -37,7 +37,7 @@ passes-cell servers w g g' d (Some a) below row h = eqb-cell w g (domain_of serv
 
 -- the cell of a group and a domain gets one where the stand's shard is in it
 pub gets_one : (servers : List ServerRow) (w g g' d : ℕ) (stand : Stand) (x y : Option ℕ)
-    → IsIn servers w g stand x y → AreBelow servers w → NamesKnown servers stand → d < w
+    → AreCells servers w g stand x y → AreBelow servers w → AllNamed (IsKnown servers) stand → d < w
     → amount_at x y 1 (g' * w + d) ≡ cond (eqb g g' && names_domain servers stand d) 1 0
 gets_one servers w g g' d stand x y at below known h =
     let i = g' * w + d in
@@ -57,7 +57,7 @@ gets_one servers w g g' d stand x y at below known h =
 
 -- a cell that is hit is that of the group and a domain that the stand names
 pub hit_in : (servers : List ServerRow) (w g i : ℕ) (stand : Stand) (x y : Option ℕ)
-    → IsIn servers w g stand x y → AreBelow servers w → NamesKnown servers stand → is_hit x y i ≡ true
+    → AreCells servers w g stand x y → AreBelow servers w → AllNamed (IsKnown servers) stand → is_hit x y i ≡ true
     → (d : ℕ) × ((d < w) × (g * w + d ≡ i))
 hit_in servers w g i stand x y at below known hit =
     found (owner_of stand) (other_of stand) known.0 known.1
@@ -66,7 +66,7 @@ hit_in servers w g i stand x y at below known hit =
     one : (a : ℕ) → IsKnown servers a → eqb (g * w + domain_of servers a) i ≡ true → (d : ℕ) × ((d < w) × (g * w + d ≡ i))
     one a row e = (domain_of servers a, (below.at a row, eqb-true _ _ e))
 
-    found : (p q : Option ℕ) → HasRow servers p → HasRow servers q
+    found : (p q : Option ℕ) → IfSome p (IsKnown servers) → IfSome q (IsKnown servers)
         → is_hit (option_map (cell_of servers w g) p) (option_map (cell_of servers w g) q) i ≡ true
         → (d : ℕ) × ((d < w) × (g * w + d ≡ i))
     found None None hp hq e = absurd (cc)
@@ -96,9 +96,9 @@ count_in-with_stand servers shards k g d stand h =
 pub HasCounts-moved : (servers : List ServerRow) (w : ℕ) (shards : List Shard) (k : ℕ) (stand : Stand)
     (counts0 counts1 counts2 : List ℕ) (x y x' y' : Option ℕ)
     → k < length shards → AreBelow servers w
-    → NamesKnown servers (shard_at shards k).stand → NamesKnown servers stand
+    → AllNamed (IsKnown servers) (shard_at shards k).stand → AllNamed (IsKnown servers) stand
     → HasCounts servers shards counts0 w
-    → IsIn servers w (shard_at shards k).row.group (shard_at shards k).stand x y → IsIn servers w (shard_at shards k).row.group stand x' y'
+    → AreCells servers w (shard_at shards k).row.group (shard_at shards k).stand x y → AreCells servers w (shard_at shards k).row.group stand x' y'
     → length counts1 ≡ length counts0 → length counts2 ≡ length counts0
     → ((i : ℕ) → i < length counts0 → slice_index counts1 i + amount_at x y 1 i ≡ slice_index counts0 i)
     → ((i : ℕ) → i < length counts1 → slice_index counts2 i ≡ slice_index counts1 i + amount_at x' y' 1 i)
@@ -122,16 +122,16 @@ HasCounts-moved servers w shards k stand counts0 counts1 counts2 x y x' y' insid
     }
 
 pub AreInside-cell : (servers : List ServerRow) (counts : List ℕ) (w g : ℕ) (x : Option ℕ) → HasCells counts g w
-    → AreBelow servers w → HasRow servers x
+    → AreBelow servers w → IfSome x (IsKnown servers)
     → AreInside (length counts) (option_map (cell_of servers w g) x)
 AreInside-cell servers counts w g None cells below row = tt
 AreInside-cell servers counts w g (Some a) cells below row = cells.at (domain_of servers a) (below.at a row)
 
 -- the cells of a stand are counters
-pub AreInside-IsIn : (servers : List ServerRow) (counts : List ℕ) (n w g : ℕ) (stand : Stand) (x y : Option ℕ)
-    → IsIn servers w g stand x y → HasCells counts g w → AreBelow servers w → NamesKnown servers stand → n ≡ length counts
+pub AreInside-AreCells : (servers : List ServerRow) (counts : List ℕ) (n w g : ℕ) (stand : Stand) (x y : Option ℕ)
+    → AreCells servers w g stand x y → HasCells counts g w → AreBelow servers w → AllNamed (IsKnown servers) stand → n ≡ length counts
     → AreInside n x × AreInside n y
-AreInside-IsIn servers counts n w g stand x y at cells below known e = (
+AreInside-AreCells servers counts n w g stand x y at cells below known e = (
   rw (e, at.owner) (AreInside-cell servers counts w g (owner_of stand) cells below known.0),
   rw (e, at.other) (AreInside-cell servers counts w g (other_of stand) cells below known.1),
 )
@@ -139,9 +139,9 @@ AreInside-IsIn servers counts n w g stand x y at cells below known e = (
 -- a counter that loses the shard has it
 pub lower_one : (servers : List ServerRow) (w : ℕ) (shards : List Shard) (k : ℕ) (counts : List ℕ) (x y : Option ℕ)
     → k < length shards → AreBelow servers w → HasCells counts (shard_at shards k).row.group w
-    → NamesKnown servers (shard_at shards k).stand
+    → AllNamed (IsKnown servers) (shard_at shards k).stand
     → HasCounts servers shards counts w
-    → IsIn servers w (shard_at shards k).row.group (shard_at shards k).stand x y
+    → AreCells servers w (shard_at shards k).row.group (shard_at shards k).stand x y
     → (i : ℕ) → is_hit x y i ≡ true → 1 ≤ slice_index counts i
 lower_one servers w shards k counts x y inside below cells before has at i hit =
     let g = (shard_at shards k).row.group in
@@ -158,9 +158,9 @@ lower_one servers w shards k counts x y inside below cells before has at i hit =
 pub raise_one : (servers : List ServerRow) (w : ℕ) (shards : List Shard) (k : ℕ) (stand : Stand) (counts0 counts1 : List ℕ)
     (x y x' y' : Option ℕ) (m : ℕ)
     → k < length shards → AreBelow servers w → HasCells counts0 (shard_at shards k).row.group w
-    → NamesKnown servers (shard_at shards k).stand → NamesKnown servers stand
+    → AllNamed (IsKnown servers) (shard_at shards k).stand → AllNamed (IsKnown servers) stand
     → HasCounts servers shards counts0 w
-    → IsIn servers w (shard_at shards k).row.group (shard_at shards k).stand x y → IsIn servers w (shard_at shards k).row.group stand x' y'
+    → AreCells servers w (shard_at shards k).row.group (shard_at shards k).stand x y → AreCells servers w (shard_at shards k).row.group stand x' y'
     → ((d : ℕ) → count_in servers (with_stand shards k stand) (shard_at shards k).row.group d < m)
     → ((i : ℕ) → i < length counts0 → slice_index counts1 i + amount_at x y 1 i ≡ slice_index counts0 i)
     → (i : ℕ) → is_hit x' y' i ≡ true → slice_index counts1 i + 1 < m
@@ -187,20 +187,17 @@ raise_one servers w shards k stand counts0 counts1 x y x' y' m inside below cell
     ) in
     rw (← found.1.1) goal
 
--- the other shards' count at the server's cell, where the counter and what the shard has in it are known
-pub count_others : (servers : List ServerRow) (w : ℕ) (shards : List Shard) (k a : ℕ) (counts : List ℕ) (x y : Option ℕ) (own i : ℕ)
-    → k < length shards → AreBelow servers w → HasCells counts (shard_at shards k).row.group w
-    → NamesKnown servers (shard_at shards k).stand → IsKnown servers a
+-- the counter of the server's domain counts the other shards there, and the shard where it names a server there
+pub count_others : (servers : List ServerRow) (w : ℕ) (shards : List Shard) (k a : ℕ) (counts : List ℕ)
+    → k < length shards → AreBelow servers w → HasCells counts (shard_at shards k).row.group w → IsKnown servers a
     → HasCounts servers shards counts w
-    → IsIn servers w (shard_at shards k).row.group (shard_at shards k).stand x y
-    → i ≡ cell_of servers w (shard_at shards k).row.group a
-    → own ≡ amount_at x y 1 i
-    → count_in servers (remove shards k) (shard_at shards k).row.group (domain_of servers a) + own ≡ slice_index counts i
-count_others servers w shards k a counts x y own i inside below cells before known has at ei eo =
+    → count_in servers (remove shards k) (shard_at shards k).row.group (domain_of servers a)
+    + cond (names_domain servers (shard_at shards k).stand (domain_of servers a)) 1 0
+    ≡ slice_index counts (cell_of servers w (shard_at shards k).row.group a)
+count_others servers w shards k a counts inside below cells known has =
     let g = (shard_at shards k).row.group in
     let d = domain_of servers a in
+    let named = names_domain servers (shard_at shards k).stand d in
+    let own : ◌≡◌ {A = ℕ} (cond (eqb g g && named) 1 0) (cond named 1 0) = ap (λ (p : Bool). cond (p && named) 1 0) (eq-eqb g g refl) in
     let hd = below.at a known in
-    let lost = gets_one servers w g g d (shard_at shards k).stand x y at below before hd in
-    let e1 : amount_at x y 1 i ≡ amount_at x y 1 (g * w + d) = ap (amount_at x y 1) ei in
-    let e2 : slice_index counts i ≡ slice_index counts (g * w + d) = ap (slice_index counts) ei in
-    omega (arith, eo, e1, e2, lost, has.at g d hd (cells.at d hd), count_in-remove servers shards k g d inside)
+    omega (arith, own, has.at g d hd (cells.at d hd), count_in-remove servers shards k g d inside)

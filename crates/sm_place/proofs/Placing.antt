@@ -1,15 +1,17 @@
 -- How the table of places is filled.
-use Rattle.std.proofs.Common.{ℕ, zero, suc, ◌+◌, ◌<◌, ◌≤◌, ◌≡◌, ◌≢◌, false, not, cond, eqb, ltb, List, length}
+use Rattle.std.proofs.Common.{ℕ, zero, suc, ◌+◌, ◌<◌, ◌≤◌, ◌≡◌, ◌≢◌, false, not, cond, eqb, ltb, List, length, map}
 use Rattle.std.proofs.Common.{get_or, set, sym, refl, ap, ◌∙◌, inl, inr, ◌⊎◌, arith}
 use Rattle.std.specs.Prelude.{replicate}
 use Rattle.std.proofs.lemmas.Bool.{lt-ltb, le-ltb, eq-eqb}
 use Rattle.std.proofs.lemmas.Bool.Decides.{eqb_tells}
-use Rattle.std.proofs.lemmas.List.{get_or-set_same, get_or-set_other, length-set, length-replicate, get_or-replicate}
+use Rattle.std.proofs.lemmas.List.{get_or-set_same, get_or-map, get_or-set_other, length-map, length-set, length-replicate, get_or-replicate}
+use Rattle.std.proofs.lemmas.List.Kept.{AllPairs-from_increasing}
+use Rattle.std.specs.List.Sorted.{IsStrictlyIncreasing}
 use Rattle.std.proofs.lemmas.List.Sums.{position_or_len_is, prefix_len-le-length}
-use Rattle.sm_place.specs.declared.server_row.ServerRow.{ServerRow}
+use Rattle.sm_rows.specs.declared.server_row.ServerRow.{ServerRow}
 use Rattle.sm_place.specs.Books.{no_server, place_of, IsKnown}
-use Rattle.sm_place.specs.Counters.{AreRising, HasPlaces}
-use Rattle.sm_place.specs.Changed.{id-at_place}
+use Rattle.sm_place.specs.Counters.{HasPlaces}
+use Rattle.sm_place.specs.lemmas.Changed.{id-at_place}
 
 -- below one of two numbers, or not
 pub split : (m n : ℕ) → (m < n) ⊎ (n ≤ m)
@@ -35,8 +37,18 @@ IsFilled-new servers m n e = record {
       ∙ sym (ap (λ b. cond b (place_of servers a) (length servers)) (le-ltb (place_of servers a) 0 (omega arith)));
 }
 
+-- of rising numbers each is below the later ones
+rising : (servers : List ServerRow) → IsStrictlyIncreasing (map (λ row. row.id) servers) → (i j : ℕ) → i < j → j < length servers
+    → (get_or servers i no_server).id < (get_or servers j no_server).id
+rising servers rise i j h inside =
+    let ids = map (λ row. row.id) servers in
+    let before : get_or ids i 0 ≡ (get_or servers i no_server).id = get_or-map (λ row. row.id) servers i no_server 0 (omega arith) in
+    let after : get_or ids j 0 ≡ (get_or servers j no_server).id = get_or-map (λ row. row.id) servers j no_server 0 inside in
+    let within : j < length ids = simp length-map inside in
+    omega (arith, before, after, AllPairs-from_increasing ids rise i j 0 h within)
+
 -- the first row with a number is the one that has it
-pub place_of-row : (servers : List ServerRow) (i : ℕ) → AreRising servers → i < length servers
+pub place_of-row : (servers : List ServerRow) (i : ℕ) → IsStrictlyIncreasing (map (λ row. row.id) servers) → i < length servers
     → place_of servers (get_or servers i no_server).id ≡ i
 place_of-row servers i rise h =
     position_or_len_is (λ row. eqb row.id (get_or servers i no_server).id) servers i no_server (omega arith)
@@ -45,12 +57,12 @@ place_of-row servers i rise h =
   where
     other : (k : ℕ) → k < i → eqb (get_or servers k no_server).id (get_or servers i no_server).id ≡ false
     other k below = elim (eqb_tells (get_or servers k no_server).id (get_or servers i no_server).id) [
-      | inl p ↦ absurd (omega (arith, p.1, rise.at k i below h))
+      | inl p ↦ absurd (omega (arith, p.1, rising servers rise k i below h))
       | inr p ↦ p.0
     ]
 
 -- the next row has its place written
-pub IsFilled-next : (servers : List ServerRow) (m : ℕ) (places : List ℕ) (i a : ℕ) → AreRising servers → i < length servers
+pub IsFilled-next : (servers : List ServerRow) (m : ℕ) (places : List ℕ) (i a : ℕ) → IsStrictlyIncreasing (map (λ row. row.id) servers) → i < length servers
     → a ≡ (get_or servers i no_server).id → a < m
     → IsFilled servers m places i → IsFilled servers m (set places a i) (i + 1)
 IsFilled-next servers m places i a rise h e small filled = record {

@@ -1,17 +1,20 @@
 -- How a plan goes on from shard to shard.
-use Rattle.std.proofs.Common.{ℕ, ◌+◌, ◌<◌, ◌≤◌, ◌≡◌, Bool, true, false, cond, eqb, List, [], ◌∷◌, length}
-use Rattle.std.proofs.Common.{get_or, drop, Option, Some, None, suc, refl, ap, sym, ◌∙◌, arith, drop-cons}
-use Rattle.std.proofs.Common.{add-one, All}
-use Rattle.std.specs.Prelude.{is_ok}
-use Rattle.std.proofs.lemmas.List.Elements.{All-nil, All-cons}
+use Rattle.std.proofs.Common.{ℕ, ◌+◌, ◌<◌, ◌≡◌, ◌++◌, ◌==◌, true, false, cond, List, [], ◌∷◌, length, get_or, drop, Option, Some, None}
+use Rattle.std.proofs.Common.{suc, refl, ap, sym, ◌∙◌, arith, drop-cons, add-one, All, append_assoc, Bool}
+use Rattle.std.specs.Prelude.{filter, is_ok, map, not}
+use Rattle.std.specs.List.{range_with_len}
+use Rattle.std.proofs.lemmas.List.{append-nil}
+use Rattle.std.proofs.lemmas.List.Elements.{All-filter, All-from_get_or, All-map}
+use Rattle.std.proofs.lemmas.List.FromFn.{filter_of_map_range_with_len_more, length-range_with_len, get_or-range_with_len}
 use Rattle.sm_ranges.specs.declared.stand.Stand.TheVariants.{Serving}
-use Rattle.sm_place.specs.declared.server_row.ServerRow.{ServerRow}
+use Rattle.sm_rows.specs.declared.server_row.ServerRow.{ServerRow}
 use Rattle.sm_place.specs.declared.shard.Shard.{Shard}
-use Rattle.sm_place.specs.Stands.{passes, stands_to_move}
-use Rattle.sm_place.specs.Books.{BooksView, no_server, IsKnown}
+use Rattle.sm_ranges.specs.Stand.{passes}
+use Rattle.sm_place.specs.Plans.{stands_to_move}
+use Rattle.sm_place.specs.Books.{BooksView, no_server, shard_at, IsKnown}
 use Rattle.sm_place.specs.Room.{fit}
-use Rattle.sm_place.specs.Plans.{PlanView, books_after, first_fit, no_plan, plan, plan_after, planned, servers_but, shards_from}
-use Rattle.sm_place.specs.Changed.{length-with_stand}
+use Rattle.sm_place.specs.Plans.{PlanView, books_after, first_fit, joined, no_plan, plan, turn, servers_but, shards_to_move}
+use Rattle.sm_place.specs.lemmas.Changed.{length-with_stand}
 use Rattle.sm_place.proofs.Leaving.{known_at}
 
 -- the first server that is left fits, or is passed over
@@ -29,22 +32,25 @@ first_fit-no books k servers i a all h e inv fails =
     let step : first_fit books k (drop i servers) ≡ first_fit books k (drop (suc i) servers) = rw (d, fails) refl in
     rw add-one (sym step ∙ inv)
 
--- a plan goes on with the next shard
-pub planned-next : (p : PlanView) (books : BooksView) (shards servers : List ℕ) (i k : ℕ) (all : PlanView)
-    → i < length shards → k ≡ get_or shards i k
-    → planned p books (drop i shards) servers ≡ all
-    → planned (plan_after p k (first_fit books k servers)) (books_after books k (first_fit books k servers))
-    (drop (i + 1) shards) servers ≡ all
-planned-next p books shards servers i k all h e inv =
-    let d : drop i shards ≡ k ∷ drop (suc i) shards = rw (← e) at (drop-cons shards i k h) in
-    let step : planned p books (drop i shards) servers ≡ planned p books (k ∷ drop (suc i) shards) servers =
-    ap (λ ks. planned p books ks servers) d in
-    rw add-one (sym step ∙ inv)
+-- plans are joined in any grouping, and a plan of nothing adds nothing
+pub joined-assoc : (p q r : PlanView) → joined (joined p q) r ≡ joined p (joined q r)
+joined-assoc p q r = simp append_assoc
 
--- a plan begins with the books as they are
-pub planned_from : (p : PlanView) (books from : BooksView) (shards servers : List ℕ) → p ≡ no_plan → books ≡ from
-    → planned p books shards servers ≡ plan from shards servers
-planned_from p books from shards servers e e' = ap (λ q. planned q books shards servers) e ∙ ap (λ b. planned no_plan b shards servers) e'
+pub joined-no_plan : (p : PlanView) → joined p no_plan ≡ p
+joined-no_plan p = simp append-nil
+
+-- a plan goes on with the next shard
+pub plan-next : (p : PlanView) (books : BooksView) (shards servers : List ℕ) (i k : ℕ) (all : PlanView)
+    → i < length shards → k ≡ get_or shards i k
+    → joined p (plan books (drop i shards) servers) ≡ all
+    → joined (joined p (turn k (first_fit books k servers)))
+    (plan (books_after books k (first_fit books k servers)) (drop (i + 1) shards) servers) ≡ all
+plan-next p books shards servers i k all h e inv =
+    let d : drop i shards ≡ k ∷ drop (suc i) shards = rw (← e) at (drop-cons shards i k h) in
+    let step : joined p (plan books (drop i shards) servers) ≡ joined p (plan books (k ∷ drop (suc i) shards) servers) =
+    ap (λ ks. joined p (plan books ks servers)) d in
+    let to = first_fit books k servers in
+    rw add-one (joined-assoc p (turn k to) (plan (books_after books k to) (drop (suc i) shards) servers) ∙ sym step ∙ inv)
 
 -- a move changes no server, and leaves as many shards
 pub servers-books_after : (books : BooksView) (k : ℕ) (to : Option ℕ) → (books_after books k to).servers ≡ books.servers
@@ -56,25 +62,39 @@ count-books_after books k None = refl
 count-books_after books k (Some a) = length-with_stand books.shards k (Serving a)
 
 -- the servers of a plan are known
-pub All-servers_but : (P : ℕ → Type 0) (from : Option ℕ) (rows : List ServerRow)
-    → ((i : ℕ) → i < length rows → P (get_or rows i no_server).id) → All P (servers_but from rows)
-All-servers_but P from [] each = All-nil P
-All-servers_but P from (row ∷ rows) each =
-    step (passes (λ a. eqb a row.id) from) (All-servers_but P from rows (λ i h. each (suc i) (omega arith)))
-  where
-    step : (b : Bool) → All P (servers_but from rows) → All P (cond b (servers_but from rows) (row.id ∷ servers_but from rows))
-    step true rest = rest
-    step false rest = All-cons P row.id (servers_but from rows) (each 0 (omega arith)) rest
-
 pub known_servers : (from : Option ℕ) (rows : List ServerRow) → All (λ a. IsKnown rows a) (servers_but from rows)
-known_servers from rows = All-servers_but (IsKnown rows) from rows (known_at rows)
+known_servers from rows =
+    All-filter (λ a. not (passes (λ b. b == a) from)) (IsKnown rows) (map (λ row. row.id) rows)
+    (All-map (IsKnown rows) (λ row. row.id) rows (All-from_get_or (λ row. IsKnown rows row.id) rows no_server (known_at rows)))
 
 -- the shards of a plan have rows
-pub inside_shards : (from : Option ℕ) (n k : ℕ) (shards : List Shard) → k + length shards ≤ n → All (λ j. j < n) (shards_from from k shards)
-inside_shards from n k [] h = All-nil (λ j. j < n)
-inside_shards from n k (s ∷ shards) h = step (stands_to_move from s.stand) (inside_shards from n (k + 1) shards (omega arith))
+pub inside_shards : (from : Option ℕ) (shards : List Shard) → All (λ k. k < length shards) (shards_to_move from shards)
+inside_shards from shards =
+    let n = length shards in
+    All-filter (λ k. stands_to_move from (shard_at shards k).stand) (λ k. k < n) (range_with_len 0 n)
+    (All-from_get_or (λ k. k < n) (range_with_len 0 n) 0 (λ i h.
+    let inside : i < n = rw (← length-range_with_len 0 n) h in
+    let at : get_or (range_with_len 0 n) i 0 ≡ 0 + i = get_or-range_with_len 0 n i 0 inside in omega arith))
+
+-- the numbers below one more that pass
+filter-below_more : (p : ℕ → Bool) (n : ℕ)
+    → filter p (range_with_len 0 (n + 1)) ≡ filter p (range_with_len 0 n) ++ cond (p n) (n ∷ []) []
+filter-below_more p n =
+    sym (ap (filter p) (same_map (range_with_len 0 (n + 1)))) ∙ filter_of_map_range_with_len_more p (λ k. k) 0 n n (omega arith)
+    ∙ ap (λ xs. filter p xs ++ cond (p n) (n ∷ []) []) (same_map (range_with_len 0 n))
   where
-    step : (b : Bool) → All (λ j. j < n) (shards_from from (k + 1) shards)
-        → All (λ j. j < n) (cond b (k ∷ shards_from from (k + 1) shards) (shards_from from (k + 1) shards))
-    step true rest = All-cons (λ j. j < n) k (shards_from from (k + 1) shards) (omega arith) rest
-    step false rest = rest
+    same_map : (xs : List ℕ) → map (λ k. k) xs ≡ xs
+    same_map [] = refl
+    same_map (x ∷ xs) = ap (λ ys. x ∷ ys) (same_map xs)
+
+pub filter-below_yes : (p : ℕ → Bool) (n : ℕ) (xs : List ℕ) → xs ≡ filter p (range_with_len 0 n) → p n ≡ true
+    → xs ++ n ∷ [] ≡ filter p (range_with_len 0 (n + 1))
+filter-below_yes p n xs e here =
+    ap (λ ys. ys ++ n ∷ []) e
+    ∙ sym (filter-below_more p n ∙ ap (λ (b : Bool). filter p (range_with_len 0 n) ++ cond b (n ∷ []) []) here)
+
+pub filter-below_no : (p : ℕ → Bool) (n : ℕ) (xs : List ℕ) → xs ≡ filter p (range_with_len 0 n) → p n ≡ false
+    → xs ≡ filter p (range_with_len 0 (n + 1))
+filter-below_no p n xs e here =
+    e ∙ sym (filter-below_more p n ∙ ap (λ (b : Bool). filter p (range_with_len 0 n) ++ cond b (n ∷ []) []) here
+    ∙ append-nil (filter p (range_with_len 0 n)))

@@ -9,10 +9,11 @@ use Rattle.sm_ranges.specs.declared.stand.Stand.TheVariants.{Prepared, Serving}
 use Rattle.sm_place.specs.declared.shard.Shard.{Shard}
 use Rattle.sm_place.specs.declared.place_fault.PlaceFault.{PlaceFault}
 use Rattle.sm_place.specs.declared.place_fault.PlaceFault.TheVariants.{Leaving, NoCapacity, DomainLimit}
-use Rattle.sm_place.specs.Books.{BooksView, moved, no_group, server_of, domain_of, shard_at, state_of, with_stand}
+use Rattle.sm_place.specs.Books.{BooksView, moved, no_group, row_by_id, domain_of, shard_at, state_of, with_stand}
 use Rattle.sm_place.specs.Room.{HasRoom, load_by, load_on, count_in, is_in, names_domain, fit}
-use Rattle.sm_place.specs.Stands.{AllNamed, is_leaving, names, owner_of}
-use Rattle.sm_place.specs.Named.{names_one-found, names_one-named, AllNamed-at, names-owner}
+use Rattle.sm_ranges.specs.Stand.{AllNamed, names, owner_of}
+use Rattle.sm_place.specs.ServerState.{is_leaving}
+use Rattle.sm_place.specs.lemmas.Named.{names_one-found, names_one-named, AllNamed-at, names-owner}
 use Rattle.sm_place.proofs.Sharing.{load_on-remove, load_on-with_stand}
 use Rattle.sm_place.proofs.Counting.{count_in-remove, count_in-with_stand}
 use Rattle.sm_place.proofs.Leaving.{IsFit-fit, cond-le}
@@ -21,7 +22,7 @@ use Rattle.sm_place.proofs.Leaving.{IsFit-fit, cond-le}
 pub stays-fit : (books : BooksView) (k a : ℕ) → fit books k a ≡ Ok tt → is_leaving (state_of books a) ≡ false
 stays-fit books k a e =
     first (is_leaving (state_of books a))
-    (nat_lt (server_of books.servers a).capacity (load_on (remove books.shards k) a + (shard_at books.shards k).row.load))
+    (nat_lt (row_by_id books.servers a).capacity (load_on (remove books.shards k) a + (shard_at books.shards k).row.load))
     (nat_lt (slice_index_or books.groups (shard_at books.shards k).row.group no_group).limit
     (count_in books.servers (remove books.shards k) (shard_at books.shards k).row.group (domain_of books.servers a) + 1)) e
   where
@@ -88,7 +89,7 @@ HasRoom-named books k a stand inside room e named =
       capacity = λ b known. elim (eqb_tells b a) [
         | inl p ↦
             let own : load_by a (moved s stand) ≤ s.row.load = cond-le (names stand a) s.row.load in
-            let goal : load_on (with_stand books.shards k stand) a ≤ (server_of books.servers a).capacity =
+            let goal : load_on (with_stand books.shards k stand) a ≤ (row_by_id books.servers a).capacity =
             omega (arith, own, fits.load, load_on-with_stand books.shards k a stand inside, load_on-remove books.shards k a inside) in
             rw p.1 goal
         | inr p ↦

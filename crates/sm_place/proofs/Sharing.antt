@@ -1,18 +1,18 @@
 -- What a stand adds at the places of its servers.
 use Rattle.std.proofs.Common.{ℕ, ◌+◌, ◌<◌, ◌≤◌, ◌≡◌, zero, suc, Bool, true, false, cond, eqb, List, [], ◌∷◌}
 use Rattle.std.proofs.Common.{length, get_or, Option, Some, None, sym, refl, ap, ◌∙◌, inl, inr, arith, ◌||◌}
-use Rattle.std.specs.Prelude.{option_map, remove, slice_index}
+use Rattle.std.specs.Prelude.{IfSome, option_map, remove, slice_index}
 use Rattle.std.proofs.lemmas.Bool.{eq-eqb, or_right}
 use Rattle.std.proofs.lemmas.Bool.Decides.{eqb_tells}
 use Rattle.std.proofs.lemmas.List.Sums.{sum_by-set, sum_by-remove}
 use Rattle.sm_ranges.specs.declared.stand.Stand.{Stand}
-use Rattle.sm_place.specs.Stands.{passes, names, owner_of, other_of}
-use Rattle.sm_place.specs.declared.server_row.ServerRow.{ServerRow}
+use Rattle.sm_ranges.specs.Stand.{AllNamed, passes, names, owner_of, other_of}
+use Rattle.sm_rows.specs.declared.server_row.ServerRow.{ServerRow}
 use Rattle.sm_place.specs.declared.shard.Shard.{Shard}
 use Rattle.sm_place.specs.Counters.{HasLoads}
-use Rattle.sm_place.specs.Cells.{amount_at, is_hit, AreInside, IsAt}
-use Rattle.sm_place.specs.Books.{moved, no_shard, place_of, IsKnown, HasRow, NamesKnown, shard_at, with_stand}
-use Rattle.sm_place.specs.Changed.{same_place}
+use Rattle.sm_place.specs.Cells.{amount_at, is_hit, AreInside, ArePlaces}
+use Rattle.sm_place.specs.Books.{moved, no_shard, place_of, IsKnown, shard_at, with_stand}
+use Rattle.sm_place.specs.lemmas.Changed.{same_place}
 use Rattle.sm_place.specs.Room.{load_on, load_by}
 
 -- places tell servers apart
@@ -56,13 +56,13 @@ pub load_on-with_stand : (shards : List Shard) (k a : ℕ) (stand : Stand) → k
     ≡ load_on shards a + load_by a (moved (shard_at shards k) stand)
 load_on-with_stand shards k a stand h = sum_by-set (load_by a) shards k (moved (shard_at shards k) stand) no_shard h
 
-pub AreInside-place : (servers : List ServerRow) (x : Option ℕ) → HasRow servers x
+pub AreInside-place : (servers : List ServerRow) (x : Option ℕ) → IfSome x (IsKnown servers)
     → AreInside (length servers) (option_map (place_of servers) x)
 AreInside-place servers None h = tt
 AreInside-place servers (Some a) h = h
 
 -- a place that is hit is that of a server of the two
-pub hit_place : (servers : List ServerRow) (x y : Option ℕ) (i : ℕ) → HasRow servers x → HasRow servers y
+pub hit_place : (servers : List ServerRow) (x y : Option ℕ) (i : ℕ) → IfSome x (IsKnown servers) → IfSome y (IsKnown servers)
     → is_hit (option_map (place_of servers) x) (option_map (place_of servers) y) i ≡ true
     → (a : ℕ) × (IsKnown servers a × (place_of servers a ≡ i) × ((passes (λ b. eqb b a) x || passes (λ b. eqb b a) y) ≡ true))
 hit_place servers None None i hx hy e = absurd (cc)
@@ -89,15 +89,15 @@ hit_place servers (Some a) (Some b) i hx hy e =
 pub load_by-named : (a : ℕ) (shard : Shard) → names shard.stand a ≡ true → load_by a shard ≡ shard.row.load
 load_by-named a shard h = ap (λ (p : Bool). cond p shard.row.load 0) h
 
-pub gets : (servers : List ServerRow) (stand : Stand) (x y : Option ℕ) (n a : ℕ) → IsAt servers stand x y → IsKnown servers a
+pub gets : (servers : List ServerRow) (stand : Stand) (x y : Option ℕ) (n a : ℕ) → ArePlaces servers stand x y → IsKnown servers a
     → amount_at x y n (place_of servers a) ≡ cond (names stand a) n 0
 gets servers stand x y n a at known =
     ap (λ v. amount_at v y n (place_of servers a)) at.owner
     ∙ ap (λ v. amount_at (option_map (place_of servers) (owner_of stand)) v n (place_of servers a)) at.other
     ∙ amount_at-load servers a known stand n
 
-pub hit_named : (servers : List ServerRow) (stand : Stand) (x y : Option ℕ) (i : ℕ) → IsAt servers stand x y
-    → NamesKnown servers stand → is_hit x y i ≡ true
+pub hit_named : (servers : List ServerRow) (stand : Stand) (x y : Option ℕ) (i : ℕ) → ArePlaces servers stand x y
+    → AllNamed (IsKnown servers) stand → is_hit x y i ≡ true
     → (a : ℕ) × (IsKnown servers a × (place_of servers a ≡ i) × (names stand a ≡ true))
 hit_named servers stand x y i at known hit =
     hit_place servers (owner_of stand) (other_of stand) i known.0 known.1
@@ -108,7 +108,7 @@ pub HasLoads-moved : (servers : List ServerRow) (shards : List Shard) (k : ℕ) 
     (x y x' y' : Option ℕ) (n : ℕ)
     → k < length shards
     → HasLoads servers shards loads0
-    → IsAt servers (shard_at shards k).stand x y → IsAt servers stand x' y' → n ≡ (shard_at shards k).row.load
+    → ArePlaces servers (shard_at shards k).stand x y → ArePlaces servers stand x' y' → n ≡ (shard_at shards k).row.load
     → length loads1 ≡ length loads0 → length loads2 ≡ length loads0
     → ((i : ℕ) → i < length loads0 → slice_index loads1 i + amount_at x y n i ≡ slice_index loads0 i)
     → ((i : ℕ) → i < length loads1 → slice_index loads2 i ≡ slice_index loads1 i + amount_at x' y' n i)
@@ -137,9 +137,9 @@ HasLoads-moved servers shards k stand loads0 loads1 loads2 x y x' y' n inside ha
 pub raise_fits : (servers : List ServerRow) (shards : List Shard) (k : ℕ) (stand : Stand) (loads0 loads1 : List ℕ)
     (x y x' y' : Option ℕ) (n m : ℕ)
     → k < length shards
-    → NamesKnown servers stand
+    → AllNamed (IsKnown servers) stand
     → HasLoads servers shards loads0
-    → IsAt servers (shard_at shards k).stand x y → IsAt servers stand x' y' → n ≡ (shard_at shards k).row.load
+    → ArePlaces servers (shard_at shards k).stand x y → ArePlaces servers stand x' y' → n ≡ (shard_at shards k).row.load
     → ((a : ℕ) → IsKnown servers a → load_on (with_stand shards k stand) a < m)
     → ((i : ℕ) → i < length loads0 → slice_index loads1 i + amount_at x y n i ≡ slice_index loads0 i)
     → (i : ℕ) → is_hit x' y' i ≡ true → slice_index loads1 i + n < m
@@ -165,9 +165,9 @@ raise_fits servers shards k stand loads0 loads1 x y x' y' n m inside known has a
 -- the counter of a server that the stand names has the shard's load in it
 pub lower_fits : (servers : List ServerRow) (shards : List Shard) (k : ℕ) (loads : List ℕ) (x y : Option ℕ) (n : ℕ)
     → k < length shards
-    → NamesKnown servers (shard_at shards k).stand
+    → AllNamed (IsKnown servers) (shard_at shards k).stand
     → HasLoads servers shards loads
-    → IsAt servers (shard_at shards k).stand x y → n ≡ (shard_at shards k).row.load
+    → ArePlaces servers (shard_at shards k).stand x y → n ≡ (shard_at shards k).row.load
     → (i : ℕ) → is_hit x y i ≡ true → n ≤ slice_index loads i
 lower_fits servers shards k loads x y n inside known has at en i hit =
     let found = hit_named servers (shard_at shards k).stand x y i at known hit in

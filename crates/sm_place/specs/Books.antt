@@ -1,18 +1,17 @@
 -- What the books hold, how a server's row is found, and which rows make books.
-use Rattle.std.specs.Prelude.{ℕ, ◌+◌, Bool, true, Option, Some, None, List, [], ◌∷◌, ◌<◌, ◌==◌, ◌&&◌, nat_lt}
-use Rattle.std.specs.Prelude.{if◌then◌else◌, length, map, replicate, slice_index_or, slice_set}
-use Rattle.std.specs.List.{position_or_len, list_all}
+use Rattle.std.specs.Prelude.{ℕ, Option, Some, None, List, ◌<◌, ◌==◌, if◌then◌else◌, length, map, replicate, slice_index_or, slice_set}
+use Rattle.std.specs.List.{position_or_len}
 use Rattle.sm_ranges.specs.declared.stand.Stand.{Stand}
 use Rattle.sm_ranges.specs.declared.stand.Stand.TheVariants.{Vacant}
-use Rattle.sm_place.specs.declared.server_row.ServerRow.{ServerRow}
-use Rattle.sm_place.specs.declared.group_row.GroupRow.{GroupRow}
-use Rattle.sm_place.specs.declared.shard_row.ShardRow.{ShardRow}
+use Rattle.sm_rows.specs.declared.server_row.ServerRow.{ServerRow}
+use Rattle.sm_rows.specs.declared.group_row.GroupRow.{GroupRow}
+use Rattle.sm_rows.specs.declared.shard_row.ShardRow.{ShardRow}
 use Rattle.sm_place.specs.declared.shard.Shard.{Shard}
 use Rattle.sm_place.specs.declared.server_state.ServerState.{ServerState}
 use Rattle.sm_place.specs.declared.server_state.ServerState.TheVariants.{Up}
 use Rattle.sm_place.specs.declared.books_fault.BooksFault.{BooksFault}
 use Rattle.sm_place.specs.declared.books_fault.BooksFault.TheVariants.{BadServers, BadGroups, BadShards}
-use Rattle.sm_place.specs.Stands.{owner_of, other_of}
+use Rattle.sm_rows.specs.Rows.{are_servers, are_groups, are_shards}
 
 -- what the books hold; the states are in the order of the servers
 pub record BooksView : Type 0 where
@@ -42,21 +41,12 @@ abbrev pub IsKnown : List ServerRow → ℕ → Type 0
 IsKnown servers a = place_of servers a < length servers
 
 -- the server's row
-abbrev pub server_of : List ServerRow → ℕ → ServerRow
-server_of servers a = slice_index_or servers (place_of servers a) no_server
+abbrev pub row_by_id : List ServerRow → ℕ → ServerRow
+row_by_id servers a = slice_index_or servers (place_of servers a) no_server
 
 -- the server's domain
 abbrev pub domain_of : List ServerRow → ℕ → ℕ
-domain_of servers a = (server_of servers a).domain
-
--- the server, where there is one, has a row
-abbrev pub HasRow : List ServerRow → Option ℕ → Type 0
-HasRow servers None = Unit {0}
-HasRow servers (Some a) = IsKnown servers a
-
--- each server that the stand names has a row
-abbrev pub NamesKnown : List ServerRow → Stand → Type 0
-NamesKnown servers stand = HasRow servers (owner_of stand) × HasRow servers (other_of stand)
+domain_of servers a = (row_by_id servers a).domain
 
 -- shard k
 abbrev pub shard_at : List Shard → ℕ → Shard
@@ -78,39 +68,6 @@ state_of books a = slice_index_or books.states (place_of books.servers a) Up
 abbrev pub with_state : BooksView → ℕ → ServerState → BooksView
 with_state books a state = record books { states = slice_set books.states (place_of books.servers a) state }
 
--- the numbers rise strictly, the first above low
-abbrev pub rises_above : ℕ → List ℕ → Bool
-rises_above low [] = true
-rises_above low (n ∷ ns) = nat_lt low n && rises_above n ns
-
--- the second number is at least 1, and at most the first
-abbrev pub is_count : ℕ → ℕ → Bool
-is_count most n = nat_lt 0 n && nat_lt n (most + 1)
-
--- a server's domain and capacity are in their ranges
-abbrev pub is_server : ServerRow → Bool
-is_server row = nat_lt row.domain 4096 && nat_lt row.capacity 4294967296
-
--- the rules of servers: 1 to 4,095 rows in their ranges, by rising numbers
-abbrev pub are_servers : List ServerRow → Bool
-are_servers rows = is_count 4095 (length rows) && rises_above 0 (map (λ row. row.id) rows) && list_all is_server rows
-
--- a group's limit and down are in their ranges
-abbrev pub is_group : GroupRow → Bool
-is_group row = nat_lt row.limit 4097 && nat_lt row.down 4097
-
--- the rules of groups: 1 to 4,096 rows in their ranges
-abbrev pub are_groups : List GroupRow → Bool
-are_groups rows = is_count 4096 (length rows) && list_all is_group rows
-
--- a shard's group has a row, and its cap is 0 or 1
-abbrev pub is_shard : ℕ → ShardRow → Bool
-is_shard groups row = nat_lt row.group groups && nat_lt row.cap 2
-
--- the rules of shards: 1 to 4,096 rows in their ranges, where there are so many groups
-abbrev pub are_shards : ℕ → List ShardRow → Bool
-are_shards groups rows = is_count 4096 (length rows) && list_all (is_shard groups) rows
-
 -- the first fault of rows, in the order BadServers, BadGroups, BadShards; none where they make books
 abbrev pub first_books_fault : List ServerRow → List GroupRow → List ShardRow → Option BooksFault
 first_books_fault servers groups shards =
@@ -118,14 +75,14 @@ first_books_fault servers groups shards =
     else Some BadShards) else Some BadGroups) else Some BadServers
 
 -- the shard that nobody owns yet
-abbrev pub vacant : ShardRow → Shard
-vacant row = record { row = row; stand = Vacant }
+abbrev pub vacant_shard : ShardRow → Shard
+vacant_shard row = record { row = row; stand = Vacant }
 
 -- the books at the start: all servers are up, all shards vacant
 abbrev pub new_books : List ServerRow → List GroupRow → List ShardRow → BooksView
 new_books servers groups shards = record {
   servers = servers;
   groups = groups;
-  shards = map vacant shards;
+  shards = map vacant_shard shards;
   states = replicate (length servers) Up;
 }

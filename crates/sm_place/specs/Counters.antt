@@ -1,20 +1,13 @@
 -- What the counters of the books keep: each is a sum or a count over all rows.
-use Rattle.std.specs.Prelude.{ℕ, List, ◌≡◌, ◌+◌, ◌*◌, ◌^◌, ◌<◌, ◌≤◌, length, slice_index, slice_index_or}
-use Rattle.sm_place.specs.declared.server_row.ServerRow.{ServerRow}
-use Rattle.sm_place.specs.declared.group_row.GroupRow.{GroupRow}
+use Rattle.std.specs.Prelude.{ℕ, List, ◌≡◌, ◌+◌, ◌*◌, ◌^◌, ◌<◌, ◌≤◌, length, map, slice_index, slice_index_or}
+use Rattle.std.specs.List.Sorted.{IsStrictlyIncreasing}
+use Rattle.sm_rows.specs.declared.server_row.ServerRow.{ServerRow}
+use Rattle.sm_rows.specs.declared.group_row.GroupRow.{GroupRow}
 use Rattle.sm_place.specs.declared.shard.Shard.{Shard}
 use Rattle.sm_place.specs.declared.server_state.ServerState.{ServerState}
-use Rattle.sm_place.specs.Books.{no_server, no_group, place_of, IsKnown, server_of, domain_of, NamesKnown, shard_at}
+use Rattle.sm_place.specs.Books.{no_group, place_of, IsKnown, row_by_id, domain_of, shard_at}
+use Rattle.sm_ranges.specs.Stand.{AllNamed}
 use Rattle.sm_place.specs.Room.{load_on, count_in, HasRoom}
-
--- the numbers of the rows rise
-pub record AreRising (servers : List ServerRow) : Type 0 where
-  pub at : (i j : ℕ) → i < j → j < length servers → (slice_index_or servers i no_server).id < (slice_index_or servers j no_server).id
-
--- the domains and capacities of the rows are in their ranges
-pub record AreInRange (servers : List ServerRow) : Type 0 where
-  pub domain : (i : ℕ) → i < length servers → (slice_index_or servers i no_server).domain < 4096
-  pub capacity : (i : ℕ) → i < length servers → (slice_index_or servers i no_server).capacity < 2 ^ 32
 
 -- the table of places finds each server's row
 pub record HasPlaces (servers : List ServerRow) (places : List ℕ) : Type 0 where
@@ -28,10 +21,10 @@ pub record AreBelow (servers : List ServerRow) (width : ℕ) : Type 0 where
 
 -- the numbers of the servers rise, and the rows keep to their ranges
 pub record HasRanges (servers : List ServerRow) (groups : List GroupRow) (states : List ServerState) (width : ℕ) : Type 0 where
-  pub servers_rise : AreRising servers
+  pub servers_rise : IsStrictlyIncreasing (map (λ row. row.id) servers)
   pub states_len : length states ≡ length servers
   pub domains : AreBelow servers width
-  pub capacities : (a : ℕ) → IsKnown servers a → (server_of servers a).capacity < 2 ^ 32
+  pub capacities : (a : ℕ) → IsKnown servers a → (row_by_id servers a).capacity < 2 ^ 32
   pub group_count : length groups ≤ 4096
   pub limits : (g : ℕ) → g < length groups → (slice_index_or groups g no_group).limit ≤ 4096
 
@@ -39,7 +32,7 @@ pub record HasRanges (servers : List ServerRow) (groups : List GroupRow) (states
 pub record HasRows (servers : List ServerRow) (groups : List GroupRow) (shards : List Shard) : Type 0 where
   pub count : length shards ≤ 4096
   pub group : (k : ℕ) → k < length shards → (shard_at shards k).row.group < length groups
-  pub known : (k : ℕ) → k < length shards → NamesKnown servers (shard_at shards k).stand
+  pub known : (k : ℕ) → k < length shards → AllNamed (IsKnown servers) (shard_at shards k).stand
 
 -- each server's counter is the sum of the loads on it
 pub record HasLoads (servers : List ServerRow) (shards : List Shard) (loads : List ℕ) : Type 0 where

@@ -1,9 +1,8 @@
 pub mod Books
 pub mod Cells
-pub mod Changed
 pub mod Counters
-pub mod Named
 pub mod Plans
 pub mod Room
+pub mod ServerState
 pub mod Sound
-pub mod Stands
+pub mod lemmas

@@ -3,13 +3,14 @@ use Rattle.std.specs.Prelude.{ℕ, Bool, Result, Ok, Err, List, ◌+◌, ◌<◌
 use Rattle.std.specs.Prelude.{length, slice_index_or, sum_by, nat_lt, remove}
 use Rattle.std.specs.List.{count_by}
 use Rattle.sm_ranges.specs.declared.stand.Stand.{Stand}
-use Rattle.sm_place.specs.declared.server_row.ServerRow.{ServerRow}
-use Rattle.sm_place.specs.declared.group_row.GroupRow.{GroupRow}
+use Rattle.sm_rows.specs.declared.server_row.ServerRow.{ServerRow}
+use Rattle.sm_rows.specs.declared.group_row.GroupRow.{GroupRow}
 use Rattle.sm_place.specs.declared.shard.Shard.{Shard}
 use Rattle.sm_place.specs.declared.place_fault.PlaceFault.{PlaceFault}
 use Rattle.sm_place.specs.declared.place_fault.PlaceFault.TheVariants.{Leaving, NoCapacity, DomainLimit}
-use Rattle.sm_place.specs.Stands.{names, names_one, is_leaving}
-use Rattle.sm_place.specs.Books.{BooksView, no_group, IsKnown, server_of, domain_of, shard_at, state_of}
+use Rattle.sm_ranges.specs.Stand.{names, names_one}
+use Rattle.sm_place.specs.ServerState.{is_leaving}
+use Rattle.sm_place.specs.Books.{BooksView, no_group, IsKnown, row_by_id, domain_of, shard_at, state_of}
 
 -- what the shard takes of the server's capacity
 abbrev pub load_by : ℕ → Shard → ℕ
@@ -33,7 +34,7 @@ count_in servers shards g d = count_by (is_in servers g d) shards
 
 -- each server has the capacity for the shards that name it, and each group is within its limit in each domain
 pub record HasRoom (servers : List ServerRow) (groups : List GroupRow) (shards : List Shard) : Type 0 where
-  pub capacity : (a : ℕ) → IsKnown servers a → load_on shards a ≤ (server_of servers a).capacity
+  pub capacity : (a : ℕ) → IsKnown servers a → load_on shards a ≤ (row_by_id servers a).capacity
   pub limit : (g d : ℕ) → g < length groups → count_in servers shards g d ≤ (slice_index_or groups g no_group).limit
 
 -- whether shard k may newly name server a, or the first fault that applies
@@ -41,7 +42,7 @@ abbrev pub fit : BooksView → ℕ → ℕ → Result (Unit {0}) PlaceFault
 fit books k a =
     let others = remove books.shards k in
     let row = (shard_at books.shards k).row in
-    let server = server_of books.servers a in
+    let server = row_by_id books.servers a in
     let group = slice_index_or books.groups row.group no_group in
     if is_leaving (state_of books a) then Err Leaving
     else (if nat_lt server.capacity (load_on others a + row.load) then Err NoCapacity

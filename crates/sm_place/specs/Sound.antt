@@ -1,15 +1,16 @@
 -- What holds of all books.
-use Rattle.std.specs.Prelude.{ℕ, ◌≡◌, ◌<◌, ◌≤◌, length}
-use Rattle.sm_place.specs.Books.{BooksView, NamesKnown, shard_at}
-use Rattle.sm_place.specs.Counters.{AreRising}
+use Rattle.std.specs.Prelude.{ℕ, ◌≡◌, ◌<◌, ◌≤◌, length, map}
+use Rattle.std.specs.List.Sorted.{IsStrictlyIncreasing}
+use Rattle.sm_place.specs.Books.{BooksView, IsKnown, shard_at}
+use Rattle.sm_ranges.specs.Stand.{AllNamed}
 use Rattle.sm_place.specs.Room.{HasRoom}
 
 -- the numbers of the servers rise, each server has a state, each shard's group and servers have rows, and there is room
 pub record AreSound (books : BooksView) : Type 0 where
-  pub servers_rise : AreRising books.servers
+  pub servers_rise : IsStrictlyIncreasing (map (λ row. row.id) books.servers)
   pub states : length books.states ≡ length books.servers
   pub groups : length books.groups ≤ 4096
   pub shards : length books.shards ≤ 4096
   pub group : (k : ℕ) → k < length books.shards → (shard_at books.shards k).row.group < length books.groups
-  pub known : (k : ℕ) → k < length books.shards → NamesKnown books.servers (shard_at books.shards k).stand
+  pub known : (k : ℕ) → k < length books.shards → AllNamed (IsKnown books.servers) (shard_at books.shards k).stand
   pub room : HasRoom books.servers books.groups books.shards

@@ -1,29 +1,27 @@
 ghost use Rattle.std.specs.Prelude.{All, ◌≡◌, ◌+◌, ◌<◌, ◌↔◌, IfOk, IfSome, IfNone, IsOkUnless, IsTrue, Err, Ok, Some, None, OnOk};
-ghost use Rattle.std.specs.Prelude.{length, nat_lt, remove, slice_index_or};
-ghost use Rattle.sm_place.specs.Books.{first_books_fault, new_books, IsKnown, NamesKnown};
-ghost use Rattle.sm_place.specs.Books.{domain_of, no_group, server_of, shard_at, state_of, with_stand, with_state};
-ghost use Rattle.sm_place.specs.Counters.{AreRising};
+ghost use Rattle.std.specs.Prelude.{length, map, nat_lt, remove, slice_index_or};
+ghost use Rattle.std.specs.List.Sorted.{IsStrictlyIncreasing};
+ghost use Rattle.sm_place.specs.Books.{first_books_fault, new_books, IsKnown};
+ghost use Rattle.sm_place.specs.Books.{domain_of, no_group, row_by_id, shard_at, state_of, with_stand, with_state};
+ghost use Rattle.sm_ranges.specs.Stand.{AllNamed};
 ghost use Rattle.sm_place.specs.Room.{count_in, fit, load_on, HasRoom};
 ghost use Rattle.sm_place.specs.Sound.{AreSound};
-ghost use Rattle.sm_place.specs.Plans.{KeepsRoom, assign_plan, books_after, drain_plan, first_fit, plan, plan_after};
-ghost use Rattle.sm_place.specs.Plans.{servers_but, shards_from};
+ghost use Rattle.sm_place.specs.Plans.{KeepsRoom, assign_plan, books_after, drain_plan, first_fit, joined, plan, turn};
+ghost use Rattle.sm_place.specs.Plans.{servers_but, shards_to_move};
 
 use crate::books_fault::BooksFault;
 use crate::candidates::{servers_but, shards_to_move};
-use crate::group_row::GroupRow;
 use crate::laws::fit_leaves_room;
 use crate::place_fault::PlaceFault;
 use crate::plan::Plan;
-use crate::roster::Roster;
-use crate::rows::{first_fault, vacant, width_of};
-use crate::server_row::ServerRow;
+use crate::roster::{Roster, width_of};
 use crate::server_state::ServerState;
-use crate::shard::Shard;
-use crate::shard_row::ShardRow;
+use crate::shard::{Shard, shard_at, vacant_shards};
 use crate::tallies::{move_count, move_load, other_count, other_load};
 use sm_ranges::server_id::ServerId;
 use sm_ranges::shard_id::ShardId;
 use sm_ranges::stand::Stand;
+use sm_rows::{GroupRow, ServerRow, ShardRow};
 use std::alloc::{AllocError, Global};
 use std::marker::Model;
 
@@ -66,14 +64,14 @@ impl Books {
         ensures fault { IfSome (first_books_fault servers.now groups.now shards.now) (λ fault. result ≡ Err fault) }
         ensures no_fault { IfNone (first_books_fault servers.now groups.now shards.now) (IsOkUnless result BooksFault.NoMemory) }
     {
-        if let Some(fault) = first_fault(servers, groups, shards) {
+        if let Some(fault) = BooksFault::first(servers, groups, shards) {
             return Err(fault);
         }
         let width = width_of(servers);
         Ok(Books {
             roster: Roster::new(alloc, servers)?,
             groups: Vec::from_slice(alloc, groups)?,
-            shards: vacant(alloc, shards)?,
+            shards: vacant_shards(alloc, shards)?,
             states: vec![in alloc; ServerState::Up; servers.len()]?,
             loads: vec![in alloc; 0; servers.len()]?,
             counts: vec![in alloc; 0; groups.len() * width]?,
@@ -88,15 +86,15 @@ impl Books {
         self.roster.knows(a)
     }
 
-    /// The servers, by rising numbers.
-    pub fn servers(&self) -> &[ServerRow]
-        ensures rows { result.now ≡ self.now.servers }
-        ensures rising { AreRising result.now }
+    /// The rows of the servers, by rising numbers.
+    pub fn rows(&self) -> &[ServerRow]
+        ensures servers { result.now ≡ self.now.servers }
+        ensures rising { IsStrictlyIncreasing (map (λ row. row.id) result.now) }
     {
         self.roster.rows()
     }
 
-    /// The groups.
+    /// The rows of the groups.
     pub fn groups(&self) -> &[GroupRow]
         ensures { result.now ≡ self.now.groups }
     {
@@ -104,7 +102,7 @@ impl Books {
     }
 
     /// The rows of the shards by number, each with its stand.
-    pub fn rows(&self) -> &[Shard]
+    pub fn shards(&self) -> &[Shard]
         ensures { result.now ≡ self.now.shards }
     {
         self.shards.as_slice()
@@ -130,7 +128,7 @@ impl Books {
         requires { k < length self.now.shards }
         ensures { result ≡ (shard_at self.now.shards k).stand }
     {
-        self.shards[k.index()].stand
+        shard_at(&self.shards, k.index()).stand
     }
 
     /// The state of the server.
@@ -153,7 +151,7 @@ impl Books {
     /// Sets the stand of the shard, where the servers that the stand names have room for it.
     pub fn set_stand(&mut self, k: ShardId, stand: Stand)
         requires shard { k < length self.old.shards }
-        requires known { NamesKnown self.old.servers stand }
+        requires known { AllNamed (IsKnown self.old.servers) stand }
         requires room { HasRoom self.old.servers self.old.groups (with_stand self.old.shards k stand) }
         ensures { self.new ≡ record self.old { shards = with_stand self.old.shards k stand } }
     {
@@ -167,7 +165,7 @@ impl Books {
             at,
             &stand,
         );
-        let row = self.shards[at].row;
+        let row = shard_at(&self.shards, at).row;
         self.shards[at] = Shard { row, stand };
     }
 
@@ -194,11 +192,11 @@ impl Books {
     fn exceeds_capacity(&self, k: ShardId, a: ServerId) -> bool
         requires shard { k < length self.now.shards }
         requires known { IsKnown self.now.servers a }
-        ensures { result ≡ nat_lt (server_of self.now.servers a).capacity
+        ensures { result ≡ nat_lt (row_by_id self.now.servers a).capacity
             (load_on (remove self.now.shards k) a + (shard_at self.now.shards k).row.load) }
     {
         let others = other_load(&self.loads, &self.roster, &self.shards, k.index(), a);
-        let own = self.shards[k.index()].row.load;
+        let own = shard_at(&self.shards, k.index()).row.load;
         u64::from(others) + u64::from(own) > u64::from(self.roster.row(a).capacity)
     }
 
@@ -212,7 +210,7 @@ impl Books {
     {
         let at = k.index();
         let others = other_count(&self.counts, &self.roster, self.width, &self.shards, at, a);
-        let group = self.shards[at].row.group;
+        let group = shard_at(&self.shards, at).row.group;
         others >= u32::from(self.groups[usize::from(group)].limit)
     }
 
@@ -220,7 +218,7 @@ impl Books {
     /// The shards that fit no server in their turn are left.
     pub fn plan_assign(&self, alloc: Global) -> Result<Plan, AllocError>
         ensures plan { IfOk result (λ plan. plan ≡ assign_plan self.now) }
-        ensures keeps_room { IfOk result (λ plan. KeepsRoom self.now (shards_from None 0 self.now.shards)
+        ensures keeps_room { IfOk result (λ plan. KeepsRoom self.now (shards_to_move None self.now.shards)
             (servers_but None self.now.servers) plan.moves plan.left) }
     {
         self.plan(alloc, &None)
@@ -230,7 +228,7 @@ impl Books {
     /// earlier moves counted as wholly migrated. A shard that names the server in another stand is not in the plan.
     pub fn plan_drain(&self, alloc: Global, a: ServerId) -> Result<Plan, AllocError>
         ensures plan { IfOk result (λ plan. plan ≡ drain_plan self.now a) }
-        ensures keeps_room { IfOk result (λ plan. KeepsRoom self.now (shards_from (Some a) 0 self.now.shards)
+        ensures keeps_room { IfOk result (λ plan. KeepsRoom self.now (shards_to_move (Some a) self.now.shards)
             (servers_but (Some a) self.now.servers) plan.moves plan.left) }
     {
         self.plan(alloc, &Some(a))
@@ -238,13 +236,13 @@ impl Books {
 
     // The plan for the shards that the server serves, or without a server for the Vacant ones. The moves are made in a copy.
     fn plan(&self, alloc: Global, from: &Option<ServerId>) -> Result<Plan, AllocError>
-        ensures plan { IfOk result (λ found. found ≡ plan self.now (shards_from from.now 0 self.now.shards)
+        ensures plan { IfOk result (λ found. found ≡ plan self.now (shards_to_move from.now self.now.shards)
             (servers_but from.now self.now.servers)) }
-        ensures keeps_room { IfOk result (λ found. KeepsRoom self.now (shards_from from.now 0 self.now.shards)
+        ensures keeps_room { IfOk result (λ found. KeepsRoom self.now (shards_to_move from.now self.now.shards)
             (servers_but from.now self.now.servers) found.moves found.left) }
     {
         let shards = shards_to_move(alloc, &self.shards, from)?;
-        let servers = servers_but(alloc, self.servers(), from)?;
+        let servers = servers_but(alloc, self.rows(), from)?;
         let mut books = self.try_clone(alloc)?;
         let mut plan = Plan::new(alloc);
         for k in &shards {
@@ -258,7 +256,7 @@ impl Books {
         requires shard { k < length self.old.shards }
         requires known { All (λ a. IsKnown self.old.servers a) servers.now }
         ensures books { OnOk result (self.new ≡ books_after self.old k (first_fit self.old k servers.now)) }
-        ensures plan { OnOk result (plan.new ≡ plan_after plan.old k (first_fit self.old k servers.now)) }
+        ensures plan { OnOk result (plan.new ≡ joined plan.old (turn k (first_fit self.old k servers.now))) }
     {
         match self.first_fit(k, servers) {
             Some(a) => {
@@ -313,6 +311,3 @@ impl Books {
         })
     }
 }
-
-#[cfg(test)]
-mod tests;

@@ -1,3 +1,7 @@
+ghost use Rattle.std.specs.Prelude.{◌≡◌};
+ghost use Rattle.sm_place.specs.Books.{first_books_fault};
+
+use sm_rows::{GroupRow, ServerRow, ShardRow, are_groups, are_servers, are_shards};
 use std::alloc::AllocError;
 use thiserror::Error;
 
@@ -18,8 +22,29 @@ pub enum BooksFault {
     NoMemory,
 }
 
+impl BooksFault {
+    /// The first fault of the rows, memory aside.
+    pub(crate) fn first(
+        servers: &[ServerRow],
+        groups: &[GroupRow],
+        shards: &[ShardRow],
+    ) -> Option<BooksFault>
+        ensures { result ≡ first_books_fault servers.now groups.now shards.now }
+    {
+        if !are_servers(servers) {
+            return Some(BooksFault::BadServers);
+        }
+        if !are_groups(groups) {
+            return Some(BooksFault::BadGroups);
+        }
+        if !are_shards(groups.len(), shards) {
+            return Some(BooksFault::BadShards);
+        }
+        None
+    }
+}
+
 impl From<AllocError> for BooksFault {
-    ghost use Rattle.std.specs.Prelude.{◌≡◌};
     ghost use Rattle.sm_place.specs.declared.books_fault.BooksFault.TheVariants.{NoMemory};
 
     ghost from_gives = { λ _ fault. fault ≡ NoMemory };

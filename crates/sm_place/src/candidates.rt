@@ -1,11 +1,11 @@
-ghost use Rattle.std.specs.Prelude.{◌≡◌, ◌≤◌, IfOk, length};
-ghost use Rattle.sm_place.specs.Plans.{servers_but, shards_from};
+ghost use Rattle.std.specs.Prelude.{◌≡◌, ◌<◌, ◌≤◌, IfOk, length};
+ghost use Rattle.sm_place.specs.Plans.{servers_but, shards_to_move, stands_to_move};
 
-use crate::named::stands_to_move;
-use crate::server_row::ServerRow;
 use crate::shard::Shard;
 use sm_ranges::server_id::ServerId;
 use sm_ranges::shard_id::ShardId;
+use sm_ranges::stand::Stand;
+use sm_rows::ServerRow;
 use std::alloc::{AllocError, Global};
 
 /// The numbers of the shards that the server serves, or without a server of the Vacant ones.
@@ -15,15 +15,36 @@ pub(crate) fn shards_to_move(
     from: &Option<ServerId>,
 ) -> Result<Vec<ShardId>, AllocError>
     requires { length shards.now ≤ 4096 }
-    ensures { IfOk result (λ numbers. numbers.items ≡ shards_from from.now 0 shards.now) }
+    ensures { IfOk result (λ numbers. numbers.items ≡ shards_to_move from.now shards.now) }
 {
     let mut numbers = Vec::new(alloc);
     for (at, shard) in shards.iter().enumerate() {
         if stands_to_move(&shard.stand, from) {
-            numbers.push(ShardId::new(at as u16).unwrap())?;
+            numbers.push(shard_id(at))?;
         }
     }
     Ok(numbers)
+}
+
+// The shard of the number.
+fn shard_id(number: usize) -> ShardId
+    requires { number < 4096 }
+    ensures { result ≡ number }
+{
+    ShardId::new(number as u16).unwrap()
+}
+
+// Whether a plan moves a shard of this stand: one that the server serves, or without a server a Vacant one.
+fn stands_to_move(stand: &Stand, from: &Option<ServerId>) -> bool
+    ensures { result ≡ stands_to_move from.now stand.now }
+{
+    match *from {
+        None => matches!(stand, Stand::Vacant),
+        Some(server) => match *stand {
+            Stand::Serving(owner) => owner == server,
+            _ => false,
+        },
+    }
 }
 
 /// The numbers of the servers, but for the one that shards are moved from.
@@ -34,11 +55,8 @@ pub(crate) fn servers_but(
 ) -> Result<Vec<ServerId>, AllocError>
     ensures { IfOk result (λ servers. servers.items ≡ servers_but from.now rows.now) }
 {
-    let mut servers = Vec::new(alloc);
-    for row in rows {
-        if *from != Some(row.id) {
-            servers.push(row.id)?;
-        }
-    }
-    Ok(servers)
+    rows.iter()
+        .map(|row| row.id)
+        .filter(|id| *from != Some(*id))
+        .collect(alloc)
 }

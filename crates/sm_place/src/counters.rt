@@ -1,17 +1,6 @@
 ghost use Rattle.std.specs.Prelude.{◌≡◌, ℕ, ◌+◌, ◌^◌, ◌<◌, ◌≤◌, length, slice_index, true};
 ghost use Rattle.sm_place.specs.Cells.{amount_at, is_hit, AreInside};
 
-/// What place `at` gets of the amount.
-pub(crate) fn amount_of(first: Option<usize>, second: Option<usize>, amount: u32, at: usize) -> u32
-    ensures { result ≡ amount_at first second amount at }
-{
-    if first == Some(at) || second == Some(at) {
-        amount
-    } else {
-        0
-    }
-}
-
 /// Adds the load at both places, once where they are the same.
 pub(crate) fn raise(loads: &mut [u32], first: Option<usize>, second: Option<usize>, load: u32)
     requires first { AreInside (length loads.old) first }

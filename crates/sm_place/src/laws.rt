@@ -5,7 +5,8 @@ ghost use Rattle.sm_ranges.specs.declared.stand.Stand.{Stand};
 ghost use Rattle.sm_ranges.specs.declared.stand.Stand.TheVariants.{Prepared, Serving};
 ghost use Rattle.sm_place.specs.Books.{BooksView, shard_at, state_of, with_stand};
 ghost use Rattle.sm_place.specs.Room.{fit, HasRoom};
-ghost use Rattle.sm_place.specs.Stands.{AllNamed, is_leaving, names};
+ghost use Rattle.sm_ranges.specs.Stand.{AllNamed, names};
+ghost use Rattle.sm_place.specs.ServerState.{is_leaving};
 
 /// A server that a shard fits is not leaving, and there is room for each stand that names it beside servers that the
 /// shard names already: so for the server to serve the shard, or to make ready beside the owner.

@@ -1,20 +1,34 @@
 //! The books of a service's placement: who is named by which shard, what each server and fault domain can still take,
 //! and plans that respect it.
+//!
+//! ```rust
+//! let group = GroupRow { limit: 1, down: 0 };
+//! let shard = ShardRow {
+//!     group: 0,
+//!     load: 3,
+//!     cap: 0,
+//! };
+//! let books = Books::new(alloc, &servers, &[group], &[shard])?;
+//! let plan = books.plan_assign(alloc)?;
+//! ```
 #![tactic(auto)]
 
 pub mod books;
 pub mod books_fault;
 mod candidates;
 mod counters;
-pub mod group_row;
 pub mod laws;
-pub mod named;
 pub mod place_fault;
 pub mod plan;
 mod roster;
-mod rows;
-pub mod server_row;
 pub mod server_state;
 pub mod shard;
-pub mod shard_row;
 mod tallies;
+
+pub use books::Books;
+pub use books_fault::BooksFault;
+pub use place_fault::PlaceFault;
+pub use plan::{Move, Plan};
+pub use server_state::ServerState;
+pub use shard::Shard;
+pub use sm_rows::{GroupRow, ServerRow, ShardRow};

@@ -1,5 +1,5 @@
 ghost use Rattle.std.specs.Prelude.{◌≡◌, Some, None, OnOk};
-ghost use Rattle.sm_place.specs.Plans.{no_plan, plan_after};
+ghost use Rattle.sm_place.specs.Plans.{joined, no_plan, turn};
 
 use sm_ranges::server_id::ServerId;
 use sm_ranges::shard_id::ShardId;
@@ -57,7 +57,7 @@ impl Plan {
 
     /// Adds the move of the shard to the server.
     pub(crate) fn add_move(&mut self, shard: ShardId, to: ServerId) -> Result<(), AllocError>
-        ensures { OnOk result (self.new ≡ plan_after self.old shard (Some to)) }
+        ensures { OnOk result (self.new ≡ joined self.old (turn shard (Some to))) }
     {
         self.moves.push(Move { shard, to })?;
         Ok(())
@@ -65,7 +65,7 @@ impl Plan {
 
     /// Adds the shard as one that fits no server.
     pub(crate) fn add_left(&mut self, shard: ShardId) -> Result<(), AllocError>
-        ensures { OnOk result (self.new ≡ plan_after self.old shard None) }
+        ensures { OnOk result (self.new ≡ joined self.old (turn shard None)) }
     {
         self.left.push(shard)?;
         Ok(())

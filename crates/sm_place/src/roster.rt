@@ -1,12 +1,15 @@
-ghost use Rattle.std.specs.Prelude.{◌≡◌, ◌<◌, ◌≤◌, ◌↔◌, IfOk, IsTrue, length, option_map};
-ghost use Rattle.sm_place.specs.Cells.{cell_of, IsAt, IsIn};
-ghost use Rattle.sm_place.specs.Counters.{AreRising};
-ghost use Rattle.sm_place.specs.Books.{HasRow, IsKnown, NamesKnown, place_of, server_of};
+ghost use Rattle.std.specs.Prelude.{◌≡◌, ◌<◌, ◌≤◌, ◌↔◌, ◌==◌, All, IfOk, IfSome, IsTrue, length, map, option_map};
+ghost use Rattle.sm_place.specs.Cells.{cell_of, ArePlaces, AreCells};
+ghost use Rattle.std.specs.List.Sorted.{IsStrictlyIncreasing};
+ghost use Rattle.sm_rows.specs.declared.limits.TheConstants.{MAX_DOMAIN};
+ghost use Rattle.sm_place.specs.Counters.{AreBelow};
+ghost use Rattle.sm_ranges.specs.Stand.{passes, AllNamed};
+ghost use Rattle.sm_place.specs.Room.{names_domain};
+ghost use Rattle.sm_place.specs.Books.{domain_of, IsKnown, place_of, row_by_id};
 
-use crate::named::{other_of, owner_of};
-use crate::server_row::ServerRow;
 use sm_ranges::server_id::ServerId;
 use sm_ranges::stand::Stand;
+use sm_rows::ServerRow;
 use std::alloc::{AllocError, Global};
 use std::marker::Model;
 
@@ -20,7 +23,7 @@ pub struct Roster {
 
 impl Model for Roster {
     ghost use Rattle.std.specs.Prelude.{List};
-    ghost use Rattle.sm_place.specs.declared.server_row.ServerRow.{ServerRow};
+    ghost use Rattle.sm_rows.specs.declared.server_row.ServerRow.{ServerRow};
     ghost use Rattle.sm_place.specs.Counters.{HasPlaces};
 
     ghost Value = { List ServerRow };
@@ -33,7 +36,7 @@ impl Model for Roster {
 impl Roster {
     /// The rows, whose numbers rise.
     pub fn new(alloc: Global, rows: &[ServerRow]) -> Result<Roster, AllocError>
-        requires rise { AreRising rows.now }
+        requires rise { IsStrictlyIncreasing (map (λ row. row.id) rows.now) }
         requires few { length rows.now ≤ 4095 }
         ensures { IfOk result (λ r. r ≡ rows.now) }
     {
@@ -74,7 +77,7 @@ impl Roster {
     /// The row of the server.
     pub fn row(&self, a: ServerId) -> ServerRow
         requires { IsKnown self.now a }
-        ensures { result ≡ server_of self.now a }
+        ensures { result ≡ row_by_id self.now a }
     {
         self.rows[self.place(a)]
     }
@@ -88,12 +91,9 @@ impl Roster {
 
     /// The places of the servers that the stand names.
     pub(crate) fn places_of(&self, stand: &Stand) -> (Option<usize>, Option<usize>)
-        ensures { IsAt self.now stand.now result.0 result.1 }
+        ensures { ArePlaces self.now stand.now result.0 result.1 }
     {
-        (
-            self.place_at(owner_of(stand)),
-            self.place_at(other_of(stand)),
-        )
+        (self.place_at(stand.owner()), self.place_at(stand.other()))
     }
 
     /// The place of the row, where there is a server.
@@ -103,6 +103,25 @@ impl Roster {
         match server {
             Some(a) => Some(self.place(a)),
             None => None,
+        }
+    }
+
+    /// Whether the stand names a server of the domain.
+    pub(crate) fn names_domain(&self, stand: &Stand, domain: u16) -> bool
+        requires { AllNamed (IsKnown self.now) stand.now }
+        ensures { result ≡ names_domain self.now stand.now domain }
+    {
+        self.is_in(stand.owner(), domain) || self.is_in(stand.other(), domain)
+    }
+
+    /// Whether there is a server, and it is of the domain.
+    fn is_in(&self, server: Option<ServerId>, domain: u16) -> bool
+        requires { IfSome server (IsKnown self.now) }
+        ensures { result ≡ passes (λ a. domain_of self.now a == domain) server }
+    {
+        match server {
+            Some(a) => self.row(a).domain == domain,
+            None => false,
         }
     }
 
@@ -122,19 +141,19 @@ impl Roster {
         group: u16,
         stand: &Stand,
     ) -> (Option<usize>, Option<usize>)
-        requires known { NamesKnown self.now stand.now }
+        requires known { AllNamed (IsKnown self.now) stand.now }
         requires fits { width ≤ 4096 }
-        ensures { IsIn self.now width group stand.now result.0 result.1 }
+        ensures { AreCells self.now width group stand.now result.0 result.1 }
     {
         (
-            self.cell_at(width, group, owner_of(stand)),
-            self.cell_at(width, group, other_of(stand)),
+            self.cell_at(width, group, stand.owner()),
+            self.cell_at(width, group, stand.other()),
         )
     }
 
     /// The counter, where there is a server.
     fn cell_at(&self, width: usize, group: u16, server: Option<ServerId>) -> Option<usize>
-        requires known { HasRow self.now server }
+        requires known { IfSome server (IsKnown self.now) }
         requires fits { width ≤ 4096 }
         ensures { result ≡ option_map (cell_of self.now width group) server }
     {
@@ -143,4 +162,16 @@ impl Roster {
             None => None,
         }
     }
+}
+
+/// One more than the greatest domain.
+pub(crate) fn width_of(rows: &[ServerRow]) -> usize
+    requires { All (λ row. row.domain ≤ MAX_DOMAIN) rows.now }
+    ensures { AreBelow rows.now result }
+{
+    let mut width = 0;
+    for row in rows {
+        width = width.max(usize::from(row.domain) + 1);
+    }
+    width
 }

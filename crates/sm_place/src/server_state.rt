@@ -1,5 +1,5 @@
 ghost use Rattle.std.specs.Prelude.{◌≡◌};
-ghost use Rattle.sm_place.specs.Stands.{is_leaving};
+ghost use Rattle.sm_place.specs.ServerState.{is_leaving};
 
 /// How far the restart of a server has come.
 #[derive(Clone, Copy, Debug, PartialEq, Eq, Drop)]

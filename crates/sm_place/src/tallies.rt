@@ -1,11 +1,12 @@
-ghost use Rattle.std.specs.Prelude.{◌≡◌, ◌^◌, ◌<◌, ℕ, length, remove};
-ghost use Rattle.sm_place.specs.Books.{domain_of, IsKnown, NamesKnown, shard_at, with_stand};
-ghost use Rattle.sm_place.specs.Room.{count_in, load_on};
+ghost use Rattle.std.specs.Prelude.{◌≡◌, ◌^◌, ◌<◌, ℕ, if◌then◌else◌, length, remove};
+ghost use Rattle.sm_place.specs.Books.{domain_of, IsKnown, shard_at, with_stand};
+ghost use Rattle.sm_ranges.specs.Stand.{AllNamed};
+ghost use Rattle.sm_place.specs.Room.{count_in, load_by, load_on, names_domain};
 ghost use Rattle.sm_place.specs.Counters.{AreBelow, HasCells, HasCounts, HasLoads};
 
-use crate::counters::{amount_of, count_in, count_out, lower, raise};
+use crate::counters::{count_in, count_out, lower, raise};
 use crate::roster::Roster;
-use crate::shard::Shard;
+use crate::shard::{Shard, shard_at};
 use sm_ranges::server_id::ServerId;
 use sm_ranges::stand::Stand;
 
@@ -22,10 +23,19 @@ pub(crate) fn other_load(
     requires loads { HasLoads roster.now shards.now loads.now }
     ensures { result ≡ load_on (remove shards.now at) a }
 {
-    let shard = &shards[at];
-    let (owner, other) = roster.places_of(&shard.stand);
     let place = roster.place(a);
-    loads[place] - amount_of(owner, other, shard.row.load, place)
+    loads[place] - load_by(shard_at(shards, at), a)
+}
+
+// What the shard takes of the server's capacity.
+fn load_by(shard: &Shard, a: ServerId) -> u32
+    ensures { result ≡ load_by a shard.now }
+{
+    if shard.stand.names(a) {
+        shard.row.load
+    } else {
+        0
+    }
 }
 
 /// Counts the shard's load at the servers that the new stand names, and no longer at those of the old.
@@ -37,13 +47,13 @@ pub(crate) fn move_load(
     stand: &Stand,
 )
     requires shard { at < length shards.now }
-    requires before { NamesKnown roster.now (shard_at shards.now at).stand }
-    requires after { NamesKnown roster.now stand.now }
+    requires before { AllNamed (IsKnown roster.now) (shard_at shards.now at).stand }
+    requires after { AllNamed (IsKnown roster.now) stand.now }
     requires loads { HasLoads roster.now shards.now loads.old }
     requires fits { (a : ℕ) → IsKnown roster.now a → load_on (with_stand shards.now at stand.now) a < 2 ^ 32 }
     ensures { HasLoads roster.now (with_stand shards.now at stand.now) loads.new }
 {
-    let shard = &shards[at];
+    let shard = shard_at(shards, at);
     let (owner, other) = roster.places_of(&shard.stand);
     lower(loads, owner, other, shard.row.load);
     let (owner, other) = roster.places_of(stand);
@@ -61,17 +71,28 @@ pub(crate) fn other_count(
 ) -> u32
     requires shard { at < length shards.now }
     requires known { IsKnown roster.now a }
-    requires before { NamesKnown roster.now (shard_at shards.now at).stand }
+    requires before { AllNamed (IsKnown roster.now) (shard_at shards.now at).stand }
     requires domains { AreBelow roster.now width }
     requires cells { HasCells counts.now (shard_at shards.now at).row.group width }
     requires counts { HasCounts roster.now shards.now counts.now width }
     ensures { result ≡ count_in roster.now (remove shards.now at) (shard_at shards.now at).row.group (domain_of roster.now a) }
 {
-    let shard = &shards[at];
+    let shard = shard_at(shards, at);
     let group = shard.row.group;
-    let (owner, other) = roster.cells_of(width, group, &shard.stand);
     let cell = roster.cell(width, group, a);
-    u32::from(counts[cell]) - amount_of(owner, other, 1, cell)
+    u32::from(counts[cell]) - count_by(roster, shard, roster.row(a).domain)
+}
+
+// How often the shard counts in the domain: once where it names a server there.
+fn count_by(roster: &Roster, shard: &Shard, domain: u16) -> u32
+    requires { AllNamed (IsKnown roster.now) shard.now.stand }
+    ensures { result ≡ (if names_domain roster.now shard.now.stand domain then 1 else 0) }
+{
+    if roster.names_domain(&shard.stand, domain) {
+        1
+    } else {
+        0
+    }
 }
 
 /// Counts the shard in the domains that the new stand names, and no longer in those of the old.
@@ -84,15 +105,15 @@ pub(crate) fn move_count(
     stand: &Stand,
 )
     requires shard { at < length shards.now }
-    requires before { NamesKnown roster.now (shard_at shards.now at).stand }
-    requires after { NamesKnown roster.now stand.now }
+    requires before { AllNamed (IsKnown roster.now) (shard_at shards.now at).stand }
+    requires after { AllNamed (IsKnown roster.now) stand.now }
     requires domains { AreBelow roster.now width }
     requires cells { HasCells counts.old (shard_at shards.now at).row.group width }
     requires counts { HasCounts roster.now shards.now counts.old width }
     requires fits { (d : ℕ) → count_in roster.now (with_stand shards.now at stand.now) (shard_at shards.now at).row.group d < 2 ^ 16 }
     ensures { HasCounts roster.now (with_stand shards.now at stand.now) counts.new width }
 {
-    let shard = &shards[at];
+    let shard = shard_at(shards, at);
     let group = shard.row.group;
     let (owner, other) = roster.cells_of(width, group, &shard.stand);
     count_out(counts, owner, other);

@@ -1,33 +1,36 @@
-use Rattle.std.proofs.Common.{◌≡◌, ◌∙◌, ap, arith}
-use Rattle.std.specs.Prelude.{slice_index}
-use Rattle.sm_place.specs.Books.{place_of, shard_at}
-use Rattle.sm_place.specs.Room.{load_by}
-use Rattle.sm_place.specs.Cells.{amount_at}
-use Rattle.sm_place.proofs.Sharing.{gets, shard_is, load_on-remove}
+use Rattle.std.proofs.Common.{ℕ, ◌≡◌, ◌∙◌, ◌+◌, ◌<◌, List, length, ap, arith}
+use Rattle.std.specs.Prelude.{remove, slice_index}
+use Rattle.sm_rows.specs.declared.server_row.ServerRow.{ServerRow}
+use Rattle.sm_place.specs.declared.shard.Shard.{Shard}
+use Rattle.sm_place.specs.Books.{place_of, shard_at, IsKnown}
+use Rattle.sm_place.specs.Room.{load_by, load_on}
+use Rattle.sm_place.specs.Counters.{HasLoads}
+use Rattle.sm_place.proofs.Sharing.{load_on-remove}
 use Rattle.sm_place.proofs.tallies.other_load.Goals as goal
+
+-- the server's counter has the loads of the other shards, and what the shard takes of the server
+load_others : (servers : List ServerRow) (shards : List Shard) (k a place own : ℕ) (loads : List ℕ) (shard : Shard) → k < length shards
+    → IsKnown servers a → HasLoads servers shards loads → place ≡ place_of servers a → shard ≡ shard_at shards k → own ≡ load_by a shard
+    → load_on (remove shards k) a + own ≡ slice_index loads place
+load_others servers shards k a place own loads shard inside known has here is takes =
+    let all : slice_index loads place ≡ load_on shards a = ap (slice_index loads) here ∙ has.at a known in
+    let mine : own ≡ load_by a (shard_at shards k) = takes ∙ ap (load_by a) is in
+    omega (arith, all, mine, load_on-remove shards k a inside)
+
+pub overflow_sub-result : goal.overflow_sub-result
+overflow_sub-result c =
+    omega (
+      arith,
+      load_others c.args.roster.now c.args.shards.now c.args.at c.args.a c.place-place.result c.load_by.result c.args.loads.now
+          c.shard_at.result.now c.requires.shard c.requires.known c.requires.loads c.place-place.ensures c.shard_at.ensures
+          c.load_by.ensures,
+    )
 
 pub returns : goal.returns
 returns c =
-    let is = shard_is c.args.shards.now c.args.at c.index-shards-at.result c.requires.shard c.index-shards-at.is in
-    let at = c.places_of-owner.ensures in
-    let own = gets c.args.roster.now c.index-shards-at.result.stand c.places_of-owner.result.0 c.places_of-owner.result.1
-    c.index-shards-at.result.row.load c.args.a at c.requires.known in
-    let same : load_by c.args.a c.index-shards-at.result
-    ≡ load_by c.args.a (shard_at c.args.shards.now c.args.at) = ap (load_by c.args.a) is in
-    let gone : c.amount_of.result
-    ≡ amount_at c.places_of-owner.result.0 c.places_of-owner.result.1 c.index-shards-at.result.row.load
-    (place_of c.args.roster.now c.args.a) =
-    c.amount_of.ensures
-    ∙ ap (λ i. amount_at c.places_of-owner.result.0 c.places_of-owner.result.1 c.index-shards-at.result.row.load i)
-    c.place-place.ensures in
-    let here : slice_index c.args.loads.now c.place-place.result ≡ slice_index c.args.loads.now (place_of c.args.roster.now c.args.a) =
-    ap (slice_index c.args.loads.now) c.place-place.ensures in
     omega (
       arith,
-      gone,
-      here,
-      own,
-      same,
-      c.requires.loads.at c.args.a c.requires.known,
-      load_on-remove c.args.shards.now c.args.at c.args.a c.requires.shard,
+      load_others c.args.roster.now c.args.shards.now c.args.at c.args.a c.place-place.result c.load_by.result c.args.loads.now
+          c.shard_at.result.now c.requires.shard c.requires.known c.requires.loads c.place-place.ensures c.shard_at.ensures
+          c.load_by.ensures,
     )

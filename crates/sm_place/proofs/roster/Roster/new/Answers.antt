@@ -1,6 +1,6 @@
 use Rattle.std.proofs.Common.{◌≡◌, ◌<◌, ◌∙◌, ap, arith, length, get_or}
 use Rattle.std.proofs.lemmas.List.{get_or_default}
-use Rattle.sm_place.specs.declared.server_row.ServerRow.{ServerRow}
+use Rattle.sm_rows.specs.declared.server_row.ServerRow.{ServerRow}
 use Rattle.sm_place.specs.Books.{no_server}
 use Rattle.sm_place.proofs.Placing.{IsFilled-new, IsFilled-next, HasPlaces-filled}
 use Rattle.sm_place.proofs.roster.Roster.new.Goals as goal

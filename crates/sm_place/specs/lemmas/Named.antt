@@ -3,7 +3,7 @@ use Rattle.std.proofs.Common.{◌≡◌, ℕ, Bool, true, eqb, Option, Some, Non
 use Rattle.std.specs.Prelude.{IfSome}
 use Rattle.std.proofs.lemmas.Bool.{eqb-true, eq-eqb, or_cases, or_left, or_right}
 use Rattle.sm_ranges.specs.declared.stand.Stand.{Stand}
-use Rattle.sm_place.specs.Stands.{passes, names, names_one, owner_of, other_of, AllNamed}
+use Rattle.sm_ranges.specs.Stand.{passes, names, names_one, owner_of, other_of, AllNamed}
 
 -- a server that passes, and is the one of the option
 passes-found : (test : ℕ → Bool) (x : Option ℕ) → passes test x ≡ true → (b : ℕ) × ((passes (λ c. eqb c b) x ≡ true) × (test b ≡ true))

@@ -1,7 +1,0 @@
-use Rattle.std.proofs.Common.{◌≡◌, drop}
-use Rattle.std.specs.List.{list_all}
-use Rattle.sm_place.specs.Books.{is_shard}
-use Rattle.sm_place.proofs.rows.shards_in_range.Given as goal
-
-abbrev pub invariant-loop-row : goal.invariant-loop-row
-invariant-loop-row l = list_all (is_shard l.groups) l.rows ≡ list_all (is_shard l.groups) (drop l.row-index l.rows)
