@@ -8,12 +8,13 @@ use Rattle.sm_place.specs.declared.server_state.ServerState.{ServerState}
 use Rattle.sm_place.specs.declared.server_state.ServerState.TheVariants.{Up, Asked, Approved, Stopped, Failed}
 use Rattle.sm_place.specs.declared.shard.Shard.{Shard}
 use Rattle.sm_place.specs.Books.{BooksView, IsKnown, place_of, shard_at, state_of, with_state}
-use Rattle.sm_place.specs.Stands.{is_leaving, names, names_one}
-use Rattle.sm_place.specs.Changed.{state_of-set}
-use Rattle.sm_place.specs.Named.{names_one-found, names_one-named}
+use Rattle.sm_ranges.specs.Stand.{names, names_one}
+use Rattle.sm_place.specs.ServerState.{is_leaving}
+use Rattle.sm_place.specs.lemmas.Changed.{state_of-set}
+use Rattle.sm_place.specs.lemmas.Named.{names_one-found, names_one-named}
 use Rattle.sm_tasks.specs.Approvals.{approvable, leaving_count, names_down, stoppable, would_be_down}
 use Rattle.sm_tasks.specs.Caps.{MeetsCaps, names_away}
-use Rattle.sm_tasks.specs.Groups.{count_of, down_of, is_of}
+use Rattle.sm_tasks.specs.Groups.{group_count, down_of, is_of}
 use Rattle.sm_tasks.specs.States.{is_away, is_paused, is_stopped}
 use Rattle.sm_tasks.proofs.Restarts.{cond_within, false_within, count_by-within, count_by-within_but}
 use Rattle.sm_tasks.proofs.Restarts.{IsApprovable-approvable, IsStoppable-stoppable, is_away-approved}
@@ -61,7 +62,7 @@ MeetsCaps-calm ops books a state len known away stopped caps =
           omega (arith, set, less, caps.servers);
       shards = λ k h cap. false_within _ _ (within (shard_at books.shards k).stand) (caps.shards k h cap);
       groups = λ g h.
-          let fewer : count_of (names_away (with_state books a state)) books.shards g ≤ count_of (names_away books) books.shards g =
+          let fewer : group_count (names_away (with_state books a state)) books.shards g ≤ group_count (names_away books) books.shards g =
           count_by-within (is_of (names_away (with_state books a state)) g) (is_of (names_away books) g) books.shards
           (λ shard. of_within (names_away (with_state books a state)) (names_away books) g shard (within shard.stand)) in
           omega (arith, fewer, caps.groups g h);
@@ -121,12 +122,12 @@ MeetsCaps-approve ops books a len known e caps =
           omega (arith, one, less, may.few);
       shards = λ k h cap. false_within _ _ (unnamed (shard_at books.shards k).stand (may.uncapped k h cap)) (caps.shards k h cap);
       groups = λ g h.
-          elim (and_cases (nat_lt 0 (count_of (λ stand. names stand a) books.shards g))
-          (nat_lt (down_of books g) (count_of (names_down books a) books.shards g)) (may.groups g h)) [
+          elim (and_cases (nat_lt 0 (group_count (λ stand. names stand a) books.shards g))
+          (nat_lt (down_of books g) (group_count (names_down books a) books.shards g)) (may.groups g h)) [
             | inl p ↦
-                let none : count_of (λ stand. names stand a) books.shards g ≤ 0 =
-                ltb-false 0 (count_of (λ stand. names stand a) books.shards g) p in
-                let fewer : count_of (names_away new) books.shards g ≤ count_of (names_away books) books.shards g =
+                let none : group_count (λ stand. names stand a) books.shards g ≤ 0 =
+                ltb-false 0 (group_count (λ stand. names stand a) books.shards g) p in
+                let fewer : group_count (names_away new) books.shards g ≤ group_count (names_away books) books.shards g =
                 count_by-within_but (is_of (names_away new) g) (is_of (names_away books) g)
                 (is_of (λ stand. names stand a) g) books.shards none
                 (λ shard no t. of_within (names_away new) (names_away books) g shard
@@ -135,9 +136,9 @@ MeetsCaps-approve ops books a len known e caps =
                 (and_parts (eqb shard.row.group g) (names_away new shard.stand) t).0 no)) t) in
                 omega (arith, fewer, caps.groups g h)
             | inr p ↦
-                let few : count_of (names_down books a) books.shards g ≤ down_of books g =
-                ltb-false (down_of books g) (count_of (names_down books a) books.shards g) p in
-                let fewer : count_of (names_away new) books.shards g ≤ count_of (names_down books a) books.shards g =
+                let few : group_count (names_down books a) books.shards g ≤ down_of books g =
+                ltb-false (down_of books g) (group_count (names_down books a) books.shards g) p in
+                let fewer : group_count (names_away new) books.shards g ≤ group_count (names_down books a) books.shards g =
                 count_by-within (is_of (names_away new) g) (is_of (names_down books a) g) books.shards
                 (λ shard. of_within (names_away new) (names_down books a) g shard (down shard.stand)) in
                 omega (arith, fewer, few)

@@ -12,11 +12,12 @@ use Rattle.std.proofs.lemmas.List.Sums.{fails_before_first, sum_by-cons, sum_by-
 use Rattle.sm_place.specs.declared.server_state.ServerState.{ServerState}
 use Rattle.sm_place.specs.declared.server_state.ServerState.TheVariants.{Up, Asked, Approved, Stopped, Failed}
 use Rattle.sm_place.specs.Books.{BooksView, no_shard, shard_at, state_of}
-use Rattle.sm_place.specs.Stands.{is_leaving, names}
-use Rattle.sm_tasks.specs.declared.approve_fault.ApproveFault.{ApproveFault}
-use Rattle.sm_tasks.specs.declared.approve_fault.ApproveFault.TheVariants.{NotAsked, GlobalCap, ShardCap, GroupCap}
-use Rattle.sm_tasks.specs.declared.stopped_fault.StoppedFault.{StoppedFault}
-use Rattle.sm_tasks.specs.declared.stopped_fault.StoppedFault.TheVariants.{NotApproved, StillServing}
+use Rattle.sm_ranges.specs.Stand.{names}
+use Rattle.sm_place.specs.ServerState.{is_leaving}
+use Rattle.sm_tasks.specs.declared.task_fault.ApproveFault.{ApproveFault}
+use Rattle.sm_tasks.specs.declared.task_fault.ApproveFault.TheVariants.{NotAsked, GlobalCap, ShardCap, GroupCap}
+use Rattle.sm_tasks.specs.declared.task_fault.StoppedFault.{StoppedFault}
+use Rattle.sm_tasks.specs.declared.task_fault.StoppedFault.TheVariants.{NotApproved, StillServing}
 use Rattle.sm_tasks.specs.Approvals.{approvable, capped_shard, full_group, is_full, leaving_count, ok_unless, serving_shard, stoppable}
 use Rattle.sm_tasks.specs.States.{is_approved, is_asked, is_away, is_paused, is_stopped}
 

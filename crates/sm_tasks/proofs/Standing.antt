@@ -9,17 +9,18 @@ use Rattle.std.proofs.lemmas.List.Elements.{All-get_or, All-map, All-replicate}
 use Rattle.std.proofs.lemmas.List.Sums.{sum_by-le, sum_by-set}
 use Rattle.sm_ranges.specs.declared.stand.Stand.{Stand}
 use Rattle.sm_ranges.specs.declared.stand.Stand.TheVariants.{Prepared, Serving, Vacant}
-use Rattle.sm_place.specs.declared.group_row.GroupRow.{GroupRow}
-use Rattle.sm_place.specs.declared.server_row.ServerRow.{ServerRow}
+use Rattle.sm_rows.specs.declared.group_row.GroupRow.{GroupRow}
+use Rattle.sm_rows.specs.declared.server_row.ServerRow.{ServerRow}
 use Rattle.sm_place.specs.declared.server_state.ServerState.TheVariants.{Up}
 use Rattle.sm_place.specs.declared.shard.Shard.{Shard}
-use Rattle.sm_place.specs.declared.shard_row.ShardRow.{ShardRow}
-use Rattle.sm_place.specs.Books.{BooksView, moved, no_shard, new_books, shard_at, state_of, vacant, with_stand}
-use Rattle.sm_place.specs.Stands.{AllNamed, is_leaving, names, other_of, owner_of}
-use Rattle.sm_place.specs.Changed.{length-with_stand, shard_at-other, shard_at-same}
-use Rattle.sm_place.specs.Named.{AllNamed-at, names_one-found, names_one-named, names-owner}
+use Rattle.sm_rows.specs.declared.shard_row.ShardRow.{ShardRow}
+use Rattle.sm_place.specs.Books.{BooksView, moved, no_shard, new_books, shard_at, state_of, vacant_shard, with_stand}
+use Rattle.sm_ranges.specs.Stand.{AllNamed, names, other_of, owner_of}
+use Rattle.sm_place.specs.ServerState.{is_leaving}
+use Rattle.sm_place.specs.lemmas.Changed.{length-with_stand, shard_at-other, shard_at-same}
+use Rattle.sm_place.specs.lemmas.Named.{AllNamed-at, names_one-found, names_one-named, names-owner}
 use Rattle.sm_tasks.specs.Caps.{MeetsCaps, TakesNoneLeaving, names_away, names_stopped}
-use Rattle.sm_tasks.specs.Groups.{count_of, is_of}
+use Rattle.sm_tasks.specs.Groups.{group_count, is_of}
 use Rattle.sm_tasks.specs.States.{is_away, is_paused, is_stopped}
 use Rattle.sm_tasks.proofs.Restarts.{cond_within, false_within, is_away-stopped, is_leaving-away}
 
@@ -43,7 +44,7 @@ MeetsCaps-all_up ops books up all = record {
       none_counted is_away books.states (λ k d h. ap is_away (up k d h)) in omega arith;
   shards = λ k h cap. ap (names_away books) (All-get_or (λ shard. shard.stand ≡ Vacant) books.shards k no_shard h all);
   groups = λ g h.
-      let none : count_of (names_away books) books.shards g ≤ 0 =
+      let none : group_count (names_away books) books.shards g ≤ 0 =
       none_counted (is_of (names_away books) g) books.shards
       (λ k d inside. of_vacant (names_away books) g (get_or books.shards k d) refl (all k d inside)) in
       omega arith;
@@ -58,7 +59,7 @@ pub MeetsCaps-new : (ops : ℕ) (servers : List ServerRow) (groups : List GroupR
 MeetsCaps-new ops servers groups shards =
     MeetsCaps-all_up ops (new_books servers groups shards)
     (All-replicate (λ state. state ≡ Up) (length servers) Up refl)
-    (All-map (λ shard. shard.stand ≡ Vacant) vacant shards (λ k d h. refl))
+    (All-map (λ shard. shard.stand ≡ Vacant) vacant_shard shards (λ k d h. refl))
 
 -- a stand that takes on none that is leaving names one that is away only if the old one does
 old_away : (books : BooksView) (old stand : Stand) → TakesNoneLeaving books old stand → names_away books stand ≡ true

@@ -12,20 +12,20 @@ use Rattle.std.proofs.lemmas.List.Sums.{sum_by_more, count_by-le-length, positio
 use Rattle.sm_ranges.specs.declared.stand.Stand.{Stand}
 use Rattle.sm_place.specs.declared.shard.Shard.{Shard}
 use Rattle.sm_place.specs.Books.{BooksView}
-use Rattle.sm_place.specs.Stands.{names}
+use Rattle.sm_ranges.specs.Stand.{names}
 use Rattle.sm_tasks.specs.Approvals.{is_full, names_down}
-use Rattle.sm_tasks.specs.Groups.{is_of, count_of, down_of}
+use Rattle.sm_tasks.specs.Groups.{is_of, group_count, down_of}
 
 -- the counts of the first shards
 pub record CountsTo (test : Stand → Bool) (shards : List Shard) (i : ℕ) (counts : List ℕ) : Type 0 where
   pub len : length counts ≡ 4096
-  pub at : (g : ℕ) → g < 4096 → get_or counts g 0 ≡ count_of test (take i shards) g
+  pub at : (g : ℕ) → g < 4096 → get_or counts g 0 ≡ group_count test (take i shards) g
 
-count_of-more : (test : Stand → Bool) (shards : List Shard) (i g : ℕ) (shard : Shard) → i < length shards → shard ≡ get_or shards i shard
-    → count_of test (take (i + 1) shards) g ≡ count_of test (take i shards) g + cond (is_of test g shard) 1 0
-count_of-more test shards i g shard h e =
+group_count-more : (test : Stand → Bool) (shards : List Shard) (i g : ℕ) (shard : Shard) → i < length shards → shard ≡ get_or shards i shard
+    → group_count test (take (i + 1) shards) g ≡ group_count test (take i shards) g + cond (is_of test g shard) 1 0
+group_count-more test shards i g shard h e =
     sum_by_more (λ s. cond (is_of test g s) 1 0) shards i shard h
-    ∙ ap (λ s. count_of test (take i shards) g + cond (is_of test g s) 1 0) (sym e)
+    ∙ ap (λ s. group_count test (take i shards) g + cond (is_of test g s) 1 0) (sym e)
 
 -- a shard that passes counts in its group
 pub CountsTo-counted : (test : Stand → Bool) (shards : List Shard) (i : ℕ) (counts : List ℕ) (shard : Shard) (n : ℕ)
@@ -39,17 +39,17 @@ CountsTo-counted test shards i counts shard n h e pass small en so = record {
         let inside : shard.row.group < length counts = rw so.len small in
         let here : get_or (set counts shard.row.group (n + 1)) shard.row.group 0 ≡ n + 1 =
         get_or-set_same counts shard.row.group (n + 1) 0 inside in
-        let more = count_of-more test shards i shard.row.group shard h e in
+        let more = group_count-more test shards i shard.row.group shard h e in
         let one : ◌≡◌ {A = ℕ} (cond (is_of test shard.row.group shard) 1 0) 1 =
         ap (λ u. cond u 1 0)
         (and_from (eqb shard.row.group shard.row.group) (test shard.stand) (eq-eqb shard.row.group shard.row.group refl) pass) in
-        let goal : get_or (set counts shard.row.group (n + 1)) shard.row.group 0 ≡ count_of test (take (i + 1) shards) shard.row.group =
+        let goal : get_or (set counts shard.row.group (n + 1)) shard.row.group 0 ≡ group_count test (take (i + 1) shards) shard.row.group =
         omega (arith, here, more, one, en, so.at shard.row.group small) in
         rw (← p.1) goal
     | inr p ↦
         let there : get_or (set counts shard.row.group (n + 1)) g 0 ≡ get_or counts g 0 =
         get_or-set_other counts shard.row.group g (n + 1) 0 (λ same. p.1 (sym same)) in
-        let more = count_of-more test shards i g shard h e in
+        let more = group_count-more test shards i g shard h e in
         let none : ◌≡◌ {A = ℕ} (cond (is_of test g shard) 1 0) 0 = ap (λ u. cond (u && test shard.stand) 1 0) p.0 in
         omega (arith, there, more, none, so.at g hg)
   ];
@@ -62,7 +62,7 @@ pub CountsTo-passed : (test : Stand → Bool) (shards : List Shard) (i : ℕ) (c
 CountsTo-passed test shards i counts shard h e fail so = record {
   len = so.len;
   at = λ g hg.
-      let more = count_of-more test shards i g shard h e in
+      let more = group_count-more test shards i g shard h e in
       let none : ◌≡◌ {A = ℕ} (cond (is_of test g shard) 1 0) 0 =
       ap (λ u. cond u 1 0) (and_right (eqb shard.row.group g) (test shard.stand) fail) in
       omega (arith, more, none, so.at g hg);
@@ -82,8 +82,8 @@ CountsTo-le test shards i counts g so hg =
 
 -- all shards
 pub CountsTo-all : (test : Stand → Bool) (shards : List Shard) (i : ℕ) (counts : List ℕ) → length shards ≤ i → CountsTo test shards i counts
-    → (g : ℕ) → g < 4096 → get_or counts g 0 ≡ count_of test shards g
-CountsTo-all test shards i counts h so g hg = so.at g hg ∙ ap (λ xs. count_of test xs g) (take_all i shards h)
+    → (g : ℕ) → g < 4096 → get_or counts g 0 ≡ group_count test shards g
+CountsTo-all test shards i counts h so g hg = so.at g hg ∙ ap (λ xs. group_count test xs g) (take_all i shards h)
 
 -- the first number that passes
 pub position-first : (p : ℕ → Bool) (n i : ℕ) → i < n → ((k : ℕ) → k < i → p k ≡ false) → p i ≡ true
@@ -106,12 +106,12 @@ position-none p n all =
     rw (is, len, le-ltb n n (omega arith)) refl
 
 -- which groups are full
-pub is_full-yes : (books : BooksView) (a g : ℕ) → 0 < count_of (λ stand. names stand a) books.shards g
-    → down_of books g < count_of (names_down books a) books.shards g → is_full books a g ≡ true
+pub is_full-yes : (books : BooksView) (a g : ℕ) → 0 < group_count (λ stand. names stand a) books.shards g
+    → down_of books g < group_count (names_down books a) books.shards g → is_full books a g ≡ true
 is_full-yes books a g named down = rw (lt-ltb _ _ named, lt-ltb _ _ down) refl
 
-pub is_full-unnamed : (books : BooksView) (a g : ℕ) → count_of (λ stand. names stand a) books.shards g ≤ 0 → is_full books a g ≡ false
+pub is_full-unnamed : (books : BooksView) (a g : ℕ) → group_count (λ stand. names stand a) books.shards g ≤ 0 → is_full books a g ≡ false
 is_full-unnamed books a g named = rw (le-ltb _ _ named) refl
 
-pub is_full-few : (books : BooksView) (a g : ℕ) → count_of (names_down books a) books.shards g ≤ down_of books g → is_full books a g ≡ false
+pub is_full-few : (books : BooksView) (a g : ℕ) → group_count (names_down books a) books.shards g ≤ down_of books g → is_full books a g ≡ false
 is_full-few books a g down = and_right _ _ (le-ltb _ _ down)

@@ -5,16 +5,17 @@ use Rattle.std.specs.List.{range_with_len}
 use Rattle.std.specs.Option.{option_map, option_or}
 use Rattle.sm_ranges.specs.declared.stand.Stand.{Stand}
 use Rattle.sm_place.specs.Books.{BooksView, state_of}
-use Rattle.sm_place.specs.Stands.{is_leaving, names, names_one}
-use Rattle.sm_tasks.specs.declared.already_failed.AlreadyFailed.{AlreadyFailed}
-use Rattle.sm_tasks.specs.declared.already_up.AlreadyUp.{AlreadyUp}
-use Rattle.sm_tasks.specs.declared.not_up.NotUp.{NotUp}
-use Rattle.sm_tasks.specs.declared.approve_fault.ApproveFault.{ApproveFault}
-use Rattle.sm_tasks.specs.declared.approve_fault.ApproveFault.TheVariants.{NotAsked, GlobalCap, ShardCap, GroupCap}
-use Rattle.sm_tasks.specs.declared.stopped_fault.StoppedFault.{StoppedFault}
-use Rattle.sm_tasks.specs.declared.stopped_fault.StoppedFault.TheVariants.{NotApproved, StillServing}
+use Rattle.sm_ranges.specs.Stand.{names, names_one}
+use Rattle.sm_place.specs.ServerState.{is_leaving}
+use Rattle.sm_tasks.specs.declared.task_fault.AlreadyFailed.{AlreadyFailed}
+use Rattle.sm_tasks.specs.declared.task_fault.AlreadyUp.{AlreadyUp}
+use Rattle.sm_tasks.specs.declared.task_fault.NotUp.{NotUp}
+use Rattle.sm_tasks.specs.declared.task_fault.ApproveFault.{ApproveFault}
+use Rattle.sm_tasks.specs.declared.task_fault.ApproveFault.TheVariants.{NotAsked, GlobalCap, ShardCap, GroupCap}
+use Rattle.sm_tasks.specs.declared.task_fault.StoppedFault.{StoppedFault}
+use Rattle.sm_tasks.specs.declared.task_fault.StoppedFault.TheVariants.{NotApproved, StillServing}
 use Rattle.sm_tasks.specs.States.{is_up, is_asked, is_approved, is_failed, is_paused}
-use Rattle.sm_tasks.specs.Groups.{count_of, down_of}
+use Rattle.sm_tasks.specs.Groups.{group_count, down_of}
 
 -- success, unless there is a fault
 abbrev pub ok_unless : {E : Type 0} → Option E → Result (Unit {0}) E
@@ -44,8 +45,8 @@ names_down books a stand = names_one (would_be_down books a) stand
 -- whether a shard of the group names the server, and more of its shards than may be would name a server that is down
 abbrev pub is_full : BooksView → ℕ → ℕ → Bool
 is_full books a g =
-    nat_lt 0 (count_of (λ stand. names stand a) books.shards g)
-    && nat_lt (down_of books g) (count_of (names_down books a) books.shards g)
+    nat_lt 0 (group_count (λ stand. names stand a) books.shards g)
+    && nat_lt (down_of books g) (group_count (names_down books a) books.shards g)
 
 -- the lowest group that is full
 abbrev pub full_group : BooksView → ℕ → Option ℕ

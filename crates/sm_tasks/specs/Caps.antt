@@ -2,9 +2,10 @@
 use Rattle.std.specs.Prelude.{◌≡◌, ℕ, ◌<◌, ◌≤◌, ◌⊎◌, Bool, true, false, length, count_by}
 use Rattle.sm_ranges.specs.declared.stand.Stand.{Stand}
 use Rattle.sm_place.specs.Books.{BooksView, shard_at, state_of}
-use Rattle.sm_place.specs.Stands.{AllNamed, is_leaving, names, names_one}
+use Rattle.sm_ranges.specs.Stand.{AllNamed, names, names_one}
+use Rattle.sm_place.specs.ServerState.{is_leaving}
 use Rattle.sm_tasks.specs.States.{is_away, is_paused, is_stopped}
-use Rattle.sm_tasks.specs.Groups.{count_of, down_of}
+use Rattle.sm_tasks.specs.Groups.{group_count, down_of}
 
 -- whether the stand names a server that is away by approval
 abbrev pub names_away : BooksView → Stand → Bool
@@ -20,7 +21,7 @@ pub record MeetsCaps (ops : ℕ) (books : BooksView) : Type 0 where
   pub servers : count_by is_away books.states ≤ ops
   pub shards : (k : ℕ) → k < length books.shards
       → (shard_at books.shards k).row.cap ≡ 0 → names_away books (shard_at books.shards k).stand ≡ false
-  pub groups : (g : ℕ) → g < length books.groups → count_of (names_away books) books.shards g ≤ down_of books g
+  pub groups : (g : ℕ) → g < length books.groups → group_count (names_away books) books.shards g ≤ down_of books g
   pub stopped : (k : ℕ) → k < length books.shards
       → names_stopped books (shard_at books.shards k).stand ≡ true → is_paused (shard_at books.shards k).stand ≡ true
 

@@ -9,8 +9,8 @@ abbrev pub is_of : (Stand → Bool) → ℕ → Shard → Bool
 is_of test g shard = (shard.row.group == g) && test shard.stand
 
 -- how many shards of the group have a stand that passes the test
-abbrev pub count_of : (Stand → Bool) → List Shard → ℕ → ℕ
-count_of test shards g = count_by (is_of test g) shards
+abbrev pub group_count : (Stand → Bool) → List Shard → ℕ → ℕ
+group_count test shards g = count_by (is_of test g) shards
 
 -- how many shards of the group may be down for planned restarts at the same time
 abbrev pub down_of : BooksView → ℕ → ℕ

@@ -1,13 +1,10 @@
 ghost use Rattle.std.specs.Prelude.{◌≡◌, ◌<◌, IfSome};
-ghost use Rattle.sm_place.specs.Books.{HasRow, NamesKnown};
-ghost use Rattle.sm_place.specs.Stands.{passes};
+ghost use Rattle.sm_place.specs.Books.{IsKnown};
+ghost use Rattle.sm_ranges.specs.Stand.{passes, AllNamed};
 ghost use Rattle.sm_tasks.specs.Approvals.{capped_shard, leaving_count, names_down, serving_shard, would_be_down};
 
-use sm_place::books::Books;
-use sm_place::named::{names, other_of, owner_of};
-use sm_ranges::server_id::ServerId;
-use sm_ranges::shard_id::ShardId;
-use sm_ranges::stand::Stand;
+use sm_place::Books;
+use sm_ranges::{ServerId, ShardId, Stand};
 
 /// How many servers are leaving.
 pub(crate) fn leaving_count(books: &Books) -> usize
@@ -26,10 +23,10 @@ pub(crate) fn capped_shard(books: &Books, a: ServerId) -> Option<ShardId>
 {
     books.soundness();
     let place = books
-        .rows()
+        .shards()
         .iter()
-        .position(|shard| shard.row.cap == 0 && names(&shard.stand, a));
-    shard_at(place)
+        .position(|shard| shard.row.cap == 0 && shard.stand.names(a));
+    shard_id(place)
 }
 
 /// The lowest shard that names the server and is not paused.
@@ -37,13 +34,13 @@ pub(crate) fn serving_shard(books: &Books, a: ServerId) -> Option<ShardId>
     ensures { result ≡ serving_shard books.now a }
 {
     books.soundness();
-    let place = books.rows().iter().position(|shard| names(&shard.stand, a)
+    let place = books.shards().iter().position(|shard| shard.stand.names(a)
         && !matches!(shard.stand, Stand::Paused(_)));
-    shard_at(place)
+    shard_id(place)
 }
 
-// The shard at the place, where there is one.
-fn shard_at(place: Option<usize>) -> Option<ShardId>
+// The shard of the place, where there is one.
+fn shard_id(place: Option<usize>) -> Option<ShardId>
     requires { IfSome place (λ at. at < 4096) }
     ensures { result ≡ place }
 {
@@ -55,15 +52,15 @@ fn shard_at(place: Option<usize>) -> Option<ShardId>
 
 /// Whether the stand names the server or one that is leaving.
 pub(crate) fn names_down(books: &Books, stand: &Stand, a: ServerId) -> bool
-    requires { NamesKnown books.now.servers stand.now }
+    requires { AllNamed (IsKnown books.now.servers) stand.now }
     ensures { result ≡ names_down books.now a stand.now }
 {
-    is_down(books, owner_of(stand), a) || is_down(books, other_of(stand), a)
+    is_down(books, stand.owner(), a) || is_down(books, stand.other(), a)
 }
 
 // Whether the server, where there is one, is this one or is leaving.
 fn is_down(books: &Books, server: Option<ServerId>, a: ServerId) -> bool
-    requires { HasRow books.now.servers server }
+    requires { IfSome server (IsKnown books.now.servers) }
     ensures { result ≡ passes (would_be_down books.now a) server }
 {
     match server {

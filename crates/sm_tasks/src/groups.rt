@@ -1,12 +1,11 @@
 ghost use Rattle.std.specs.Prelude.{◌≡◌, ℕ, ◌<◌, slice_index};
-ghost use Rattle.sm_place.specs.Stands.{names};
+ghost use Rattle.sm_ranges.specs.Stand.{names};
 ghost use Rattle.sm_tasks.specs.Approvals.{full_group, names_down};
-ghost use Rattle.sm_tasks.specs.Groups.{count_of};
+ghost use Rattle.sm_tasks.specs.Groups.{group_count};
 
 use crate::counts::names_down;
-use sm_place::books::Books;
-use sm_place::named::names;
-use sm_ranges::server_id::ServerId;
+use sm_place::Books;
+use sm_ranges::ServerId;
 
 /// The lowest group, by its place from 0, of which a shard names the server, where more shards than the group's `down`
 /// name it or a server that is leaving. The counts stand on the stack, so that no memory is taken.
@@ -26,12 +25,12 @@ pub(crate) fn full_group(books: &Books, a: ServerId) -> Option<u16>
 
 // For each group, how many of its shards name the server.
 fn named_by_group(books: &Books, a: ServerId) -> [u16; 4096]
-    ensures { (g : ℕ) → g < 4096 → slice_index result g ≡ count_of (λ stand. names stand a) books.now.shards g }
+    ensures { (g : ℕ) → g < 4096 → slice_index result g ≡ group_count (λ stand. names stand a) books.now.shards g }
 {
     books.soundness();
     let mut counts = [0; 4096];
-    for shard in books.rows() {
-        if names(&shard.stand, a) {
+    for shard in books.shards() {
+        if shard.stand.names(a) {
             counts[usize::from(shard.row.group)] += 1;
         }
     }
@@ -40,11 +39,11 @@ fn named_by_group(books: &Books, a: ServerId) -> [u16; 4096]
 
 // For each group, how many of its shards name the server or one that is leaving.
 fn down_by_group(books: &Books, a: ServerId) -> [u16; 4096]
-    ensures { (g : ℕ) → g < 4096 → slice_index result g ≡ count_of (names_down books.now a) books.now.shards g }
+    ensures { (g : ℕ) → g < 4096 → slice_index result g ≡ group_count (names_down books.now a) books.now.shards g }
 {
     books.soundness();
     let mut counts = [0; 4096];
-    for shard in books.rows() {
+    for shard in books.shards() {
         if names_down(books, &shard.stand, a) {
             counts[usize::from(shard.row.group)] += 1;
         }

@@ -3,12 +3,13 @@
 ghost use Rattle.std.specs.Prelude.{◌≡◌, ℕ, ◌<◌, All, Ok, List, false, length, true};
 ghost use Rattle.sm_ranges.specs.declared.stand.Stand.{Stand};
 ghost use Rattle.sm_ranges.specs.declared.stand.Stand.TheVariants.{Prepared, Serving, Vacant};
-ghost use Rattle.sm_place.specs.declared.group_row.GroupRow.{GroupRow};
-ghost use Rattle.sm_place.specs.declared.server_row.ServerRow.{ServerRow};
+ghost use Rattle.sm_rows.specs.declared.group_row.GroupRow.{GroupRow};
+ghost use Rattle.sm_rows.specs.declared.server_row.ServerRow.{ServerRow};
 ghost use Rattle.sm_place.specs.declared.server_state.ServerState.TheVariants.{Approved, Asked, Failed, Stopped, Up};
-ghost use Rattle.sm_place.specs.declared.shard_row.ShardRow.{ShardRow};
+ghost use Rattle.sm_rows.specs.declared.shard_row.ShardRow.{ShardRow};
 ghost use Rattle.sm_place.specs.Books.{BooksView, IsKnown, new_books, shard_at, state_of, with_stand, with_state};
-ghost use Rattle.sm_place.specs.Stands.{AllNamed, is_leaving, names};
+ghost use Rattle.sm_ranges.specs.Stand.{AllNamed, names};
+ghost use Rattle.sm_place.specs.ServerState.{is_leaving};
 ghost use Rattle.sm_tasks.specs.Approvals.{approvable, stoppable};
 ghost use Rattle.sm_tasks.specs.Caps.{MeetsCaps, TakesNoneLeaving};
 ghost use Rattle.sm_tasks.specs.States.{is_paused};

@@ -1,12 +1,19 @@
 //! Approvals of planned restarts, which keep the caps on servers and shards that are down at the same time.
+//!
+//! ```rust
+//! let tasks = Tasks::new(1);
+//! tasks.ask(&mut books, a)?;
+//! tasks.approve(&mut books, a)?;
+//! tasks.stopped(&mut books, a)?;
+//! tasks.back(&mut books, a)?;
+//! ```
 #![tactic(auto)]
 
-pub mod already_failed;
-pub mod already_up;
-pub mod approve_fault;
 mod counts;
 mod groups;
 pub mod laws;
-pub mod not_up;
-pub mod stopped_fault;
+pub mod task_fault;
 pub mod tasks;
+
+pub use task_fault::{AlreadyFailed, AlreadyUp, ApproveFault, NotUp, StoppedFault};
+pub use tasks::Tasks;

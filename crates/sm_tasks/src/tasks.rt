@@ -3,16 +3,11 @@ ghost use Rattle.sm_place.specs.Books.{IsKnown, with_state};
 ghost use Rattle.sm_place.specs.declared.server_state.ServerState.TheVariants.{Approved, Asked, Failed, Stopped, Up};
 ghost use Rattle.sm_tasks.specs.Approvals.{approvable, askable, failable, returnable, stoppable};
 
-use crate::already_failed::AlreadyFailed;
-use crate::already_up::AlreadyUp;
-use crate::approve_fault::ApproveFault;
 use crate::counts::{capped_shard, leaving_count, serving_shard};
 use crate::groups::full_group;
-use crate::not_up::NotUp;
-use crate::stopped_fault::StoppedFault;
-use sm_place::books::Books;
-use sm_place::server_state::ServerState;
-use sm_ranges::server_id::ServerId;
+use crate::task_fault::{AlreadyFailed, AlreadyUp, ApproveFault, NotUp, StoppedFault};
+use sm_place::{Books, ServerState};
+use sm_ranges::ServerId;
 use std::marker::Model;
 
 /// The steps of planned restarts, and what an approval keeps to.
@@ -170,6 +165,3 @@ impl Tasks {
         Ok(())
     }
 }
-
-#[cfg(test)]
-mod tests;

@@ -1,7 +1,7 @@
 use Rattle.std.proofs.Common.{◌≡◌, ◌<◌, ◌≤◌, length, false, sym, arith, below_more, slice_index}
-use Rattle.sm_place.specs.Stands.{names}
+use Rattle.sm_ranges.specs.Stand.{names}
 use Rattle.sm_tasks.specs.Approvals.{is_full, names_down}
-use Rattle.sm_tasks.specs.Groups.{count_of, down_of}
+use Rattle.sm_tasks.specs.Groups.{group_count, down_of}
 use Rattle.sm_tasks.proofs.Tallies.{is_full-few, is_full-unnamed, is_full-yes, position-first, position-none}
 use Rattle.sm_tasks.proofs.groups.full_group.Goals as goal
 use Rattle.sm_tasks.proofs.groups.full_group.Goals.{else-named-g-gt0-via-then-named-g-gt0+else-down-g}
@@ -12,10 +12,10 @@ returns-then-down-g c =
     let g = c.loop-g.g in
     let inside : g < length c.args.books.now.groups = rw (← c.groups-row-items.ensures) c.loop-g-test.true in
     let small : g < 4096 = omega (arith, c.soundness.ensures.groups) in
-    let named : 0 < count_of (λ stand. names stand c.args.a) c.args.books.now.shards g =
+    let named : 0 < group_count (λ stand. names stand c.args.a) c.args.books.now.shards g =
     rw (← c.named_by_group-named.ensures g small) c.if-named-g-gt0.true in
     let down : down_of c.args.books.now g < slice_index c.down_by_group-down.result g = rw c.groups-row-items.ensures at c.if-down-g.true in
-    let over : down_of c.args.books.now g < count_of (names_down c.args.books.now c.args.a) c.args.books.now.shards g =
+    let over : down_of c.args.books.now g < group_count (names_down c.args.books.now c.args.a) c.args.books.now.shards g =
     rw (← c.down_by_group-down.ensures g small) down in
     sym (position-first (is_full c.args.books.now c.args.a) (length c.args.books.now.groups) g inside c.loop-g.invariant
     (is_full-yes c.args.books.now c.args.a g named over))

@@ -1,4 +1,4 @@
-use Rattle.sm_place.specs.Stands.{names}
+use Rattle.sm_ranges.specs.Stand.{names}
 use Rattle.sm_tasks.proofs.Tallies.{CountsTo}
 use Rattle.sm_tasks.proofs.groups.named_by_group.Given as goal
 
