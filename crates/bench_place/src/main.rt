@@ -48,7 +48,7 @@ fn measure_books(rt: &HostRuntime) -> anyhow::Result<()> {
     let start = Instant::now(rt)?;
     let books = Books::new(rt.alloc(), &rows.servers, &rows.groups, &rows.shards)?;
     println!(rt; "books {}", start.elapsed(rt)?.as_micros())?;
-    println!(rt; "shards {}", books.rows().len())?;
+    println!(rt; "shards {}", books.shards().len())?;
     Ok(())
 }
 

@@ -1,14 +1,12 @@
 //! The plan as its definition says it: whether a server fits is a sum and a count over all rows. It keeps no counters.
 
 use crate::rows::Rows;
-use sm_place::group_row::GroupRow;
-use sm_place::named::{names, other_of, owner_of};
 use sm_place::plan::Move;
-use sm_place::server_row::ServerRow;
 use sm_place::shard::Shard;
 use sm_ranges::server_id::ServerId;
 use sm_ranges::shard_id::ShardId;
 use sm_ranges::stand::Stand;
+use sm_rows::{GroupRow, ServerRow};
 use std::alloc::{AllocError, Global};
 
 /// The rows, with the stand of each shard. All servers are up.
@@ -90,7 +88,7 @@ impl PlainBooks {
     fn load_on(&self, k: usize, a: ServerId) -> u64 {
         let mut load = 0u64;
         for (at, shard) in self.shards.iter().enumerate() {
-            if at != k && names(&shard.stand, a) {
+            if at != k && shard.stand.names(a) {
                 load = load.saturating_add(u64::from(shard.row.load));
             }
         }
@@ -110,7 +108,7 @@ impl PlainBooks {
 
     // Whether the stand names a server of the domain.
     fn names_domain(&self, stand: &Stand, domain: u16) -> bool {
-        self.is_in(owner_of(stand), domain) || self.is_in(other_of(stand), domain)
+        self.is_in(stand.owner(), domain) || self.is_in(stand.other(), domain)
     }
 
     // Whether there is a server, and its row is of the domain.

@@ -1,11 +1,9 @@
 use sm_place::books::Books;
-use sm_place::group_row::GroupRow;
 use sm_place::laws::fit_leaves_room;
-use sm_place::server_row::ServerRow;
-use sm_place::shard_row::ShardRow;
 use sm_ranges::server_id::ServerId;
 use sm_ranges::shard_id::ShardId;
 use sm_ranges::stand::Stand;
+use sm_rows::{GroupRow, ServerRow, ShardRow};
 use std::alloc::{AllocError, Global};
 
 /// Rows of servers in as many domains, of groups, and of as many shards of load 1, one a group.
@@ -63,7 +61,7 @@ pub(crate) fn serve_all(books: &mut Books, a: ServerId) {
 
 // Has the server serve the shard, if it fits.
 fn serve(books: &mut Books, k: ShardId, a: ServerId) {
-    if k.index() < books.rows().len() && books.knows(a) && books.fits(k, a).is_ok() {
+    if k.index() < books.shards().len() && books.knows(a) && books.fits(k, a).is_ok() {
         books.soundness();
         fit_leaves_room();
         books.set_stand(k, Stand::Serving(a));
