@@ -1,16 +1,13 @@
 //! The board: one word and one body for each shard, which threads read, change and borrow in single atomic steps, and
 //! passes, which know the one history that all these steps make.
 //!
-//! A pass is admitted to a shard, has its body apply a request, and ends the admission:
+//! A pass is admitted to a shard and ends the admission, and the board is closed:
 //! ```rust
-//! let mut pass = board.pass(Some(one));
-//! let Ok(mut permit) = board.admit(&mut pass, k, Mode::Direct) else {
-//!     return Err("the pass is admitted".into());
+//! let Ok(permit) = board.admit(&mut pass, k, Mode::Direct) else {
+//!     return Err("the pass is admitted again".into());
 //! };
-//! let front = match permit.body().apply(request) {
-//!     Ok(_reply) => board.finish(&mut pass, permit),
-//!     Err((_request, _fault)) => board.finish(&mut pass, permit),
-//! };
+//! assert_eq!(rt; board.finish(&mut pass, permit), front_at(k, 5));
+//! let rows = board.close(chair);
 //! ```
 #![tactic(auto)]
 

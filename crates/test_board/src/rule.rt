@@ -174,16 +174,9 @@ fn body_comes_home(rt: HostRuntime) -> Result<(), Fail> {
         .ok()
         .ok_or("a board")?;
     assert_eq!(rt; assign(&board, &mut chair, k, one), Some(Ok(())));
-    let request = put_of(rt.alloc()).ok_or("a request")?;
     let mut pass = board.pass(Some(one));
-    let Ok(mut permit) = board.admit(&mut pass, k, Mode::Direct) else {
-        return Err("the pass is admitted".into());
-    };
-    let front = match permit.body().apply(request) {
-        Ok(_reply) => board.finish(&mut pass, permit),
-        Err((_request, _fault)) => board.finish(&mut pass, permit),
-    };
-    assert_eq!(rt; front, front_at(k, 3));
+    let applied = put(&board, &mut pass, rt.alloc(), k);
+    assert_eq!(rt; applied, Some(front_at(k, 3)));
     let Ok(permit) = board.admit(&mut pass, k, Mode::Direct) else {
         return Err("the pass is admitted again".into());
     };
