@@ -1,0 +1,131 @@
+//! Rows and books that several tests use, and new stands of shards in them.
+
+ghost use Rattle.std.specs.Prelude.{◌≡◌, ◌<◌, IfOk, IfSome, length, true};
+ghost use Rattle.sm_ranges.specs.Stand.{names};
+ghost use Rattle.sm_place.specs.Books.{IsKnown};
+
+use sm_place::laws::{fewer_names_leave_room, fit_leaves_room};
+use sm_place::{Books, PlaceFault};
+use sm_ranges::{ServerId, ShardId, Stand};
+use sm_rows::{GroupRow, ServerRow, ShardRow};
+use std::alloc::Global;
+use std::process::Abort;
+use std::test::Fail;
+
+pub(crate) fn server_row(id: u16, domain: u16, capacity: u32) -> Result<ServerRow, Fail> {
+    let id = ServerId::new(id).ok_or("a server")?;
+    Ok(ServerRow {
+        id,
+        domain,
+        capacity,
+    })
+}
+
+/// A shard of load 1.
+pub(crate) fn shard_row(group: u16, cap: u8) -> ShardRow {
+    ShardRow {
+        group,
+        load: 1,
+        cap,
+    }
+}
+
+/// So many equal groups.
+pub(crate) fn equal_groups(
+    alloc: Global,
+    group: GroupRow,
+    count: usize,
+) -> Result<Vec<GroupRow>, Fail> {
+    Ok(vec![in alloc; group; count]?)
+}
+
+/// Three servers in two domains, the second of this capacity and the others of 2, one group, and two shards of load 1, the
+/// first of which may not be down.
+pub(crate) fn new_books(alloc: Global, group: GroupRow, capacity: u32) -> Result<Books, Fail> {
+    let servers = [
+        server_row(1, 0, 2)?,
+        server_row(2, 1, capacity)?,
+        server_row(3, 1, 2)?,
+    ];
+    let shards = [shard_row(0, 0), shard_row(0, 1)];
+    Ok(Books::new(alloc, &servers, &[group], &shards)?)
+}
+
+pub(crate) fn server(rt: &impl Abort, books: &Books, a: u16) -> Result<ServerId, Fail>
+    ensures { IfOk result (λ a. IsKnown books.now.servers a) }
+{
+    let a = ServerId::new(a).ok_or("a server")?;
+    assert!(rt; books.knows(a));
+    Ok(a)
+}
+
+pub(crate) fn shard(rt: &impl Abort, books: &Books, k: u16) -> Result<ShardId, Fail>
+    ensures { IfOk result (λ k. k < length books.now.shards) }
+{
+    let k = ShardId::new(k).ok_or("a shard")?;
+    assert!(rt; k.index() < books.shards().len());
+    Ok(k)
+}
+
+/// Has the server serve the shard, where it fits.
+pub(crate) fn assign(
+    rt: &impl Abort,
+    books: &mut Books,
+    k: u16,
+    a: u16,
+) -> Result<Result<(), PlaceFault>, Fail> {
+    let k = shard(rt, books, k)?;
+    let a = server(rt, books, a)?;
+    let fits = books.fits(k, a);
+    if let Ok(()) = fits {
+        books.soundness();
+        fit_leaves_room();
+        books.set_stand(k, Stand::Serving(a));
+    }
+    Ok(fits)
+}
+
+/// Has the server make ready beside the owner of the shard, where it fits.
+pub(crate) fn prepare(
+    rt: &impl Abort,
+    books: &mut Books,
+    k: u16,
+    next: u16,
+) -> Result<Result<(), PlaceFault>, Fail> {
+    let k = shard(rt, books, k)?;
+    let next = server(rt, books, next)?;
+    let Stand::Serving(owner) = books.stand(k) else {
+        return Err(Fail::from("a shard that is served"));
+    };
+    assert!(rt; books.knows(owner));
+    let fits = books.fits(k, next);
+    if let Ok(()) = fits {
+        books.soundness();
+        fit_leaves_room();
+        books.set_stand(k, Stand::Prepared { owner, next });
+    }
+    Ok(fits)
+}
+
+/// Gives the shard a stand that names no further server.
+pub(crate) fn narrow(rt: &impl Abort, books: &mut Books, k: u16, stand: Stand) -> Result<(), Fail> {
+    let k = shard(rt, books, k)?;
+    let old = books.stand(k);
+    assert!(rt; is_named(books, &old, stand.owner()));
+    assert!(rt; is_named(books, &old, stand.other()));
+    books.soundness();
+    fewer_names_leave_room();
+    books.set_stand(k, stand);
+    Ok(())
+}
+
+// Whether the stand names the server, where there is one, and the books know it.
+fn is_named(books: &Books, stand: &Stand, server: Option<ServerId>) -> bool
+    ensures named { result ≡ true → IfSome server (λ a. names stand.now a ≡ true) }
+    ensures known { result ≡ true → IfSome server (IsKnown books.now.servers) }
+{
+    match server {
+        Some(a) => stand.names(a) && books.knows(a),
+        None => true,
+    }
+}
