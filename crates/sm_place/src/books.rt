@@ -225,7 +225,8 @@ impl Books {
     }
 
     /// Each shard that the server serves, by number, goes to the lowest-numbered other server that it fits,
-    /// earlier moves counted as wholly migrated. A shard that names the server in another stand is not in the plan.
+    /// earlier moves counted as wholly migrated. The shards that fit none of the other servers in their turn are left.
+    /// A shard that names the server in another stand is not in the plan.
     pub fn plan_drain(&self, alloc: Global, a: ServerId) -> Result<Plan, AllocError>
         ensures plan { IfOk result (λ plan. plan ≡ drain_plan self.now a) }
         ensures keeps_room { IfOk result (λ plan. KeepsRoom self.now (shards_to_move (Some a) self.now.shards)

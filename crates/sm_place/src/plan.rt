@@ -15,7 +15,7 @@ pub struct Move {
     pub to: ServerId,
 }
 
-/// Where shards go, and which find no server, each in the order of the shards.
+/// Where shards go, and which fit none of the plan's servers in their turn, each in the order of the shards.
 #[derive(Debug, Drop)]
 pub struct Plan {
     moves: Vec<Move>,
@@ -48,7 +48,7 @@ impl Plan {
         &self.moves
     }
 
-    /// The shards that fit no server.
+    /// The shards that fit none of the plan's servers in their turn.
     pub fn left(&self) -> &[ShardId]
         ensures { result.now ≡ self.now.left }
     {
