@@ -1,6 +1,7 @@
 -- The one range that covers a key.
-use Rattle.std.proofs.Common.{◌≡◌, ℕ, ◌+◌, ◌-◌, ◌<◌, ◌≤◌, true, false, List, [], length, get_or, refl, sym, ap, ◌∙◌, arith, inl, inr}
+use Rattle.std.proofs.Common.{◌≡◌, ℕ, ◌+◌, ◌-◌, ◌<◌, ◌≤◌, Bool, true, false, List, [], length, get_or, refl, sym, ap, ◌∙◌, arith, inl, inr}
 use Rattle.std.specs.Prelude.{not}
+use Rattle.std.specs.List.{suffix_len}
 use Rattle.std.specs.List.Sorted.{IsPartitionedBy, IsPartitionPoint, IsSortedBy}
 use Rattle.std.specs.declared.cmp.Ordering.{Ordering}
 use Rattle.std.specs.declared.cmp.Ordering.TheVariants.{Less, Equal, Greater}
@@ -8,12 +9,13 @@ use Rattle.std.specs.Ordering.{nat_cmp, is_lt, is_le, ordering_index}
 use Rattle.std.specs.Cmp.Lexicographic.{slice_cmp}
 use Rattle.std.proofs.lemmas.Bool.{cases_lt, true≢false}
 use Rattle.std.proofs.lemmas.Cmp.{nat_list_cmp_total}
+use Rattle.std.proofs.lemmas.List.{length-take}
 use Rattle.std.proofs.lemmas.List.Sorted.{searchable_from_sorted}
+use Rattle.std.proofs.lemmas.List.Sums.{suffix_len_is}
 use Rattle.std.proofs.lemmas.Option.{slice_get-get_or, slice_get_past, get_or_from_slice_get}
 use Rattle.sm_ranges.specs.Ranges.{Covers, IsLayout, shard_of}
 use Rattle.sm_ranges.specs.KeyOrder.{is_below, is_at_most}
 use Rattle.sm_ranges.proofs.Comparisons.{is_below-flip, at_most_empty, below_back}
-use Rattle.sm_ranges.proofs.Places.{count_by-prefix}
 
 index_of_le : (o : Ordering) → is_le o ≡ true → ordering_index o ≤ 1
 index_of_le Less h = omega arith
@@ -72,8 +74,14 @@ module _ (bounds : List (List ℕ)) (key : List ℕ) (layout : IsLayout bounds) 
         absurd (true≢false (sym (at_most_empty key) ∙ (ap (λ bound. is_at_most bound key) (sym first) ∙ above)))
   ]
 
-  pub counted : reached - 1 ≡ shard_of bounds key
-  counted = ap (λ n. n - 1) (sym (count_by-prefix (λ bound. is_at_most bound key) bounds reached within point.0 point.1))
+  pub last_place : reached - 1 ≡ shard_of bounds key
+  last_place =
+      let above : List ℕ → Bool = λ bound. not (is_at_most bound key) in
+      let after : suffix_len above bounds ≡ length bounds - reached =
+        suffix_len_is above bounds reached [] within
+        (λ k from below. ap not (point.1 k [] from below))
+        (λ some. ap not (point.0 (reached - 1) [] (omega arith) (omega (arith, some_reached)))) in
+      omega (arith, after, some_reached, length-take (length bounds - suffix_len above bounds - 1) bounds)
 
   pub covering : Covers bounds (reached - 1) key
   covering = covers_between bounds (reached - 1) key (record {

@@ -1,6 +1,6 @@
 -- Ranges of keys between bounds.
-use Rattle.std.specs.Prelude.{◌≡◌, ℕ, ◌+◌, ◌-◌, ◌≤◌, IsTrue, List, [], length, All, count_by, slice_get, Some, IfSome, IsSomeAnd}
-use Rattle.std.specs.List.{AllAdjacentBelow}
+use Rattle.std.specs.Prelude.{◌≡◌, ℕ, ◌+◌, ◌≤◌, IsTrue, List, [], length, All, slice_get, Some, IfSome, IsSomeAnd}
+use Rattle.std.specs.List.{AllAdjacentBelow, before_last}
 use Rattle.sm_ranges.specs.declared.limits.TheConstants.{MAX_KEY, MAX_SHARDS}
 use Rattle.sm_ranges.specs.KeyOrder.{is_below, is_at_most}
 
@@ -10,9 +10,9 @@ Covers bounds k key =
     IsSomeAnd (slice_get bounds k) (λ low. IsTrue (is_at_most low key))
     × IfSome (slice_get bounds (k + 1)) (λ high. IsTrue (is_below key high))
 
--- how many bounds are at most the key, less one: where bounds rise, the number of the last such bound
+-- the number of the last bound that is at most the key: so many bounds stand before it
 abbrev pub shard_of : List (List ℕ) → List ℕ → ℕ
-shard_of bounds key = count_by (λ bound. is_at_most bound key) bounds - 1
+shard_of bounds key = length (before_last (λ bound. is_at_most bound key) bounds)
 
 -- bounds that cut the key space into 1 to 4,096 ranges: they rise from the empty one, and have at most 255 bytes each
 pub record IsLayout (bounds : List (List ℕ)) : Type 0 where

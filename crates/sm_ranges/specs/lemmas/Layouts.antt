@@ -1,15 +1,15 @@
--- The bounds of a layout are those without a fault.
-use Rattle.std.proofs.Common.{◌≡◌, ℕ, ◌+◌, ◌<◌, ◌≤◌, Bool, true, false, cond, List, [], ◌∷◌, Option, Some, None, length, get_or, drop, refl, sym, ap, ◌∙◌, arith}
+-- The bounds of a layout are those without a fault, and each key has one of its shards.
+use Rattle.std.proofs.Common.{◌≡◌, ℕ, ◌+◌, ◌-◌, ◌<◌, ◌≤◌, Bool, true, false, cond, List, [], ◌∷◌, Option, Some, None, length, get_or, drop, refl, sym, ap, ◌∙◌, arith}
 use Rattle.std.specs.Prelude.{not, position, nat_lt, All}
-use Rattle.std.specs.List.{position_or_len, zip, AllAdjacentBelow}
+use Rattle.std.specs.List.{position_or_len, suffix_len, zip, AllAdjacentBelow}
 use Rattle.std.specs.Option.{option_map, option_or}
 use Rattle.std.proofs.lemmas.Bool.{not-false}
 use Rattle.std.proofs.lemmas.Bool.Decides.{nat_tests}
-use Rattle.std.proofs.lemmas.List.{length-drop, get_or-drop, get_or_default}
+use Rattle.std.proofs.lemmas.List.{length-drop, length-take, get_or-drop, get_or_default}
 use Rattle.std.proofs.lemmas.List.Sums.{fails_before_first, position_or_len_is}
 use Rattle.std.proofs.lemmas.Slice.Zip.{length-zip, get_or-zip}
-use Rattle.sm_ranges.specs.Ranges.{IsLayout}
-use Rattle.sm_ranges.specs.KeyOrder.{is_below}
+use Rattle.sm_ranges.specs.Ranges.{IsLayout, shard_of}
+use Rattle.sm_ranges.specs.KeyOrder.{is_at_most, is_below}
 use Rattle.sm_ranges.specs.LayoutFault.{first_not_rising, first_too_long, first_layout_fault}
 use Rattle.sm_ranges.specs.declared.layout.LayoutFault.{LayoutFault}
 use Rattle.sm_ranges.specs.declared.layout.LayoutFault.TheVariants.{NotRising, KeyTooLong, TooMany}
@@ -105,3 +105,10 @@ layout-no_fault [] layout = absurd (omega (arith, layout.some))
 layout-no_fault ((byte ∷ bytes) ∷ bounds) layout = cc
 layout-no_fault ([] ∷ bounds) layout =
     rw (none_unordered ([] ∷ bounds) layout.rising, none_too_long ([] ∷ bounds) layout.short) (not_many (length ([] ∷ bounds)) layout.few)
+
+-- the shard of a key is one of the layout's
+pub shard_of-within : (bounds : List (List ℕ)) (key : List ℕ) → IsLayout bounds → shard_of bounds key < length bounds
+shard_of-within bounds key layout =
+    let some = layout.some in
+    let last = length bounds - suffix_len (λ bound. not (is_at_most bound key)) bounds - 1 in
+    omega (arith, length-take last bounds)

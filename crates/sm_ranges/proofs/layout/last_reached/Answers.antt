@@ -5,7 +5,7 @@ use Rattle.std.specs.Cmp.Lexicographic.{slice_partial_cmp}
 use Rattle.std.proofs.lemmas.List.Sorted.{IsPartitionPoint-from_clause}
 use Rattle.sm_ranges.specs.KeyOrder.{is_at_most}
 use Rattle.sm_ranges.proofs.Comparisons.{is_le-at_most}
-use Rattle.sm_ranges.proofs.Covering.{parted, some_reached, counted, covering, only}
+use Rattle.sm_ranges.proofs.Covering.{parted, some_reached, last_place, covering, only}
 use Rattle.sm_ranges.proofs.layout.last_reached.Goals as goal
 
 -- the search stopped after all bounds that are at most the key
@@ -20,7 +20,7 @@ pub overflow_sub-result : goal.overflow_sub-result
 overflow_sub-result c = some_reached _ _ c.requires _ c.partition_point.ensures.bound (point c)
 
 pub returns-clause-value : goal.returns-clause-value
-returns-clause-value c = counted _ _ c.requires _ c.partition_point.ensures.bound (point c)
+returns-clause-value c = last_place _ _ c.requires _ c.partition_point.ensures.bound (point c)
 
 pub returns-clause-covers : goal.returns-clause-covers
 returns-clause-covers c = covering _ _ c.requires _ c.partition_point.ensures.bound (point c)
