@@ -5,10 +5,9 @@ use Rattle.std.specs.Option.{option_or}
 use Rattle.std.proofs.lemmas.Bool.{true≢false, cond_both, eqb-true, ltb-true, or_cases}
 use Rattle.std.proofs.lemmas.List.{get_or-replicate, length-replicate}
 use Rattle.std.proofs.lemmas.List.Elements.{All-nil, All-head, All-tail, All-append, All-push, All-take, All-drop}
-use Rattle.std.proofs.lemmas.List.Sums.{count_by-le-length}
 use Rattle.std.proofs.lemmas.Option.{slice_get_within, get_or_from_slice_get}
+use Rattle.sm_ranges.specs.lemmas.Layouts.{shard_of-within}
 use Rattle.sm_ranges.specs.Ranges.{IsLayout, shard_of}
-use Rattle.sm_ranges.specs.KeyOrder.{is_at_most}
 use Rattle.sm_ranges.specs.ServerId.{IsServer}
 use Rattle.sm_ranges.specs.Stand.{AllNamed}
 use Rattle.sm_ownership.specs.declared.admit_fault.AdmitFault.{AdmitFault}
@@ -63,10 +62,7 @@ known_server (first ∷ servers) server all known =
 
 -- a key's shard is there
 pub shard_within : (bounds : List (List ℕ)) (key : List ℕ) → IsLayout bounds → shard_of bounds key < length bounds
-shard_within bounds key layout =
-    let some = layout.some in
-    let few = count_by-le-length (λ bound. is_at_most bound key) bounds in
-    omega arith
+shard_within = shard_of-within
 
 neither : {X : Type 0} (first second : Option X) → option_or first second ≡ None → (first ≡ None) × (second ≡ None)
 neither None second none = (refl, none)
