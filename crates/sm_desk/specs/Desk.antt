@@ -38,15 +38,15 @@ command_fault_from (HasSpent state) = Spent state
 command_fault_from (IsBusy state) = Busy state
 
 -- the first reason for which the desk refuses a change of a shard
-abbrev pub change_fault : DeskView → ℕ → AnyChange → Option CommandFault
-change_fault desk shard change =
+abbrev pub desk_change_fault : DeskView → ℕ → AnyChange → Option CommandFault
+desk_change_fault desk shard change =
     if not (nat_lt shard (length desk.stands)) then Some UnknownShard
     else if is_unknown desk.servers (newly_named change) then Some UnknownServer
     else option_map (λ fault. command_fault_from (change_fault_of fault)) (phase_fault (stand_at desk.stands shard) change)
 
 -- the first reason for which the desk refuses a command
 abbrev pub desk_fault : DeskView → Command → Option CommandFault
-desk_fault desk (Change shard change) = change_fault desk shard change
+desk_fault desk (Change shard change) = desk_change_fault desk shard change
 
 -- the desk after a command that it doesn't refuse
 abbrev pub desk_after : DeskView → Command → DeskView

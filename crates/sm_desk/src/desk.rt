@@ -2,7 +2,7 @@ ghost use Rattle.std.specs.Prelude.{◌≡◌, ℕ, All, IfOk, None, replicate};
 ghost use Rattle.std.specs.List.Sorted.{IsStrictlyIncreasing};
 ghost use Rattle.std.specs.Result.{result_err};
 ghost use Rattle.sm_ranges.specs.ServerId.{IsServer};
-ghost use Rattle.sm_desk.specs.Desk.{is_known, change_fault, desk_fault, desk_after};
+ghost use Rattle.sm_desk.specs.Desk.{is_known, desk_change_fault, desk_fault, desk_after};
 
 use crate::command::{Command, CommandFault};
 use sm_ownership::change::Change;
@@ -66,7 +66,7 @@ impl Desk {
     }
 
     fn check_change(&self, k: ShardId, change: &Change) -> Result<(), CommandFault>
-        ensures { result_err result ≡ change_fault self.now k change.now }
+        ensures { result_err result ≡ desk_change_fault self.now k change.now }
     {
         if k.index() >= self.stands.len() {
             return Err(CommandFault::UnknownShard);

@@ -16,7 +16,7 @@ use Rattle.sm_table.specs.declared.step.Step.TheVariants.{Control}
 use Rattle.sm_table.specs.declared.world_answer.WorldAnswer.TheVariants.{Made}
 use Rattle.sm_table.specs.declared.world_fault.WorldFault.TheVariants.{Command as CommandRefused}
 use Rattle.sm_ownership.specs.Rules.{stand_after, phase_fault}
-use Rattle.sm_desk.specs.Desk.{DeskView, stand_at, change_fault, command_fault_from, desk_after}
+use Rattle.sm_desk.specs.Desk.{DeskView, stand_at, desk_change_fault, command_fault_from, desk_after}
 use Rattle.sm_desk.specs.lemmas.Changes.{let_through}
 use Rattle.sm_ownership.specs.History.{vacant, after_change}
 use Rattle.sm_ownership.specs.Tables.{TableView, record_fault, apply_fault, table_changed}
@@ -26,7 +26,7 @@ use Rattle.sm_table.specs.Standing.{IsSound, WorldView, StandsFor, Follows}
 use Rattle.sm_ownership.specs.lemmas.Growth.{fits-push, length-table_of, table_of-push, kept-push_none}
 use Rattle.sm_table.proofs.Parts.{parts_of, parts-from_StandsFor, Follows-unchanged, Follows-changed}
 
-module _ {Q R : Type 0} (service : Service Q R) (w : WorldState Q) (sound : IsSound w) (shard : ℕ) (change : Change) (none : None ≡ change_fault (desk_of w) shard change) where
+module _ {Q R : Type 0} (service : Service Q R) (w : WorldState Q) (sound : IsSound w) (shard : ℕ) (change : Change) (none : None ≡ desk_change_fault (desk_of w) shard change) where
   long : length (world_table w) ≡ count_of w
   long = length-table_of (count_of w) w.frame.ceiling w.history
 
@@ -70,14 +70,14 @@ module _ {Q R : Type 0} (service : Service Q R) (v now : WorldView Q) (same : v 
   stands = subst (λ u. StandsFor u w) (sym same) given
 
   -- the desk refuses the change
-  pub refused_by_desk : (fault : CommandFault) → Some fault ≡ change_fault v.desk shard change → Follows now (Err (CommandRefused fault)) (outcome service w Plain (Control (ChangeOf shard change)))
+  pub refused_by_desk : (fault : CommandFault) → Some fault ≡ desk_change_fault v.desk shard change → Follows now (Err (CommandRefused fault)) (outcome service w Plain (Control (ChangeOf shard change)))
   refused_by_desk fault is =
-      let refused : change_fault (desk_of w) shard change ≡ Some fault = ap (λ desk. change_fault desk shard change) (sym stands.desk) ∙ sym is in
+      let refused : desk_change_fault (desk_of w) shard change ≡ Some fault = ap (λ desk. desk_change_fault desk shard change) (sym stands.desk) ∙ sym is in
       Follows-unchanged service w Plain (Control (ChangeOf shard change)) now now (Err (CommandRefused fault)) given (rw refused refl) refl
 
-  module _ (none : None ≡ change_fault v.desk shard change) where
-    allowed : None ≡ change_fault (desk_of w) shard change
-    allowed = none ∙ ap (λ desk. change_fault desk shard change) stands.desk
+  module _ (none : None ≡ desk_change_fault v.desk shard change) where
+    allowed : None ≡ desk_change_fault (desk_of w) shard change
+    allowed = none ∙ ap (λ desk. desk_change_fault desk shard change) stands.desk
 
     as_of_world : (fault : Option ChangeFault) → fault ≡ apply_fault (record { records = v.records; ceiling = v.ceiling }) shard change → fault ≡ apply_fault (record { records = world_table w; ceiling = w.frame.ceiling }) shard change
     as_of_world fault is = is ∙ ap (λ records. apply_fault (record { records = records; ceiling = v.ceiling }) shard change) stands.records ∙ ap (λ ceiling. apply_fault (record { records = world_table w; ceiling = ceiling }) shard change) stands.ceiling
@@ -86,14 +86,14 @@ module _ {Q R : Type 0} (service : Service Q R) (v now : WorldView Q) (same : v 
     pub refused_by_table : (fault : ChangeFault) (table : TableView) → Some fault ≡ apply_fault (record { records = v.records; ceiling = v.ceiling }) shard change → table ≡ record { records = v.records; ceiling = v.ceiling } → Follows (record v { records = table.records; ceiling = table.ceiling }) (Err (CommandRefused (command_fault_from fault))) (outcome service w Plain (Control (ChangeOf shard change)))
     refused_by_table fault table is unchanged =
         let refused : table_fault w.frame.ceiling (world_record w shard) ≡ Some (command_fault_from fault) = refusal service w stands.sound shard change allowed (Some fault) (as_of_world (Some fault) is) in
-        let through : change_fault (desk_of w) shard change ≡ None = sym allowed in
+        let through : desk_change_fault (desk_of w) shard change ≡ None = sym allowed in
         Follows-unchanged service w Plain (Control (ChangeOf shard change)) (record v { records = table.records; ceiling = table.ceiling }) v (Err (CommandRefused (command_fault_from fault))) stands (rw (through, refused) refl) (ap (λ (t : TableView). record v { records = t.records; ceiling = t.ceiling }) unchanged)
 
     -- neither does
     pub made : (table : TableView) (desk : DeskView) → None ≡ apply_fault (record { records = v.records; ceiling = v.ceiling }) shard change → table ≡ table_changed (record { records = v.records; ceiling = v.ceiling }) shard change → desk ≡ desk_after v.desk (ChangeOf shard change) → Follows (record v { desk = desk; records = table.records; ceiling = table.ceiling }) (Ok Made) (outcome service w Plain (Control (ChangeOf shard change)))
     made table desk is changed noted =
         let taken : table_fault w.frame.ceiling (world_record w shard) ≡ None = refusal service w stands.sound shard change allowed None (as_of_world None is) in
-        let through : change_fault (desk_of w) shard change ≡ None = sym allowed in
+        let through : desk_change_fault (desk_of w) shard change ≡ None = sym allowed in
         Follows-changed service w Plain (Control (ChangeOf shard change)) (record v { desk = desk; records = table.records; ceiling = table.ceiling }) (Ok Made) (with_entry w 0 shard (Changed change)) v.kept stands.sound (rw (through, taken) refl)
         (λ after. ap (λ (t : TableView). record v { desk = desk; records = t.records; ceiling = t.ceiling }) changed
         ∙ ap (λ (d : DeskView). record v { desk = d; records = (table_changed (record { records = v.records; ceiling = v.ceiling }) shard change).records }) noted

@@ -15,6 +15,8 @@ use Rattle.sm_table.specs.declared.world_answer.WorldAnswer.{WorldAnswer}
 use Rattle.sm_table.specs.declared.world_fault.WorldFault.{WorldFault}
 use Rattle.sm_desk.specs.Desk.{DeskView, is_known}
 use Rattle.sm_ownership.specs.History.{after_admit, record_at, IsLegal, admits_only, is_admission_of, latest_of, kept}
+use Rattle.sm_ownership.specs.Tables.{TableView}
+use Rattle.sm_table.specs.Bodies.{BodiesView}
 use Rattle.sm_table.specs.World.{Frame, WorldState, Outcome, count_of, desk_of, mark_of, outcome, world_record, world_table}
 
 -- a frame that a world can be made with: bounds of a layout, and servers by their numbers
@@ -60,6 +62,19 @@ pub record WorldView (Q : Type 0) : Type 0 where
   pub limits : List ℕ
   pub in_flight : List (Flight Q)
   pub in_hand : List (Option (InHand Q))
+
+-- what these parts show
+abbrev pub view_of : {Q : Type 0} → List (List ℕ) → DeskView → TableView → BodiesView Q → List (Flight Q) → List (Option (InHand Q)) → WorldView Q
+view_of bounds desk table bodies in_flight in_hand = record {
+  bounds = bounds;
+  desk = desk;
+  records = table.records;
+  ceiling = table.ceiling;
+  kept = bodies.kept;
+  limits = bodies.limits;
+  in_flight = in_flight;
+  in_hand = in_hand;
+}
 
 -- each part has an element for each shard, flights are for shards that are there, and a shard that a server has in hand is admitted
 pub record IsTogether {Q : Type 0} (view : WorldView Q) : Type 0 where

@@ -46,33 +46,15 @@ pub struct World<S: Service> {
 }
 
 impl<S: Service> Model for World<S> {
-    ghost use Rattle.sm_table.specs.Standing.{WorldView};
+    ghost use Rattle.sm_table.specs.Standing.{IsTogether, WorldView, view_of};
 
     ghost Value = { WorldView S.Request };
 
-    ghost view = { λ world. record {
-      bounds = world.layout;
-      desk = world.desk;
-      records = world.table.records;
-      ceiling = world.table.ceiling;
-      kept = world.bodies.kept;
-      limits = world.bodies.limits;
-      in_flight = world.in_flight.items;
-      in_hand = world.in_hand;
-    } };
+    ghost view = { λ world.
+        view_of world.layout world.desk world.table world.bodies world.in_flight.items world.in_hand };
 
-    ghost use Rattle.sm_table.specs.Standing.{IsTogether};
-
-    ghost invariant = { λ world. IsTogether (record {
-      bounds = world.layout;
-      desk = world.desk;
-      records = world.table.records;
-      ceiling = world.table.ceiling;
-      kept = world.bodies.kept;
-      limits = world.bodies.limits;
-      in_flight = world.in_flight.items;
-      in_hand = world.in_hand;
-    }) };
+    ghost invariant = { λ world. IsTogether
+        (view_of world.layout world.desk world.table world.bodies world.in_flight.items world.in_hand) };
 }
 
 impl<S: Service> World<S> {

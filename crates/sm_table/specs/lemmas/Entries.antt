@@ -3,7 +3,7 @@ use Rattle.std.proofs.Common.{◌≡◌, ◌≢◌, ℕ, ◌<◌, ◌≤◌, Boo
 use Rattle.std.specs.Prelude.{Option, Some, None, map, reverse, slice_set, slice_index_or, nat_lt, is_none, ◌==◌, if◌then◌else◌}
 use Rattle.std.specs.List.{list_all}
 use Rattle.std.specs.Option.{option_map}
-use Rattle.std.proofs.lemmas.Bool.{true≢false, cases_eq, cases_lt, eq-eqb, ne_eqb, and_parts, and_from, lt-ltb, ltb-true, eqb-true}
+use Rattle.std.proofs.lemmas.Bool.{true≢false, cases_eq, cases_lt, eq-eqb, ne_eqb, and_parts, and_from, lt-ltb, eqb-true}
 use Rattle.std.proofs.lemmas.Bool.Decides.{nat_tests}
 use Rattle.std.proofs.lemmas.List.{reverse-append, get_or-set_same, get_or-set_other, get_or_past, get_or-map, length-map, length-set}
 use Rattle.std.proofs.lemmas.List.Folds.{list_all-append}
@@ -11,15 +11,14 @@ use Rattle.sm_ranges.specs.ServerId.{IsServer}
 use Rattle.sm_ranges.specs.Stand.{AllNamed}
 use Rattle.sm_ranges.specs.declared.stand.Stand.TheVariants.{Vacant}
 use Rattle.sm_ownership.specs.declared.change.Change.{Change}
-use Rattle.sm_ownership.specs.declared.change.PhaseFault.{PhaseFault}
 use Rattle.sm_ownership.specs.declared.entry.Entry.{Entry}
 use Rattle.sm_ownership.specs.declared.entry.Kind.{Kind}
 use Rattle.sm_ownership.specs.declared.entry.Kind.TheVariants.{Change as Changed, Admit, Done}
 use Rattle.sm_ownership.specs.declared.mode.Mode.{Mode}
 use Rattle.sm_ownership.specs.declared.record.Record.{Record}
 use Rattle.sm_table.specs.declared.in_hand.InHand.{InHand}
-use Rattle.sm_ownership.specs.Rules.{newly_named, phase_fault, admit_fault}
-use Rattle.sm_desk.specs.Desk.{is_unknown, stand_at, change_fault, command_fault_from}
+use Rattle.sm_ownership.specs.Rules.{phase_fault, admit_fault}
+use Rattle.sm_desk.specs.Desk.{stand_at, desk_change_fault, command_fault_from}
 use Rattle.sm_desk.specs.lemmas.Changes.{let_through}
 use Rattle.sm_ownership.specs.History.{vacant, after_kind, admits_only, acts_as, fits}
 use Rattle.sm_table.specs.World.{WorldState, count_of, world_table, world_record, with_entry, with_hand, desk_of, table_fault, ended}
@@ -142,7 +141,7 @@ module _ {Q : Type 0} (w : WorldState Q) (sound : IsSound w) where
   long_table = length-table_of (count_of w) w.frame.ceiling w.history
 
   -- a change that neither the desk nor the table refuses
-  pub sound_change : (shard : ℕ) (change : Change) → change_fault (desk_of w) shard change ≡ None → table_fault w.frame.ceiling (world_record w shard) ≡ None → IsSound (with_entry w 0 shard (Changed change))
+  pub sound_change : (shard : ℕ) (change : Change) → desk_change_fault (desk_of w) shard change ≡ None → table_fault w.frame.ceiling (world_record w shard) ≡ None → IsSound (with_entry w 0 shard (Changed change))
   sound_change shard change desk table =
       let state = world_record w shard in
       let stands = map (λ (one : Record). one.stand) (world_table w) in

@@ -22,7 +22,7 @@ use Rattle.sm_ownership.specs.declared.record.Record.{Record}
 use Rattle.sm_table.specs.declared.step.Step.{Step}
 use Rattle.sm_table.specs.declared.step.Step.TheVariants.{Control, Look, Send, Deliver, Finish, Lose, Hold, Free}
 use Rattle.sm_ownership.specs.Rules.{admit_fault, forward_to}
-use Rattle.sm_desk.specs.Desk.{is_known, change_fault}
+use Rattle.sm_desk.specs.Desk.{is_known, desk_change_fault}
 use Rattle.sm_envelope.specs.Envelope.{EnvelopeView, one_hop_more, sent_on}
 use Rattle.sm_envelope.specs.declared.envelope.TheConstants.{MOST_HOPS}
 use Rattle.sm_ownership.specs.History.{vacant, record_at, kept}
@@ -90,7 +90,7 @@ module _ {Q : Type 0} (R : Type 0) (w : WorldState Q) (sound : IsSound w) where
   abbrev LeavesSound : Outcome Q R → Type 0
   LeavesSound outcome = IsSound outcome.1
 
-  sound_controlled : (shard : ℕ) (change : Change) (fault : Option CommandFault) → option_or (change_fault (desk_of w) shard change) (table_fault w.frame.ceiling (world_record w shard)) ≡ fault → LeavesSound (controlled w shard change fault)
+  sound_controlled : (shard : ℕ) (change : Change) (fault : Option CommandFault) → option_or (desk_change_fault (desk_of w) shard change) (table_fault w.frame.ceiling (world_record w shard)) ≡ fault → LeavesSound (controlled w shard change fault)
   sound_controlled shard change (Some fault) is = sound
   sound_controlled shard change None is = let none = neither _ _ is in sound_change w sound shard change none.0 none.1
 
