@@ -8,7 +8,7 @@ use Rattle.sm_lines.specs.Sending.{WroteFront}
 
 -- a responder's answer to one line: `gives` speaks of a line within the limit, and `gives_long` of the first bytes
 -- of a longer one, which changes nothing
-pub record Answers {E : Type 0} (gives : E → List ℕ → List ℕ → E → Type 0) (gives_long : E → List ℕ → List ℕ → Type 0)
+pub record AnswersLine {E : Type 0} (gives : E → List ℕ → List ℕ → E → Type 0) (gives_long : E → List ℕ → List ℕ → Type 0)
     (limit : ℕ) (before : E) (line text : List ℕ) (after : E) : Type 0 where
   pub whole : length line ≤ limit → gives before line text after
   pub long : limit < length line → gives_long before (take limit line) text × (after ≡ before)

@@ -1,11 +1,18 @@
 //! Reads a text line by line and writes an answer to each, with every failure told apart and nothing lost before it.
+//!
+//! ```rust
+//! let mut reader = Watched::new(b"one\nthree".as_slice());
+//! let mut lines = LineReader::new(alloc)?;
+//! assert!(rt; lines.next_line(&mut reader, 4) == Ok(Next::Line));
+//! assert!(rt; lines.line() == b"one".as_slice());
+//! assert!(rt; lines.next_line(&mut reader, 4) == Ok(Next::LongLine));
+//! assert!(rt; lines.line() == b"thre".as_slice());
+//! ```
 #![tactic(auto)]
 
 mod line_reader;
 mod piece_writer;
 mod respond;
-#[cfg(test)]
-mod tests;
 mod watch;
 
 pub use line_reader::{LineReader, Next, ReadFault};

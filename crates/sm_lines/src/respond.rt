@@ -3,7 +3,7 @@ ghost use Rattle.std.specs.Io.KnownBytes.{IsAtEnd};
 ghost use Rattle.sm_lines.specs.Lines.{LosesLine, TookPart};
 ghost use Rattle.sm_lines.specs.Reading.{unread, CallsFit, EndStands, HeldGiven, LinesGiven};
 ghost use Rattle.sm_lines.specs.Sending.{Sends, WroteFront};
-ghost use Rattle.sm_lines.specs.Answers.{Answers, Answered, AnsweredLine, HasLines, RanAll, RanTo, RanShort, ReadingStopped, StopsAfter};
+ghost use Rattle.sm_lines.specs.Answers.{AnswersLine, Answered, AnsweredLine, HasLines, RanAll, RanTo, RanShort, ReadingStopped, StopsAfter};
 
 use crate::{COUNT_LIMIT, LineReader, Next, PIECE, PieceWriter, ReadFault, Watched, WriteFault};
 use std::alloc::{AllocError, Global};
@@ -71,7 +71,7 @@ fn answer_next<R: Read, E: Responder>(
 ) -> Result<bool, AnswerFault>
     requires { EndStands lines.old (R.remaining reader.old.inner) }
     ensures line { IfOk result (λ more. more ≡ true
-        → AnsweredLine (Answers E.gives E.gives_long limit) lines.new.ended
+        → AnsweredLine (AnswersLine E.gives E.gives_long limit) lines.new.ended
         (unread lines.old (R.remaining reader.old.inner)) (unread lines.new
         (R.remaining reader.new.inner)) out.new.items responder.old responder.new) }
     ensures end { IfOk result (λ more. more ≡ false → IsAtEnd (unread lines.old
@@ -150,13 +150,13 @@ fn answer_rest<R: Read, W: Write, E: Responder>(
     requires empty { pieces.old ≡ [] }
     ensures ran { OnOk result ((done : List (List ℕ)) × HasLines (unread lines.old
         (R.remaining reader.old.inner)) done
-        × Answered (Answers E.gives E.gives_long limit) (W.contents writer.old.inner)
+        × Answered (AnswersLine E.gives E.gives_long limit) (W.contents writer.old.inner)
         (W.contents writer.new.inner) pieces.new responder.old responder.new done) }
     ensures read_all { OnOk result (IsAtEnd (R.remaining reader.new.inner)) }
     ensures reader_unfailed { result ≢ Err AnswerFault.Read → reader.new.failed ≡ reader.old.failed }
     ensures writer_unfailed { result ≢ Err AnswerFault.Write → writer.new.failed ≡ writer.old.failed }
     ensures read { result ≡ Err AnswerFault.Read → (done : List (List ℕ))
-        × Answered (Answers E.gives E.gives_long limit) (W.contents writer.old.inner)
+        × Answered (AnswersLine E.gives E.gives_long limit) (W.contents writer.old.inner)
         (W.contents writer.new.inner) pieces.new responder.old responder.new done
         × ReadingStopped lines.old lines.new reader.new.failed reader.new.calls
         (unread lines.old (R.remaining reader.old.inner))
@@ -164,10 +164,10 @@ fn answer_rest<R: Read, W: Write, E: Responder>(
     ensures no_memory { result ≡ Err AnswerFault.NoMemory → (done : List (List ℕ)) × (after : E)
         × StopsAfter (unread lines.old (R.remaining reader.old.inner))
         (unread lines.new (R.remaining reader.new.inner)) done
-        × Answered (Answers E.gives E.gives_long limit) (W.contents writer.old.inner)
+        × Answered (AnswersLine E.gives E.gives_long limit) (W.contents writer.old.inner)
         (W.contents writer.new.inner) pieces.new responder.old after done }
     ensures write { result ≡ Err AnswerFault.Write → (writer.new.failed ≡ true)
-        × RanShort (Answers E.gives E.gives_long limit) (unread lines.old
+        × RanShort (AnswersLine E.gives E.gives_long limit) (unread lines.old
         (R.remaining reader.old.inner)) (unread lines.new (R.remaining reader.new.inner))
         (W.contents writer.old.inner) (W.contents writer.new.inner) responder.old }
     ensures calls { CallsFit lines.old.ended true (R.remaining reader.old.inner)
@@ -212,7 +212,7 @@ pub fn answer_lines<R: Read, W: Write, E: Responder>(
     // A reader that ended is the one that is passed again.
     requires { EndStands lines.old (R.remaining reader.old.inner) }
 
-    ensures ran { OnOk result (RanAll (Answers E.gives E.gives_long limit)
+    ensures ran { OnOk result (RanAll (AnswersLine E.gives E.gives_long limit)
         (unread lines.old (R.remaining reader.old.inner))
         (W.contents writer.old.inner) (W.contents writer.new.inner) responder.old responder.new) }
     ensures read_all { OnOk result (IsAtEnd (R.remaining reader.new.inner)) }
@@ -224,7 +224,7 @@ pub fn answer_lines<R: Read, W: Write, E: Responder>(
 
     // All lines that were read whole were answered, and nothing else was written.
     ensures read { result ≡ Err AnswerFault.Read → (done : List (List ℕ))
-        × RanTo (Answers E.gives E.gives_long limit) (W.contents writer.old.inner)
+        × RanTo (AnswersLine E.gives E.gives_long limit) (W.contents writer.old.inner)
         (W.contents writer.new.inner) responder.old responder.new done
         × ReadingStopped lines.old lines.new reader.new.failed reader.new.calls
         (unread lines.old (R.remaining reader.old.inner))
@@ -234,12 +234,12 @@ pub fn answer_lines<R: Read, W: Write, E: Responder>(
     ensures no_memory { result ≡ Err AnswerFault.NoMemory → (done : List (List ℕ)) × (after : E)
         × StopsAfter (unread lines.old (R.remaining reader.old.inner))
         (unread lines.new (R.remaining reader.new.inner)) done
-        × RanTo (Answers E.gives E.gives_long limit) (W.contents writer.old.inner)
+        × RanTo (AnswersLine E.gives E.gives_long limit) (W.contents writer.old.inner)
         (W.contents writer.new.inner) responder.old after done }
 
     // What was written is a front of the answers to the lines that were read.
     ensures write { result ≡ Err AnswerFault.Write → (writer.new.failed ≡ true)
-        × RanShort (Answers E.gives E.gives_long limit) (unread lines.old
+        × RanShort (AnswersLine E.gives E.gives_long limit) (unread lines.old
         (R.remaining reader.old.inner)) (unread lines.new (R.remaining reader.new.inner))
         (W.contents writer.old.inner) (W.contents writer.new.inner) responder.old }
 

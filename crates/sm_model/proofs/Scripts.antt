@@ -6,7 +6,7 @@ use Rattle.sm_run.specs.declared.outcome.Status.TheVariants.{Ran, BadSettings}
 use Rattle.std.proofs.lemmas.Bool.{cases_lt}
 use Rattle.std.proofs.lemmas.List.{length-take-le, take-append-drop}
 use Rattle.std.specs.Io.KnownBytes.{Appends}
-use Rattle.sm_lines.specs.Answers.{Answers as AnswersLine, AnswersAll}
+use Rattle.sm_lines.specs.Answers.{AnswersLine, AnswersAll}
 use Rattle.sm_lines.specs.Lines.{lines_of}
 use Rattle.sm_script.specs.declared.line.TheConstants.{MAX_LINE}
 use Rattle.sm_script.specs.Lines.{meaning_of}

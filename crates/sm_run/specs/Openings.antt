@@ -3,7 +3,7 @@ use Rattle.std.specs.Prelude.{◌≡◌, Bool, ℕ, List, [], ◌∷◌, ◌++�
 use Rattle.std.specs.Io.KnownBytes.{Appends}
 use Rattle.sm_lines.specs.Lines.{lines_of, HadFeed, LosesLine}
 use Rattle.sm_lines.specs.Sending.{WroteFront}
-use Rattle.sm_settings.specs.SettingsFault.{name_of}
+use Rattle.sm_settings.specs.SettingsFault.{settings_fault_name}
 use Rattle.sm_settings.specs.SettingsLine.{SettingsValues, settings_of, values_of}
 use Rattle.sm_settings.specs.SettingsRules.{KeepsRules}
 use Rattle.sm_settings.specs.declared.settings_fault.SettingsFault.{SettingsFault}
@@ -13,7 +13,7 @@ use Rattle.sm_run.specs.declared.opening.Opening.TheVariants.{Accepted, Refused}
 
 -- the answer to settings that aren't accepted
 abbrev pub settings_line : SettingsFault → List ℕ
-settings_line fault = codes "settings " ++ name_of fault ++ 10 ∷ []
+settings_line fault = codes "settings " ++ settings_fault_name fault ++ 10 ∷ []
 
 -- the settings in front of a script: those of its first line; where there is no line, there is no JSON
 abbrev pub settings_in : List (List ℕ) → Result SettingsValues SettingsFault

@@ -1,4 +1,12 @@
 //! Runs a script: reads the settings in front, makes a session of an engine with them, and answers each other line by it.
+//!
+//! ```rust
+//! let mut reader = Watched::new(script.as_slice());
+//! let mut writer = Watched::new(Vec::new(alloc));
+//! let status = run(alloc, &mut reader, &mut writer, &mut EchoEngine)?;
+//! assert_eq!(rt; status, Status::Ran);
+//! assert_eq!(rt; writer.inner.as_slice(), ANSWERS);
+//! ```
 #![tactic(auto)]
 
 mod engine;

@@ -1,6 +1,6 @@
 ghost use Rattle.std.specs.Prelude.{◌≡◌, ◌≢◌, ◌⊎◌, ◌*◌, ◌≤◌, ℕ, List, IfOk, OnOk, Ok, Err, true, false};
 ghost use Rattle.std.specs.Io.KnownBytes.{IsAtEnd};
-ghost use Rattle.sm_lines.specs.Answers.{Answers, ReadingStopped, StopsAfter};
+ghost use Rattle.sm_lines.specs.Answers.{AnswersLine, ReadingStopped, StopsAfter};
 ghost use Rattle.sm_lines.specs.Reading.{unread, CallsFit, EndStands, HeldGiven};
 ghost use Rattle.sm_settings.specs.SettingsLine.{values_of};
 ghost use Rattle.sm_settings.specs.SettingsRules.{KeepsRules};
@@ -28,23 +28,23 @@ pub fn run<R: Read, W: Write, E: Engine>(
     engine: &mut E,
 ) -> Result<Status, RunFault>
     ensures ran { result ≡ Ok Status.Ran
-        → RanScript E.begins (Answers E.Session.gives E.Session.gives_long E.MAX_LINE)
+        → RanScript E.begins (AnswersLine E.Session.gives E.Session.gives_long E.MAX_LINE)
         (R.remaining reader.old.inner) (W.contents writer.old.inner) (W.contents writer.new.inner) }
     ensures read_all { result ≡ Ok Status.Ran → IsAtEnd (R.remaining reader.new.inner) }
     ensures bad_settings { result ≡ Ok Status.BadSettings → RefusedScript
         (R.remaining reader.old.inner) (W.contents writer.old.inner) (W.contents writer.new.inner) }
     // Where reading stopped, all lines that were read whole were answered.
     ensures read { result ≡ Err RunFault.Read → StoppedReading
-        (WritesFor E.begins (Answers E.Session.gives E.Session.gives_long E.MAX_LINE))
+        (WritesFor E.begins (AnswersLine E.Session.gives E.Session.gives_long E.MAX_LINE))
         reader.new.failed reader.new.calls (R.remaining reader.old.inner)
         (R.remaining reader.new.inner) (W.contents writer.old.inner) (W.contents writer.new.inner) }
     // Where memory was refused, the lines before one were answered.
     ensures no_memory { result ≡ Err RunFault.NoMemory → StoppedAt
-        (WritesFor E.begins (Answers E.Session.gives E.Session.gives_long E.MAX_LINE))
+        (WritesFor E.begins (AnswersLine E.Session.gives E.Session.gives_long E.MAX_LINE))
         (R.remaining reader.old.inner) (W.contents writer.old.inner) (W.contents writer.new.inner) }
     // Where writing failed, the lines before one, and then a front of that one's answer was written.
     ensures write { result ≡ Err RunFault.Write → StoppedWriting
-        (WritesFor E.begins (Answers E.Session.gives E.Session.gives_long E.MAX_LINE))
+        (WritesFor E.begins (AnswersLine E.Session.gives E.Session.gives_long E.MAX_LINE))
         (R.remaining reader.old.inner) (W.contents writer.old.inner) (W.contents writer.new.inner)
         ⊎ RefusedShort (R.remaining reader.old.inner) (W.contents writer.old.inner)
         (W.contents writer.new.inner) }
@@ -86,13 +86,13 @@ fn run_session<R: Read, W: Write, E: Engine>(
     requires rules { KeepsRules (values_of settings) }
     requires end_stands { EndStands lines.old (R.remaining reader.old.inner) }
     ensures ran { OnOk result (RanSession E.begins
-        (Answers E.Session.gives E.Session.gives_long E.MAX_LINE) (values_of settings)
+        (AnswersLine E.Session.gives E.Session.gives_long E.MAX_LINE) (values_of settings)
         (unread lines.old (R.remaining reader.old.inner))
         (W.contents writer.old.inner) (W.contents writer.new.inner)) }
     ensures read_all { OnOk result (IsAtEnd (R.remaining reader.new.inner)) }
     ensures status { IfOk result (λ status. status ≡ Status.Ran) }
     ensures read { result ≡ Err RunFault.Read → (done : List (List ℕ))
-        × SessionTo E.begins (Answers E.Session.gives E.Session.gives_long E.MAX_LINE)
+        × SessionTo E.begins (AnswersLine E.Session.gives E.Session.gives_long E.MAX_LINE)
         (values_of settings) (W.contents writer.old.inner) (W.contents writer.new.inner) done
         × ReadingStopped lines.old lines.new reader.new.failed reader.new.calls
         (unread lines.old (R.remaining reader.old.inner))
@@ -100,12 +100,12 @@ fn run_session<R: Read, W: Write, E: Engine>(
     // Either no session began, or this one ran up to a line.
     ensures no_memory { result ≡ Err RunFault.NoMemory
         → (writer.new ≡ writer.old) ⊎ ((done : List (List ℕ))
-        × SessionTo E.begins (Answers E.Session.gives E.Session.gives_long E.MAX_LINE)
+        × SessionTo E.begins (AnswersLine E.Session.gives E.Session.gives_long E.MAX_LINE)
         (values_of settings) (W.contents writer.old.inner) (W.contents writer.new.inner) done
         × StopsAfter (unread lines.old (R.remaining reader.old.inner))
         (unread lines.new (R.remaining reader.new.inner)) done) }
     ensures write { result ≡ Err RunFault.Write → SessionShort E.begins
-        (Answers E.Session.gives E.Session.gives_long E.MAX_LINE) (values_of settings)
+        (AnswersLine E.Session.gives E.Session.gives_long E.MAX_LINE) (values_of settings)
         (unread lines.old (R.remaining reader.old.inner))
         (unread lines.new (R.remaining reader.new.inner)) (W.contents writer.old.inner)
         (W.contents writer.new.inner) }

@@ -6,16 +6,16 @@ use Rattle.serde_json.specs.declared.value.Value.{Value}
 use Rattle.std.specs.List.{list_all}
 use Rattle.std.specs.Prelude.{option_and_then}
 use Rattle.serde_json.specs.Find.{as_array}
-use Rattle.sm_settings.specs.Members.{count_of, passes, list_of, array_of, is_array_of}
+use Rattle.sm_settings.specs.Members.{member_count, holds_of, list_of, array_of, is_array_of}
 
-count_of-members_view : (ms : List (String Global × Value)) → count_of (members_view ms) ≡ length ms
-count_of-members_view [] = refl
-count_of-members_view (m ∷ ms) = ap suc (count_of-members_view ms)
+member_count-members_view : (ms : List (String Global × Value)) → member_count (members_view ms) ≡ length ms
+member_count-members_view [] = refl
+member_count-members_view (m ∷ ms) = ap suc (member_count-members_view ms)
 
 -- an object has as many members as its map
-pub size_of_map : (ms : List (String Global × Value)) (n size : ℕ) (o : Option Members) → Some (members_view ms) ≡ o → n ≡ length ms → nat_eq n size ≡ passes (λ ms. count_of ms == size) o
+pub size_of_map : (ms : List (String Global × Value)) (n size : ℕ) (o : Option Members) → Some (members_view ms) ≡ o → n ≡ length ms → nat_eq n size ≡ holds_of (λ ms. member_count ms == size) o
 size_of_map ms n size o found len =
-    ap (λ k. nat_eq k size) (len ∙ sym (count_of-members_view ms)) ∙ ap (passes (λ ms. count_of ms == size)) found
+    ap (λ k. nat_eq k size) (len ∙ sym (member_count-members_view ms)) ∙ ap (holds_of (λ ms. member_count ms == size)) found
 
 list_of-items_view : (vs : List Value) → list_of (items_view vs) ≡ map view vs
 list_of-items_view [] = refl
@@ -27,6 +27,6 @@ array_of_list items member found is_array is_found =
     ap Some (sym (list_of-items_view items)) ∙ ap (option_map list_of) is_array ∙ ap (option_and_then array_of) is_found
 
 -- an array's test goes by its items
-pub passes_array : (test : Data → Bool) (o : Option Data) → passes (is_array_of test) o ≡ passes (list_all test) (option_and_then array_of o)
-passes_array test None = refl
-passes_array test (Some d) = refl
+pub holds_of_array : (test : Data → Bool) (o : Option Data) → holds_of (is_array_of test) o ≡ holds_of (list_all test) (option_and_then array_of o)
+holds_of_array test None = refl
+holds_of_array test (Some d) = refl

@@ -1,7 +1,7 @@
 -- Looking into JSON data: what an object's members hold, and tests of their types.
 -- What is missing or of another type counts as 0 or as nothing: a line with such a member breaks the rule on
 -- shapes, which comes before all rules on values.
-use Rattle.std.specs.Prelude.{ℕ, suc, ◌&&◌, ◌==◌, List, [], ◌∷◌, length, Bool, false, nat_le, if◌then◌else◌, Option, None, Some, is_some, unwrap_or, option_map, option_and_then}
+use Rattle.std.specs.Prelude.{ℕ, suc, ◌&&◌, ◌==◌, List, [], ◌∷◌, length, Bool, false, if◌then◌else◌, Option, None, Some, is_some, unwrap_or, option_map, option_and_then}
 use Rattle.std.specs.List.{list_all}
 use Rattle.serde_json.specs.Data.{Data, Items, no_items, item, Members, no_members, member}
 use Rattle.serde_json.specs.Find.{get, as_number, as_u64, as_array, as_object, as_str}
@@ -16,9 +16,9 @@ as_whole d = option_and_then as_u64 (as_number d)
 abbrev pub number_at : List ℕ → Data → ℕ
 number_at name d = unwrap_or (option_and_then as_whole (get name d)) 0
 
--- the bytes of a text
-abbrev pub text_of : Data → List ℕ
-text_of d = unwrap_or (as_str d) []
+-- the bytes of a string
+abbrev pub string_of : Data → List ℕ
+string_of d = unwrap_or (as_str d) []
 
 -- the items as a list
 abbrev pub list_of : Items → List Data
@@ -36,40 +36,36 @@ items_at name d = unwrap_or (option_and_then array_of (get name d)) []
 -- ---- types
 
 -- the value is there, and passes
-abbrev pub passes : {T : Type 0} → (T → Bool) → Option T → Bool
-passes test None = false
-passes test (Some x) = test x
+abbrev pub holds_of : {T : Type 0} → (T → Bool) → Option T → Bool
+holds_of test None = false
+holds_of test (Some x) = test x
 
 -- a number in digits alone, below 2^64
 abbrev pub is_whole : Data → Bool
 is_whole d = is_some (as_whole d)
 
 -- a string
-abbrev pub is_text : Data → Bool
-is_text d = is_some (as_str d)
+abbrev pub is_string : Data → Bool
+is_string d = is_some (as_str d)
 
 -- an array whose items all pass
 abbrev pub is_array_of : (Data → Bool) → Data → Bool
-is_array_of test d = passes (list_all test) (array_of d)
+is_array_of test d = holds_of (list_all test) (array_of d)
 
 -- how many members there are
-abbrev pub count_of : Members → ℕ
-count_of no_members = 0
-count_of (member name d ms) = suc (count_of ms)
+abbrev pub member_count : Members → ℕ
+member_count no_members = 0
+member_count (member name d ms) = suc (member_count ms)
 
 -- an object of so many members
 abbrev pub has_size : ℕ → Data → Bool
-has_size size d = passes (λ ms. count_of ms == size) (as_object d)
+has_size size d = holds_of (λ ms. member_count ms == size) (as_object d)
 
 -- an object with exactly these members, the value of each passing its test
 abbrev pub is_object_of : List (List ℕ × (Data → Bool)) → Data → Bool
-is_object_of members d = has_size (length members) d && list_all (λ m. passes m.1 (get m.0 d)) members
+is_object_of members d = has_size (length members) d && list_all (λ m. holds_of m.1 (get m.0 d)) members
 
--- ---- ranges
-
--- the number is from low to high, both included
-abbrev pub is_within : ℕ → ℕ → ℕ → Bool
-is_within low high n = nat_le low n && nat_le n high
+-- ---- tests
 
 -- the value where the test holds
 abbrev pub when : {T : Type 0} → Bool → T → Option T

@@ -4,17 +4,17 @@ use Rattle.sm_settings.specs.declared.settings_fault.SettingsFault.{SettingsFaul
 use Rattle.sm_settings.specs.declared.settings_fault.SettingsFault.TheVariants.{TooLong, BadJson, BadVersion, BadShape, BadLayout, BadServers, BadGroups, BadShards, BadOps, BadKept, BadCeiling, BadWorkers, NoMemory}
 
 -- a fault as the answer to a settings line writes it
-abbrev pub name_of : SettingsFault → List ℕ
-name_of TooLong = codes "TooLong"
-name_of BadJson = codes "BadJson"
-name_of BadVersion = codes "BadVersion"
-name_of BadShape = codes "BadShape"
-name_of BadLayout = codes "BadLayout"
-name_of BadServers = codes "BadServers"
-name_of BadGroups = codes "BadGroups"
-name_of BadShards = codes "BadShards"
-name_of BadOps = codes "BadOps"
-name_of BadKept = codes "BadKept"
-name_of BadCeiling = codes "BadCeiling"
-name_of BadWorkers = codes "BadWorkers"
-name_of NoMemory = codes "NoMemory"
+abbrev pub settings_fault_name : SettingsFault → List ℕ
+settings_fault_name TooLong = codes "TooLong"
+settings_fault_name BadJson = codes "BadJson"
+settings_fault_name BadVersion = codes "BadVersion"
+settings_fault_name BadShape = codes "BadShape"
+settings_fault_name BadLayout = codes "BadLayout"
+settings_fault_name BadServers = codes "BadServers"
+settings_fault_name BadGroups = codes "BadGroups"
+settings_fault_name BadShards = codes "BadShards"
+settings_fault_name BadOps = codes "BadOps"
+settings_fault_name BadKept = codes "BadKept"
+settings_fault_name BadCeiling = codes "BadCeiling"
+settings_fault_name BadWorkers = codes "BadWorkers"
+settings_fault_name NoMemory = codes "NoMemory"

@@ -4,23 +4,22 @@ use Rattle.std.specs.Str.{is_utf8}
 use Rattle.serde_json.specs.Data.{Data}
 use Rattle.serde_json.specs.Read.{read}
 use Rattle.sm_ranges.specs.LayoutFault.{first_layout_fault}
-use Rattle.sm_settings.specs.declared.server_row.ServerRow.{ServerRow}
-use Rattle.sm_settings.specs.declared.group_row.GroupRow.{GroupRow}
-use Rattle.sm_settings.specs.declared.shard_row.ShardRow.{ShardRow}
+use Rattle.sm_rows.specs.declared.group_row.GroupRow.{GroupRow}
+use Rattle.sm_rows.specs.declared.server_row.ServerRow.{ServerRow}
+use Rattle.sm_rows.specs.declared.shard_row.ShardRow.{ShardRow}
+use Rattle.sm_rows.specs.Rows.{is_within}
 use Rattle.sm_settings.specs.declared.settings.Settings.{Settings}
 use Rattle.sm_settings.specs.declared.settings.TheConstants.{MAX_SETTINGS, MAX_OPS, MAX_KEPT, MIN_CEILING, MAX_CEILING, MAX_WORKERS}
 use Rattle.sm_settings.specs.declared.settings_fault.SettingsFault.{SettingsFault}
 use Rattle.sm_settings.specs.declared.settings_fault.SettingsFault.TheVariants.{TooLong, BadJson, BadVersion, BadShape, BadLayout, BadServers, BadGroups, BadShards, BadOps, BadKept, BadCeiling, BadWorkers}
-use Rattle.sm_settings.specs.Members.{number_at, text_of, items_at, is_whole, is_text, is_array_of, is_object_of, is_within}
-use Rattle.sm_settings.specs.ServerRow.{is_server_object, server_row_of, are_servers}
-use Rattle.sm_settings.specs.GroupRow.{is_group_object, group_row_of, are_groups}
-use Rattle.sm_settings.specs.ShardRow.{is_shard_object, shard_row_of, are_shards}
+use Rattle.sm_settings.specs.Members.{number_at, string_of, items_at, is_whole, is_string, is_array_of, is_object_of}
+use Rattle.sm_settings.specs.SettingsRows.{is_server_object, server_row_of, is_group_object, group_row_of, is_shard_object, shard_row_of, rule_of_servers, rule_of_groups, rule_of_shards}
 
 -- exactly the members of settings, each of its type
 abbrev pub is_settings_object : Data → Bool
 is_settings_object = is_object_of (
     (codes "version", is_whole) ∷
-    (codes "bounds", is_array_of is_text) ∷
+    (codes "bounds", is_array_of is_string) ∷
     (codes "servers", is_array_of is_server_object) ∷
     (codes "groups", is_array_of is_group_object) ∷
     (codes "shards", is_array_of is_shard_object) ∷
@@ -43,7 +42,7 @@ pub record SettingsValues : Type 0 where
 -- the values that an object says
 abbrev pub values_in : Data → SettingsValues
 values_in d = record {
-  bounds = map text_of (items_at (codes "bounds") d);
+  bounds = map string_of (items_at (codes "bounds") d);
   servers = map server_row_of (items_at (codes "servers") d);
   groups = map group_row_of (items_at (codes "groups") d);
   shards = map shard_row_of (items_at (codes "shards") d);
@@ -59,9 +58,9 @@ rules d v =
     (number_at (codes "version") d == 1, BadVersion) ∷
     (is_settings_object d, BadShape) ∷
     (is_none (first_layout_fault v.bounds), BadLayout) ∷
-    (are_servers v.servers, BadServers) ∷
-    (are_groups v.groups, BadGroups) ∷
-    (are_shards (length v.bounds) (length v.groups) v.shards, BadShards) ∷
+    (rule_of_servers v.servers, BadServers) ∷
+    (rule_of_groups v.groups, BadGroups) ∷
+    (rule_of_shards (length v.bounds) (length v.groups) v.shards, BadShards) ∷
     (is_within 0 MAX_OPS v.ops, BadOps) ∷
     (is_within 1 MAX_KEPT v.kept, BadKept) ∷
     (is_within MIN_CEILING MAX_CEILING v.ceiling, BadCeiling) ∷

@@ -2,7 +2,7 @@ ghost use Rattle.std.specs.Prelude.{◌≡◌, map, is_none, IfOk};
 ghost use Rattle.std.specs.List.{list_all};
 ghost use Rattle.serde_json.specs.View.{view};
 ghost use Rattle.sm_ranges.specs.LayoutFault.{texts_of, first_layout_fault};
-ghost use Rattle.sm_settings.specs.Members.{is_text, text_of, when};
+ghost use Rattle.sm_settings.specs.Members.{is_string, string_of, when};
 
 use serde_json::Value;
 use sm_ranges::layout::{Layout, LayoutFault};
@@ -10,14 +10,14 @@ use std::alloc::{AllocError, Global};
 
 /// Whether each value is a text.
 pub fn are_texts(values: &[Value]) -> bool
-    ensures { result ≡ list_all is_text (map view values.now) }
+    ensures { result ≡ list_all is_string (map view values.now) }
 {
     values.iter().all(|value| value.is_string())
 }
 
 /// The layout with the values' texts as its bounds, where they make one.
 pub fn layout_from(alloc: Global, values: &[Value]) -> Result<Option<Layout>, AllocError>
-    ensures { let bounds = map text_of (map view values.now) in
+    ensures { let bounds = map string_of (map view values.now) in
         IfOk result (λ found. found ≡ when (is_none (first_layout_fault bounds)) bounds) }
 {
     let bounds = bytes_of(alloc, values)?;
@@ -29,7 +29,7 @@ pub fn layout_from(alloc: Global, values: &[Value]) -> Result<Option<Layout>, Al
 }
 
 fn bytes_of<'a>(alloc: Global, values: &'a [Value]) -> Result<Vec<&'a [u8]>, AllocError>
-    ensures { IfOk result (λ texts. texts_of texts.items ≡ map text_of (map view values.now)) }
+    ensures { IfOk result (λ texts. texts_of texts.items ≡ map string_of (map view values.now)) }
 {
     let mut texts = Vec::with_capacity(alloc, values.len())?;
     for value in values {
@@ -39,7 +39,7 @@ fn bytes_of<'a>(alloc: Global, values: &'a [Value]) -> Result<Vec<&'a [u8]>, All
 }
 
 fn text(value: &Value) -> &[u8]
-    ensures { result.now ≡ text_of (view value.now) }
+    ensures { result.now ≡ string_of (view value.now) }
 {
     match value.as_str() {
         Some(text) => text.as_bytes(),

@@ -1,13 +1,17 @@
 //! The settings line of a script: read, checked rule by rule, and given as values of exact types.
+//!
+//! ```rust
+//! let settings = Settings::read(rt.alloc(), PLAIN.as_bytes())?;
+//! assert_eq!(rt; settings.layout.count(), 2);
+//! assert_eq!(rt; settings.servers.len(), 3);
+//! ```
 #![tactic(auto)]
 
 mod bounds;
-pub mod group_row;
 mod members;
-pub mod server_row;
+mod rows;
 pub mod settings;
 pub mod settings_fault;
-pub mod shard_row;
 
 pub use settings::{MAX_SETTINGS, Settings};
 pub use settings_fault::SettingsFault;

@@ -1,7 +1,8 @@
 ghost use Rattle.std.specs.Prelude.{◌≡◌, ◌≤◌, IfSome, map, option_map, option_and_then};
 ghost use Rattle.serde_json.specs.Find.{get};
 ghost use Rattle.serde_json.specs.View.{view};
-ghost use Rattle.sm_settings.specs.Members.{number_at, array_of, items_at, is_whole, passes, has_size, is_within, when};
+ghost use Rattle.sm_settings.specs.Members.{number_at, array_of, items_at, is_whole, holds_of, has_size, when};
+ghost use Rattle.sm_rows.specs.Rows.{is_within};
 
 use serde_json::Value;
 
@@ -14,7 +15,7 @@ pub fn number(value: &Value, name: &str) -> u64
 
 /// Whether a number in digits alone and below 2^64 is at the member.
 pub fn has_number(value: &Value, name: &str) -> bool
-    ensures { result ≡ passes is_whole (get name.now (view value.now)) }
+    ensures { result ≡ holds_of is_whole (get name.now (view value.now)) }
 {
     value.get(name).and_then(Value::as_u64).is_some()
 }

@@ -1,17 +1,17 @@
 ghost use Rattle.std.specs.Prelude.{◌≡◌, ◌≢◌, ◌<◌, ◌≤◌, [], length, if◌then◌else◌, IfOk, IfErr};
 ghost use Rattle.serde_json.specs.View.{view};
-ghost use Rattle.sm_settings.specs.Members.{number_at, is_within};
+ghost use Rattle.sm_settings.specs.Members.{number_at};
+ghost use Rattle.sm_rows.specs.Rows.{is_within};
 ghost use Rattle.sm_settings.specs.SettingsLine.{is_settings_object, verdict_of, values_of, settings_of};
 ghost use Rattle.sm_settings.specs.SettingsRules.{KeepsRules};
 
 use crate::bounds::{are_texts, layout_from};
-use crate::group_row::GroupRow;
 use crate::members::{array, has_number, has_size, items, number, number_within};
-use crate::server_row::ServerRow;
+use crate::rows::{groups_from, have_shape, servers_from, shards_from};
 use crate::settings_fault::SettingsFault;
-use crate::shard_row::ShardRow;
 use serde_json::Value;
 use sm_ranges::layout::Layout;
+use sm_rows::{GroupRow, ServerRow, ShardRow};
 use std::alloc::{AllocError, Global};
 
 /// The most bytes that a settings line may have, without its line feed.
@@ -91,15 +91,14 @@ fn judge(alloc: Global, value: &Value) -> Result<Settings, SettingsFault>
     let Some(layout) = layout_from(alloc, items(value, "bounds"))? else {
         return Err(SettingsFault::BadLayout);
     };
-    let Some(servers) = ServerRow::from_values(alloc, items(value, "servers"))? else {
+    let Some(servers) = servers_from(alloc, items(value, "servers"))? else {
         return Err(SettingsFault::BadServers);
     };
-    let Some(groups) = GroupRow::from_values(alloc, items(value, "groups"))? else {
+    let Some(groups) = groups_from(alloc, items(value, "groups"))? else {
         return Err(SettingsFault::BadGroups);
     };
     let (bounds, group_count) = (layout.count(), groups.len() as u16);
-    let Some(shards) = ShardRow::from_values(alloc, items(value, "shards"), bounds, group_count)?
-    else {
+    let Some(shards) = shards_from(alloc, items(value, "shards"), bounds, group_count)? else {
         return Err(SettingsFault::BadShards);
     };
     let ops = limit(value, "ops", 0, MAX_OPS, SettingsFault::BadOps)?;
@@ -143,21 +142,18 @@ fn limit(
 }
 
 // Whether the value has exactly the members of settings, each of its type.
-#[tactic(auto, using(crate::proofs::Viewed::passes_array))]
+#[tactic(auto, using(crate::proofs::Viewed::holds_of_array))]
 fn has_shape(value: &Value) -> bool
     ensures { result ≡ is_settings_object (view value.now) }
 {
     has_size(value, 9)
         && has_number(value, "version")
         && array(value, "bounds").is_some_and(are_texts)
-        && array(value, "servers").is_some_and(ServerRow::have_shape)
-        && array(value, "groups").is_some_and(GroupRow::have_shape)
-        && array(value, "shards").is_some_and(ShardRow::have_shape)
+        && array(value, "servers").is_some_and(have_shape::<ServerRow>)
+        && array(value, "groups").is_some_and(have_shape::<GroupRow>)
+        && array(value, "shards").is_some_and(have_shape::<ShardRow>)
         && has_number(value, "ops")
         && has_number(value, "kept")
         && has_number(value, "ceiling")
         && has_number(value, "workers")
 }
-
-#[cfg(test)]
-mod tests;

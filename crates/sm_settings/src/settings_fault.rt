@@ -35,11 +35,11 @@ pub enum SettingsFault {
 
 impl SettingsFault {
     ghost use Rattle.std.specs.Prelude.{◌≡◌};
-    ghost use Rattle.sm_settings.specs.SettingsFault.{name_of};
+    ghost use Rattle.sm_settings.specs.SettingsFault.{settings_fault_name};
 
     /// The fault as the answer to a settings line writes it.
     pub fn as_str(self) -> &'static str
-        ensures { result.now ≡ name_of self }
+        ensures { result.now ≡ settings_fault_name self }
     {
         match self {
             SettingsFault::TooLong => "TooLong",
@@ -61,9 +61,9 @@ impl SettingsFault {
 
 impl fmt::Display for SettingsFault {
     ghost use Rattle.std.specs.Prelude.{Some};
-    ghost use Rattle.sm_settings.specs.SettingsFault.{name_of};
+    ghost use Rattle.sm_settings.specs.SettingsFault.{settings_fault_name};
 
-    ghost output = { λ fault. Some (name_of fault) };
+    ghost output = { λ fault. Some (settings_fault_name fault) };
 
     fn fmt<W: fmt::Write>(&self, f: &mut fmt::Formatter<W>) -> fmt::Result {
         f.write_str(self.as_str())

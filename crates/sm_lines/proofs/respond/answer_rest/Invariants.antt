@@ -1,12 +1,12 @@
 use Rattle.std.proofs.Common.{◌≡◌, true}
 use Rattle.sm_lines.specs.Reading.{unread, CallsFit, EndStands, LinesGiven}
-use Rattle.sm_lines.specs.Answers.{Answers}
+use Rattle.sm_lines.specs.Answers.{AnswersLine}
 use Rattle.sm_lines.proofs.AnswerLemmas.{SoFar}
 use Rattle.sm_lines.proofs.respond.answer_rest.Given as goal
 
 abbrev pub invariant-lines : goal.invariant-lines
 invariant-lines g l = record {
-  so_far : SoFar (Answers g.E.Responder.gives g.E.Responder.gives_long l.limit)
+  so_far : SoFar (AnswersLine g.E.Responder.gives g.E.Responder.gives_long l.limit)
       (unread l.fn.lines (g.R.Read.remaining l.fn.reader.inner)) (unread l.lines (g.R.Read.remaining l.reader.inner))
       (g.W.Write.contents l.fn.writer.inner) (g.W.Write.contents l.writer.inner) l.lines.ended l.pieces l.fn.responder l.responder l._count;
   stays_ended : l.fn.lines.ended ≡ true → l.lines.ended ≡ true;

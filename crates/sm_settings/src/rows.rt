@@ -1,0 +1,225 @@
+ghost use Rattle.std.specs.Prelude.{◌≡◌, ◌≤◌, map, vec_len, IfOk, IfSome, option_map};
+ghost use Rattle.std.specs.List.{list_all};
+ghost use Rattle.serde_json.specs.View.{view};
+ghost use Rattle.sm_settings.specs.Members.{when};
+ghost use Rattle.sm_settings.specs.SettingsRows.{group_row_of, rule_of_groups, rule_of_servers, rule_of_shards, server_row_of, shard_row_of};
+
+use crate::members::{has_number, has_size, number_within};
+use serde_json::Value;
+use sm_ranges::server_id::ServerId;
+use sm_rows::limits::{MAX_CAP, MAX_DOMAIN, MAX_GROUPS, MAX_LIMIT, MAX_SERVERS};
+use sm_rows::{GroupRow, ServerRow, ShardRow, are_groups, are_servers, are_shards};
+use std::alloc::{AllocError, Global};
+
+/// A row that settings write as an object of numbers.
+pub(crate) trait Row: Copy + Drop {
+    ghost use Rattle.std.specs.Prelude.{◌≡◌, ℕ, Bool};
+    ghost use Rattle.serde_json.specs.Data.{Data};
+    ghost use Rattle.serde_json.specs.View.{view};
+    ghost use Rattle.sm_settings.specs.Members.{when};
+
+    /// Whether data is an object with exactly the row's members.
+    ghost is_object: { Data → Bool };
+
+    /// The row that an object says.
+    ghost row_of: { Data → Self };
+
+    /// Whether each number of a row is in its range, where there are so many groups.
+    ghost is_row: { ℕ → Self → Bool };
+
+    /// Whether the value has exactly the members of a row, each a number.
+    fn has_shape(value: &Value) -> bool
+        ensures { result ≡ is_object (view value.now) };
+
+    /// The row of the value's members, where each number is in its range and there are so many groups.
+    fn from_value(value: &Value, groups: u16) -> Option<Self>
+        ensures { result ≡ when (is_row groups (row_of (view value.now))) (row_of (view value.now)) };
+}
+
+impl Row for ServerRow {
+    ghost use Rattle.sm_rows.specs.Rows.{is_server_row};
+    ghost use Rattle.sm_settings.specs.SettingsRows.{is_server_object, server_row_of};
+
+    ghost is_object = { is_server_object };
+
+    ghost row_of = { server_row_of };
+
+    ghost is_row = { λ _ row. is_server_row row };
+
+    fn has_shape(value: &Value) -> bool {
+        has_size(value, 3)
+            && has_number(value, "id")
+            && has_number(value, "domain")
+            && has_number(value, "capacity")
+    }
+
+    fn from_value(value: &Value, _groups: u16) -> Option<ServerRow> {
+        let id = number_within(value, "id", 1, MAX_SERVERS as u64)?;
+        let id = ServerId::new(id as u16)?;
+        let domain = number_within(value, "domain", 0, u64::from(MAX_DOMAIN))?;
+        let capacity = number_within(value, "capacity", 0, u64::from(u32::MAX))?;
+        Some(ServerRow {
+            id,
+            domain: domain as u16,
+            capacity: capacity as u32,
+        })
+    }
+}
+
+impl Row for GroupRow {
+    ghost use Rattle.sm_rows.specs.Rows.{is_group_row};
+    ghost use Rattle.sm_settings.specs.SettingsRows.{is_group_object, group_row_of};
+
+    ghost is_object = { is_group_object };
+
+    ghost row_of = { group_row_of };
+
+    ghost is_row = { λ _ row. is_group_row row };
+
+    fn has_shape(value: &Value) -> bool {
+        has_size(value, 2) && has_number(value, "limit") && has_number(value, "down")
+    }
+
+    fn from_value(value: &Value, _groups: u16) -> Option<GroupRow> {
+        let limit = number_within(value, "limit", 0, u64::from(MAX_LIMIT))?;
+        let down = number_within(value, "down", 0, u64::from(MAX_LIMIT))?;
+        Some(GroupRow {
+            limit: limit as u16,
+            down: down as u16,
+        })
+    }
+}
+
+impl Row for ShardRow {
+    ghost use Rattle.sm_rows.specs.Rows.{is_shard_row};
+    ghost use Rattle.sm_settings.specs.SettingsRows.{is_shard_object, shard_row_of};
+
+    ghost is_object = { is_shard_object };
+
+    ghost row_of = { shard_row_of };
+
+    ghost is_row = { is_shard_row };
+
+    fn has_shape(value: &Value) -> bool {
+        has_size(value, 3)
+            && has_number(value, "group")
+            && has_number(value, "load")
+            && has_number(value, "cap")
+    }
+
+    fn from_value(value: &Value, groups: u16) -> Option<ShardRow> {
+        let last_group = u64::from(groups).checked_sub(1)?;
+        let group = number_within(value, "group", 0, last_group)?;
+        let load = number_within(value, "load", 0, u64::from(u32::MAX))?;
+        let cap = number_within(value, "cap", 0, u64::from(MAX_CAP))?;
+        Some(ShardRow {
+            group: group as u16,
+            load: load as u32,
+            cap: cap as u8,
+        })
+    }
+}
+
+/// Whether each value has the members of a row.
+pub(crate) fn have_shape<T: Row>(values: &[Value]) -> bool
+    ensures { result ≡ list_all T.is_object (map view values.now) }
+{
+    values.iter().all(|value| T::has_shape(value))
+}
+
+/// The rows of the values, where each number is in its range and there are so many groups.
+fn rows_of<T: Row>(
+    alloc: Global,
+    values: &[Value],
+    groups: u16,
+) -> Result<Option<Vec<T>>, AllocError>
+    ensures { let rows = map T.row_of (map view values.now) in
+        IfOk result (λ found. option_map (λ list. list.items) found ≡ when (list_all (T.is_row groups) rows) rows) }
+{
+    let mut rows = Vec::with_capacity(alloc, values.len())?;
+    for value in values {
+        match T::from_value(value, groups) {
+            Some(row) => rows.push(row)?,
+            None => return Ok(None),
+        }
+    }
+    Ok(Some(rows))
+}
+
+/// Whether the servers keep their rules.
+fn keep_rule_of_servers(rows: &[ServerRow]) -> bool
+    ensures { result ≡ rule_of_servers rows.now }
+{
+    are_servers(rows)
+}
+
+/// Whether the groups keep their rules.
+fn keep_rule_of_groups(rows: &[GroupRow]) -> bool
+    ensures { result ≡ rule_of_groups rows.now }
+{
+    are_groups(rows)
+}
+
+/// Whether there is a shard for each of so many bounds, and they keep their rules, where there are so many groups.
+fn keep_rule_of_shards(rows: &[ShardRow], bounds: usize, groups: usize) -> bool
+    ensures { result ≡ rule_of_shards bounds groups rows.now }
+{
+    rows.len() == bounds && are_shards(groups, rows)
+}
+
+/// The servers that the values say, where they keep their rules.
+pub(crate) fn servers_from(
+    alloc: Global,
+    values: &[Value],
+) -> Result<Option<Vec<ServerRow>>, AllocError>
+    ensures { let rows = map server_row_of (map view values.now) in
+        IfOk result (λ found. option_map (λ list. list.items) found ≡ when (rule_of_servers rows) rows) }
+{
+    let Some(rows) = rows_of(alloc, values, 0)? else {
+        return Ok(None);
+    };
+    if keep_rule_of_servers(&rows) {
+        Ok(Some(rows))
+    } else {
+        Ok(None)
+    }
+}
+
+/// The groups that the values say, where they keep their rules.
+pub(crate) fn groups_from(
+    alloc: Global,
+    values: &[Value],
+) -> Result<Option<Vec<GroupRow>>, AllocError>
+    ensures rows { let rows = map group_row_of (map view values.now) in
+        IfOk result (λ found. option_map (λ list. list.items) found ≡ when (rule_of_groups rows) rows) }
+    ensures few { IfOk result (λ found. IfSome found (λ list. vec_len list ≤ MAX_GROUPS)) }
+{
+    let Some(rows) = rows_of(alloc, values, 0)? else {
+        return Ok(None);
+    };
+    if keep_rule_of_groups(&rows) {
+        Ok(Some(rows))
+    } else {
+        Ok(None)
+    }
+}
+
+/// The shards that the values say, where they keep their rules for so many bounds and groups.
+pub(crate) fn shards_from(
+    alloc: Global,
+    values: &[Value],
+    bounds: usize,
+    groups: u16,
+) -> Result<Option<Vec<ShardRow>>, AllocError>
+    ensures { let rows = map shard_row_of (map view values.now) in
+        IfOk result (λ found. option_map (λ list. list.items) found ≡ when (rule_of_shards bounds groups rows) rows) }
+{
+    let Some(rows) = rows_of(alloc, values, groups)? else {
+        return Ok(None);
+    };
+    if keep_rule_of_shards(&rows, bounds, usize::from(groups)) {
+        Ok(Some(rows))
+    } else {
+        Ok(None)
+    }
+}

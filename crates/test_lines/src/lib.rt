@@ -1,0 +1,11 @@
+//! Tests of reading and answering lines, of settings, and of running scripts.
+#![tactic(auto)]
+
+#[cfg(test)]
+mod fakes;
+#[cfg(test)]
+mod lines;
+#[cfg(test)]
+mod run;
+#[cfg(test)]
+mod settings;

@@ -1,0 +1,178 @@
+//! Reading lines and answering them.
+
+use crate::fakes::{FailingReader, FailingWriter};
+use sm_lines::{
+    AnswerFault, LineReader, Next, PIECE, PieceWriter, Responder, Watched, answer_lines,
+    write_whole,
+};
+use std::alloc::{AllocError, Global};
+use std::io::{Read, Write};
+use std::test::Fail;
+
+/// Answers a line by itself, and a longer one by `long ` and its first bytes.
+#[derive(Drop)]
+pub(crate) struct Echo;
+
+impl Responder for Echo {
+    ghost use Rattle.std.specs.Prelude.{◌≡◌, ◌++◌, ◌∷◌, [], codes};
+
+    ghost gives = { λ _ line text _. text ≡ line ++ 10 ∷ [] };
+
+    ghost gives_long = { λ _ start text. text ≡ codes "long " ++ start ++ 10 ∷ [] };
+
+    fn respond(&mut self, line: &[u8], out: &mut Vec<u8>) -> Result<(), AllocError> {
+        out.extend_from_slice(line)?;
+        out.push(b'\n')?;
+        Ok(())
+    }
+
+    fn respond_long(&self, start: &[u8], out: &mut Vec<u8>) -> Result<(), AllocError> {
+        out.extend_from_slice(b"long ")?;
+        out.extend_from_slice(start)?;
+        out.push(b'\n')?;
+        Ok(())
+    }
+}
+
+/// Answers all lines of the reader, of which those over four bytes are long.
+fn answer<R: Read + Drop>(
+    alloc: Global,
+    inner: R,
+    written: &mut Vec<u8>,
+    writes: u64,
+) -> Result<(), AnswerFault> {
+    let mut lines = LineReader::new(alloc)?;
+    let mut reader = Watched::new(inner);
+    let mut writer = Watched::new(FailingWriter {
+        bytes: written,
+        left: writes,
+    });
+    answer_lines(alloc, &mut lines, &mut reader, &mut writer, &mut Echo, 4)
+}
+
+#[test]
+fn answers_each_line(rt: HostRuntime) -> Result<(), Fail> {
+    let alloc = rt.alloc();
+    let cases: [(&[u8], &[u8]); 9] = [
+        (b"", b""),
+        (b"\n", b"\n"),
+        (b"ab", b"ab\n"),
+        (b"ab\n", b"ab\n"),
+        (b"ab\n\ncd", b"ab\n\ncd\n"),
+        (b"a\r\n b", b"a\r\n b\n"),
+        (b"abcd\nabcde\nx", b"abcd\nlong abcd\nx\n"),
+        (b"abcdefgh", b"long abcd\n"),
+        (b"\xff\x00\n\xfe", b"\xff\x00\n\xfe\n"),
+    ];
+    for (input, want) in cases {
+        let mut whole = Vec::new(alloc);
+        assert!(rt; answer(alloc, input, &mut whole, 1000) == Ok(()));
+        assert!(rt; whole.as_slice() == want);
+        let mut by_byte = Vec::new(alloc);
+        let reader = FailingReader {
+            bytes: input,
+            left: 1000,
+        };
+        assert!(rt; answer(alloc, reader, &mut by_byte, 1000) == Ok(()));
+        assert!(rt; by_byte.as_slice() == want);
+    }
+    Ok(())
+}
+
+#[test]
+fn stops_where_the_reader_fails(rt: HostRuntime) -> Result<(), Fail> {
+    let alloc = rt.alloc();
+    let cases: [(u64, &[u8]); 6] = [
+        (0, b""),
+        (3, b""),
+        (4, b"one\n"),
+        (5, b"one\n\n"),
+        (9, b"one\n\n"),
+        (12, b"one\n\nlong thre\n"),
+    ];
+    let bytes = b"one\n\nthree!\nend";
+    for (left, want) in cases {
+        let mut written = Vec::new(alloc);
+        let result = answer(alloc, FailingReader { bytes, left }, &mut written, 1000);
+        assert!(rt; result == Err(AnswerFault::Read));
+        assert!(rt; written.as_slice() == want, "at {left}");
+    }
+    // Fifteen bytes and the end, which is read once.
+    let mut written = Vec::new(alloc);
+    assert!(rt; answer(alloc, FailingReader { bytes, left: 16 }, &mut written, 1000) == Ok(()));
+    assert!(rt; written.as_slice() == b"one\n\nlong thre\nend\n".as_slice());
+    Ok(())
+}
+
+#[test]
+fn stops_where_the_writer_fails(rt: HostRuntime) -> Result<(), Fail> {
+    let alloc = rt.alloc();
+    let all = b"one\ntwo\n";
+    for writes in 0..4 {
+        let mut written = Vec::new(alloc);
+        let result = answer(alloc, all.as_slice(), &mut written, writes);
+        assert!(rt; result == Err(AnswerFault::Write));
+        assert!(rt; all.starts_with(written.as_slice()));
+        assert!(rt; written.len() as u64 == 2 * writes);
+    }
+    let mut written = Vec::new(alloc);
+    assert!(rt; answer(alloc, all.as_slice(), &mut written, 4) == Ok(()));
+    assert!(rt; written.as_slice() == all.as_slice());
+    Ok(())
+}
+
+#[test]
+fn reads_long_lines_in_pieces(rt: HostRuntime) -> Result<(), Fail> {
+    let alloc = rt.alloc();
+    let mut input = vec![in alloc; b'a'; 2 * PIECE]?;
+    input.push(b'\n')?;
+    input.extend_from_slice(input.clone()?.as_slice())?;
+    let mut reader = Watched::new(input.as_slice());
+    let mut lines = LineReader::new(alloc)?;
+    assert!(rt; lines.next_line(&mut reader, 2 * PIECE) == Ok(Next::Line));
+    assert!(rt; lines.line().len() == 2 * PIECE);
+    assert!(rt; lines.next_line(&mut reader, 2 * PIECE - 1) == Ok(Next::LongLine));
+    assert!(rt; lines.line().len() == 2 * PIECE - 1);
+    assert!(rt; !lines.holds_line());
+    assert!(rt; lines.next_line(&mut reader, 0) == Ok(Next::End));
+    let calls = reader.calls;
+    assert!(rt; lines.next_line(&mut reader, 0) == Ok(Next::End));
+    assert!(rt; reader.calls == calls);
+    assert!(rt; reader.ended);
+    assert!(rt; !reader.read_past_end);
+    assert!(rt; matches!(reader.read(&mut [0u8; 1]), Ok(0)));
+    assert!(rt; reader.read_past_end);
+    Ok(())
+}
+
+#[test]
+fn writes_in_pieces(rt: HostRuntime) -> Result<(), Fail> {
+    let alloc = rt.alloc();
+    let mut writer = Watched::new(Vec::new(alloc));
+    let mut pieces = PieceWriter::new(alloc)?;
+    let large = vec![in alloc; b'b'; PIECE + 1]?;
+    assert!(rt; pieces.write(&mut writer, b"a").is_ok());
+    assert_eq!(rt; writer.calls, 0);
+    assert!(rt; pieces.write(&mut writer, large.as_slice()).is_ok());
+    assert!(rt; pieces.write(&mut writer, b"c").is_ok());
+    assert_eq!(rt; writer.calls, 2);
+    assert!(rt; pieces.flush(&mut writer).is_ok());
+    assert!(rt; write_whole(&mut writer, b"d").is_ok());
+    assert_eq!(rt; writer.calls, 4);
+    assert!(rt; !writer.failed);
+    assert!(rt; writer.inner.as_slice().starts_with(b"abb"));
+    assert!(rt; writer.inner.as_slice().ends_with(b"bcd"));
+    Ok(())
+}
+
+#[test]
+fn reads_a_line_and_a_front_of_a_longer_one(rt: HostRuntime) -> Result<(), Fail> {
+    let alloc = rt.alloc();
+    let mut reader = Watched::new(b"one\nthree".as_slice());
+    let mut lines = LineReader::new(alloc)?;
+    assert!(rt; lines.next_line(&mut reader, 4) == Ok(Next::Line));
+    assert!(rt; lines.line() == b"one".as_slice());
+    assert!(rt; lines.next_line(&mut reader, 4) == Ok(Next::LongLine));
+    assert!(rt; lines.line() == b"thre".as_slice());
+    Ok(())
+}
