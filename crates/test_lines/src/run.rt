@@ -31,7 +31,7 @@ impl Engine for EchoEngine {
 }
 
 /// The lines after the settings, and what is written for them.
-const LINES: &[u8] = b"one\n\nthree\nend";
+const LINES: &[u8] = b"one\n\nthree\nend\n";
 
 const ANSWERS: &[u8] = b"one\n\nlong thre\nend\n";
 
