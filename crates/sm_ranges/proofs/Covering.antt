@@ -78,9 +78,9 @@ module _ (bounds : List (List ℕ)) (key : List ℕ) (layout : IsLayout bounds) 
   last_place =
       let above : List ℕ → Bool = λ bound. not (is_at_most bound key) in
       let after : suffix_len above bounds ≡ length bounds - reached =
-        suffix_len_is above bounds reached [] within
-        (λ k from below. ap not (point.1 k [] from below))
-        (λ some. ap not (point.0 (reached - 1) [] (omega arith) (omega (arith, some_reached)))) in
+      suffix_len_is above bounds reached [] within
+      (λ k from below. ap not (point.1 k [] from below))
+      (λ some. ap not (point.0 (reached - 1) [] (omega arith) (omega (arith, some_reached)))) in
       omega (arith, after, some_reached, length-take (length bounds - suffix_len above bounds - 1) bounds)
 
   pub covering : Covers bounds (reached - 1) key
