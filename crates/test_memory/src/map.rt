@@ -209,35 +209,3 @@ fn random_operations(rt: HostRuntime) -> Result<(), Fail> {
     }
     Ok(())
 }
-
-// A key of 255 bytes, of which the last two spell the number.
-fn long_key(number: u16) -> [u8; 255] {
-    let mut key = [7; 255];
-    let [high, low] = number.to_be_bytes();
-    key[253] = high;
-    key[254] = low;
-    key
-}
-
-// 2,000 pairs with keys of 255 bytes, and a text of a mebibyte.
-#[test]
-fn many_long_pairs_read_back(rt: HostRuntime) -> Result<(), Fail> {
-    let mut map = ArenaMap::new(rt.alloc());
-    for number in (0..2_000u16).rev() {
-        made(
-            &mut map,
-            Step::Put(&long_key(number), Val::Count(number as i64)),
-        )?;
-    }
-    let text = vec![in rt.alloc(); b'x'; 1_048_576]?;
-    made(&mut map, Step::Put(b"text", Val::Text(&text)))?;
-    assert!(rt; map.len() == 2_001);
-    assert!(rt; map.bytes() == 2_000 * 255 + 4 + 1_048_576);
-    let map = rebuilt(map)?;
-    assert!(rt; map.dead() == 0);
-    assert!(rt; map.get(b"text") == Some(Val::Text(&text)));
-    for number in 0..2_000u16 {
-        assert!(rt; map.get(&long_key(number)) == Some(Val::Count(number as i64)));
-    }
-    Ok(())
-}

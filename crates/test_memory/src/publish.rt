@@ -3,7 +3,6 @@ use sm_publish::{PublishFault, Publisher, Router};
 use sm_ranges::layout::Layout;
 use sm_ranges::server_id::ServerId;
 use sm_ranges::shard_id::ShardId;
-use std::alloc::{AllocError, Global};
 use std::process::Abort;
 use std::sync::Wait;
 use std::test::Fail;
@@ -154,39 +153,6 @@ fn refused_memory_changes_nothing(rt: HostRuntime) -> Result<(), Fail> {
         }
         let read = router.route(&layout, b"z");
         assert_eq!(rt; read.map_or(0, |route| route.generation), newest);
-    }
-    publisher.end(&rt);
-    Ok(())
-}
-
-// The bounds of 4,096 shards: two bytes each, but for the first, which is empty.
-fn many_bounds(alloc: Global) -> Result<Vec<[u8; 2]>, AllocError> {
-    let mut bounds = Vec::new(alloc);
-    for shard in 0..4_096u16 {
-        bounds.push(shard.to_be_bytes())?;
-    }
-    Ok(bounds)
-}
-
-// The first and the last shard and server that there can be.
-#[test]
-fn routers_reach_the_last_shard(rt: HostRuntime) -> Result<(), Fail> {
-    let bytes = many_bounds(rt.alloc())?;
-    let mut bounds: Vec<&[u8]> = Vec::new(rt.alloc());
-    bounds.push(b"")?;
-    for pair in &bytes[1..] {
-        bounds.push(pair)?;
-    }
-    let layout = Layout::new(rt.alloc(), &bounds)?;
-    let last = route_of(&rt, 4_095, 4_095, 7);
-    let other = route_of(&rt, 1_000, 3, 2);
-    let (mut publisher, mut routers) = Publisher::new(&rt, rt.alloc(), 4_096, 2)?;
-    assert_eq!(rt; publisher.publish(&rt, last), Ok(()));
-    assert_eq!(rt; publisher.publish(&rt, other), Ok(()));
-    for router in routers.iter_mut() {
-        assert_eq!(rt; router.route(&layout, b"\xff\xff"), Some(last));
-        assert_eq!(rt; router.route(&layout, &1_000u16.to_be_bytes()), Some(other));
-        assert_eq!(rt; router.route(&layout, b""), None);
     }
     publisher.end(&rt);
     Ok(())
