@@ -152,6 +152,23 @@ impl ArenaMap {
         Ok(rows)
     }
 
+    /// A second map of the same pairs, in fresh memory, where nothing is dead.
+    ///
+    /// # Errors
+    ///
+    /// `AllocError` where memory is refused; what was copied is then freed.
+    pub fn copy(&self) -> Result<ArenaMap, AllocError>
+        ensures { IfOk result (λ map. (map.pairs ≡ self.now.pairs) × (map.dead ≡ 0)) }
+    {
+        let mut map = ArenaMap::new(self.alloc);
+        // The pairs come in the order of their keys, so each goes to the end.
+        for at in 0..self.index.len() {
+            let (key, value) = self.pair_at(at);
+            map.insert_at(at, key, value)?;
+        }
+        Ok(map)
+    }
+
     /// The same pairs in fresh memory, where nothing is dead.
     ///
     /// # Errors
@@ -161,22 +178,10 @@ impl ArenaMap {
         ensures ok { IfOk result (λ map. (map.pairs ≡ self.pairs) × (map.dead ≡ 0)) }
         ensures err { IfErr result (λ refused. refused.0 ≡ self) }
     {
-        match self.copied() {
+        match self.copy() {
             Ok(map) => Ok(map),
             Err(refused) => Err((self, refused)),
         }
-    }
-
-    // The same pairs in fresh memory. They come in order, so each goes to the end.
-    fn copied(&self) -> Result<ArenaMap, AllocError>
-        ensures { IfOk result (λ map. (map.pairs ≡ self.now.pairs) × (map.dead ≡ 0)) }
-    {
-        let mut map = ArenaMap::new(self.alloc);
-        for at in 0..self.index.len() {
-            let (key, value) = self.pair_at(at);
-            map.insert_at(at, key, value)?;
-        }
-        Ok(map)
     }
 
     // The place of the key's pair, or the place where it would go.

@@ -2,7 +2,7 @@ use Rattle.std.proofs.Common.{arith}
 use Rattle.sm_map.proofs.KeyMaps.{copy_gap, copy_more}
 use Rattle.sm_map.proofs.Entries.{in_seen, seen_in_order}
 use Rattle.sm_map.specs.Val.{row_of}
-use Rattle.sm_map.proofs.arena_map.ArenaMap.copied.Goals as goal
+use Rattle.sm_map.proofs.arena_map.ArenaMap.copy.Goals as goal
 
 pub insert_at-requires : goal.insert_at-requires
 insert_at-requires c =
