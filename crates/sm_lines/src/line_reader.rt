@@ -115,6 +115,7 @@ impl LineReader {
             × (slice_index self.now.held n ≡ 10)
             × All (λ b. b ≢ 10) (take n self.now.held)) }
         ensures none { IfNone result (All (λ b. b ≢ 10) self.now.held) }
+        ensures piece { length self.now.held ≤ PIECE }
     {
         memchr(LINE_FEED, &self.piece[self.at..self.end])
     }
@@ -204,6 +205,7 @@ impl LineReader {
         requires empty { self.old.held ≡ [] }
         requires end_stands { EndStands self.old (R.remaining reader.old.inner) }
         ensures line { self.new.line ≡ self.old.line }
+        ensures piece { length self.new.held ≤ PIECE }
         ensures bytes { Consumes (R.remaining reader.old.inner)
             (R.remaining reader.new.inner) self.new.held }
         ensures more { IfOk result (λ more. more ≡ true → (reader.old.calls < COUNT_LIMIT)
@@ -229,7 +231,7 @@ impl LineReader {
         if self.ended {
             return Ok(false);
         }
-        if reader.calls >= COUNT_LIMIT {
+        if reader.calls() >= COUNT_LIMIT {
             return Err(ReadFault::Read);
         }
         match reader.read(self.piece.as_mut_slice()) {
@@ -279,6 +281,7 @@ impl LineReader {
         ensures unfailed { result ≢ Err ReadFault.Read → reader.new.failed ≡ reader.old.failed }
         ensures stays_ended { self.old.ended ≡ true → self.new.ended ≡ true }
         ensures end_stands { EndStands self.new (R.remaining reader.new.inner) }
+        ensures piece { length self.new.held ≤ PIECE }
 
         // The reader is called no more often than it gives bytes, but for a call that sees the end or fails.
         ensures calls { result ≢ Err ReadFault.Read → CallsFit self.old.ended self.new.ended

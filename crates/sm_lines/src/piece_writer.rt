@@ -34,7 +34,7 @@ pub fn write_whole<W: Write>(writer: &mut Watched<W>, bytes: &[u8]) -> Result<()
     Ok(())
 }
 
-/// Collects bytes and writes them in pieces of [`PIECE`] bytes; contracts see it as the bytes that wait to be written.
+/// Collects bytes and writes them in pieces; contracts see it as the bytes that wait to be written, [`PIECE`] at most.
 ///
 /// After a fault it is of no further use: part of what waited was written.
 #[derive(Drop)]
@@ -43,11 +43,14 @@ pub struct PieceWriter {
 }
 
 impl Model for PieceWriter {
-    ghost use Rattle.std.specs.Prelude.{ℕ, List};
+    ghost use Rattle.std.specs.Prelude.{ℕ, ◌≤◌, List, length};
+    ghost use Rattle.sm_lines.specs.declared.TheConstants.{PIECE};
 
     ghost Value = { List ℕ };
 
     ghost view = { λ w. w.pending.items };
+
+    ghost invariant = { λ w. length w.pending.items ≤ PIECE };
 }
 
 impl PieceWriter {
@@ -88,7 +91,7 @@ impl PieceWriter {
         ensures fits { result ≡ true → self.new ≡ self.old ++ bytes.now }
         ensures full { result ≡ false → self.new ≡ self.old }
     {
-        let room = self.pending.capacity() - self.pending.len();
+        let room = PIECE - self.pending.len();
         bytes.len() <= room && self.pending.extend_from_slice(bytes).is_ok()
     }
 

@@ -1,4 +1,4 @@
-ghost use Rattle.std.specs.Prelude.{◌≡◌, ◌≢◌, ℕ, ◌*◌, ◌≤◌, ◌⊎◌, List, [], true, false, IfOk, OnOk, OnErr};
+ghost use Rattle.std.specs.Prelude.{◌≡◌, ◌≢◌, ℕ, ◌*◌, ◌≤◌, ◌⊎◌, List, [], true, false, IfOk, OnOk, OnErr, Contains, length};
 ghost use Rattle.std.specs.Io.KnownBytes.{IsAtEnd};
 ghost use Rattle.sm_lines.specs.Lines.{LosesLine, TookPart};
 ghost use Rattle.sm_lines.specs.Reading.{unread, CallsFit, EndStands, HeldGiven, LinesGiven};
@@ -61,15 +61,18 @@ impl From<WriteFault> for AnswerFault {
     }
 }
 
-/// Reads the next line and puts its answer into `out`; false where there is no further line.
+/// Reads the next line and puts its answer into `out`; false where there is no further line. It may be called only where
+/// the line is held or no answer waits.
 fn answer_next<R: Read, E: Responder>(
     lines: &mut LineReader,
     reader: &mut Watched<R>,
+    _waiting: &PieceWriter,
     responder: &mut E,
     limit: usize,
     out: &mut Vec<u8>,
 ) -> Result<bool, AnswerFault>
-    requires { EndStands lines.old (R.remaining reader.old.inner) }
+    requires end_stands { EndStands lines.old (R.remaining reader.old.inner) }
+    requires none_waits { Contains lines.old.held 10 ⊎ (_waiting.now ≡ []) }
     ensures line { IfOk result (λ more. more ≡ true
         → AnsweredLine (AnswersLine E.gives E.gives_long limit) lines.new.ended
         (unread lines.old (R.remaining reader.old.inner)) (unread lines.new
@@ -100,6 +103,7 @@ fn answer_next<R: Read, E: Responder>(
         → reader.new.read_past_end ≡ reader.old.read_past_end }
     ensures given { IfOk result (λ more. more ≡ true → LinesGiven 1 lines.old lines.new
         reader.old.calls reader.new.calls) }
+    ensures piece { length lines.new.held ≤ PIECE }
 {
     out.clear();
     match lines.next_line(reader, limit) {
@@ -125,6 +129,7 @@ fn flush_before_read<W: Write>(
 ) -> Result<(), WriteFault>
     ensures ok { OnOk result (Sends (W.contents writer.old.inner)
         (W.contents writer.new.inner) pieces.old [] pieces.new) }
+    ensures none_waits { OnOk result (Contains lines.now.held 10 ⊎ (pieces.new ≡ [])) }
     ensures err { OnErr result (WroteFront (W.contents writer.old.inner)
         (W.contents writer.new.inner) pieces.old) }
     ensures failed { OnErr result (writer.new.failed ≡ true) }
@@ -177,13 +182,14 @@ fn answer_rest<R: Read, W: Write, E: Responder>(
         → reader.new.read_past_end ≡ reader.old.read_past_end }
     ensures read_calls { result ≡ Err AnswerFault.Read → HeldGiven lines.old reader.old.calls
         → (reader.new.failed ≡ true) ⊎ (COUNT_LIMIT ≤ PIECE * reader.new.calls) }
+    ensures piece { length lines.old.held ≤ PIECE → length lines.new.held ≤ PIECE }
 {
     'lines: for _count in 0..COUNT_LIMIT {
         match flush_before_read(lines, pieces, writer) {
             Ok(()) => {}
             Err(_) => return Err(AnswerFault::Write),
         }
-        match answer_next(lines, reader, responder, limit, out) {
+        match answer_next(lines, reader, pieces, responder, limit, out) {
             Ok(true) => {}
             Ok(false) => return Ok(()),
             Err(fault) => return Err(fault),
@@ -199,8 +205,8 @@ fn answer_rest<R: Read, W: Write, E: Responder>(
 /// Answers each line to come by the responder, until the input ends. A line beyond the limit is answered by its first
 /// bytes, as many as the limit.
 ///
-/// Before the reader is called all answers so far are written. Whatever fault ends the run, the answers before it were
-/// written: exactly these where reading stopped or no memory was left.
+/// Before the reader is called all answers so far are written. Where reading stopped or no memory was left, exactly the
+/// answers to the lines before were written; where writing failed, a front of the answers to the lines that were read.
 pub fn answer_lines<R: Read, W: Write, E: Responder>(
     alloc: Global,
     lines: &mut LineReader,
@@ -255,6 +261,8 @@ pub fn answer_lines<R: Read, W: Write, E: Responder>(
     // calls are counted.
     ensures read_calls { result ≡ Err AnswerFault.Read → HeldGiven lines.old reader.old.calls
         → (reader.new.failed ≡ true) ⊎ (COUNT_LIMIT ≤ PIECE * reader.new.calls) }
+    // At most a piece is read beyond the line in front.
+    ensures piece { length lines.old.held ≤ PIECE → length lines.new.held ≤ PIECE }
 {
     let mut pieces = match PieceWriter::new(alloc) {
         Ok(pieces) => pieces,

@@ -8,19 +8,22 @@ use std::io::{Read, Write};
 /// The number at which calls and lines are no longer counted: 2^32.
 pub const COUNT_LIMIT: u64 = 1 << 32;
 
-/// A reader or a writer that is watched: each read and write is passed on.
+/// A reader or a writer that is watched: each read, write and flush is passed on, once.
+///
+/// Nothing else reaches what is watched or changes what is told of it, so whoever holds a `Watched` can't claim a failure
+/// that didn't come, nor hide one.
 #[derive(Drop)]
 pub struct Watched<T> {
     /// What is watched.
-    pub inner: T,
+    inner: T,
     /// How many reads or writes were made, at most [`COUNT_LIMIT`].
-    pub calls: u64,
+    calls: u64,
     /// Whether a call failed, or a write took none of the bytes that it was given.
-    pub failed: bool,
+    failed: bool,
     /// Whether a read gave nothing into a buffer with room, which says that the end was there.
-    pub ended: bool,
+    ended: bool,
     /// Whether a read was made after one that had seen the end.
-    pub read_past_end: bool,
+    read_past_end: bool,
 }
 
 impl<T> Watched<T> {
@@ -39,6 +42,34 @@ impl<T> Watched<T> {
             ended: false,
             read_past_end: false,
         }
+    }
+
+    /// How many reads or writes were made, at most [`COUNT_LIMIT`].
+    pub fn calls(&self) -> u64
+        ensures { result ≡ self.now.calls }
+    {
+        self.calls
+    }
+
+    /// Whether a call failed, or a write took none of the bytes that it was given.
+    pub fn has_failed(&self) -> bool
+        ensures { result ≡ self.now.failed }
+    {
+        self.failed
+    }
+
+    /// Whether a read saw the end.
+    pub fn has_ended(&self) -> bool
+        ensures { result ≡ self.now.ended }
+    {
+        self.ended
+    }
+
+    /// Whether a read was made after one that had seen the end.
+    pub fn has_read_past_end(&self) -> bool
+        ensures { result ≡ self.now.read_past_end }
+    {
+        self.read_past_end
     }
 
     /// Counts a call, up to the limit.

@@ -1,12 +1,11 @@
-ghost use Rattle.std.specs.Prelude.{◌≡◌, ◌≢◌, ◌⊎◌, ◌*◌, ◌≤◌, OnOk, Ok, Err, true, false};
+ghost use Rattle.std.specs.Prelude.{◌≡◌, OnOk, Ok};
 ghost use Rattle.std.specs.Io.KnownBytes.{IsAtEnd};
-ghost use Rattle.sm_lines.specs.Reading.{CallsFit};
-ghost use Rattle.sm_run.specs.Openings.{RefusedShort};
-ghost use Rattle.sm_run.specs.Runs.{StoppedAt, StoppedReading, StoppedWriting};
+ghost use Rattle.sm_run.specs.Runs.{StoppedEarly};
+ghost use Rattle.sm_run.specs.Watching.{KeepsWatch};
 ghost use Rattle.sm_model.specs.Runs.{AcceptsSettings, RefusesSettings, WritesScript, WroteScript};
 
 use crate::session::ModelSession;
-use sm_lines::{COUNT_LIMIT, PIECE, Watched};
+use sm_lines::Watched;
 use sm_run::{Engine, RunFault, Status, run};
 use sm_settings::settings::Settings;
 use std::alloc::{AllocError, Global};
@@ -61,34 +60,11 @@ pub fn run_model<R: Read, W: Write>(
     ensures bad_settings { result ≡ Ok Status.BadSettings
         → RefusesSettings (R.remaining reader.old.inner) }
 
-    // Where reading stopped, it is the script of all lines that were read whole.
-    ensures read { result ≡ Err RunFault.Read → StoppedReading WritesScript
-        reader.new.failed reader.new.calls (R.remaining reader.old.inner)
-        (R.remaining reader.new.inner) (W.contents writer.old.inner) (W.contents writer.new.inner) }
-    // Where memory was refused, it is the script of the lines before one.
-    ensures no_memory { result ≡ Err RunFault.NoMemory → StoppedAt WritesScript
-        (R.remaining reader.old.inner) (W.contents writer.old.inner) (W.contents writer.new.inner) }
-    // Where writing failed, it is the script of the lines before one, and then a front of that one's answer.
-    ensures write { result ≡ Err RunFault.Write → StoppedWriting WritesScript
-        (R.remaining reader.old.inner) (W.contents writer.old.inner) (W.contents writer.new.inner)
-        ⊎ RefusedShort (R.remaining reader.old.inner) (W.contents writer.old.inner)
-        (W.contents writer.new.inner) }
-
-    ensures write_failed { result ≡ Err RunFault.Write → writer.new.failed ≡ true }
-    // No failed call is hidden by another fault, but that a failed write may come after a failed read.
-    ensures reader_unfailed { result ≢ Err RunFault.Read → result ≢ Err RunFault.Write
-        → reader.new.failed ≡ reader.old.failed }
-    ensures writer_unfailed { result ≢ Err RunFault.Write → writer.new.failed ≡ writer.old.failed }
-    // The reader is called no more often than it gives bytes, but for one call that sees the end or fails.
-    ensures calls { CallsFit false true (R.remaining reader.old.inner)
-        (R.remaining reader.new.inner) reader.old.calls reader.new.calls }
-    // Nothing is read again once the end was seen.
-    ensures not_past_end { reader.old.ended ≡ false
-        → reader.new.read_past_end ≡ reader.old.read_past_end }
-    // Also of unknown bytes, `Read` comes only where the reader failed, or its calls could give as many bytes as lines or
-    // calls are counted.
-    ensures read_calls { result ≡ Err RunFault.Read → (reader.new.failed ≡ true)
-        ⊎ (COUNT_LIMIT ≤ PIECE * reader.new.calls) }
+    // Exactly the script of all lines before the one at which a fault came was written, but for a front of that line's answer.
+    ensures stopped { StoppedEarly WritesScript result reader.new.failed reader.new.calls
+        (R.remaining reader.old.inner) (R.remaining reader.new.inner)
+        (W.contents writer.old.inner) (W.contents writer.new.inner) }
+    ensures watched { KeepsWatch R.remaining result reader.old reader.new writer.old writer.new }
 {
     run(alloc, reader, writer, &mut ModelEngine::new(alloc))
 }

@@ -1,6 +1,6 @@
 -- Where a run stopped, and what it had written by then.
-use Rattle.std.proofs.Common.{◌≡◌, ◌≢◌, All, ◌<◌, ◌≤◌, ◌+◌, ◌-◌, ◌++◌, ◌∷◌, [], Bool, true, ℕ, List, length, take, ap, sym, ◌∙◌, subst, refl, arith, ◌⊎◌, inl, inr, append_assoc, append-nil, Option, Some, None, Ok}
-use Rattle.std.proofs.lemmas.Bool.{cases_lt}
+use Rattle.std.proofs.Common.{◌≡◌, ◌≢◌, All, ◌<◌, ◌≤◌, ◌+◌, ◌-◌, ◌++◌, ◌∷◌, [], Bool, true, false, ℕ, List, length, take, ap, sym, ◌∙◌, subst, refl, arith, lit≤, ◌⊎◌, inl, inr, append_assoc, append-nil, Option, Some, None, Result, Ok, Err}
+use Rattle.std.proofs.lemmas.Bool.{cases_lt, false≢true}
 use Rattle.std.proofs.lemmas.List.{take-append-le}
 use Rattle.std.proofs.Math.Seq.{take-append-add}
 use Rattle.std.proofs.KnownBytes.{Appends-nil, Consumes-nil, Consumes-trans}
@@ -9,21 +9,22 @@ use Rattle.std.specs.Io.KnownBytes.{Appends, Consumes, prepend_known}
 use Rattle.sm_lines.specs.Answers.{AnswersAll, HasLines, IsAllRead, LosesLines, ReadingStopped, StopsAfter}
 use Rattle.sm_lines.specs.Lines.{lines_of, with_feeds, HadFeed, LosesLine, TookLines, TookPart}
 use Rattle.sm_lines.specs.Reading.{Reading, unread}
+use Rattle.sm_lines.specs.declared.TheConstants.{PIECE}
 use Rattle.sm_lines.specs.declared.watch.TheConstants.{COUNT_LIMIT}
+use Rattle.sm_run.proofs.Openings.{stops_unread}
 use Rattle.sm_settings.specs.SettingsLine.{SettingsValues, settings_of, values_of}
 use Rattle.sm_settings.specs.declared.settings.Settings.{Settings}
 use Rattle.sm_run.specs.declared.opening.Opening.{Opening}
-use Rattle.sm_run.specs.declared.opening.Opening.TheVariants.{Accepted}
-use Rattle.sm_run.specs.Openings.{IsOpening}
-use Rattle.sm_run.specs.Runs.{AreFirst, IsSession, StoppedAt, StoppedReading, StoppedWriting, WritesFor, WroteBefore}
-use Rattle.sm_run.specs.Sessions.{SessionShort, SessionTo}
+use Rattle.sm_run.specs.declared.opening.Opening.TheVariants.{Accepted, Refused}
+use Rattle.sm_settings.specs.declared.settings_fault.SettingsFault.{SettingsFault}
+use Rattle.sm_run.specs.Openings.{IfKnown, IsOpening, RefusedShort, settings_in}
+use Rattle.sm_run.specs.Runs.{AreFirst, IsSession, RanScript, StoppedAt, StoppedEarly, StoppedReading, StoppedWriting, WritesFor, WroteBefore}
+use Rattle.sm_run.specs.Sessions.{RanSession, SessionShort, SessionTo}
+use Rattle.sm_run.specs.declared.outcome.RunFault.{RunFault}
+use Rattle.sm_run.specs.declared.outcome.RunFault.TheVariants.{Read, Write, NoMemory}
+use Rattle.sm_run.specs.declared.outcome.Status.{Status}
 
 -- ---- the first lines of the input
-
--- no line at all
-first_none : (input : Option (List ℕ)) → AreFirst input []
-first_none None = tt
-first_none (Some bytes) = (lines_of bytes, refl)
 
 first_more : (input mid : Option (List ℕ)) (first : List ℕ) (lines : List (List ℕ)) → LosesLine input mid first → AreFirst mid lines → AreFirst input (first ∷ lines)
 first_more None mid first lines lost are = tt
@@ -69,11 +70,50 @@ none_read writes failed calls before after input left old none none_before part 
       wrote = record { text = []; is = none; wrote = Appends-nil old };
     }
 
--- nothing was written
-pub none_written : (writes : List (List ℕ) → List ℕ → Type 0) (input old new : Option (List ℕ)) → writes [] [] → new ≡ old → StoppedAt writes input old new
-none_written writes input old new none same =
+-- nothing was written, and no more than the first line was touched
+pub stopped_first : (writes : List (List ℕ) → List ℕ → Type 0) (input left old new : Option (List ℕ)) (ahead : List ℕ)
+    → writes [] [] → new ≡ old → length ahead ≤ PIECE → StopsAfter input (prepend_known ahead left) [] → StoppedAt writes input left old new
+stopped_first writes input left old new ahead none same few stops =
     let P : Option (List ℕ) → Type 0 = λ n. Appends old n [] in
-    record { before = []; are = first_none input; wrote = record { text = []; is = none; wrote = subst P (sym same) (Appends-nil old) } }
+    record { before = []; ahead = ahead; few = few; stops = stops; wrote = record { text = []; is = none; wrote = subst P (sym same) (Appends-nil old) } }
+
+-- the same of a reader of lines that held nothing
+pub stopped_opening : (writes : List (List ℕ) → List ℕ → Type 0) (lines : Reading) (input left old new : Option (List ℕ)) (ahead : List ℕ)
+    → writes [] [] → lines.held ≡ [] → new ≡ old → length ahead ≤ PIECE → StopsAfter (unread lines input) (prepend_known ahead left) [] → StoppedAt writes input left old new
+stopped_opening writes lines input left old new ahead none none_held same few stops =
+    let P : Option (List ℕ) → Type 0 = λ i. StopsAfter i (prepend_known ahead left) [] in
+    stopped_first writes input left old new ahead none same few (subst P (nothing_held lines.held input none_held) stops)
+
+-- nothing was read
+pub stopped_unread : (writes : List (List ℕ) → List ℕ → Type 0) (input old : Option (List ℕ)) → writes [] [] → StoppedAt writes input input old old
+stopped_unread writes input old none =
+    let P : Option (List ℕ) → Type 0 = λ i. StopsAfter input i [] in
+    stopped_first writes input input old old [] none refl (lit≤ tt) (subst P (sym (nothing_held [] input refl)) (stops_unread input))
+
+-- ---- by the fault
+
+-- memory was refused
+pub early_memory : (writes : List (List ℕ) → List ℕ → Type 0) (result : Result Status RunFault) (failed : Bool) (calls : ℕ) (input left old new : Option (List ℕ))
+    → result ≡ Err NoMemory → StoppedAt writes input left old new → StoppedEarly writes result failed calls input left old new
+early_memory writes result failed calls input left old new is at = record {
+  read = λ e. (let no : false ≡ true = cc in absurd (false≢true no));
+  no_memory = λ _. at;
+  write = λ e. (let no : false ≡ true = cc in absurd (false≢true no));
+}
+
+-- the settings were refused
+pub early_refused : (writes : List (List ℕ) → List ℕ → Type 0) (result : Result Status RunFault) (failed : Bool) (calls : ℕ) (input left old new : Option (List ℕ))
+    → result ≢ Err Read → (result ≡ Err NoMemory → StoppedAt writes input left old new) → (result ≡ Err Write → RefusedShort input old new)
+    → StoppedEarly writes result failed calls input left old new
+early_refused writes result failed calls input left old new not_read memory short = record { read = λ is. absurd (not_read is); no_memory = memory; write = λ is. inr (short is) }
+
+-- no settings were read
+pub early_unread : (writes : List (List ℕ) → List ℕ → Type 0) (result : Result Status RunFault) (failed : Bool) (calls : ℕ) (input left old new : Option (List ℕ))
+    → (result ≡ Err Read → StoppedReading writes failed calls input left old new) → (result ≡ Err NoMemory → StoppedAt writes input left old new) → result ≢ Err Write
+    → StoppedEarly writes result failed calls input left old new
+early_unread writes result failed calls input left old new reading memory not_written = record { read = reading; no_memory = memory; write = λ is. absurd (not_written is) }
+
+-- ---- the settings in front
 
 -- the first line of the input was taken off as these settings
 pub record Opened (ended : Bool) (input left : Option (List ℕ)) (settings : SettingsValues) : Type 0 where
@@ -90,6 +130,14 @@ opened ended lines input left opening settings none is opens =
     let o = subst Q (nothing_held lines.held input none) (subst P is opens) in
     record { first = o.0; lost = o.1; feed = o.2; accepted = o.3 }
 
+-- the settings in front of the input were refused
+pub refused_opening : (ended : Bool) (lines : Reading) (input left : Option (List ℕ)) (opening : Opening) (fault : SettingsFault)
+    → lines.held ≡ [] → opening ≡ Refused fault → IsOpening ended (unread lines input) left opening → IfKnown input (λ bytes. settings_in (lines_of bytes) ≡ Err fault)
+refused_opening ended lines input left opening fault none is opens =
+    let P : Opening → Type 0 = λ o. IsOpening ended (unread lines input) left o in
+    let Q : Option (List ℕ) → Type 0 = λ i. IsOpening ended i left (Refused fault) in
+    subst Q (nothing_held lines.held input none) (subst P is opens)
+
 -- ---- the lines after the settings
 
 -- the lines that were read whole, with the settings' line in front
@@ -105,6 +153,23 @@ all_read_more input mid left first done one all =
       };
       part = all.part;
     }
+
+-- the whole script ran
+pub ran_session : {S : Type 0} (begins : SettingsValues → S → Type 0) (answers : S → List ℕ → List ℕ → S → Type 0) (settings : SettingsValues) (ended : Bool) (input mid old new : Option (List ℕ))
+    → Opened ended input mid settings → RanSession begins answers settings mid old new → RanScript begins answers input old new
+ran_session begins answers settings ended input mid old new o s = record {
+  first = o.first;
+  lines = s.ran.lines;
+  text = s.ran.text;
+  are = has_more input mid o.lost s.ran.are;
+  session = record { settings = settings; begun = s.begun; ended = s.ended; accepted = o.accepted; began = s.began; answered = s.ran.answered };
+  wrote = s.ran.wrote;
+}
+  where
+    has_more : (input mid : Option (List ℕ)) → LosesLine input mid o.first → HasLines mid s.ran.lines → HasLines input (o.first ∷ s.ran.lines)
+    has_more None mid one are = tt
+    has_more (Some bytes) None one are = absurd one
+    has_more (Some bytes) (Some left) one are = one ∙ ap (λ (all : List (List ℕ)). o.first ∷ all) are
 
 -- the answers to the lines after the settings are what a run has to write
 session_wrote : {S : Type 0} (begins : SettingsValues → S → Type 0) (answers : S → List ℕ → List ℕ → S → Type 0) (settings : SettingsValues) (old new : Option (List ℕ)) (first : List ℕ) (done : List (List ℕ))
@@ -135,13 +200,25 @@ read_session begins answers settings before after failed calls input mid left ol
       wrote = session_wrote begins answers settings old new o.first done o.accepted s;
     }
 
-pub memory_session : {S : Type 0} (begins : SettingsValues → S → Type 0) (answers : S → List ℕ → List ℕ → S → Type 0) (settings : SettingsValues) (ended : Bool)
+-- the lines before the one that was touched, with the settings' line in front
+stops_more : (input mid left : Option (List ℕ)) (first : List ℕ) (done : List (List ℕ)) → LosesLine input mid first → StopsAfter mid left done → StopsAfter input left (first ∷ done)
+stops_more input mid left first done one stops = record { next = stops.next; lost = lost_more input mid stops.next first done one stops.lost; touched = stops.touched }
+  where
+    lost_more : (input mid next : Option (List ℕ)) (first : List ℕ) (done : List (List ℕ)) → LosesLine input mid first → LosesLines mid next done → LosesLines input next (first ∷ done)
+    lost_more None mid next first done one more = tt
+    lost_more (Some bytes) None next first done one more = absurd one
+    lost_more (Some bytes) (Some left) None first done one more = more
+    lost_more (Some bytes) (Some left) (Some after) first done one more = one ∙ ap (λ (all : List (List ℕ)). first ∷ all) more
+
+pub memory_session : {S : Type 0} (begins : SettingsValues → S → Type 0) (answers : S → List ℕ → List ℕ → S → Type 0) (settings : SettingsValues) (ended : Bool) (ahead : List ℕ)
     (input mid left old new : Option (List ℕ)) (done : List (List ℕ))
-    → Opened ended input mid settings → SessionTo begins answers settings old new done → StopsAfter mid left done
-    → StoppedAt (WritesFor begins answers) input old new
-memory_session begins answers settings ended input mid left old new done o s stops = record {
+    → length ahead ≤ PIECE → Opened ended input mid settings → SessionTo begins answers settings old new done → StopsAfter mid (prepend_known ahead left) done
+    → StoppedAt (WritesFor begins answers) input left old new
+memory_session begins answers settings ended ahead input mid left old new done few o s stops = record {
   before = o.first ∷ done;
-  are = first_more input mid o.first done o.lost (first_lost mid stops.next done stops.lost);
+  ahead = ahead;
+  few = few;
+  stops = stops_more input mid (prepend_known ahead left) o.first done o.lost stops;
   wrote = session_wrote begins answers settings old new o.first done o.accepted s;
 }
 

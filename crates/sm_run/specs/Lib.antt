@@ -1,4 +1,5 @@
 pub mod Openings
 pub mod Runs
 pub mod Sessions
+pub mod Watching
 pub mod lemmas

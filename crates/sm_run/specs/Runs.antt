@@ -1,15 +1,17 @@
 -- What a run has read and written.
-use Rattle.std.specs.Prelude.{◌≡◌, ◌⊎◌, Bool, true, ℕ, ◌<◌, ◌≤◌, List, [], ◌∷◌, ◌++◌, length, take, Option, Ok}
-use Rattle.std.specs.Io.KnownBytes.{Appends}
-use Rattle.sm_lines.specs.Answers.{AnswersAll, HasLines, IsAllRead}
+use Rattle.std.specs.Prelude.{◌≡◌, ◌⊎◌, Bool, true, ℕ, ◌<◌, ◌≤◌, List, [], ◌∷◌, ◌++◌, length, take, Option, Result, Ok, Err}
+use Rattle.std.specs.Io.KnownBytes.{Appends, prepend_known}
+use Rattle.sm_lines.specs.Answers.{AnswersAll, HasLines, IsAllRead, StopsAfter}
 use Rattle.sm_lines.specs.Lines.{lines_of}
+use Rattle.sm_lines.specs.declared.TheConstants.{PIECE}
 use Rattle.sm_lines.specs.declared.watch.TheConstants.{COUNT_LIMIT}
 use Rattle.sm_lines.specs.declared.respond.AnswerFault.{AnswerFault}
 use Rattle.sm_lines.specs.declared.respond.AnswerFault.TheVariants as stopped
 use Rattle.sm_settings.specs.SettingsLine.{SettingsValues, settings_of}
 use Rattle.sm_run.specs.declared.outcome.RunFault.{RunFault}
+use Rattle.sm_run.specs.declared.outcome.Status.{Status}
 use Rattle.sm_run.specs.declared.outcome.RunFault.TheVariants.{Read, Write, NoMemory}
-use Rattle.sm_run.specs.Openings.{IfKnown}
+use Rattle.sm_run.specs.Openings.{IfKnown, RefusedShort}
 
 -- ---- a run that ended
 
@@ -60,10 +62,13 @@ pub record StoppedReading (writes : List (List ℕ) → List ℕ → Type 0) (fa
   pub why : ReadingEnded failed calls input left before
   pub wrote : WroteBefore writes old new before
 
--- the run stopped at the line after those in `before`
-pub record StoppedAt (writes : List (List ℕ) → List ℕ → Type 0) (input old new : Option (List ℕ)) : Type 0 where
+-- the run stopped at the line after those in `before`: these were taken off, and of the rest only one line was touched.
+-- Beyond it at most a piece was read
+pub record StoppedAt (writes : List (List ℕ) → List ℕ → Type 0) (input left old new : Option (List ℕ)) : Type 0 where
   pub before : List (List ℕ)
-  pub are : AreFirst input before
+  pub ahead : List ℕ
+  pub few : length ahead ≤ PIECE
+  pub stops : StopsAfter input (prepend_known ahead left) before
   pub wrote : WroteBefore writes old new before
 
 -- writing stopped at a line: what had to be written for the lines before it was written whole, and then a front of its answer
@@ -77,6 +82,15 @@ pub record StoppedWriting (writes : List (List ℕ) → List ℕ → Type 0) (in
   pub next : writes (before ++ line ∷ []) (text ++ answer)
   pub count : ℕ
   pub wrote : Appends old new (text ++ take count answer)
+
+-- how a run stopped early, where `writes` says what has to be written before it comes to a line: where reading stopped, for
+-- all lines that were read whole; where memory was refused, for all before one; and where writing failed, for all before one,
+-- and then a front of that one's answer
+pub record StoppedEarly (writes : List (List ℕ) → List ℕ → Type 0) (result : Result Status RunFault) (failed : Bool) (calls : ℕ)
+    (input left old new : Option (List ℕ)) : Type 0 where
+  pub read : result ≡ Err Read → StoppedReading writes failed calls input left old new
+  pub no_memory : result ≡ Err NoMemory → StoppedAt writes input left old new
+  pub write : result ≡ Err Write → StoppedWriting writes input old new ⊎ RefusedShort input old new
 
 -- the fault of a run whose lines were no longer answered
 abbrev pub run_fault : AnswerFault → RunFault

@@ -2,10 +2,11 @@
 //!
 //! ```rust
 //! let mut reader = Watched::new(script.as_slice());
-//! let mut writer = Watched::new(Vec::new(alloc));
+//! let mut written = Vec::new(alloc);
+//! let mut writer = Watched::new(&mut written);
 //! let status = run(alloc, &mut reader, &mut writer, &mut EchoEngine)?;
-//! assert_eq!(rt; status, Status::Ran);
-//! assert_eq!(rt; writer.inner.as_slice(), ANSWERS);
+//! assert!(rt; status == Status::Ran);
+//! assert!(rt; written.as_slice() == ANSWERS);
 //! ```
 #![tactic(auto)]
 

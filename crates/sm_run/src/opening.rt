@@ -1,12 +1,13 @@
-ghost use Rattle.std.specs.Prelude.{◌≡◌, ◌≢◌, ◌⊎◌, ◌≤◌, [], true, IfOk, IfErr, OnOk, OnErr};
+ghost use Rattle.std.specs.Prelude.{◌≡◌, ◌≢◌, ◌⊎◌, ◌≤◌, [], true, length, IfOk, IfErr, OnOk, OnErr};
 ghost use Rattle.std.specs.Io.KnownBytes.{Appends};
+ghost use Rattle.sm_lines.specs.Answers.{StopsAfter};
 ghost use Rattle.sm_lines.specs.Lines.{TookPart};
 ghost use Rattle.sm_lines.specs.Reading.{unread, CallsFit, EndStands, HeldGiven};
 ghost use Rattle.sm_lines.specs.Sending.{WroteFront};
 ghost use Rattle.sm_run.specs.Openings.{IsOpening, ReadsAs, settings_line};
 
 use crate::outcome::{RunFault, Status};
-use sm_lines::{COUNT_LIMIT, LineReader, Next, ReadFault, Watched, write_whole};
+use sm_lines::{COUNT_LIMIT, LineReader, Next, PIECE, ReadFault, Watched, write_whole};
 use sm_settings::{MAX_SETTINGS, Settings, SettingsFault};
 use std::alloc::{AllocError, Global};
 use std::io::{Read, Write};
@@ -33,6 +34,9 @@ pub(crate) fn open<R: Read>(
     ensures read { result ≡ Err RunFault.Read → TookPart (unread lines.old
         (R.remaining reader.old.inner)) (unread lines.new (R.remaining reader.new.inner))
         × (lines.new.held ≡ []) × ((reader.new.failed ≡ true) ⊎ (COUNT_LIMIT ≤ reader.new.calls)) }
+    ensures touched { result ≢ Err RunFault.Read → StopsAfter (unread lines.old
+        (R.remaining reader.old.inner)) (unread lines.new (R.remaining reader.new.inner)) [] }
+    ensures piece { length lines.new.held ≤ PIECE }
     ensures write { result ≢ Err RunFault.Write }
     ensures unfailed { result ≢ Err RunFault.Read → reader.new.failed ≡ reader.old.failed }
     ensures calls { OnOk result (CallsFit lines.old.ended lines.new.ended

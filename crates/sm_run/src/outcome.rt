@@ -13,7 +13,8 @@ pub enum Status {
     BadSettings,
 }
 
-/// Why a run ended early. The answers to all earlier lines were written whole.
+/// Why a run ended early. The answers to all lines before the one at which it did were written whole; of that line's answer a
+/// front may have been written where writing failed, and nothing otherwise.
 #[derive(Clone, Copy, Debug, PartialEq, Eq, Drop, Error)]
 pub enum RunFault {
     /// The reader failed, or 2^32 of its calls or lines were counted.

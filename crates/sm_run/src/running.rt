@@ -1,12 +1,13 @@
-ghost use Rattle.std.specs.Prelude.{◌≡◌, ◌≢◌, ◌⊎◌, ◌*◌, ◌≤◌, ℕ, List, IfOk, OnOk, Ok, Err, true, false};
+ghost use Rattle.std.specs.Prelude.{◌≡◌, ◌≢◌, ◌⊎◌, ◌*◌, ◌≤◌, ℕ, List, length, IfOk, OnOk, Ok, Err, true};
 ghost use Rattle.std.specs.Io.KnownBytes.{IsAtEnd};
 ghost use Rattle.sm_lines.specs.Answers.{AnswersLine, ReadingStopped, StopsAfter};
 ghost use Rattle.sm_lines.specs.Reading.{unread, CallsFit, EndStands, HeldGiven};
 ghost use Rattle.sm_settings.specs.SettingsLine.{values_of};
 ghost use Rattle.sm_settings.specs.SettingsRules.{KeepsRules};
-ghost use Rattle.sm_run.specs.Openings.{RefusedScript, RefusedShort};
-ghost use Rattle.sm_run.specs.Runs.{RanScript, StoppedAt, StoppedReading, StoppedWriting, WritesFor};
+ghost use Rattle.sm_run.specs.Openings.{RefusedScript};
+ghost use Rattle.sm_run.specs.Runs.{RanScript, StoppedEarly, WritesFor};
 ghost use Rattle.sm_run.specs.Sessions.{RanSession, SessionShort, SessionTo};
+ghost use Rattle.sm_run.specs.Watching.{KeepsWatch};
 
 use crate::engine::Engine;
 use crate::opening::{Opening, open, refuse};
@@ -20,7 +21,8 @@ use std::io::{Read, Write};
 ///
 /// `Read` comes only where the reader failed, or 2^32 of its calls or lines were counted; `Write` only where the writer
 /// failed; `NoMemory` only where neither failed. The answers to all lines before the one at which a fault came were
-/// written, and nothing else, but for a front of that line's answer where writing failed.
+/// written, and nothing else, but for a front of that line's answer where writing failed. Where memory was refused, all
+/// lines before that one were taken off the reader, and beyond it at most a piece was read.
 pub fn run<R: Read, W: Write, E: Engine>(
     alloc: Global,
     reader: &mut Watched<R>,
@@ -33,36 +35,12 @@ pub fn run<R: Read, W: Write, E: Engine>(
     ensures read_all { result ≡ Ok Status.Ran → IsAtEnd (R.remaining reader.new.inner) }
     ensures bad_settings { result ≡ Ok Status.BadSettings → RefusedScript
         (R.remaining reader.old.inner) (W.contents writer.old.inner) (W.contents writer.new.inner) }
-    // Where reading stopped, all lines that were read whole were answered.
-    ensures read { result ≡ Err RunFault.Read → StoppedReading
-        (WritesFor E.begins (AnswersLine E.Session.gives E.Session.gives_long E.MAX_LINE))
+    // Exactly the answers to all lines before the one at which a fault came were written, but for a front of that line's.
+    ensures stopped { StoppedEarly
+        (WritesFor E.begins (AnswersLine E.Session.gives E.Session.gives_long E.MAX_LINE)) result
         reader.new.failed reader.new.calls (R.remaining reader.old.inner)
         (R.remaining reader.new.inner) (W.contents writer.old.inner) (W.contents writer.new.inner) }
-    // Where memory was refused, the lines before one were answered.
-    ensures no_memory { result ≡ Err RunFault.NoMemory → StoppedAt
-        (WritesFor E.begins (AnswersLine E.Session.gives E.Session.gives_long E.MAX_LINE))
-        (R.remaining reader.old.inner) (W.contents writer.old.inner) (W.contents writer.new.inner) }
-    // Where writing failed, the lines before one, and then a front of that one's answer was written.
-    ensures write { result ≡ Err RunFault.Write → StoppedWriting
-        (WritesFor E.begins (AnswersLine E.Session.gives E.Session.gives_long E.MAX_LINE))
-        (R.remaining reader.old.inner) (W.contents writer.old.inner) (W.contents writer.new.inner)
-        ⊎ RefusedShort (R.remaining reader.old.inner) (W.contents writer.old.inner)
-        (W.contents writer.new.inner) }
-    ensures write_failed { result ≡ Err RunFault.Write → writer.new.failed ≡ true }
-    // No failed call is hidden by another fault, but that a failed write may come after a failed read.
-    ensures reader_unfailed { result ≢ Err RunFault.Read → result ≢ Err RunFault.Write
-        → reader.new.failed ≡ reader.old.failed }
-    ensures writer_unfailed { result ≢ Err RunFault.Write → writer.new.failed ≡ writer.old.failed }
-    // The reader is called no more often than it gives bytes, but for one call that sees the end or fails.
-    ensures calls { CallsFit false true (R.remaining reader.old.inner)
-        (R.remaining reader.new.inner) reader.old.calls reader.new.calls }
-    // Nothing is read again once the end was seen.
-    ensures not_past_end { reader.old.ended ≡ false
-        → reader.new.read_past_end ≡ reader.old.read_past_end }
-    // Also of unknown bytes, `Read` comes only where the reader failed, or its calls could give as many bytes as lines or
-    // calls are counted.
-    ensures read_calls { result ≡ Err RunFault.Read → (reader.new.failed ≡ true)
-        ⊎ (COUNT_LIMIT ≤ PIECE * reader.new.calls) }
+    ensures watched { KeepsWatch R.remaining result reader.old reader.new writer.old writer.new }
 {
     let mut lines = LineReader::new(alloc)?;
     match open(alloc, &mut lines, reader) {
@@ -99,7 +77,7 @@ fn run_session<R: Read, W: Write, E: Engine>(
         (unread lines.new (R.remaining reader.new.inner)) done }
     // Either no session began, or this one ran up to a line.
     ensures no_memory { result ≡ Err RunFault.NoMemory
-        → (writer.new ≡ writer.old) ⊎ ((done : List (List ℕ))
+        → ((writer.new ≡ writer.old) × (lines.new ≡ lines.old) × (reader.new ≡ reader.old)) ⊎ ((done : List (List ℕ))
         × SessionTo E.begins (AnswersLine E.Session.gives E.Session.gives_long E.MAX_LINE)
         (values_of settings) (W.contents writer.old.inner) (W.contents writer.new.inner) done
         × StopsAfter (unread lines.old (R.remaining reader.old.inner))
@@ -109,6 +87,7 @@ fn run_session<R: Read, W: Write, E: Engine>(
         (unread lines.old (R.remaining reader.old.inner))
         (unread lines.new (R.remaining reader.new.inner)) (W.contents writer.old.inner)
         (W.contents writer.new.inner) }
+    ensures piece { length lines.old.held ≤ PIECE → length lines.new.held ≤ PIECE }
     ensures write_failed { result ≡ Err RunFault.Write → writer.new.failed ≡ true }
     ensures reader_unfailed { result ≢ Err RunFault.Read → result ≢ Err RunFault.Write
         → reader.new.failed ≡ reader.old.failed }

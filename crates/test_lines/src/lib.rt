@@ -1,8 +1,7 @@
 //! Tests of reading and answering lines, of settings, and of running scripts.
 #![tactic(auto)]
 
-#[cfg(test)]
-mod fakes;
+pub mod fakes;
 #[cfg(test)]
 mod lines;
 #[cfg(test)]

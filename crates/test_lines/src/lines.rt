@@ -1,6 +1,6 @@
 //! Reading lines and answering them.
 
-use crate::fakes::{FailingReader, FailingWriter};
+use crate::fakes::{FailingFlush, FailingReader, FailingWriter};
 use sm_lines::{
     AnswerFault, LineReader, Next, PIECE, PieceWriter, Responder, Watched, answer_lines,
     write_whole,
@@ -39,14 +39,11 @@ fn answer<R: Read + Drop>(
     alloc: Global,
     inner: R,
     written: &mut Vec<u8>,
-    writes: u64,
+    writes: usize,
 ) -> Result<(), AnswerFault> {
     let mut lines = LineReader::new(alloc)?;
     let mut reader = Watched::new(inner);
-    let mut writer = Watched::new(FailingWriter {
-        bytes: written,
-        left: writes,
-    });
+    let mut writer = Watched::new(FailingWriter::new(written, writes));
     answer_lines(alloc, &mut lines, &mut reader, &mut writer, &mut Echo, 4)
 }
 
@@ -69,11 +66,7 @@ fn answers_each_line(rt: HostRuntime) -> Result<(), Fail> {
         assert!(rt; answer(alloc, input, &mut whole, 1000) == Ok(()));
         assert!(rt; whole.as_slice() == want);
         let mut by_byte = Vec::new(alloc);
-        let reader = FailingReader {
-            bytes: input,
-            left: 1000,
-        };
-        assert!(rt; answer(alloc, reader, &mut by_byte, 1000) == Ok(()));
+        assert!(rt; answer(alloc, FailingReader::new(input, 1000), &mut by_byte, 1000) == Ok(()));
         assert!(rt; by_byte.as_slice() == want);
     }
     Ok(())
@@ -82,7 +75,7 @@ fn answers_each_line(rt: HostRuntime) -> Result<(), Fail> {
 #[test]
 fn stops_where_the_reader_fails(rt: HostRuntime) -> Result<(), Fail> {
     let alloc = rt.alloc();
-    let cases: [(u64, &[u8]); 6] = [
+    let cases: [(usize, &[u8]); 6] = [
         (0, b""),
         (3, b""),
         (4, b"one\n"),
@@ -93,13 +86,13 @@ fn stops_where_the_reader_fails(rt: HostRuntime) -> Result<(), Fail> {
     let bytes = b"one\n\nthree!\nend";
     for (left, want) in cases {
         let mut written = Vec::new(alloc);
-        let result = answer(alloc, FailingReader { bytes, left }, &mut written, 1000);
+        let result = answer(alloc, FailingReader::new(bytes, left), &mut written, 1000);
         assert!(rt; result == Err(AnswerFault::Read));
         assert!(rt; written.as_slice() == want, "at {left}");
     }
     // Fifteen bytes and the end, which is read once.
     let mut written = Vec::new(alloc);
-    assert!(rt; answer(alloc, FailingReader { bytes, left: 16 }, &mut written, 1000) == Ok(()));
+    assert!(rt; answer(alloc, FailingReader::new(bytes, 16), &mut written, 1000) == Ok(()));
     assert!(rt; written.as_slice() == b"one\n\nlong thre\nend\n".as_slice());
     Ok(())
 }
@@ -113,7 +106,7 @@ fn stops_where_the_writer_fails(rt: HostRuntime) -> Result<(), Fail> {
         let result = answer(alloc, all.as_slice(), &mut written, writes);
         assert!(rt; result == Err(AnswerFault::Write));
         assert!(rt; all.starts_with(written.as_slice()));
-        assert!(rt; written.len() as u64 == 2 * writes);
+        assert!(rt; written.len() == 2 * writes);
     }
     let mut written = Vec::new(alloc);
     assert!(rt; answer(alloc, all.as_slice(), &mut written, 4) == Ok(()));
@@ -121,47 +114,124 @@ fn stops_where_the_writer_fails(rt: HostRuntime) -> Result<(), Fail> {
     Ok(())
 }
 
+/// A line of so many bytes, and its line feed.
+fn long_line(alloc: Global, length: usize) -> Result<Vec<u8>, AllocError> {
+    let mut line = vec![in alloc; b'a'; length]?;
+    line.push(b'\n')?;
+    Ok(line)
+}
+
 #[test]
-fn reads_long_lines_in_pieces(rt: HostRuntime) -> Result<(), Fail> {
-    let alloc = rt.alloc();
-    let mut input = vec![in alloc; b'a'; 2 * PIECE]?;
-    input.push(b'\n')?;
-    input.extend_from_slice(input.clone()?.as_slice())?;
+fn reads_a_line_of_two_pieces(rt: HostRuntime) -> Result<(), Fail> {
+    let input = long_line(rt.alloc(), 2 * PIECE)?;
     let mut reader = Watched::new(input.as_slice());
-    let mut lines = LineReader::new(alloc)?;
+    let mut lines = LineReader::new(rt.alloc())?;
     assert!(rt; lines.next_line(&mut reader, 2 * PIECE) == Ok(Next::Line));
     assert!(rt; lines.line().len() == 2 * PIECE);
+    assert!(rt; !lines.holds_line());
+    Ok(())
+}
+
+#[test]
+fn keeps_the_front_of_a_line_of_two_pieces(rt: HostRuntime) -> Result<(), Fail> {
+    let input = long_line(rt.alloc(), 2 * PIECE)?;
+    let mut reader = Watched::new(input.as_slice());
+    let mut lines = LineReader::new(rt.alloc())?;
     assert!(rt; lines.next_line(&mut reader, 2 * PIECE - 1) == Ok(Next::LongLine));
     assert!(rt; lines.line().len() == 2 * PIECE - 1);
     assert!(rt; !lines.holds_line());
-    assert!(rt; lines.next_line(&mut reader, 0) == Ok(Next::End));
-    let calls = reader.calls;
-    assert!(rt; lines.next_line(&mut reader, 0) == Ok(Next::End));
-    assert!(rt; reader.calls == calls);
-    assert!(rt; reader.ended);
-    assert!(rt; !reader.read_past_end);
+    Ok(())
+}
+
+#[test]
+fn the_end_is_read_once(rt: HostRuntime) -> Result<(), Fail> {
+    let mut reader = Watched::new(b"a\n".as_slice());
+    let mut lines = LineReader::new(rt.alloc())?;
+    assert!(rt; lines.next_line(&mut reader, 4) == Ok(Next::Line));
+    assert!(rt; lines.next_line(&mut reader, 4) == Ok(Next::End));
+    assert!(rt; lines.next_line(&mut reader, 4) == Ok(Next::End));
+    assert!(rt; reader.calls() == 2);
+    assert!(rt; reader.has_ended());
+    assert!(rt; !reader.has_read_past_end());
+    Ok(())
+}
+
+#[test]
+fn a_read_past_the_end_is_told(rt: HostRuntime) -> Result<(), Fail> {
+    let mut reader = Watched::new(b"".as_slice());
     assert!(rt; matches!(reader.read(&mut [0u8; 1]), Ok(0)));
-    assert!(rt; reader.read_past_end);
+    assert!(rt; reader.has_ended() && !reader.has_read_past_end());
+    assert!(rt; matches!(reader.read(&mut [0u8; 1]), Ok(0)));
+    assert!(rt; reader.has_read_past_end());
+    Ok(())
+}
+
+#[test]
+fn a_failed_read_is_passed_on_once(rt: HostRuntime) -> Result<(), Fail> {
+    let mut inner = FailingReader::new(b"ab", 1);
+    let mut reader = Watched::new(&mut inner);
+    assert!(rt; matches!(reader.read(&mut [0u8; 4]), Ok(1)));
+    assert!(rt; !reader.has_failed());
+    assert!(rt; reader.read(&mut [0u8; 4]).is_err());
+    assert!(rt; reader.has_failed());
+    assert!(rt; reader.calls() == 2);
+    assert!(rt; inner.faults == 1);
+    Ok(())
+}
+
+#[test]
+fn a_failed_write_is_passed_on_once(rt: HostRuntime) -> Result<(), Fail> {
+    let mut written = Vec::new(rt.alloc());
+    let mut inner = FailingWriter::new(&mut written, 1);
+    let mut writer = Watched::new(&mut inner);
+    assert!(rt; matches!(writer.write(b"abc"), Ok(2)));
+    assert!(rt; !writer.has_failed());
+    assert!(rt; writer.write(b"c").is_err());
+    assert!(rt; writer.has_failed());
+    assert!(rt; writer.calls() == 2);
+    assert!(rt; inner.faults == 1);
+    Ok(())
+}
+
+#[test]
+fn a_failed_flush_is_passed_on_once(rt: HostRuntime) -> Result<(), Fail> {
+    let mut inner = FailingFlush { faults: 0 };
+    let mut writer = Watched::new(&mut inner);
+    let mut pieces = PieceWriter::new(rt.alloc())?;
+    assert!(rt; pieces.write(&mut writer, b"a").is_ok());
+    assert!(rt; !writer.has_failed());
+    assert!(rt; pieces.flush(&mut writer).is_err());
+    assert!(rt; writer.has_failed());
+    assert!(rt; inner.faults == 1);
     Ok(())
 }
 
 #[test]
 fn writes_in_pieces(rt: HostRuntime) -> Result<(), Fail> {
     let alloc = rt.alloc();
-    let mut writer = Watched::new(Vec::new(alloc));
+    let mut written = Vec::new(alloc);
+    let mut writer = Watched::new(&mut written);
     let mut pieces = PieceWriter::new(alloc)?;
-    let large = vec![in alloc; b'b'; PIECE + 1]?;
-    assert!(rt; pieces.write(&mut writer, b"a").is_ok());
-    assert_eq!(rt; writer.calls, 0);
+    let large = long_line(alloc, PIECE)?;
+    assert!(rt; pieces.write(&mut writer, b"b").is_ok());
+    assert!(rt; writer.calls() == 0);
     assert!(rt; pieces.write(&mut writer, large.as_slice()).is_ok());
     assert!(rt; pieces.write(&mut writer, b"c").is_ok());
-    assert_eq!(rt; writer.calls, 2);
+    assert!(rt; writer.calls() == 2);
     assert!(rt; pieces.flush(&mut writer).is_ok());
-    assert!(rt; write_whole(&mut writer, b"d").is_ok());
-    assert_eq!(rt; writer.calls, 4);
-    assert!(rt; !writer.failed);
-    assert!(rt; writer.inner.as_slice().starts_with(b"abb"));
-    assert!(rt; writer.inner.as_slice().ends_with(b"bcd"));
+    assert!(rt; writer.calls() == 3);
+    assert!(rt; written.starts_with(b"baa"));
+    assert!(rt; written.ends_with(b"a\nc"));
+    Ok(())
+}
+
+#[test]
+fn writes_whole(rt: HostRuntime) -> Result<(), Fail> {
+    let mut written = Vec::new(rt.alloc());
+    let mut writer = Watched::new(FailingWriter::new(&mut written, 3));
+    assert!(rt; write_whole(&mut writer, b"abcde").is_ok());
+    assert!(rt; writer.calls() == 3);
+    assert!(rt; written.as_slice() == b"abcde".as_slice());
     Ok(())
 }
 

@@ -65,10 +65,11 @@ fn answers_the_lines_after_the_settings(rt: HostRuntime) -> Result<(), Fail> {
     let alloc = rt.alloc();
     let script = script_of(alloc, LINES)?;
     let mut reader = Watched::new(script.as_slice());
-    let mut writer = Watched::new(Vec::new(alloc));
+    let mut written = Vec::new(alloc);
+    let mut writer = Watched::new(&mut written);
     let status = run(alloc, &mut reader, &mut writer, &mut EchoEngine)?;
-    assert_eq!(rt; status, Status::Ran);
-    assert_eq!(rt; writer.inner.as_slice(), ANSWERS);
+    assert!(rt; status == Status::Ran);
+    assert!(rt; written.as_slice() == ANSWERS);
     Ok(())
 }
 
@@ -97,10 +98,7 @@ fn run_stops_where_the_reader_fails(rt: HostRuntime) -> Result<(), Fail> {
     let input = script_of(alloc, LINES)?;
     for left in 0..=input.len() {
         let mut written = Vec::new(alloc);
-        let reader = FailingReader {
-            bytes: &input,
-            left: left as u64,
-        };
+        let reader = FailingReader::new(&input, left);
         let ended = run_on(alloc, reader, &mut written);
         assert_eq!(rt; ended, Err(RunFault::Read), "at {left}");
         assert!(rt; ANSWERS.starts_with(written.as_slice()), "at {left}");
@@ -119,10 +117,7 @@ fn run_stops_where_the_writer_fails(rt: HostRuntime) -> Result<(), Fail> {
     for (script, answers) in cases {
         for left in 0..answers.len().div_ceil(2) {
             let mut written = Vec::new(alloc);
-            let writer = FailingWriter {
-                bytes: &mut written,
-                left: left as u64,
-            };
+            let writer = FailingWriter::new(&mut written, left);
             let ended = run_on(alloc, script, writer);
             assert_eq!(rt; ended, Err(RunFault::Write), "at {left}");
             assert!(rt; answers.starts_with(written.as_slice()), "at {left}");
@@ -140,10 +135,7 @@ fn reads_nothing_after_the_end(rt: HostRuntime) -> Result<(), Fail> {
     for end in [input.len(), input.len().saturating_sub(1)] {
         let mut written = Vec::new(alloc);
         // A call for each byte, one that sees the end, and none after it.
-        let mut reader = Watched::new(FailingReader {
-            bytes: &input[..end],
-            left: end as u64 + 1,
-        });
+        let mut reader = Watched::new(FailingReader::new(&input[..end], end.saturating_add(1)));
         let ended = run(
             alloc,
             &mut reader,
@@ -151,8 +143,8 @@ fn reads_nothing_after_the_end(rt: HostRuntime) -> Result<(), Fail> {
             &mut EchoEngine,
         );
         assert_eq!(rt; ended, Ok(Status::Ran));
-        assert_eq!(rt; reader.calls, end as u64 + 1);
-        assert!(rt; reader.ended && !reader.read_past_end);
+        assert!(rt; reader.calls() == end as u64 + 1);
+        assert!(rt; reader.has_ended() && !reader.has_read_past_end());
         assert_eq!(rt; written.as_slice(), b"one\n".as_slice());
     }
     Ok(())

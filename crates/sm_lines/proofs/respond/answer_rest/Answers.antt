@@ -14,6 +14,7 @@ lines-init g c = record {
   same_end = λ is. is;
   given = omega arith;
   not_past_end = λ _. refl;
+  piece = λ is. is;
   write_unfailed = refl;
 }
 
@@ -68,6 +69,7 @@ lines-preserved g c =
       given = given_more 1 c.lines._count c.args.lines.now c.lines.lines c.answer_next.new.lines _ _ _ c.lines.invariant.given (c.in-Ok-true.ensures.given c.in-Ok-true.field-0-test);
       same_end = λ is. c.in-Ok-true.ensures.same_end (c.lines.invariant.same_end is);
       not_past_end = λ is. c.in-Ok-true.ensures.not_past_end (c.lines.invariant.same_end is) ∙ c.lines.invariant.not_past_end is;
+      piece = λ _. c.in-Ok-true.ensures.piece;
       write_unfailed = c.in-Ok-write.ensures.unfailed ∙ (c.in-Ok.ensures.unfailed ∙ c.lines.invariant.write_unfailed);
     }
 

@@ -1,6 +1,7 @@
-use Rattle.std.proofs.Common.{◌≡◌, true}
+use Rattle.std.proofs.Common.{◌≡◌, ◌≤◌, true, length}
 use Rattle.sm_lines.specs.Reading.{unread, CallsFit, EndStands, LinesGiven}
 use Rattle.sm_lines.specs.Answers.{AnswersLine}
+use Rattle.sm_lines.specs.declared.TheConstants.{PIECE}
 use Rattle.sm_lines.proofs.AnswerLemmas.{SoFar}
 use Rattle.sm_lines.proofs.respond.answer_rest.Given as goal
 
@@ -16,5 +17,6 @@ invariant-lines g l = record {
   same_end : l.fn.reader.ended ≡ l.fn.lines.ended → l.reader.ended ≡ l.lines.ended;
   not_past_end : l.fn.reader.ended ≡ l.fn.lines.ended → l.reader.read_past_end ≡ l.fn.reader.read_past_end;
   given : LinesGiven l._count l.fn.lines l.lines l.fn.reader.calls l.reader.calls;
+  piece : length l.fn.lines.held ≤ PIECE → length l.lines.held ≤ PIECE;
   write_unfailed : l.writer.failed ≡ l.fn.writer.failed;
 }
