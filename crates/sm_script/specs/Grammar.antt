@@ -1,5 +1,5 @@
 -- The grammar of a script's lines: the word that each begins with, and what the words after it have to be.
-use Rattle.std.specs.Prelude.{ℕ, Bool, true, false, ◌&&◌, ◌||◌, nat_le, if◌then◌else◌, List, [], ◌∷◌, length, codes, Option, None, Some, is_some}
+use Rattle.std.specs.Prelude.{ℕ, Bool, true, false, ◌&&◌, ◌||◌, nat_le, if◌then◌else◌, List, [], ◌∷◌, ◌++◌, length, codes, Option, None, Some, is_some}
 use Rattle.std.specs.List.{find}
 use Rattle.std.specs.Str.{bytes_eq}
 use Rattle.std.specs.Option.{option_or}
@@ -15,15 +15,15 @@ use Rattle.sm_script.specs.declared.word.Word.{Word}
 use Rattle.sm_script.specs.declared.word.Word.TheVariants.{Assign, PrepareAdd, PrepareDrop, Add, Drop, Cancel, Pause, Resume, Reassign, Ask, Approve, Stopped, Back, Fail, Place, Drain, Look, Publish, Route, Hold, Free, Load, Get, Put, Append, Inc, Del, Scan}
 
 -- what a word has to be, as it is written
-abbrev pub accepts : Shape → List ℕ → Bool
-accepts Shard word = is_some (number_between 0 MAX_SHARD word)
-accepts Server word = is_some (number_between 1 MAX_SERVER word)
-accepts Key word = nat_le 1 (length word) && nat_le (length word) MAX_KEY
-accepts Text word = true
-accepts Increment word = is_some (increment_of word)
-accepts Limit word = is_some (number_between 0 MAX_PAIRS word)
-accepts Clients word = is_some (number_between 1 MAX_CLIENTS word)
-accepts Each word = is_some (number_between 1 MAX_EACH word)
+abbrev pub takes_word : Shape → List ℕ → Bool
+takes_word Shard word = is_some (number_between 0 MAX_SHARD word)
+takes_word Server word = is_some (number_between 1 MAX_SERVER word)
+takes_word Key word = nat_le 1 (length word) && nat_le (length word) MAX_KEY
+takes_word Text word = true
+takes_word Increment word = is_some (increment_of word)
+takes_word Limit word = is_some (number_between 0 MAX_PAIRS word)
+takes_word Clients word = is_some (number_between 1 MAX_CLIENTS word)
+takes_word Each word = is_some (number_between 1 MAX_EACH word)
 
 -- the fault where a word isn't of its shape
 abbrev pub refusal : Shape → LineFault
@@ -31,8 +31,8 @@ refusal Key = BadKey
 refusal _ = BadNumber
 
 -- the fault of one word
-abbrev pub fault_of : Shape → List ℕ → Option LineFault
-fault_of shape word = if accepts shape word then None else Some (refusal shape)
+abbrev pub word_fault : Shape → List ℕ → Option LineFault
+word_fault shape word = if takes_word shape word then None else Some (refusal shape)
 
 -- the rest of the line is a text
 abbrev pub is_text : Shape → Bool
@@ -40,20 +40,20 @@ is_text Text = true
 is_text _ = false
 
 -- a word for each shape and no other; a text takes all words that are left, or none
-abbrev pub fits : List Shape → List (List ℕ) → Bool
-fits [] words = is_nil words
-fits (shape ∷ shapes) [] = is_text shape
-fits (shape ∷ shapes) (word ∷ words) = is_text shape || fits shapes words
+abbrev pub takes_as_many : List Shape → List (List ℕ) → Bool
+takes_as_many [] words = is_nil words
+takes_as_many (shape ∷ shapes) [] = is_text shape
+takes_as_many (shape ∷ shapes) (word ∷ words) = is_text shape || takes_as_many shapes words
 
 -- the fault of the leftmost word that isn't of its shape
 abbrev pub first_fault : List Shape → List (List ℕ) → Option LineFault
 first_fault [] words = None
 first_fault (shape ∷ shapes) [] = None
-first_fault (shape ∷ shapes) (word ∷ words) = option_or (fault_of shape word) (first_fault shapes words)
+first_fault (shape ∷ shapes) (word ∷ words) = option_or (word_fault shape word) (first_fault shapes words)
 
 -- too few or too many words, and then the leftmost word that isn't of its shape
 abbrev pub arguments_fault : List Shape → List (List ℕ) → Option LineFault
-arguments_fault shapes words = if fits shapes words then first_fault shapes words else Some BadLine
+arguments_fault shapes words = if takes_as_many shapes words then first_fault shapes words else Some BadLine
 
 -- how a line spells each word
 abbrev pub name_of : Word → List ℕ
@@ -124,7 +124,7 @@ request_words = Get ∷ Put ∷ Append ∷ Inc ∷ Del ∷ Scan ∷ []
 -- the words that a line may begin with, beside `at` and `client`
 abbrev pub first_words : List Word
 first_words =
-    Get ∷ Put ∷ Append ∷ Inc ∷ Del ∷ Scan ∷
+    request_words ++
     Look ∷ Assign ∷ PrepareAdd ∷ PrepareDrop ∷ Add ∷ Drop ∷ Cancel ∷ Pause ∷ Resume ∷ Reassign ∷
     Ask ∷ Approve ∷ Stopped ∷ Back ∷ Fail ∷ Place ∷ Drain ∷
     Publish ∷ Route ∷ Hold ∷ Free ∷ Load ∷ []

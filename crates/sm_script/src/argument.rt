@@ -1,5 +1,5 @@
 ghost use Rattle.std.specs.Prelude.{◌≡◌, IfOk, IsTrue};
-ghost use Rattle.sm_script.specs.Grammar.{accepts};
+ghost use Rattle.sm_script.specs.Grammar.{takes_word};
 ghost use Rattle.sm_script.specs.Numbers.{number};
 ghost use Rattle.sm_script.specs.declared.shape.Shape.TheVariants.{Shard, Server, Key as KeyShape};
 
@@ -12,7 +12,7 @@ use std::alloc::{AllocError, Global};
 
 /// The shard that the word names.
 pub(crate) fn shard(word: &[u8]) -> ShardId
-    requires { IsTrue (accepts Shard word.now) }
+    requires { IsTrue (takes_word Shard word.now) }
     ensures { result ≡ number word.now }
 {
     ShardId::new(number_between(word, 0, u64::from(MAX_SHARD)).unwrap() as u16).unwrap()
@@ -20,7 +20,7 @@ pub(crate) fn shard(word: &[u8]) -> ShardId
 
 /// The server that the word names.
 pub(crate) fn server(word: &[u8]) -> ServerId
-    requires { IsTrue (accepts Server word.now) }
+    requires { IsTrue (takes_word Server word.now) }
     ensures { result ≡ number word.now }
 {
     ServerId::new(number_between(word, 1, u64::from(MAX_SERVER)).unwrap() as u16).unwrap()
@@ -28,7 +28,7 @@ pub(crate) fn server(word: &[u8]) -> ServerId
 
 /// The key that the word is.
 pub(crate) fn key(alloc: Global, word: &[u8]) -> Result<Key, AllocError>
-    requires { IsTrue (accepts KeyShape word.now) }
+    requires { IsTrue (takes_word KeyShape word.now) }
     ensures { IfOk result (λ key. key ≡ word.now) }
 {
     match Key::new(alloc, word) {

@@ -1,5 +1,5 @@
 ghost use Rattle.std.specs.Prelude.{◌≡◌, ◌<◌, ℕ, List, [], ◌∷◌, ◌++◌, length, IfOk, IfErr, IfNone, IsTrue};
-ghost use Rattle.sm_script.specs.Grammar.{accepts, arguments_fault, shapes_of, word_among, first_words};
+ghost use Rattle.sm_script.specs.Grammar.{takes_word, arguments_fault, shapes_of, word_among, first_words};
 ghost use Rattle.sm_script.specs.Lines.{call_with, unless_fault, at_server, at_call, client_fault, plain_call, call_of_words, has_no_answer, meaning_of, IsFaultIn, IsFaultOf, meaning_if_long};
 ghost use Rattle.sm_script.specs.declared.shape.Shape.TheVariants.{Shard, Server};
 
@@ -7,7 +7,7 @@ use crate::argument::{server, shard};
 use crate::call::Call;
 use crate::fault::{LineFault, ParseFault};
 use crate::request::request_with;
-use crate::shape::{Shape, arguments_fault, first_fault, fits};
+use crate::shape::{Shape, arguments_fault, first_fault, takes_as_many};
 use crate::word::Word;
 use crate::words::Words;
 use sm_ownership::change::Change;
@@ -78,10 +78,10 @@ fn call_with(alloc: Global, word: Word, words: Words) -> Result<Call, ParseFault
 // What is wrong with a server and the words after a request's.
 fn at_fault(server: &[u8], word: Word, words: &Words) -> Option<LineFault>
     ensures fault { result ≡ arguments_fault (Server ∷ shapes_of word) (server.now ∷ words.now) }
-    ensures right { IfNone result (IsTrue (accepts Server server.now)
+    ensures right { IfNone result (IsTrue (takes_word Server server.now)
         × (arguments_fault (shapes_of word) words.now ≡ None)) }
 {
-    if !fits(word.shapes(), words.again()) {
+    if !takes_as_many(word.shapes(), words.again()) {
         return Some(LineFault::BadLine);
     }
     match Shape::Server.fault(server) {
@@ -110,7 +110,7 @@ fn at_call(alloc: Global, mut words: Words) -> Result<Call, ParseFault>
     let (Some(server), Some(request)) = (words.next(), words.next()) else {
         return Err(ParseFault::Line(LineFault::BadLine));
     };
-    match Word::among(&Word::REQUESTS, request) {
+    match Word::of_request(request) {
         None => Err(ParseFault::Line(LineFault::UnknownWord)),
         Some(word) => at_server(alloc, server, word, words),
     }
@@ -122,7 +122,7 @@ fn client_fault(mut words: Words) -> Option<LineFault>
 {
     match words.next() {
         None => Some(LineFault::BadLine),
-        Some(request) => match Word::among(&Word::REQUESTS, request) {
+        Some(request) => match Word::of_request(request) {
             None => Some(LineFault::UnknownWord),
             Some(word) => arguments_fault(word.shapes(), &words),
         },
@@ -136,7 +136,7 @@ fn plain_call(alloc: Global, first: &[u8], words: Words) -> Result<Call, ParseFa
     ensures err { IfErr result (λ fault.
         IsFaultIn fault (plain_call (word_among first_words first.now) words.entry)) }
 {
-    match Word::among(&Word::FIRST, first) {
+    match Word::of_line(first) {
         None => Err(ParseFault::Line(LineFault::UnknownWord)),
         Some(word) => match arguments_fault(word.shapes(), &words) {
             Some(fault) => Err(ParseFault::Line(fault)),

@@ -1,5 +1,5 @@
 ghost use Rattle.std.specs.Prelude.{◌≡◌};
-ghost use Rattle.sm_script.specs.Grammar.{first_fault, fits, arguments_fault};
+ghost use Rattle.sm_script.specs.Grammar.{first_fault, takes_as_many, arguments_fault};
 
 use crate::fault::LineFault;
 use crate::number::{increment, number_between};
@@ -37,11 +37,11 @@ pub(crate) enum Shape {
 }
 
 impl Shape {
-    ghost use Rattle.sm_script.specs.Grammar.{accepts, fault_of};
+    ghost use Rattle.sm_script.specs.Grammar.{takes_word, word_fault};
 
     /// Whether the word is one.
-    fn accepts(self, word: &[u8]) -> bool
-        ensures { result ≡ accepts self word.now }
+    fn takes_word(self, word: &[u8]) -> bool
+        ensures { result ≡ takes_word self word.now }
     {
         match self {
             Shape::Shard => number_between(word, 0, u64::from(MAX_SHARD)).is_some(),
@@ -57,9 +57,9 @@ impl Shape {
 
     /// Why the word isn't one, or nothing where it is.
     pub(crate) fn fault(self, word: &[u8]) -> Option<LineFault>
-        ensures { result ≡ fault_of self word.now }
+        ensures { result ≡ word_fault self word.now }
     {
-        if self.accepts(word) {
+        if self.takes_word(word) {
             None
         } else if self == Shape::Key {
             Some(LineFault::BadKey)
@@ -70,8 +70,8 @@ impl Shape {
 }
 
 /// Whether there is a word for each shape and no other. A text takes all words that are left.
-pub(crate) fn fits(shapes: &[Shape], mut words: Words) -> bool
-    ensures { result ≡ fits shapes.now words.entry }
+pub(crate) fn takes_as_many(shapes: &[Shape], mut words: Words) -> bool
+    ensures { result ≡ takes_as_many shapes.now words.entry }
 {
     for shape in shapes {
         if *shape == Shape::Text {
@@ -105,7 +105,7 @@ pub(crate) fn first_fault(shapes: &[Shape], mut words: Words) -> Option<LineFaul
 pub(crate) fn arguments_fault(shapes: &[Shape], words: &Words) -> Option<LineFault>
     ensures { result ≡ arguments_fault shapes.now words.now }
 {
-    if fits(shapes, words.again()) {
+    if takes_as_many(shapes, words.again()) {
         first_fault(shapes, words.again())
     } else {
         Some(LineFault::BadLine)

@@ -64,21 +64,11 @@ pub(crate) enum Word {
 }
 
 impl Word {
-    ghost use Rattle.sm_script.specs.Grammar.{name_of, shapes_of, word_among};
+    ghost use Rattle.sm_script.specs.Grammar.{first_words, name_of, request_words, shapes_of, word_among};
 
-    /// The words of requests.
-    pub(crate) const REQUESTS: [Word; 6] = [
-        Word::Get,
-        Word::Put,
-        Word::Append,
-        Word::Inc,
-        Word::Del,
-        Word::Scan,
-    ];
-
-    /// The words that a line may begin with, beside `at` and `client`. Those of requests come
-    /// first, since most lines are requests.
-    pub(crate) const FIRST: [Word; 28] = [
+    // The words that a line may begin with, beside `at` and `client`. Those of requests come
+    // first, since most lines are requests.
+    const FIRST: [Word; 28] = [
         Word::Get,
         Word::Put,
         Word::Append,
@@ -145,8 +135,25 @@ impl Word {
         }
     }
 
-    /// The one of these words that has these bytes.
-    pub(crate) fn among(words: &[Word], bytes: &[u8]) -> Option<Word>
+    // How many of those are words of requests.
+    const REQUESTS: usize = 6;
+
+    /// The word that a line may begin with, where it has these bytes.
+    pub(crate) fn of_line(bytes: &[u8]) -> Option<Word>
+        ensures { result ≡ word_among first_words bytes.now }
+    {
+        Word::among(&Word::FIRST, bytes)
+    }
+
+    /// The word of a request, where it has these bytes.
+    pub(crate) fn of_request(bytes: &[u8]) -> Option<Word>
+        ensures { result ≡ word_among request_words bytes.now }
+    {
+        Word::among(&Word::FIRST[..Word::REQUESTS], bytes)
+    }
+
+    // The one of these words that has these bytes.
+    fn among(words: &[Word], bytes: &[u8]) -> Option<Word>
         ensures { result ≡ word_among words.now bytes.now }
     {
         words
