@@ -121,14 +121,7 @@ unsent_same w Unserved server request unsent = unknown_unsent (is_known w.frame.
 
 -- a step that didn't send the request ends the call
 after_no_sending : (shard : ℕ) (result : Result (WorldAnswer Reply) WorldFault) (w : WorldState Request) → is_sent result ≡ false → after_sending shard result w ≡ (result, w)
-after_no_sending shard (Ok Made) w unsent = refl
-after_no_sending shard (Ok (Seen state)) w unsent = refl
-after_no_sending shard (Ok Sent) w unsent = cc
-after_no_sending shard (Ok (Began server)) w unsent = refl
-after_no_sending shard (Ok (Forwarded server)) w unsent = refl
-after_no_sending shard (Ok (Refused reason)) w unsent = refl
-after_no_sending shard (Ok (Replied number server reply place)) w unsent = refl
-after_no_sending shard (Err reason) w unsent = refl
+after_no_sending shard result w unsent = rw unsent refl
 
 pub ends_unsent : (before after : WorldView Request) (server : ℕ) (request : Request) (sent : Result (WorldAnswer Reply) WorldFault)
     → GoesAs counter_text before sent after (Send server 0 request) → is_sent sent ≡ false → Ends before (call.RequestAt server request) sent after
@@ -188,14 +181,7 @@ has_arrived before between after server request sent reached w stands is arrives
 
 -- an arrival at which no server began the request ends the call
 after_no_arrival : (shard : ℕ) (result : Result (WorldAnswer Reply) WorldFault) (w : WorldState Request) → is_begun result ≡ false → after_arrival shard result w ≡ (result, w)
-after_no_arrival shard (Ok Made) w unbegun = refl
-after_no_arrival shard (Ok (Seen state)) w unbegun = refl
-after_no_arrival shard (Ok Sent) w unbegun = refl
-after_no_arrival shard (Ok (Began server)) w unbegun = cc
-after_no_arrival shard (Ok (Forwarded server)) w unbegun = refl
-after_no_arrival shard (Ok (Refused reason)) w unbegun = refl
-after_no_arrival shard (Ok (Replied number server reply place)) w unbegun = refl
-after_no_arrival shard (Err reason) w unbegun = refl
+after_no_arrival shard result w unbegun = rw unbegun refl
 
 pub ends_unbegun : (before between after : WorldView Request) (server : ℕ) (request : Request) (sent reached : Result (WorldAnswer Reply) WorldFault)
     → GoesAs counter_text before sent between (Send server 0 request) → is_sent sent ≡ true → Arrives between reached after → is_begun reached ≡ false

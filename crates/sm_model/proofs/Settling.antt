@@ -31,7 +31,7 @@ use Rattle.sm_ownership.specs.Rules.{admit_fault, forward_to}
 use Rattle.sm_envelope.specs.declared.refusal.Refusal.TheVariants.{KeptFull}
 use Rattle.sm_table.specs.Standing.{IsSound}
 use Rattle.sm_table.specs.lemmas.Soundness.{shard_within, sound_next}
-use Rattle.sm_model.specs.Calls.{Stepped, after_arrival, after_hops, after_sending, answer_of, called, counter_text, is_forwarded, requested, requested_at, shard_for, stepped, world_after_calls}
+use Rattle.sm_model.specs.Calls.{Stepped, after_arrival, after_hops, after_sending, answer_of, called, counter_text, is_begun, is_forwarded, is_sent, requested, requested_at, shard_for, stepped, world_after_calls}
 
 -- the last step answers the script, and no request is under way
 pub record Settles (went : Stepped) : Type 0 where
@@ -171,36 +171,25 @@ settles w (call.RequestAt server request) sound rest = requested_at_settles w re
 
 -- ---- whatever calls were made before
 
-after_arrival_sound : (shard : ℕ) (result : Result (WorldAnswer Reply) WorldFault) (w : WorldState Request) → IsSound w → IsSound (after_arrival shard result w).1
-after_arrival_sound shard (Ok (Began server)) w sound = sound_next counter_text w Plain (Finish shard) sound
-after_arrival_sound shard (Ok Made) w sound = sound
-after_arrival_sound shard (Ok (Seen state)) w sound = sound
-after_arrival_sound shard (Ok Sent) w sound = sound
-after_arrival_sound shard (Ok (Forwarded server)) w sound = sound
-after_arrival_sound shard (Ok (Refused why)) w sound = sound
-after_arrival_sound shard (Ok (Replied number server reply place)) w sound = sound
-after_arrival_sound shard (Err why) w sound = sound
+one_of_sound : (first : Bool) (one other : Stepped) → IsSound one.1 → IsSound other.1 → IsSound (if first then one else other).1
+one_of_sound true one other sound sound_too = sound
+one_of_sound false one other sound sound_too = sound_too
 
-unless_there_sound : (hops : ℕ) (more : Bool) (went : Stepped) → IsSound went.1 → ((v : WorldState Request) → IsSound v → IsSound (after_hops hops v).1)
-    → IsSound (if more then after_hops hops went.1 else went).1
-unless_there_sound hops true went sound on = on went.1 sound
-unless_there_sound hops false went sound on = sound
+after_arrival_sound : (shard : ℕ) (result : Result (WorldAnswer Reply) WorldFault) (w : WorldState Request) → IsSound w → IsSound (after_arrival shard result w).1
+after_arrival_sound shard result w sound = one_of_sound (is_begun result) (stepped w (Finish shard)) (result, w) (sound_next counter_text w Plain (Finish shard) sound) sound
 
 after_hops_sound : (hops : ℕ) (w : WorldState Request) → IsSound w → IsSound (after_hops hops w).1
 after_hops_sound zero w sound = sound_next counter_text w Plain (Deliver 0) sound
 after_hops_sound (suc hops) w sound =
-    unless_there_sound hops (is_forwarded (stepped w (Deliver 0)).0) (stepped w (Deliver 0)) (sound_next counter_text w Plain (Deliver 0) sound) (after_hops_sound hops)
+    let reached = stepped w (Deliver 0) in
+    let still = sound_next counter_text w Plain (Deliver 0) sound in
+    one_of_sound (is_forwarded reached.0) (after_hops hops reached.1) reached (after_hops_sound hops reached.1 still) still
 
 after_sending_sound : (shard : ℕ) (result : Result (WorldAnswer Reply) WorldFault) (w : WorldState Request) → IsSound w → IsSound (after_sending shard result w).1
-after_sending_sound shard (Ok Sent) w sound =
-    after_arrival_sound shard (after_hops MOST_HOPS w).0 (after_hops MOST_HOPS w).1 (after_hops_sound MOST_HOPS w sound)
-after_sending_sound shard (Ok Made) w sound = sound
-after_sending_sound shard (Ok (Seen state)) w sound = sound
-after_sending_sound shard (Ok (Began server)) w sound = sound
-after_sending_sound shard (Ok (Forwarded server)) w sound = sound
-after_sending_sound shard (Ok (Refused why)) w sound = sound
-after_sending_sound shard (Ok (Replied number server reply place)) w sound = sound
-after_sending_sound shard (Err why) w sound = sound
+after_sending_sound shard result w sound =
+    let reached = after_hops MOST_HOPS w in
+    one_of_sound (is_sent result) (after_arrival shard reached.0 reached.1) (result, w)
+    (after_arrival_sound shard reached.0 reached.1 (after_hops_sound MOST_HOPS w sound)) sound
 
 requested_at_sound : (w : WorldState Request) (request : Request) (shard server : ℕ) → IsSound w → IsSound (requested_at w request shard server).1
 requested_at_sound w request shard server sound =

@@ -82,13 +82,11 @@ after_hops (suc hops) w = let reached = stepped w (Deliver 0) in if is_forwarded
 
 -- a request that a server began is finished
 abbrev pub after_arrival : ℕ → Result (WorldAnswer Reply) WorldFault → WorldState Request → Stepped
-after_arrival shard (Ok (Began server)) w = stepped w (Finish shard)
-after_arrival shard result w = (result, w)
+after_arrival shard result w = if is_begun result then stepped w (Finish shard) else (result, w)
 
 -- a request that was sent arrives, and is finished where a server began it
 abbrev pub after_sending : ℕ → Result (WorldAnswer Reply) WorldFault → WorldState Request → Stepped
-after_sending shard (Ok Sent) w = let reached = after_hops MOST_HOPS w in after_arrival shard reached.0 reached.1
-after_sending shard result w = (result, w)
+after_sending shard result w = if is_sent result then (let reached = after_hops MOST_HOPS w in after_arrival shard reached.0 reached.1) else (result, w)
 
 -- a request goes to this server
 abbrev pub requested_at : WorldState Request → Request → ℕ → ℕ → Stepped
