@@ -3,10 +3,8 @@
 //!
 //! ```rust
 //! world.step(Step::Control(Command::Change(k, Change::Assign(one))))?;
-//! world.step(Step::Send(one, 7, request))?;
-//! world.step(Step::Deliver(0))?;
-//! let answer = world.step(Step::Finish(k))?;
-//! assert!(rt; matches!(&answer, WorldAnswer::Replied { place: 0, .. }));
+//! let answer = world.step(Step::Look(k))?;
+//! assert!(rt; matches!(&answer, WorldAnswer::Seen(Record { generation: 1, .. })));
 //! ```
 #![tactic(auto)]
 

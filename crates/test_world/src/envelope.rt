@@ -1,34 +1,55 @@
-use crate::common::{server, shard};
+use crate::common::shard;
 use sm_envelope::Envelope;
 use sm_ownership::mode::Mode;
 use sm_ownership::record::Record;
+use sm_ranges::server_id::ServerId;
+use sm_ranges::shard_id::ShardId;
 use sm_ranges::stand::Stand;
 use std::test::Fail;
 
-#[test]
-fn is_forwarded(rt: HostRuntime) -> Result<(), Fail> {
-    let (owner, next, k) = (server(1)?, server(2)?, shard(3)?);
-    let state = Record {
+fn forwarding(owner: ServerId, next: ServerId) -> Record {
+    Record {
         stand: Stand::Forwarding { owner, next },
         admitted: false,
         generation: 4,
-    };
-    let envelope = match Envelope::new(7, k, b'a').forwarded(&state, next) {
-        Err(envelope) => envelope,
-        Ok(_) => return Err("forwarded by the next owner".into()),
-    };
-    assert_eq!(rt; (envelope.hops(), envelope.mode()), (0, Mode::Direct));
+    }
+}
+
+// What the envelope shows: number, shard, mode, hops and request.
+fn shown(envelope: &Envelope<u8>) -> (u64, ShardId, Mode, u8, u8) {
+    (
+        envelope.number(),
+        envelope.shard(),
+        envelope.mode(),
+        envelope.hops(),
+        *envelope.request(),
+    )
+}
+
+// The example of the crate's documentation.
+#[test]
+fn is_forwarded_by_the_owner(rt: HostRuntime) -> Result<(), Fail> {
+    let (owner, next, k) = (ServerId::of(1), ServerId::of(2), shard(3)?);
+    let state = forwarding(owner, next);
     let envelope = Envelope::new(7, k, b'a');
     let (to, envelope) = match envelope.forwarded(&state, owner) {
         Ok(forwarded) => forwarded,
         Err(_) => return Err("not forwarded by the owner".into()),
     };
     assert_eq!(rt; (to, envelope.hops()), (next, 1));
-    assert_eq!(rt; envelope.mode(), Mode::Forwarded(owner));
-    assert_eq!(rt;
-        (envelope.number(), envelope.shard(), *envelope.request()),
-        (7, k, b'a')
-    );
+    assert!(rt; shown(&envelope) == (7, k, Mode::Forwarded(owner), 1, b'a'));
+    Ok(())
+}
+
+#[test]
+fn is_not_forwarded_by_the_next_owner(rt: HostRuntime) -> Result<(), Fail> {
+    let (owner, next, k) = (ServerId::of(1), ServerId::of(2), shard(3)?);
+    let envelope = Envelope::new(7, k, b'a');
+    let envelope = match envelope.forwarded(&forwarding(owner, next), next) {
+        Err(envelope) => envelope,
+        Ok(_) => return Err("forwarded by the next owner".into()),
+    };
+    assert!(rt; shown(&envelope) == (7, k, Mode::Direct, 0, b'a'));
     Ok(())
 }
 
@@ -42,13 +63,6 @@ fn is_taken_apart_and_made_whole(rt: HostRuntime) -> Result<(), Fail> {
     );
     assert_eq!(rt; shell.mode(), Mode::Direct);
     let envelope = shell.whole(request + 1);
-    assert_eq!(rt;
-        (
-            envelope.number(),
-            envelope.shard().number(),
-            *envelope.request()
-        ),
-        (7, 3, b'b')
-    );
+    assert!(rt; shown(&envelope) == (7, k, Mode::Direct, 0, b'b'));
     Ok(())
 }

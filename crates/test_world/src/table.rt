@@ -1,4 +1,4 @@
-use crate::common::{server, shard};
+use crate::common::shard;
 use sm_desk::{Command, CommandFault, Desk};
 use sm_envelope::Refusal;
 use sm_ownership::admit_fault::AdmitFault;
@@ -9,22 +9,24 @@ use sm_ranges::layout::Layout;
 use sm_ranges::server_id::ServerId;
 use sm_ranges::shard_id::ShardId;
 use sm_ranges::stand::Stand;
-use sm_service::bytes::Bytes;
 use sm_service::counter_text::CounterText;
 use sm_service::reply::Reply;
 use sm_service::request::Request;
-use sm_table::setup::Setup;
-use sm_table::step::Step;
-use sm_table::world::World;
-use sm_table::world_answer::WorldAnswer;
-use sm_table::world_fault::WorldFault;
+use sm_table::{Setup, Step, World, WorldAnswer, WorldFault};
 use std::alloc::Global;
+use std::process::Abort;
 use std::test::Fail;
 
-// Shards 0 and 1, of the keys below and from `m` on, that keep two requests each; and servers 1 and 2.
+// Shards 0 to 3, of the keys below `m`, and from `m`, `s` and `x` on, that keep two requests each; and servers 1 to 4.
 fn new_world(alloc: Global) -> Result<World<CounterText>, Fail> {
-    let layout = Layout::new(alloc, &[b"", b"m"])?;
-    let desk = Desk::plain(alloc, layout.count(), &[server(1)?, server(2)?])?;
+    let layout = Layout::new(alloc, &[b"", b"m", b"s", b"x"])?;
+    let servers = [
+        ServerId::of(1),
+        ServerId::of(2),
+        ServerId::of(3),
+        ServerId::of(4),
+    ];
+    let desk = Desk::plain(alloc, layout.count(), &servers)?;
     let mut bodies = Vec::new(alloc);
     for _ in 0..layout.count() {
         bodies.push(CounterText::new(alloc, 2))?;
@@ -37,12 +39,35 @@ fn new_world(alloc: Global) -> Result<World<CounterText>, Fail> {
     Ok(World::new(alloc, setup, bodies)?)
 }
 
-fn put(alloc: Global) -> Result<Request, Fail> {
-    Ok(Request::Put(Key::new(alloc, b"m")?, Bytes::new(alloc, b"hello")?))
+// A step, in which a request is told by the byte of its key.
+#[derive(Clone, Copy, Drop)]
+enum Act {
+    Change(ShardId, Change),
+    Look(ShardId),
+    Send(ServerId, u64, u8),
+    Deliver(usize),
+    Finish(ShardId),
+    Lose(usize),
+    Hold(ShardId, ServerId),
+    Free(ShardId),
 }
 
-fn change(k: ShardId, change: Change) -> Step<Request> {
-    Step::Control(Command::Change(k, change))
+fn step_of(alloc: Global, act: Act) -> Result<Step<Request>, Fail> {
+    let step = match act {
+        Act::Change(k, change) => Step::Control(Command::Change(k, change)),
+        Act::Look(k) => Step::Look(k),
+        Act::Send(to, number, key) => Step::Send(
+            to,
+            number,
+            Request::Inc(Key::new(alloc, &[key])?, 1),
+        ),
+        Act::Deliver(place) => Step::Deliver(place),
+        Act::Finish(k) => Step::Finish(k),
+        Act::Lose(place) => Step::Lose(place),
+        Act::Hold(k, server) => Step::Hold(k, server),
+        Act::Free(k) => Step::Free(k),
+    };
+    Ok(step)
 }
 
 // What a step answered, without a reply's text.
@@ -58,12 +83,30 @@ enum Told {
     Fault(WorldFault),
 }
 
-fn answer_of(world: &mut World<CounterText>, step: Step<Request>) -> Told {
-    let result = match world.step(step) {
-        Ok(result) => result,
-        Err(fault) => return Told::Fault(fault),
-    };
-    match &result {
+// The shard's record, while no server is admitted to it.
+fn seen(stand: Stand, generation: u64) -> Told {
+    Told::Seen(Record {
+        stand,
+        admitted: false,
+        generation,
+    })
+}
+
+// The record of a shard with this owner, while that one is admitted to it.
+fn admitted(owner: ServerId, generation: u64) -> Record {
+    Record {
+        stand: Stand::Serving(owner),
+        admitted: true,
+        generation,
+    }
+}
+
+fn not_changed(fault: CommandFault) -> Told {
+    Told::Fault(WorldFault::Command(fault))
+}
+
+fn told_of(answer: &WorldAnswer<Reply>) -> Told {
+    match answer {
         WorldAnswer::Made => Told::Made,
         WorldAnswer::Seen(record) => Told::Seen(*record),
         WorldAnswer::Sent => Told::Sent,
@@ -79,101 +122,136 @@ fn answer_of(world: &mut World<CounterText>, step: Step<Request>) -> Told {
     }
 }
 
+fn answer_of(world: &mut World<CounterText>, step: Step<Request>) -> Told {
+    match world.step(step) {
+        Ok(answer) => told_of(&answer),
+        Err(fault) => Told::Fault(fault),
+    }
+}
+
+// Makes the steps, each of which is to answer so.
+fn follow(
+    rt: &impl Abort,
+    alloc: Global,
+    world: &mut World<CounterText>,
+    cases: &[(Act, Told)],
+) -> Result<(), Fail> {
+    for (act, told) in cases {
+        let step = step_of(alloc, *act)?;
+        assert_eq!(rt; answer_of(world, step), *told);
+    }
+    Ok(())
+}
+
+// The example of the crate's documentation.
 #[test]
-fn executes_a_request(rt: HostRuntime) -> Result<(), Fail> {
-    let (one, k, request) = (server(1)?, shard(1)?, put(rt.alloc())?);
+fn assigns_a_shard(rt: HostRuntime) -> Result<(), Fail> {
+    let (one, k) = (ServerId::of(1), shard(1)?);
     let mut world = new_world(rt.alloc())?;
     world.step(Step::Control(Command::Change(k, Change::Assign(one))))?;
-    world.step(Step::Send(one, 7, request))?;
-    world.step(Step::Deliver(0))?;
-    let answer = world.step(Step::Finish(k))?;
-    assert!(rt; matches!(&answer, WorldAnswer::Replied { place: 0, .. }));
-    match answer {
-        WorldAnswer::Replied {
-            number,
-            server,
-            reply,
-            ..
-        } => {
-            assert_eq!(rt; (number, server), (7, one));
-            assert!(rt; matches!(reply, Reply::Done));
-        }
-        _ => panic!(rt; "not executed"),
+    let answer = world.step(Step::Look(k))?;
+    assert!(rt; matches!(&answer, WorldAnswer::Seen(Record { generation: 1, .. })));
+    Ok(())
+}
+
+// Whether the request in hand is executed, and the reply is this count.
+fn counts(world: &mut World<CounterText>, k: ShardId, count: i64) -> bool {
+    match world.step(Step::Finish(k)) {
+        Ok(
+            WorldAnswer::Replied {
+                reply: Reply::Count(found),
+                ..
+            },
+        ) => found == count,
+        _ => false,
     }
-    let expected = Record {
-        stand: Stand::Serving(one),
-        admitted: false,
-        generation: 3,
-    };
-    assert!(rt; answer_of(&mut world, Step::Look(k)) == Told::Seen(expected));
+}
+
+#[test]
+fn executes_a_request(rt: HostRuntime) -> Result<(), Fail> {
+    let (one, k) = (ServerId::of(1), shard(1)?);
+    let cases = [
+        (Act::Change(k, Change::Assign(one)), Told::Made),
+        (Act::Send(one, 7, b'm'), Told::Sent),
+        (Act::Deliver(0), Told::Began(one)),
+    ];
+    let mut world = new_world(rt.alloc())?;
+    follow(&rt, rt.alloc(), &mut world, &cases)?;
+    assert!(rt; counts(&mut world, k, 1));
     Ok(())
 }
 
 #[test]
 fn refuses_by_the_record(rt: HostRuntime) -> Result<(), Fail> {
-    let one = server(1)?;
-    let sends = [put(rt.alloc())?, put(rt.alloc())?, put(rt.alloc())?];
-    let assign = change(shard(1)?, Change::Assign(one));
+    let (one, k) = (ServerId::of(1), shard(1)?);
+    let vacant = Told::Refused(Refusal::Admit(AdmitFault::Vacant));
+    let admitted = Told::Refused(Refusal::Admit(AdmitFault::Admitted));
+    let cases = [
+        (Act::Send(one, 0, b'm'), Told::Sent),
+        (Act::Send(one, 0, b'm'), Told::Sent),
+        (Act::Send(one, 0, b'm'), Told::Sent),
+        (Act::Deliver(0), vacant),
+        (Act::Change(k, Change::Assign(one)), Told::Made),
+        (Act::Deliver(0), Told::Began(one)),
+        (Act::Deliver(0), admitted),
+        (Act::Deliver(0), Told::Fault(WorldFault::NoEnvelope)),
+    ];
     let mut world = new_world(rt.alloc())?;
-    for request in sends {
-        assert!(rt; answer_of(&mut world, Step::Send(one, 0, request)) == Told::Sent);
-    }
-    let vacant = Refusal::Admit(AdmitFault::Vacant);
-    assert!(rt; answer_of(&mut world, Step::Deliver(0)) == Told::Refused(vacant));
-    answer_of(&mut world, assign);
-    assert!(rt; answer_of(&mut world, Step::Deliver(0)) == Told::Began(one));
-    let admitted = Refusal::Admit(AdmitFault::Admitted);
-    assert!(rt; answer_of(&mut world, Step::Deliver(0)) == Told::Refused(admitted));
-    assert!(rt; answer_of(&mut world, Step::Deliver(0)) == Told::Fault(WorldFault::NoEnvelope));
-    Ok(())
+    follow(&rt, rt.alloc(), &mut world, &cases)
 }
 
 #[test]
 fn keeps_so_many_requests(rt: HostRuntime) -> Result<(), Fail> {
-    let two = server(2)?;
-    let k = shard(1)?;
+    let (two, k) = (ServerId::of(2), shard(1)?);
+    let cases = [
+        (Act::Change(k, Change::Assign(two)), Told::Made),
+        (Act::Send(two, 0, b'm'), Told::Sent),
+        (Act::Deliver(0), Told::Began(two)),
+        (Act::Finish(k), Told::Replied(0, two, 0)),
+        (Act::Send(two, 1, b'm'), Told::Sent),
+        (Act::Deliver(0), Told::Began(two)),
+        (Act::Finish(k), Told::Replied(1, two, 1)),
+        (Act::Send(two, 2, b'm'), Told::Sent),
+        (Act::Deliver(0), Told::Began(two)),
+        (Act::Finish(k), Told::Refused(Refusal::KeptFull)),
+    ];
     let mut world = new_world(rt.alloc())?;
-    answer_of(&mut world, change(k, Change::Assign(two)));
-    for place in 0..2 {
-        answer_of(&mut world, Step::Send(two, place, put(rt.alloc())?));
-        answer_of(&mut world, Step::Deliver(0));
-        assert!(rt; answer_of(&mut world, Step::Finish(k)) == Told::Replied(place, two, place));
-    }
-    answer_of(&mut world, Step::Send(two, 2, put(rt.alloc())?));
-    answer_of(&mut world, Step::Deliver(0));
-    assert!(rt; answer_of(&mut world, Step::Finish(k)) == Told::Refused(Refusal::KeptFull));
-    Ok(())
+    follow(&rt, rt.alloc(), &mut world, &cases)
 }
 
 #[test]
 fn names_the_first_fault(rt: HostRuntime) -> Result<(), Fail> {
-    let three = server(3)?;
-    let send = Step::Send(three, 0, put(rt.alloc())?);
-    let k = shard(1)?;
-    let unknown = shard(2)?;
+    let (five, k, unknown) = (ServerId::of(5), shard(1)?, shard(4)?);
     let cases = [
+        (Act::Look(unknown), Told::Fault(WorldFault::UnknownShard)),
         (
-            Command::Change(unknown, Change::Assign(three)),
-            CommandFault::UnknownShard,
+            Act::Hold(unknown, five),
+            Told::Fault(WorldFault::UnknownShard),
+        ),
+        (Act::Free(unknown), Told::Fault(WorldFault::UnknownShard)),
+        (Act::Finish(unknown), Told::Fault(WorldFault::NotHeld)),
+        (Act::Finish(k), Told::Fault(WorldFault::NotHeld)),
+        (
+            Act::Send(five, 0, b'm'),
+            Told::Fault(WorldFault::UnknownServer),
+        ),
+        (Act::Hold(k, five), Told::Fault(WorldFault::UnknownServer)),
+        (Act::Lose(0), Told::Fault(WorldFault::NoEnvelope)),
+        (
+            Act::Change(unknown, Change::Assign(five)),
+            not_changed(CommandFault::UnknownShard),
         ),
         (
-            Command::Change(k, Change::Reassign(three)),
-            CommandFault::UnknownServer,
+            Act::Change(k, Change::Reassign(five)),
+            not_changed(CommandFault::UnknownServer),
         ),
-        (Command::Change(k, Change::Pause), CommandFault::WrongPhase),
+        (
+            Act::Change(k, Change::Pause),
+            not_changed(CommandFault::WrongPhase),
+        ),
     ];
     let mut world = new_world(rt.alloc())?;
-    assert!(rt;
-        answer_of(&mut world, Step::Look(unknown)) == Told::Fault(WorldFault::UnknownShard)
-    );
-    assert!(rt; answer_of(&mut world, Step::Finish(k)) == Told::Fault(WorldFault::NotHeld));
-    assert!(rt; answer_of(&mut world, Step::Finish(unknown)) == Told::Fault(WorldFault::NotHeld));
-    assert!(rt; answer_of(&mut world, send) == Told::Fault(WorldFault::UnknownServer));
-    for (command, fault) in cases {
-        let expected = Told::Fault(WorldFault::Command(fault));
-        assert!(rt; answer_of(&mut world, Step::Control(command)) == expected);
-    }
-    Ok(())
+    follow(&rt, rt.alloc(), &mut world, &cases)
 }
 
 mod phases;
