@@ -1,4 +1,5 @@
-//! What a shard's body is: a service that answers requests in turn and keeps each of them.
+//! What a shard's body is: a service that answers requests in turn and keeps each of them. `Machine` is what a user writes,
+//! and `Logged` makes the service of it.
 //!
 //! A body at its limit hands the request back:
 //! ```rust
@@ -15,6 +16,10 @@
 //! ```
 #![tactic(auto)]
 
+pub mod logged;
+pub mod machine;
 pub mod service;
 
+pub use logged::Logged;
+pub use machine::Machine;
 pub use service::{ApplyFault, Service};

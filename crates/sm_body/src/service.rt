@@ -1,5 +1,7 @@
-ghost use Rattle.std.specs.Prelude.{◌≡◌, ◌++◌, ◌∷◌, [], List, ℕ, length, IfOk, IfErr, OnErr, OnOk, ◌≤◌, ◌<◌};
+ghost use Rattle.std.specs.Prelude.{◌≡◌, ◌+◌, ◌^◌, ◌++◌, ◌∷◌, [], List, ℕ, fold, length, IfOk, IfErr, OnErr, OnOk, ◌≤◌, ◌<◌};
 
+use sm_ranges::server_id::ServerId;
+use std::alloc::AllocError;
 use thiserror::Error;
 
 /// Why a request was not applied.
@@ -13,24 +15,39 @@ pub enum ApplyFault {
     NoMemory,
 }
 
-/// The body of a shard: it applies requests in turn, keeps each of them, and stands for the list of them. Bodies, requests
-/// and replies pass between threads.
+/// The body of a shard: a state machine with the list of the requests that it applied since a state, its base. Bodies,
+/// requests and replies pass between threads. `Logged` makes one of any `Machine`.
 pub trait Service: Drop + Send {
     type Request: Drop + Send;
 
     type Reply: Drop + Send;
 
-    /// The requests that were applied, in their order.
+    /// What replies depend on.
+    ghost State: { Type 0 };
+
+    /// The state before any request.
+    ghost initial: { Self.State };
+
+    /// The state after a request.
+    ghost next: { Self.State → Self.Request → Self.State };
+
+    /// The reply to a request in a state.
+    ghost answer: { Self.State → Self.Request → Self.Reply };
+
+    /// The bytes whose shard executes the request.
+    ghost key_of: { Self.Request → List ℕ };
+
+    /// The state before the requests that are kept.
+    ghost base: { Self → Self.State };
+
+    /// How many requests were applied before those that are kept.
+    ghost before: { Self → ℕ };
+
+    /// The requests that were applied since the base, in their order: those that are kept.
     ghost requests: { Self → List Self.Request };
 
     /// The most requests that the body keeps.
     ghost limit: { Self → ℕ };
-
-    /// The reply to a request after the requests of the list.
-    ghost reply_of: { List Self.Request → Self.Request → Self.Reply };
-
-    /// The bytes whose shard executes the request.
-    ghost key_of: { Self.Request → List ℕ };
 
     /// The bytes whose shard executes the request.
     fn key(request: &Self::Request) -> &[u8]
@@ -40,13 +57,17 @@ pub trait Service: Drop + Send {
     fn kept(&self) -> usize
         ensures { result ≡ length (requests self.now) };
 
+    /// How many requests were applied before those that the body keeps.
+    fn first(&self) -> u64
+        ensures { result ≡ before self.now };
+
     /// Applies the request and keeps it, or hands it back and changes nothing.
     ///
     /// `KeptFull` comes exactly where the body keeps as many requests as its limit, `NoMemory` only below it.
     fn apply(&mut self, request: Self::Request) -> Result<Self::Reply, (Self::Request, ApplyFault)>
-        // An applied request is the last one kept, and its reply is that to the requests before it.
+        // An applied request is the last one kept, and its reply is that of the state after those before it.
         ensures kept { OnOk result (requests self.new ≡ requests self.old ++ request ∷ []) }
-        ensures reply { IfOk result (λ reply. reply ≡ reply_of (requests self.old) request) }
+        ensures reply { IfOk result (λ reply. reply ≡ answer (fold next (base self.old) (requests self.old)) request) }
 
         // Below the limit it is applied, or its memory is refused; at the limit it is refused as too many.
         ensures room { OnOk result (length (requests self.old) < limit self.old) }
@@ -58,5 +79,26 @@ pub trait Service: Drop + Send {
         // A refused request comes back, and nothing has changed.
         ensures handed_back { IfErr result (λ back. back.0 ≡ request) }
         ensures unchanged { OnErr result (requests self.new ≡ requests self.old) }
+        ensures base { base self.new ≡ base self.old }
+        ensures before { before self.new ≡ before self.old }
+        ensures limit { limit self.new ≡ limit self.old };
+
+    /// Moves the body into fresh memory, where the server isn't the one of the last call and no growth is refused. It keeps
+    /// the same.
+    fn settle(&mut self, server: ServerId)
+        ensures base { base self.new ≡ base self.old }
+        ensures before { before self.new ≡ before self.old }
+        ensures kept { requests self.new ≡ requests self.old }
+        ensures limit { limit self.new ≡ limit self.old };
+
+    /// Makes the present state the base, and keeps no request; or changes nothing, where memory is refused.
+    fn checkpoint(&mut self) -> Result<(), AllocError>
+        requires { before self.old + length (requests self.old) < 2 ^ 36 }
+        ensures base { OnOk result (base self.new ≡ fold next (base self.old) (requests self.old)) }
+        ensures before { OnOk result (before self.new ≡ before self.old + length (requests self.old)) }
+        ensures kept { OnOk result (requests self.new ≡ []) }
+        ensures base_stays { OnErr result (base self.new ≡ base self.old) }
+        ensures before_stays { OnErr result (before self.new ≡ before self.old) }
+        ensures kept_stays { OnErr result (requests self.new ≡ requests self.old) }
         ensures limit { limit self.new ≡ limit self.old };
 }

@@ -1,6 +1,6 @@
 -- The world that a session begins with.
 use Rattle.std.proofs.Common.{◌≡◌, ℕ, zero, suc, refl, List, [], ◌∷◌, map, length, replicate, ap, ◌∙◌, subst}
-use Rattle.sm_body.specs.Service.{Kept}
+use Rattle.sm_service.specs.Service.{TextLog}
 use Rattle.sm_service.specs.declared.request.Request.{Request}
 use Rattle.sm_settings.specs.SettingsLine.{SettingsValues}
 use Rattle.sm_table.specs.Standing.{StandsFor, WorldView}
@@ -9,22 +9,22 @@ use Rattle.sm_model.specs.Calls.{settings_frame}
 use Rattle.sm_model.specs.Sessions.{IsAt}
 
 -- a body that keeps nothing yet
-abbrev pub empty_body : ℕ → Kept Request
-empty_body limit = record { requests = []; limit = limit }
+abbrev pub empty_body : ℕ → TextLog
+empty_body limit = record { base = []; before = 0; requests = []; limit = limit }
 
-limits_of : (count limit : ℕ) → map (λ (body : Kept Request). body.limit) (replicate count (empty_body limit)) ≡ replicate count limit
+limits_of : (count limit : ℕ) → map (λ (body : TextLog). body.limit) (replicate count (empty_body limit)) ≡ replicate count limit
 limits_of zero limit = refl
 limits_of (suc count) limit = ap (λ (rest : List ℕ). limit ∷ rest) (limits_of count limit)
 
 -- a world made of the settings' parts stands for the empty one
-pub is_at_begin : (settings : SettingsValues) (layout : List (List ℕ)) (servers : List ℕ) (bodies : List (Kept Request)) (count : ℕ) (world : WorldView Request)
+pub is_at_begin : (settings : SettingsValues) (layout : List (List ℕ)) (servers : List ℕ) (bodies : List TextLog) (count : ℕ) (world : WorldView Request)
     → layout ≡ settings.bounds → servers ≡ map (λ row. row.id) settings.servers → bodies ≡ replicate count (empty_body settings.kept) → count ≡ length layout
-    → StandsFor world (empty_world (record { bounds = settings.bounds; servers = servers; ceiling = settings.ceiling; limits = map (λ (body : Kept Request). body.limit) bodies }))
+    → StandsFor world (empty_world (record { bounds = settings.bounds; servers = servers; ceiling = settings.ceiling; limits = map (λ (body : TextLog). body.limit) bodies }))
     → IsAt world (empty_world (settings_frame settings))
 is_at_begin settings layout servers bodies count world same servers_are bodies_are counted stands =
-    let limits : map (λ (body : Kept Request). body.limit) bodies ≡ replicate (length settings.bounds) settings.kept =
-    ap (map (λ (body : Kept Request). body.limit)) bodies_are ∙ limits_of count settings.kept ∙ ap (λ n. replicate n settings.kept) (counted ∙ ap length same) in
-    let frame_is : record { bounds = settings.bounds; servers = servers; ceiling = settings.ceiling; limits = map (λ (body : Kept Request). body.limit) bodies } ≡ settings_frame settings =
-    ap (λ (s : List ℕ). record { bounds = settings.bounds; servers = s; ceiling = settings.ceiling; limits = map (λ (body : Kept Request). body.limit) bodies }) servers_are
+    let limits : map (λ (body : TextLog). body.limit) bodies ≡ replicate (length settings.bounds) settings.kept =
+    ap (map (λ (body : TextLog). body.limit)) bodies_are ∙ limits_of count settings.kept ∙ ap (λ n. replicate n settings.kept) (counted ∙ ap length same) in
+    let frame_is : record { bounds = settings.bounds; servers = servers; ceiling = settings.ceiling; limits = map (λ (body : TextLog). body.limit) bodies } ≡ settings_frame settings =
+    ap (λ (s : List ℕ). record { bounds = settings.bounds; servers = s; ceiling = settings.ceiling; limits = map (λ (body : TextLog). body.limit) bodies }) servers_are
     ∙ ap (λ (l : List ℕ). record { bounds = settings.bounds; servers = map (λ row. row.id) settings.servers; ceiling = settings.ceiling; limits = l }) limits in
     record { rest = refl; world = subst (λ (frame : Frame). StandsFor world (empty_world frame)) frame_is stands }

@@ -113,7 +113,7 @@ fn server_ids(alloc: Global, rows: &[ServerRow]) -> Result<Vec<ServerId>, AllocE
 /// A body without a request for each shard.
 fn empty_bodies(alloc: Global, count: usize, limit: usize) -> Result<Vec<CounterText>, AllocError>
     ensures { IfOk result (λ bodies. bodies.items
-        ≡ replicate count (record { requests = []; limit = limit })) }
+        ≡ replicate count (record { base = []; before = 0; requests = []; limit = limit })) }
 {
     let mut bodies = Vec::with_capacity(alloc, count)?;
     for _shard in 0..count {

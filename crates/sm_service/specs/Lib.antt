@@ -1,2 +1,2 @@
-pub mod KeyMap
+pub mod Replies
 pub mod Service

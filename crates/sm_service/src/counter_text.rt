@@ -1,66 +1,62 @@
-ghost use Rattle.std.specs.Prelude.{◌≡◌, [], IfOk, OnOk, OnErr};
-ghost use Rattle.sm_service.specs.KeyMap.{reply, after, sum_of};
-ghost use Rattle.sm_service.specs.Service.{reply_after, key_of_request};
+ghost use Rattle.std.specs.Prelude.{◌≡◌, IfOk, OnOk, OnErr};
+ghost use Rattle.sm_service.specs.Replies.{reply, after, sum_of};
+ghost use Rattle.sm_service.specs.Service.{key_of_request};
 
 use crate::bytes::Bytes;
-use crate::held::{Held, MAX_TEXT};
-use crate::pair_map::PairMap;
 use crate::reply::Reply;
 use crate::request::Request;
-use sm_body::service::{ApplyFault, Service};
+use sm_body::logged::Logged;
+use sm_body::machine::Machine;
+use sm_map::arena_map::ArenaMap;
+use sm_map::val::Val;
 use sm_ranges::key::Key;
 use std::alloc::{AllocError, Global};
 use std::marker::Model;
 
+/// The longest text that a key holds, in bytes.
+pub const MAX_TEXT: usize = 65_535;
+
+/// A `put` moves the map into fresh memory where more bytes than this are dead, and more than live.
+pub const MAX_DEAD: u128 = 65_536;
+
 /// The sample service: texts and counts by key.
-#[derive(Debug, Drop)]
-pub struct CounterText {
-    alloc: Global,
-    map: PairMap,
-    requests: Vec<Request>,
-    limit: usize,
+pub type CounterText = Logged<KeyMachine>;
+
+/// What the sample service keeps: a map from keys to texts and counts.
+#[derive(Drop)]
+pub struct KeyMachine {
+    map: ArenaMap,
 }
 
-impl Model for CounterText {
-    ghost use Rattle.std.specs.Prelude.{◌≡◌};
-    ghost use Rattle.sm_service.specs.declared.request.Request.{Request};
-    ghost use Rattle.sm_body.specs.Service.{Kept};
-    ghost use Rattle.sm_service.specs.Service.{map_of};
+impl Model for KeyMachine {
+    ghost use Rattle.std.specs.Prelude.{List};
+    ghost use Rattle.sm_map.specs.KeyMap.{Pair};
 
-    ghost Value = { Kept Request };
+    ghost Value = { List Pair };
 
-    ghost view = { λ body. record { requests = body.requests.items; limit = body.limit } };
-
-    ghost invariant = { λ body. body.map ≡ map_of body.requests.items };
+    ghost view = { λ machine. machine.map.pairs };
 }
 
-impl CounterText {
-    /// The service that has applied no request, and keeps at most `limit`.
-    pub fn new(alloc: Global, limit: usize) -> CounterText
-        ensures empty { result.requests ≡ [] }
-        ensures limit { result.limit ≡ limit }
-    {
-        CounterText {
-            alloc,
-            map: PairMap::new(alloc),
-            requests: Vec::new(alloc),
-            limit,
-        }
-    }
-}
+impl Machine for KeyMachine {
+    ghost use Rattle.std.specs.Prelude.{[]};
 
-impl Service for CounterText {
     type Request = Request;
 
     type Reply = Reply;
 
-    ghost requests = { λ body. body.requests };
+    ghost start = { [] };
 
-    ghost limit = { λ body. body.limit };
+    ghost after = { after };
 
-    ghost reply_of = { reply_after };
+    ghost reply = { reply };
 
     ghost key_of = { key_of_request };
+
+    fn new(alloc: Global) -> KeyMachine {
+        KeyMachine {
+            map: ArenaMap::new(alloc),
+        }
+    }
 
     fn key(request: &Request) -> &[u8] {
         match request {
@@ -68,80 +64,71 @@ impl Service for CounterText {
         }
     }
 
-    fn kept(&self) -> usize {
-        self.requests.len()
-    }
-
-    fn apply(&mut self, request: Request) -> Result<Reply, (Request, ApplyFault)> {
-        if self.kept() >= self.limit {
-            return Err((request, ApplyFault::KeptFull));
-        }
-        // The list grows before the map changes, so that no refusal comes after the change.
-        if self.requests.reserve(1).is_err() {
-            return Err((request, ApplyFault::NoMemory));
-        }
-        match answer(self.alloc, &mut self.map, &request) {
-            Ok(reply) => {
-                self.requests.push(request).unwrap();
-                Ok(reply)
+    fn answer(&mut self, alloc: Global, request: &Request) -> Result<Reply, AllocError> {
+        match request {
+            Request::Get(key) => get(alloc, &self.map, key),
+            Request::Put(key, text) => {
+                if self.dead() > MAX_DEAD && self.dead() > self.map.bytes() {
+                    let _ = self.rebuild(alloc);
+                }
+                put(&mut self.map, key, text)
             }
-            Err(_) => Err((request, ApplyFault::NoMemory)),
+            Request::Inc(key, amount) => inc(&mut self.map, key, *amount),
         }
     }
-}
 
-// The reply to the request, and its change of the map.
-fn answer(alloc: Global, map: &mut PairMap, request: &Request) -> Result<Reply, AllocError>
-    ensures reply { IfOk result (λ made. made ≡ reply map.old request.now) }
-    ensures after { OnOk result (map.new ≡ after map.old request.now) }
-    ensures err { OnErr result (map.new ≡ map.old) }
-{
-    match request {
-        Request::Get(key) => get(alloc, map, key),
-        Request::Put(key, text) => put(alloc, map, key, text),
-        Request::Inc(key, amount) => inc(alloc, map, key, *amount),
+    fn rebuild(&mut self, _: Global) -> Result<(), AllocError> {
+        self.map = self.map.copy()?;
+        Ok(())
     }
 }
 
-fn get(alloc: Global, map: &PairMap, key: &Key) -> Result<Reply, AllocError>
-    ensures { IfOk result (λ made. made ≡ reply map.now (Request.Get key.now)) }
+impl KeyMachine {
+    /// How many bytes of keys and texts are dead: those that were written over since the map came into fresh memory.
+    pub fn dead(&self) -> u128 {
+        self.map.dead()
+    }
+}
+
+fn get(alloc: Global, map: &ArenaMap, key: &Key) -> Result<Reply, AllocError>
+    ensures { IfOk result (λ made. made ≡ reply map.now.pairs (Request.Get key.now)) }
 {
     match map.get(key.as_bytes()) {
         None => Ok(Reply::Nothing),
-        Some(Held::Text(text)) => Ok(Reply::Text(text.try_clone(alloc)?)),
-        Some(Held::Count(count)) => Ok(Reply::Count(*count)),
+        Some(Val::Text(text)) => Ok(Reply::Text(Bytes::new(alloc, text)?)),
+        Some(Val::Count(count)) => Ok(Reply::Count(count)),
     }
 }
 
-fn put(alloc: Global, map: &mut PairMap, key: &Key, text: &Bytes) -> Result<Reply, AllocError>
-    ensures reply { IfOk result (λ made. made ≡ reply map.old (Request.Put key.now text.now)) }
-    ensures after { OnOk result (map.new ≡ after map.old (Request.Put key.now text.now)) }
+fn put(map: &mut ArenaMap, key: &Key, text: &Bytes) -> Result<Reply, AllocError>
+    ensures reply { IfOk result (λ made. made ≡ reply map.old.pairs (Request.Put key.now text.now)) }
+    ensures after { OnOk result (map.new.pairs ≡ after map.old.pairs (Request.Put key.now text.now)) }
     ensures err { OnErr result (map.new ≡ map.old) }
 {
-    if let Some(Held::Count(_)) = map.get(key.as_bytes()) {
+    if let Some(Val::Count(_)) = map.get(key.as_bytes()) {
         return Ok(Reply::WrongKind);
     }
     if text.as_bytes().len() > MAX_TEXT {
         return Ok(Reply::TooLong);
     }
-    map.put(alloc, key, Held::Text(text.try_clone(alloc)?))?;
+    map.put(key.as_bytes(), Val::Text(text.as_bytes()))?;
     Ok(Reply::Done)
 }
 
-fn inc(alloc: Global, map: &mut PairMap, key: &Key, amount: i64) -> Result<Reply, AllocError>
-    ensures reply { IfOk result (λ made. made ≡ reply map.old (Request.Inc key.now amount)) }
-    ensures after { OnOk result (map.new ≡ after map.old (Request.Inc key.now amount)) }
+fn inc(map: &mut ArenaMap, key: &Key, amount: i64) -> Result<Reply, AllocError>
+    ensures reply { IfOk result (λ made. made ≡ reply map.old.pairs (Request.Inc key.now amount)) }
+    ensures after { OnOk result (map.new.pairs ≡ after map.old.pairs (Request.Inc key.now amount)) }
     ensures err { OnErr result (map.new ≡ map.old) }
 {
     let sum = match map.get(key.as_bytes()) {
         None => amount,
-        Some(Held::Text(_)) => return Ok(Reply::WrongKind),
-        Some(Held::Count(count)) => match sum_of(*count, amount) {
+        Some(Val::Text(_)) => return Ok(Reply::WrongKind),
+        Some(Val::Count(count)) => match sum_of(count, amount) {
             None => return Ok(Reply::Overflow),
             Some(sum) => sum,
         },
     };
-    map.put(alloc, key, Held::Count(sum))?;
+    map.put(key.as_bytes(), Val::Count(sum))?;
     Ok(Reply::Count(sum))
 }
 

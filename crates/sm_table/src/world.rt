@@ -1,5 +1,6 @@
 ghost use Rattle.std.specs.Prelude.{◌≡◌, ◌<◌, ◌≤◌, ◌^◌, true, [], All, Ok, IfOk, OnOk, OnErr, length, map, replicate, vec_capacity, vec_len};
 ghost use Rattle.std.specs.Result.{result_err};
+ghost use Rattle.sm_body.specs.Service.{meaning_of};
 ghost use Rattle.sm_ranges.specs.Ranges.{shard_of};
 ghost use Rattle.sm_ranges.specs.declared.stand.Stand.TheVariants.{Vacant};
 ghost use Rattle.sm_ownership.specs.History.{record_at};
@@ -59,10 +60,11 @@ impl<S: Service> Model for World<S> {
 
 impl<S: Service> World<S> {
     /// The world in which nothing has happened: no shard has an owner, and nothing is in flight.
-    /// There is a body for each shard of the layout, and none has kept a request yet.
+    /// There is a body for each shard of the layout, in the initial state, and none has kept a request yet.
     pub fn new(alloc: Global, setup: Setup, bodies: Vec<S>) -> Result<World<S>, AllocError>
         requires vacant { setup.desk.stands ≡ replicate (length setup.layout) Vacant }
         requires bodies { vec_len bodies ≡ length setup.layout }
+        requires initial { All (λ body. S.base body ≡ S.initial) bodies.items }
         requires empty { All (λ body. S.requests body ≡ []) bodies.items }
         requires least_ceiling { 3 ≤ setup.ceiling }
         requires greatest_ceiling { setup.ceiling < 2 ^ 36 }
@@ -105,7 +107,7 @@ impl<S: Service> World<S> {
     /// the next. A step that a fault refuses changes nothing. Want of memory is told of a `Send`, by `NoMemory`, and of a
     /// `Finish`, which then refuses its request; no other step takes memory.
     pub fn step(&mut self, step: Step<S::Request>) -> Result<WorldAnswer<S::Reply>, WorldFault>
-        ensures stands { GoesAs (record { reply_of = S.reply_of; key_of = S.key_of }) self.old result self.new step }
+        ensures stands { GoesAs (meaning_of S.initial S.next S.answer S.key_of) self.old result self.new step }
         ensures marks { may_go step (mark_of result) ≡ true }
         ensures bounds { self.new.bounds ≡ self.old.bounds }
     {
@@ -126,7 +128,7 @@ impl<S: Service> World<S> {
 
     // Carries out a command, unless it is refused.
     fn control(&mut self, command: &Command) -> Result<WorldAnswer<S::Reply>, WorldFault>
-        ensures stands { GoesAs (record { reply_of = S.reply_of; key_of = S.key_of }) self.old result self.new (ControlOf command.now) }
+        ensures stands { GoesAs (meaning_of S.initial S.next S.answer S.key_of) self.old result self.new (ControlOf command.now) }
         ensures marks { may_go {Q = S.Request} (ControlOf command.now) (mark_of result) ≡ true }
         ensures bounds { self.new.bounds ≡ self.old.bounds }
     {
@@ -137,7 +139,7 @@ impl<S: Service> World<S> {
 
     // Changes the stand of a shard, unless the desk or the table refuses it.
     fn change(&mut self, k: ShardId, change: &Change) -> Result<WorldAnswer<S::Reply>, WorldFault>
-        ensures stands { GoesAs (record { reply_of = S.reply_of; key_of = S.key_of }) self.old result self.new (ControlOf (ChangeOf k change.now)) }
+        ensures stands { GoesAs (meaning_of S.initial S.next S.answer S.key_of) self.old result self.new (ControlOf (ChangeOf k change.now)) }
         ensures marks { may_go {Q = S.Request} (ControlOf (ChangeOf k change.now)) (mark_of result) ≡ true }
         ensures bounds { self.new.bounds ≡ self.old.bounds }
     {
@@ -152,7 +154,7 @@ impl<S: Service> World<S> {
 
     // Reads the record of a shard.
     fn look(&self, k: ShardId) -> Result<WorldAnswer<S::Reply>, WorldFault>
-        ensures stands { GoesAs (record { reply_of = S.reply_of; key_of = S.key_of }) self.now result self.now (LookAt k) }
+        ensures stands { GoesAs (meaning_of S.initial S.next S.answer S.key_of) self.now result self.now (LookAt k) }
         ensures marks { may_go {Q = S.Request} (LookAt k) (mark_of result) ≡ true }
     {
         if k.index() < self.table.count() {
@@ -173,7 +175,7 @@ impl<S: Service> World<S> {
     ) -> Result<WorldAnswer<S::Reply>, WorldFault>
         requires within { k < length self.old.bounds }
         requires shard { k ≡ shard_of self.old.bounds (S.key_of request) }
-        ensures stands { GoesAs (record { reply_of = S.reply_of; key_of = S.key_of }) self.old result self.new (SendOf to number request) }
+        ensures stands { GoesAs (meaning_of S.initial S.next S.answer S.key_of) self.old result self.new (SendOf to number request) }
         ensures marks { may_go (SendOf to number request) (mark_of result) ≡ true }
         ensures bounds { self.new.bounds ≡ self.old.bounds }
     {
@@ -192,7 +194,7 @@ impl<S: Service> World<S> {
 
     // An envelope in flight reaches its server, which forwards it, begins it, or refuses it.
     fn deliver(&mut self, place: usize) -> Result<WorldAnswer<S::Reply>, WorldFault>
-        ensures stands { GoesAs (record { reply_of = S.reply_of; key_of = S.key_of }) self.old result self.new (DeliverAt place) }
+        ensures stands { GoesAs (meaning_of S.initial S.next S.answer S.key_of) self.old result self.new (DeliverAt place) }
         ensures marks { may_go {Q = S.Request} (DeliverAt place) (mark_of result) ≡ true }
         ensures bounds { self.new.bounds ≡ self.old.bounds }
     {
@@ -216,7 +218,7 @@ impl<S: Service> World<S> {
 
     // The admitted server executes the request in hand, and its admission ends.
     fn finish(&mut self, k: ShardId) -> Result<WorldAnswer<S::Reply>, WorldFault>
-        ensures stands { GoesAs (record { reply_of = S.reply_of; key_of = S.key_of }) self.old result self.new (FinishAt k) }
+        ensures stands { GoesAs (meaning_of S.initial S.next S.answer S.key_of) self.old result self.new (FinishAt k) }
         ensures marks { may_go {Q = S.Request} (FinishAt k) (mark_of result) ≡ true }
         ensures bounds { self.new.bounds ≡ self.old.bounds }
     {
@@ -240,7 +242,7 @@ impl<S: Service> World<S> {
 
     // An envelope in flight is lost.
     fn lose(&mut self, place: usize) -> Result<WorldAnswer<S::Reply>, WorldFault>
-        ensures stands { GoesAs (record { reply_of = S.reply_of; key_of = S.key_of }) self.old result self.new (LoseAt place) }
+        ensures stands { GoesAs (meaning_of S.initial S.next S.answer S.key_of) self.old result self.new (LoseAt place) }
         ensures marks { may_go {Q = S.Request} (LoseAt place) (mark_of result) ≡ true }
         ensures bounds { self.new.bounds ≡ self.old.bounds }
     {
@@ -253,7 +255,7 @@ impl<S: Service> World<S> {
 
     // Admits the server to the shard without a request.
     fn hold(&mut self, k: ShardId, server: ServerId) -> Result<WorldAnswer<S::Reply>, WorldFault>
-        ensures stands { GoesAs (record { reply_of = S.reply_of; key_of = S.key_of }) self.old result self.new (HoldAt k server) }
+        ensures stands { GoesAs (meaning_of S.initial S.next S.answer S.key_of) self.old result self.new (HoldAt k server) }
         ensures marks { may_go {Q = S.Request} (HoldAt k server) (mark_of result) ≡ true }
         ensures bounds { self.new.bounds ≡ self.old.bounds }
     {
@@ -271,7 +273,7 @@ impl<S: Service> World<S> {
 
     // Ends an admission without a request.
     fn free(&mut self, k: ShardId) -> Result<WorldAnswer<S::Reply>, WorldFault>
-        ensures stands { GoesAs (record { reply_of = S.reply_of; key_of = S.key_of }) self.old result self.new (FreeAt k) }
+        ensures stands { GoesAs (meaning_of S.initial S.next S.answer S.key_of) self.old result self.new (FreeAt k) }
         ensures marks { may_go {Q = S.Request} (FreeAt k) (mark_of result) ≡ true }
         ensures bounds { self.new.bounds ≡ self.old.bounds }
     {

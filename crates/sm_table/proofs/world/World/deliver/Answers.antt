@@ -1,6 +1,7 @@
 use Rattle.std.proofs.Common.{◌≡◌, ◌<◌, ◌∙◌, ap, refl, subst, sym, length, arith}
 use Rattle.std.specs.Prelude.{All, slice_get, Some}
 use Rattle.std.proofs.lemmas.Option.{slice_get_read}
+use Rattle.sm_body.specs.Service.{meaning_of}
 use Rattle.sm_ownership.specs.Rules.{forward_to}
 use Rattle.sm_table.specs.declared.flight.Flight.{Flight}
 use Rattle.sm_table.specs.World.{hand_of}
@@ -22,7 +23,7 @@ pub returns-then-is_some-clause-stands : goal.returns-then-is_some-clause-stands
 returns-then-is_some-clause-stands g c = λ w stands.
     let place_there : c.args.place < length c.self.inside.in_flight.items = omega (arith, c.self.inside.in_flight.ok.0) in
     let there : slice_get c.self.inside.in_flight.items c.args.place ≡ Some c.remove-to.result = slice_get_read c.self.inside.in_flight.items (length c.self.inside.in_flight.items) c.args.place c.remove-to.result refl place_there c.remove-to.ensures.value in
-    forwarded_on (record { reply_of = g.S.Service.reply_of; key_of = g.S.Service.key_of }) _ _ c.self.view_is w stands c.args.place c.remove-to.result there c.remove-to.new.self.items c.remove-to.ensures.items c.shard-k.result c.shard-k.ensures c.record-state.result c.record-state.ensures (rw c.forward_to.ensures at (sym c.if-is_some.ensures)) c.send_on.result c.send_on.new.in_flight.items c.send_on.ensures.hop
+    forwarded_on (meaning_of g.S.Service.initial g.S.Service.next g.S.Service.answer g.S.Service.key_of) _ _ c.self.view_is w stands c.args.place c.remove-to.result there c.remove-to.new.self.items c.remove-to.ensures.items c.shard-k.result c.shard-k.ensures c.record-state.result c.record-state.ensures (rw c.forward_to.ensures at (sym c.if-is_some.ensures)) c.send_on.result c.send_on.new.in_flight.items c.send_on.ensures.hop
 
 pub invariant_of-self-else-is_some : goal.invariant_of-self-else-is_some
 invariant_of-self-else-is_some g c =
@@ -33,7 +34,7 @@ pub returns-in-Err-clause-stands : goal.returns-in-Err-clause-stands
 returns-in-Err-clause-stands g c = λ w stands.
     let place_there : c.args.place < length c.self.inside.in_flight.items = omega (arith, c.self.inside.in_flight.ok.0) in
     let there : slice_get c.self.inside.in_flight.items c.args.place ≡ Some c.remove-to.result = slice_get_read c.self.inside.in_flight.items (length c.self.inside.in_flight.items) c.args.place c.remove-to.result refl place_there c.remove-to.ensures.value in
-    refused (record { reply_of = g.S.Service.reply_of; key_of = g.S.Service.key_of }) _ _ c.self.view_is w stands c.args.place c.remove-to.result there c.remove-to.new.self.items c.remove-to.ensures.items c.shard-k.result c.shard-k.ensures c.record-state.result c.record-state.ensures (rw c.forward_to.ensures at (sym c.if-is_some.ensures)) c.mode-mode.result c.mode-mode.ensures c.in-Err.fault c.admit.new.self c.in-Err.ensures.fault c.in-Err.ensures.unchanged
+    refused (meaning_of g.S.Service.initial g.S.Service.next g.S.Service.answer g.S.Service.key_of) _ _ c.self.view_is w stands c.args.place c.remove-to.result there c.remove-to.new.self.items c.remove-to.ensures.items c.shard-k.result c.shard-k.ensures c.record-state.result c.record-state.ensures (rw c.forward_to.ensures at (sym c.if-is_some.ensures)) c.mode-mode.result c.mode-mode.ensures c.in-Err.fault c.admit.new.self c.in-Err.ensures.fault c.in-Err.ensures.unchanged
 
 pub returns-clause-stands : goal.returns-clause-stands
 returns-clause-stands g c = λ w stands.
@@ -43,4 +44,4 @@ returns-clause-stands g c = λ w stands.
     let hand_is : hand ≡ hand_of c.remove-to.result.to c.remove-to.result.envelope =
     ap (λ n. record { server = c.remove-to.result.to; work = Some (record { number = n; request = c.parts-request.result.0 }) }) c.number-number.ensures
     ∙ ap (λ q. record { server = c.remove-to.result.to; work = Some (record { number = c.remove-to.result.envelope.number; request = q }) }) c.parts-request.ensures.request in
-    began (record { reply_of = g.S.Service.reply_of; key_of = g.S.Service.key_of }) _ _ c.self.view_is w stands c.args.place c.remove-to.result there c.remove-to.new.self.items c.remove-to.ensures.items c.shard-k.result c.shard-k.ensures c.record-state.result c.record-state.ensures (rw c.forward_to.ensures at (sym c.if-is_some.ensures)) c.mode-mode.result c.mode-mode.ensures hand c.admit.new.self c.in_default.ensures.fault hand_is c.in_default.ensures.admitted
+    began (meaning_of g.S.Service.initial g.S.Service.next g.S.Service.answer g.S.Service.key_of) _ _ c.self.view_is w stands c.args.place c.remove-to.result there c.remove-to.new.self.items c.remove-to.ensures.items c.shard-k.result c.shard-k.ensures c.record-state.result c.record-state.ensures (rw c.forward_to.ensures at (sym c.if-is_some.ensures)) c.mode-mode.result c.mode-mode.ensures hand c.admit.new.self c.in_default.ensures.fault hand_is c.in_default.ensures.admitted

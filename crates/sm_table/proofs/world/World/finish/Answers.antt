@@ -1,5 +1,6 @@
 use Rattle.std.proofs.Common.{length, refl, ◌∙◌, ap}
 use Rattle.std.proofs.lemmas.List.{length-set}
+use Rattle.sm_body.specs.Service.{meaning_of}
 use Rattle.sm_table.proofs.Endings.{hand-from_work, replied, full, unserved}
 use Rattle.sm_table.specs.lemmas.Entries.{hand_within}
 use Rattle.sm_table.proofs.Fitting.{IsTogether-done}
@@ -13,7 +14,7 @@ invariant_of-self-in-Ok g c =
 pub returns-in-Ok-clause-stands : goal.returns-in-Ok-clause-stands
 returns-in-Ok-clause-stands g c = λ w stands.
     let held = hand-from_work _ _ c.in-Some.ensures.work in
-    replied (record { reply_of = g.S.Service.reply_of; key_of = g.S.Service.key_of }) _ _ c.self.view_is w stands c.args.k _ _ held c.done.new.self c.apply.new.self c.take_work.new.self c.done.ensures c.in-Ok.ensures.limits c.in-Some.ensures.hands c.in-Ok.reply c.kept-place.result c.in-Ok.ensures.kept c.kept-place.ensures c.in-Ok.ensures.reply c.in-Ok.ensures.room
+    replied (meaning_of g.S.Service.initial g.S.Service.next g.S.Service.answer g.S.Service.key_of) _ _ c.self.view_is w stands c.args.k _ _ held c.done.new.self c.apply.new.self c.take_work.new.self c.done.ensures c.in-Ok.ensures.limits c.in-Some.ensures.hands c.in-Ok.reply c.kept-place.result c.in-Ok.ensures.kept c.kept-place.ensures c.in-Ok.ensures.reply c.in-Ok.ensures.room
 
 pub invariant_of-self-in-Err-default-KeptFull : goal.invariant_of-self-in-Err-default-KeptFull
 invariant_of-self-in-Err-default-KeptFull g c =
@@ -23,7 +24,7 @@ invariant_of-self-in-Err-default-KeptFull g c =
 pub returns-in-Err-default-KeptFull-clause-stands : goal.returns-in-Err-default-KeptFull-clause-stands
 returns-in-Err-default-KeptFull-clause-stands g c = λ w stands.
     let held = hand-from_work _ _ c.in-Some.ensures.work in
-    full (record { reply_of = g.S.Service.reply_of; key_of = g.S.Service.key_of }) _ _ c.self.view_is w stands c.args.k _ _ held c.done.new.self c.apply.new.self c.take_work.new.self c.done.ensures c.in-Err-default-KeptFull.ensures.limits c.in-Some.ensures.hands c.in-Err-default-KeptFull.ensures.unchanged (c.in-Err-default-KeptFull.ensures.full c.in-Err-default-KeptFull.field-0-1-is)
+    full (meaning_of g.S.Service.initial g.S.Service.next g.S.Service.answer g.S.Service.key_of) _ _ c.self.view_is w stands c.args.k _ _ held c.done.new.self c.apply.new.self c.take_work.new.self c.done.ensures c.in-Err-default-KeptFull.ensures.limits c.in-Some.ensures.hands c.in-Err-default-KeptFull.ensures.unchanged (c.in-Err-default-KeptFull.ensures.full c.in-Err-default-KeptFull.field-0-1-is)
 
 pub invariant_of-self-2 : goal.invariant_of-self-2
 invariant_of-self-2 g c =
@@ -33,4 +34,4 @@ invariant_of-self-2 g c =
 pub returns-clause-stands : goal.returns-clause-stands
 returns-clause-stands g c = λ w stands.
     let held = hand-from_work _ _ c.in-Some.ensures.work in
-    unserved (record { reply_of = g.S.Service.reply_of; key_of = g.S.Service.key_of }) _ _ c.self.view_is w stands c.args.k _ _ held c.done.new.self c.apply.new.self c.take_work.new.self c.done.ensures c.in-Err-default-NoMemory.ensures.limits c.in-Some.ensures.hands c.in-Err-default-NoMemory.ensures.unchanged (c.in-Err-default-NoMemory.ensures.no_memory c.in-Err-default-NoMemory.field-0-1-is)
+    unserved (meaning_of g.S.Service.initial g.S.Service.next g.S.Service.answer g.S.Service.key_of) _ _ c.self.view_is w stands c.args.k _ _ held c.done.new.self c.apply.new.self c.take_work.new.self c.done.ensures c.in-Err-default-NoMemory.ensures.limits c.in-Some.ensures.hands c.in-Err-default-NoMemory.ensures.unchanged (c.in-Err-default-NoMemory.ensures.no_memory c.in-Err-default-NoMemory.field-0-1-is)

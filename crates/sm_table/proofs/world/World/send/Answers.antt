@@ -1,4 +1,5 @@
 use Rattle.std.proofs.Common.{◌<◌, ◌++◌, ◌∷◌, [], ap, subst, sym, ◌∙◌, length, arith}
+use Rattle.sm_body.specs.Service.{meaning_of}
 use Rattle.sm_envelope.specs.Envelope.{EnvelopeView}
 use Rattle.sm_table.specs.Standing.{WorldView}
 use Rattle.sm_table.proofs.Fitting.{IsTogether-in_flight, flights-push}
@@ -8,7 +9,7 @@ use Rattle.sm_table.proofs.world.World.send.Goals as goal
 pub returns-then-is_err-clause-stands : goal.returns-then-is_err-clause-stands
 returns-then-is_err-clause-stands g c = λ w stands.
     let refused = c.if-is_err.ensures.negation in
-    not_sent (record { reply_of = g.S.Service.reply_of; key_of = g.S.Service.key_of }) _ _ c.self.view_is w stands c.args.to c.args.number c.args.request _ (rw refused at c.push.ensures.items)
+    not_sent (meaning_of g.S.Service.initial g.S.Service.next g.S.Service.answer g.S.Service.key_of) _ _ c.self.view_is w stands c.args.to c.args.number c.args.request _ (rw refused at c.push.ensures.items)
 
 pub invariant_of-self-2 : goal.invariant_of-self-2
 invariant_of-self-2 g c =
@@ -23,5 +24,5 @@ pub returns-clause-stands : goal.returns-clause-stands
 returns-clause-stands g c = λ w stands.
     let pushed = c.if-is_err.ensures.negation in
     let items = rw pushed at c.push.ensures.items in
-    sent (record { reply_of = g.S.Service.reply_of; key_of = g.S.Service.key_of }) _ _ c.self.view_is w stands c.args.to c.args.number c.args.request c.args.k _ (sym c.if-not-knows.ensures) c.requires.shard
+    sent (meaning_of g.S.Service.initial g.S.Service.next g.S.Service.answer g.S.Service.key_of) _ _ c.self.view_is w stands c.args.to c.args.number c.args.request c.args.k _ (sym c.if-not-knows.ensures) c.requires.shard
     (items ∙ ap (λ (envelope : EnvelopeView g.row.S-Request.Denot). c.self.inside.in_flight.items ++ record { to = c.args.to; envelope = envelope } ∷ []) c.new.ensures)

@@ -1,31 +1,12 @@
--- Key maps: pairs of a key and what it holds, and what each request replies and changes there.
-use Rattle.std.specs.Prelude.{ℕ, ◌-◌, ◌^◌, ℤ, pos, neg_ℤ, ◌+ℤ◌, int_le, Bool, ◌&&◌, List, Option, Some, None, find, length, nat_le, if◌then◌else◌}
-use Rattle.std.specs.Option.{option_map}
-use Rattle.sm_ranges.specs.Keyed.{IsInKeyOrder, has_key, with_key}
-use Rattle.sm_service.specs.declared.held.TheConstants.{MAX_TEXT}
-use Rattle.sm_service.specs.declared.held.Held.{Held}
-use Rattle.sm_service.specs.declared.held.Held.TheVariants.{Text, Count}
-use Rattle.sm_service.specs.declared.pair.Pair.{Pair}
+-- What each request of the sample service replies on a key map, and changes there.
+use Rattle.std.specs.Prelude.{ℕ, ◌-◌, ◌^◌, ℤ, pos, neg_ℤ, ◌+ℤ◌, int_le, Bool, ◌&&◌, List, Option, Some, None, length, nat_le, if◌then◌else◌}
+use Rattle.sm_map.specs.KeyMap.{Held, Pair, Text, Count, held_at, holding}
+use Rattle.sm_service.specs.declared.counter_text.TheConstants.{MAX_TEXT}
 use Rattle.sm_service.specs.declared.reply.Reply.{Reply}
 use Rattle.sm_service.specs.declared.reply.Reply.TheVariants.{Nothing, Done, WrongKind, Overflow, TooLong}
 use Rattle.sm_service.specs.declared.reply.Reply.TheVariants.{Text as ReplyText, Count as ReplyCount}
 use Rattle.sm_service.specs.declared.request.Request.{Request}
 use Rattle.sm_service.specs.declared.request.Request.TheVariants.{Get, Put, Inc}
-
-abbrev pub key_of_pair : Pair → List ℕ
-key_of_pair pair = pair.key
-
--- the pairs are in the order of their keys, and no key comes twice
-abbrev pub IsKeyMap : List Pair → Type 0
-IsKeyMap m = IsInKeyOrder key_of_pair m
-
--- what the map holds at the key
-abbrev pub held_at : List Pair → List ℕ → Option Held
-held_at m key = option_map (λ pair. pair.value) (find (has_key key_of_pair key) m)
-
--- the map that holds the value at the key, and else what m holds
-abbrev pub holding : List Pair → List ℕ → Held → List Pair
-holding m key value = with_key key_of_pair m key (record { key = key; value = value })
 
 -- the reply to a Get, by what the key holds
 abbrev pub get_reply : Option Held → Reply

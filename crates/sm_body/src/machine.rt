@@ -1,0 +1,41 @@
+ghost use Rattle.std.specs.Prelude.{◌≡◌, List, ℕ, IfOk, OnOk, OnErr};
+
+use std::alloc::{AllocError, Global};
+
+/// What a user of the manager writes: a state that answers requests one at a time. It knows nothing of the requests before,
+/// of limits, places or servers.
+pub trait Machine: Drop + Send {
+    type Request: Drop + Send;
+
+    type Reply: Drop + Send;
+
+    /// The machine before any request.
+    ghost start: { Self };
+
+    /// The machine after a request.
+    ghost after: { Self → Self.Request → Self };
+
+    /// The reply of the machine to a request.
+    ghost reply: { Self → Self.Request → Self.Reply };
+
+    /// The bytes whose shard executes the request.
+    ghost key_of: { Self.Request → List ℕ };
+
+    /// The machine before any request. It takes no memory yet.
+    fn new(alloc: Global) -> Self
+        ensures { result ≡ start };
+
+    /// The bytes whose shard executes the request.
+    fn key(request: &Self::Request) -> &[u8]
+        ensures { result.now ≡ key_of request.now };
+
+    /// Answers the request, or changes nothing where memory is refused.
+    fn answer(&mut self, alloc: Global, request: &Self::Request) -> Result<Self::Reply, AllocError>
+        ensures reply { IfOk result (λ made. made ≡ reply self.old request.now) }
+        ensures after { OnOk result (self.new ≡ after self.old request.now) }
+        ensures err { OnErr result (self.new ≡ self.old) };
+
+    /// Moves the machine into fresh memory, or leaves it in the old where a growth is refused. It stands for the same.
+    fn rebuild(&mut self, alloc: Global) -> Result<(), AllocError>
+        ensures { self.new ≡ self.old };
+}
