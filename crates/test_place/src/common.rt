@@ -1,8 +1,10 @@
 //! Rows and books that several tests use, and new stands of shards in them.
 
-ghost use Rattle.std.specs.Prelude.{◌≡◌, ◌<◌, IfOk, IfSome, length, true};
-ghost use Rattle.sm_ranges.specs.Stand.{names};
-ghost use Rattle.sm_place.specs.Books.{IsKnown};
+ghost use Rattle.std.specs.Prelude.{◌≡◌, ◌<◌, IfOk, IfSome, Ok, length, true};
+ghost use Rattle.sm_ranges.specs.Stand.{AllNamed, names};
+ghost use Rattle.sm_ranges.specs.declared.stand.Stand.TheVariants.{Serving};
+ghost use Rattle.sm_place.specs.Books.{IsKnown, shard_at};
+ghost use Rattle.sm_place.specs.Room.{fit};
 
 use sm_place::laws::{fewer_names_leave_room, fit_leaves_room};
 use sm_place::{Books, PlaceFault};
@@ -67,8 +69,8 @@ pub(crate) fn shard(rt: &impl Abort, books: &Books, k: u16) -> Result<ShardId, F
     Ok(k)
 }
 
-/// Has the server serve the shard, where it fits.
-pub(crate) fn assign(
+// Has the server serve the shard, where it fits.
+fn assign(
     rt: &impl Abort,
     books: &mut Books,
     k: u16,
@@ -78,15 +80,37 @@ pub(crate) fn assign(
     let a = server(rt, books, a)?;
     let fits = books.fits(k, a);
     if let Ok(()) = fits {
-        books.soundness();
-        fit_leaves_room();
-        books.set_stand(k, Stand::Serving(a));
+        serve(books, k, a);
     }
     Ok(fits)
 }
 
-/// Has the server make ready beside the owner of the shard, where it fits.
-pub(crate) fn prepare(
+/// Makes the assignments in turn, each of a shard to a server with this answer.
+pub(crate) fn assign_all(
+    rt: &impl Abort,
+    books: &mut Books,
+    turns: &[(u16, u16, Result<(), PlaceFault>)],
+) -> Result<(), Fail> {
+    for (k, a, answer) in turns {
+        let given = assign(rt, books, *k, *a)?;
+        assert!(rt; given == *answer);
+    }
+    Ok(())
+}
+
+// Has the server serve the shard, which it fits.
+fn serve(books: &mut Books, k: ShardId, a: ServerId)
+    requires shard { k < length books.old.shards }
+    requires known { IsKnown books.old.servers a }
+    requires fits { fit books.old k a ≡ Ok tt }
+{
+    books.soundness();
+    fit_leaves_room();
+    books.set_stand(k, Stand::Serving(a));
+}
+
+// Has the server make ready beside the owner of the shard, where it fits.
+fn prepare(
     rt: &impl Abort,
     books: &mut Books,
     k: u16,
@@ -100,11 +124,35 @@ pub(crate) fn prepare(
     assert!(rt; books.knows(owner));
     let fits = books.fits(k, next);
     if let Ok(()) = fits {
-        books.soundness();
-        fit_leaves_room();
-        books.set_stand(k, Stand::Prepared { owner, next });
+        make_ready(books, k, owner, next);
     }
     Ok(fits)
+}
+
+/// Has the server make ready beside the owner of the shard, with this answer.
+pub(crate) fn prepare_gives(
+    rt: &impl Abort,
+    books: &mut Books,
+    k: u16,
+    next: u16,
+    answer: Result<(), PlaceFault>,
+) -> Result<(), Fail> {
+    let given = prepare(rt, books, k, next)?;
+    assert!(rt; given == answer);
+    Ok(())
+}
+
+// Has the server make ready beside the owner of the shard, which it fits.
+fn make_ready(books: &mut Books, k: ShardId, owner: ServerId, next: ServerId)
+    requires shard { k < length books.old.shards }
+    requires owner { (shard_at books.old.shards k).stand ≡ Serving owner }
+    requires owner_known { IsKnown books.old.servers owner }
+    requires known { IsKnown books.old.servers next }
+    requires fits { fit books.old k next ≡ Ok tt }
+{
+    books.soundness();
+    fit_leaves_room();
+    books.set_stand(k, Stand::Prepared { owner, next });
 }
 
 /// Gives the shard a stand that names no further server.
@@ -113,10 +161,19 @@ pub(crate) fn narrow(rt: &impl Abort, books: &mut Books, k: u16, stand: Stand) -
     let old = books.stand(k);
     assert!(rt; is_named(books, &old, stand.owner()));
     assert!(rt; is_named(books, &old, stand.other()));
+    set_fewer(books, k, stand);
+    Ok(())
+}
+
+// Gives the shard this stand, which names servers of the old one alone.
+fn set_fewer(books: &mut Books, k: ShardId, stand: Stand)
+    requires shard { k < length books.old.shards }
+    requires known { AllNamed (IsKnown books.old.servers) stand }
+    requires named { AllNamed (λ a. names (shard_at books.old.shards k).stand a ≡ true) stand }
+{
     books.soundness();
     fewer_names_leave_room();
     books.set_stand(k, stand);
-    Ok(())
 }
 
 // Whether the stand names the server, where there is one, and the books know it.

@@ -1,8 +1,11 @@
 use crate::common::{
-    assign, equal_groups, narrow, new_books, prepare, server, server_row, shard, shard_row,
+    assign_all, equal_groups, narrow, new_books, prepare_gives, server, server_row, shard,
+    shard_row,
 };
 use sm_place::{Books, BooksFault, Move, PlaceFault, Plan, ServerState};
+use sm_ranges::limits::{MAX_SERVER, MAX_SHARD, MAX_SHARDS};
 use sm_ranges::{ServerId, Stand};
+use sm_rows::limits::{MAX_DOMAIN, MAX_GROUPS, MAX_LIMIT};
 use sm_rows::{GroupRow, ServerRow, ShardRow};
 use std::alloc::{AllocError, Global};
 use std::process::Abort;
@@ -12,22 +15,54 @@ fn group(limit: u16) -> GroupRow {
     GroupRow { limit, down: 1 }
 }
 
-// The moves of a plan as pairs of numbers, and the shards left.
-fn text_of(alloc: Global, plan: &Plan) -> Result<String, Fail> {
-    let mut text = String::new(alloc);
-    for to in plan.moves() {
-        text.push_str(&format!(in alloc; "{}>{} ", to.shard, to.to)?)?;
-    }
-    text.push_str("left")?;
-    for k in plan.left() {
-        text.push_str(&format!(in alloc; " {k}")?)?;
-    }
-    Ok(text)
+// Whether the plan moves these shards to these servers.
+fn has_moves(plan: &Plan, moves: &[(u16, u16)]) -> bool {
+    plan.moves().len() == moves.len()
+        && plan.moves().iter().zip(moves.iter()).all(|(made, wanted)| made.shard.number()
+            == wanted.0
+            && made.to.number() == wanted.1)
 }
 
-#[test]
-fn plans_a_shard(rt: HostRuntime) -> Result<(), Fail> {
-    let alloc = rt.alloc();
+// Whether the plan leaves these shards.
+fn has_left(plan: &Plan, left: &[u16]) -> bool {
+    plan.left().len() == left.len()
+        && plan
+            .left()
+            .iter()
+            .zip(left.iter())
+            .all(|(shard, wanted)| shard.number() == *wanted)
+}
+
+fn assert_assigned(
+    rt: &impl Abort,
+    alloc: Global,
+    books: &Books,
+    moves: &[(u16, u16)],
+    left: &[u16],
+) -> Result<(), Fail> {
+    let plan = books.plan_assign(alloc)?;
+    assert!(rt; has_moves(&plan, moves));
+    assert!(rt; has_left(&plan, left));
+    Ok(())
+}
+
+fn assert_drained(
+    rt: &impl Abort,
+    alloc: Global,
+    books: &Books,
+    a: u16,
+    moves: &[(u16, u16)],
+    left: &[u16],
+) -> Result<(), Fail> {
+    let a = server(rt, books, a)?;
+    let plan = books.plan_drain(alloc, a)?;
+    assert!(rt; has_moves(&plan, moves));
+    assert!(rt; has_left(&plan, left));
+    Ok(())
+}
+
+// Two servers in two domains, of which the second has room for the one shard.
+fn books_of_one_shard(alloc: Global) -> Result<Books, Fail> {
     let servers = [server_row(1, 0, 2)?, server_row(2, 1, 3)?];
     let group = GroupRow { limit: 1, down: 0 };
     let shard = ShardRow {
@@ -35,91 +70,105 @@ fn plans_a_shard(rt: HostRuntime) -> Result<(), Fail> {
         load: 3,
         cap: 0,
     };
-    let books = Books::new(alloc, &servers, &[group], &[shard])?;
-    let plan = books.plan_assign(alloc)?;
-    assert_eq!(rt; text_of(alloc, &plan)?.as_str(), "0>2 left");
-    Ok(())
+    Ok(Books::new(alloc, &servers, &[group], &[shard])?)
+}
+
+#[test]
+fn plans_a_shard(rt: HostRuntime) -> Result<(), Fail> {
+    let books = books_of_one_shard(rt.alloc())?;
+    assert_assigned(&rt, rt.alloc(), &books, &[(0, 2)], &[])
 }
 
 #[test]
 fn plans_where_all_fits(rt: HostRuntime) -> Result<(), Fail> {
     let books = new_books(rt.alloc(), group(2), 2)?;
-    let plan = books.plan_assign(rt.alloc())?;
-    assert_eq!(rt; text_of(rt.alloc(), &plan)?.as_str(), "0>1 1>1 left");
-    assert_eq!(rt; books.rows().len(), 3);
-    assert_eq!(rt; books.groups().len(), 1);
+    assert_assigned(&rt, rt.alloc(), &books, &[(0, 1), (1, 1)], &[])
+}
+
+#[test]
+fn shows_its_rows(rt: HostRuntime) -> Result<(), Fail> {
+    let books = new_books(rt.alloc(), group(2), 2)?;
+    assert!(rt; books.rows().len() == 3);
+    assert!(rt; books.groups().len() == 1);
     Ok(())
 }
 
 #[test]
 fn drains_within_limits(rt: HostRuntime) -> Result<(), Fail> {
     let mut books = new_books(rt.alloc(), group(1), 1)?;
-    assert_eq!(rt; assign(&rt, &mut books, 0, 1)?, Ok(()));
-    assert_eq!(rt;
-        assign(&rt, &mut books, 1, 1)?,
-        Err(PlaceFault::DomainLimit)
-    );
-    assert_eq!(rt; assign(&rt, &mut books, 1, 2)?, Ok(()));
-    let second = ServerId::of(2);
-    let plan = books.plan_drain(rt.alloc(), second)?;
-    assert_eq!(rt; text_of(rt.alloc(), &plan)?.as_str(), "1>3 left");
-    let plan = books.plan_drain(rt.alloc(), ServerId::of(1))?;
-    assert_eq!(rt; text_of(rt.alloc(), &plan)?.as_str(), "left 0");
-    assert_eq!(rt; assign(&rt, &mut books, 1, 3)?, Ok(()));
-    assert_eq!(rt;
-        assign(&rt, &mut books, 0, 2)?,
-        Err(PlaceFault::DomainLimit)
-    );
+    let turns = [
+        (0, 1, Ok(())),
+        (1, 1, Err(PlaceFault::DomainLimit)),
+        (1, 2, Ok(())),
+    ];
+    assign_all(&rt, &mut books, &turns)?;
+    assert_drained(&rt, rt.alloc(), &books, 2, &[(1, 3)], &[])?;
+    assert_drained(&rt, rt.alloc(), &books, 1, &[], &[0])?;
+    let turns = [(1, 3, Ok(())), (0, 2, Err(PlaceFault::DomainLimit))];
+    assign_all(&rt, &mut books, &turns)
+}
 
-    assert!(rt; books.knows(second));
-    assert_eq!(rt; books.state(second), ServerState::Up);
-    books.set_state(second, ServerState::Approved);
-    assert_eq!(rt; assign(&rt, &mut books, 0, 2)?, Err(PlaceFault::Leaving));
+// Has an approval of the server's restart, which is Up.
+fn approve(rt: &impl Abort, books: &mut Books, a: u16) -> Result<(), Fail> {
+    let a = server(rt, books, a)?;
+    assert!(rt; books.state(a) == ServerState::Up);
+    books.set_state(a, ServerState::Approved);
     Ok(())
+}
+
+#[test]
+fn refuses_a_leaving_server(rt: HostRuntime) -> Result<(), Fail> {
+    let mut books = new_books(rt.alloc(), group(1), 1)?;
+    approve(&rt, &mut books, 2)?;
+    let turns = [(0, 2, Err(PlaceFault::Leaving)), (0, 1, Ok(()))];
+    assign_all(&rt, &mut books, &turns)
 }
 
 #[test]
 fn migrates_within_limits(rt: HostRuntime) -> Result<(), Fail> {
     let mut books = new_books(rt.alloc(), group(1), 1)?;
-    let (second, third) = (ServerId::of(2), ServerId::of(3));
-    assert_eq!(rt; assign(&rt, &mut books, 0, 1)?, Ok(()));
-    assert_eq!(rt; assign(&rt, &mut books, 1, 2)?, Ok(()));
-    assert_eq!(rt; prepare(&rt, &mut books, 1, 3)?, Ok(()));
-    assert_eq!(rt;
-        prepare(&rt, &mut books, 0, 2)?,
-        Err(PlaceFault::NoCapacity)
-    );
+    let owner = ServerId::of(3);
+    let previous = ServerId::of(2);
+    assign_all(&rt, &mut books, &[(0, 1, Ok(())), (1, 2, Ok(()))])?;
+    prepare_gives(&rt, &mut books, 1, 3, Ok(()))?;
+    prepare_gives(&rt, &mut books, 0, 2, Err(PlaceFault::NoCapacity))?;
+    forward(&rt, &mut books, previous, owner)?;
+    prepare_gives(&rt, &mut books, 0, 2, Err(PlaceFault::NoCapacity))?;
+    narrow(&rt, &mut books, 1, Stand::Serving(owner))?;
+    prepare_gives(&rt, &mut books, 0, 2, Err(PlaceFault::DomainLimit))
+}
+
+// Has the next owner of shard 1 take it from the previous one.
+fn forward(
+    rt: &impl Abort,
+    books: &mut Books,
+    previous: ServerId,
+    owner: ServerId,
+) -> Result<(), Fail> {
     let forwarding = Stand::Forwarding {
-        owner: second,
-        next: third,
+        owner: previous,
+        next: owner,
     };
-    narrow(&rt, &mut books, 1, forwarding)?;
-    let taken = Stand::Taken {
-        owner: third,
-        previous: second,
-    };
-    narrow(&rt, &mut books, 1, taken)?;
-    assert_eq!(rt;
-        prepare(&rt, &mut books, 0, 2)?,
-        Err(PlaceFault::NoCapacity)
-    );
-    narrow(&rt, &mut books, 1, Stand::Serving(third))?;
-    assert_eq!(rt;
-        prepare(&rt, &mut books, 0, 2)?,
-        Err(PlaceFault::DomainLimit)
-    );
-    Ok(())
+    narrow(rt, books, 1, forwarding)?;
+    narrow(rt, books, 1, Stand::Taken { owner, previous })
 }
 
 #[test]
 fn fills_a_server_to_its_capacity(rt: HostRuntime) -> Result<(), Fail> {
     let mut books = new_books(rt.alloc(), group(2), 1)?;
-    assert_eq!(rt; assign(&rt, &mut books, 1, 2)?, Ok(()));
-    assert_eq!(rt; assign(&rt, &mut books, 0, 2)?, Err(PlaceFault::NoCapacity));
-    assert_eq!(rt; assign(&rt, &mut books, 1, 2)?, Ok(()));
+    let turns = [
+        (1, 2, Ok(())),
+        (0, 2, Err(PlaceFault::NoCapacity)),
+        (1, 2, Ok(())),
+    ];
+    assign_all(&rt, &mut books, &turns)?;
+    assert_served(&rt, &books, 1, 2)
+}
 
-    let second = shard(&rt, &books, 1)?;
-    assert_eq!(rt; books.stand(second), Stand::Serving(ServerId::of(2)));
+fn assert_served(rt: &impl Abort, books: &Books, k: u16, a: u16) -> Result<(), Fail> {
+    let k = shard(rt, books, k)?;
+    let a = server(rt, books, a)?;
+    assert!(rt; books.stand(k) == Stand::Serving(a));
     Ok(())
 }
 
@@ -156,86 +205,146 @@ fn planned_in_two(
     }
 }
 
+// The plan moves this shard to server 3, and no other.
+fn assert_moves_one(
+    rt: &impl Abort,
+    alloc: Global,
+    books: &Books,
+    from: Option<ServerId>,
+    k: u16,
+) -> Result<(), Fail> {
+    let shard = shard(rt, books, k)?;
+    let to = server(rt, books, 3)?;
+    let plan = planned_in_two(alloc, books, from)?;
+    assert!(rt; plan.moves() == [Move { shard, to }].as_slice());
+    Ok(())
+}
+
+fn fail(rt: &impl Abort, books: &mut Books, a: u16) -> Result<(), Fail> {
+    let a = server(rt, books, a)?;
+    books.set_state(a, ServerState::Failed);
+    Ok(())
+}
+
+fn assert_failed(rt: &impl Abort, books: &Books, a: u16) -> Result<(), Fail> {
+    let a = server(rt, books, a)?;
+    assert!(rt; books.state(a) == ServerState::Failed);
+    Ok(())
+}
+
+// Vacant shard 1 goes to server 3, and so does shard 0 where server 1 is drained.
+fn assert_plans(rt: &impl Abort, alloc: Global, books: &Books) -> Result<(), Fail> {
+    assert_moves_one(rt, alloc, books, None, 1)?;
+    assert_moves_one(rt, alloc, books, Some(ServerId::of(1)), 0)
+}
+
 // With each allocation refused in turn (`rt try --test --fail-alloc N`) a refused call leaves the books as they were,
 // and the same call made again does its work.
 #[test]
 fn refused_memory_changes_nothing(rt: HostRuntime) -> Result<(), Fail> {
     let mut books = made_in_two(&rt, rt.alloc())?;
-    let first = server(&rt, &books, 1)?;
-    let second = server(&rt, &books, 2)?;
-    let third = server(&rt, &books, 3)?;
-    books.set_state(second, ServerState::Failed);
-    assert_eq!(rt; assign(&rt, &mut books, 0, 1)?, Ok(()));
+    fail(&rt, &mut books, 2)?;
+    assign_all(&rt, &mut books, &[(0, 1, Ok(()))])?;
+    assert_plans(&rt, rt.alloc(), &books)?;
+    assert_served(&rt, &books, 0, 1)?;
+    assert_failed(&rt, &books, 2)
+}
 
-    let k = shard(&rt, &books, 1)?;
-    let plan = planned_in_two(rt.alloc(), &books, None)?;
-    let moves = [Move {
-        shard: k,
-        to: third,
-    }];
-    assert_eq!(rt; plan.moves(), moves.as_slice());
+// Whether a server, a group of this limit and a shard of this cap make no books, for this reason.
+fn is_refused(alloc: Global, server: ServerRow, limit: u16, cap: u8, fault: BooksFault) -> bool {
+    Books::new(alloc, &[server], &[group(limit)], &[shard_row(0, cap)]).err() == Some(fault)
+}
 
-    let k = shard(&rt, &books, 0)?;
-    let plan = planned_in_two(rt.alloc(), &books, Some(first))?;
-    let moves = [Move {
-        shard: k,
-        to: third,
-    }];
-    assert_eq!(rt; plan.moves(), moves.as_slice());
-    assert_eq!(rt; books.stand(k), Stand::Serving(first));
-    let second = server(&rt, &books, 2)?;
-    assert_eq!(rt; books.state(second), ServerState::Failed);
+#[test]
+fn names_bad_servers_first(rt: HostRuntime) -> Result<(), Fail> {
+    let beyond = server_row(1, MAX_DOMAIN + 1, 2)?;
+    assert!(rt; is_refused(rt.alloc(), beyond, MAX_LIMIT + 1, 2, BooksFault::BadServers));
     Ok(())
 }
 
 #[test]
-fn names_the_first_fault(rt: HostRuntime) -> Result<(), Fail> {
-    let servers = [server_row(1, 0, 2)?, server_row(4095, 4095, 0)?];
-    let equal = [server_row(2, 0, 2)?, server_row(2, 1, 2)?];
-    let groups = [group(4096)];
-    let wide = [group(4097)];
-    let shards = [shard_row(0, 1)];
-    let capped = [shard_row(0, 2)];
-    let cases: [(&[ServerRow], &[GroupRow], &[ShardRow], Option<BooksFault>); 4] = [
-        (&servers, &groups, &shards, None),
-        (&equal, &wide, &shards, Some(BooksFault::BadServers)),
-        (&servers, &wide, &capped, Some(BooksFault::BadGroups)),
-        (&servers, &groups, &capped, Some(BooksFault::BadShards)),
-    ];
-    for (servers, groups, shards, fault) in &cases {
-        assert_eq!(rt;
-            Books::new(rt.alloc(), servers, groups, shards).err(),
-            *fault
-        );
-    }
+fn names_bad_groups_before_shards(rt: HostRuntime) -> Result<(), Fail> {
+    let server = server_row(1, 0, 2)?;
+    assert!(rt; is_refused(rt.alloc(), server, MAX_LIMIT + 1, 2, BooksFault::BadGroups));
     Ok(())
 }
 
-// As many servers, groups and shards as there are, each shard of a group of its own. All but one shard go to server 1.
 #[test]
-fn plans_at_the_limits(rt: HostRuntime) -> Result<(), Fail> {
-    let alloc = rt.alloc();
-    let mut servers = Vec::with_capacity(alloc, 4095)?;
-    servers.push(server_row(1, 4095, 4095)?)?;
-    for number in 2..4096 {
+fn names_bad_shards_last(rt: HostRuntime) -> Result<(), Fail> {
+    let server = server_row(1, 0, 2)?;
+    assert!(rt; is_refused(rt.alloc(), server, MAX_LIMIT, 2, BooksFault::BadShards));
+    Ok(())
+}
+
+// As many servers as there are, in as many domains; the first has room for all shards, each other for one.
+fn all_servers(alloc: Global) -> Result<Vec<ServerRow>, Fail> {
+    let mut servers = Vec::new(alloc);
+    servers.push(server_row(1, MAX_DOMAIN, MAX_SERVER.into())?)?;
+    for number in 2..=MAX_SERVER {
         servers.push(server_row(number, number - 1, 1)?)?;
     }
-    let groups = equal_groups(alloc, group(1), 4096)?;
-    let mut shards = Vec::with_capacity(alloc, 4096)?;
-    for number in 0..4096 {
+    Ok(servers)
+}
+
+// As many shards as there are, each of a group of its own.
+fn all_shards(alloc: Global) -> Result<Vec<ShardRow>, Fail> {
+    let mut shards = Vec::new(alloc);
+    for number in 0..=MAX_SHARD {
         shards.push(shard_row(number, 1))?;
     }
-    let books = Books::new(alloc, &servers, &groups, &shards)?;
-    let plan = books.plan_assign(alloc)?;
-    assert_eq!(rt; plan.moves().len(), 4096);
-    assert_eq!(rt; plan.left().len(), 0);
-    let k = shard(&rt, &books, 4095)?;
-    let last = Move {
-        shard: k,
-        to: ServerId::of(2),
-    };
-    assert_eq!(rt; plan.moves().last(), Some(&last));
-    let server = server(&rt, &books, 4095)?;
-    assert_eq!(rt; books.fits(k, server), Ok(()));
+    Ok(shards)
+}
+
+fn full_books(alloc: Global) -> Result<Books, Fail> {
+    let servers = all_servers(alloc)?;
+    let groups = equal_groups(alloc, group(1), MAX_GROUPS)?;
+    let shards = all_shards(alloc)?;
+    Ok(Books::new(alloc, &servers, &groups, &shards)?)
+}
+
+// Whether the plan moves all shards.
+fn moves_all(plan: &Plan) -> bool {
+    plan.moves().len() == MAX_SHARDS && plan.left().is_empty()
+}
+
+// Whether the last move is of this shard to this server.
+fn ends_with(plan: &Plan, k: u16, a: u16) -> bool {
+    match plan.moves().last() {
+        Some(last) => last.shard.number() == k && last.to.number() == a,
+        None => false,
+    }
+}
+
+// All but one shard go to server 1.
+#[test]
+fn plans_at_the_limits(rt: HostRuntime) -> Result<(), Fail> {
+    let books = full_books(rt.alloc())?;
+    let plan = books.plan_assign(rt.alloc())?;
+    assert!(rt; moves_all(&plan));
+    assert!(rt; ends_with(&plan, MAX_SHARD, 2));
     Ok(())
+}
+
+#[test]
+fn serves_and_drains_at_the_limits(rt: HostRuntime) -> Result<(), Fail> {
+    let mut books = full_books(rt.alloc())?;
+    assign_all(&rt, &mut books, &[(MAX_SHARD, MAX_SERVER, Ok(()))])?;
+    assert_served(&rt, &books, MAX_SHARD, MAX_SERVER)?;
+    assert_drained(&rt, rt.alloc(), &books, MAX_SERVER, &[(MAX_SHARD, 1)], &[])?;
+    fail(&rt, &mut books, MAX_SERVER)?;
+    assert_failed(&rt, &books, MAX_SERVER)
+}
+
+// One server, of the greatest domain, and two shards of the last group.
+fn books_of_the_greatest_domain(alloc: Global) -> Result<Books, Fail> {
+    let servers = [server_row(MAX_SERVER, MAX_DOMAIN, 2)?];
+    let groups = equal_groups(alloc, group(1), MAX_GROUPS)?;
+    let shards = [shard_row(MAX_SHARD, 1), shard_row(MAX_SHARD, 1)];
+    Ok(Books::new(alloc, &servers, &groups, &shards)?)
+}
+
+#[test]
+fn plans_in_the_greatest_domain(rt: HostRuntime) -> Result<(), Fail> {
+    let books = books_of_the_greatest_domain(rt.alloc())?;
+    assert_assigned(&rt, rt.alloc(), &books, &[(0, MAX_SERVER)], &[1])
 }

@@ -1,5 +1,7 @@
 use crate::common::{server_row, shard_row};
 use sm_ranges::ServerId;
+use sm_ranges::limits::{MAX_SERVER, MAX_SHARD};
+use sm_rows::limits::{MAX_DOMAIN, MAX_GROUPS, MAX_LIMIT};
 use sm_rows::{GroupRow, ServerRow, are_groups, are_servers, are_shards};
 use std::test::Fail;
 
@@ -15,32 +17,39 @@ fn servers_rise(rt: HostRuntime) {
     assert!(rt; !are_servers(&[server, server]));
 }
 
+// Whether a group of these numbers keeps its rules.
+fn is_group(limit: u16, down: u16) -> bool {
+    are_groups(&[GroupRow { limit, down }])
+}
+
+// Whether a shard of these numbers keeps its rules.
+fn is_shard(groups: usize, group: u16, cap: u8) -> bool {
+    are_shards(groups, &[shard_row(group, cap)])
+}
+
 #[test]
-fn rows_keep_their_limits(rt: HostRuntime) -> Result<(), Fail> {
-    assert!(rt; are_servers(&[server_row(1, 0, 0)?, server_row(4095, 4095, u32::MAX)?]));
+fn servers_keep_their_limits(rt: HostRuntime) -> Result<(), Fail> {
+    let first = server_row(1, 0, 0)?;
+    let last = server_row(MAX_SERVER, MAX_DOMAIN, u32::MAX)?;
+    let beyond = server_row(1, MAX_DOMAIN + 1, 0)?;
+    assert!(rt; are_servers(&[first, last]));
     assert!(rt; !are_servers(&[]));
-    assert!(rt; !are_servers(&[server_row(1, 4096, 0)?]));
-    let group = GroupRow {
-        limit: 4096,
-        down: 4096,
-    };
-    assert!(rt; are_groups(&[group]));
-    assert!(rt; !are_groups(&[]));
-    assert!(rt;
-        !are_groups(&[GroupRow {
-            limit: 4097,
-            ..group
-        }])
-    );
-    assert!(rt;
-        !are_groups(&[GroupRow {
-            down: 4097,
-            ..group
-        }])
-    );
-    assert!(rt; are_shards(4096, &[shard_row(4095, 1)]));
-    assert!(rt; !are_shards(4096, &[]));
-    assert!(rt; !are_shards(4095, &[shard_row(4095, 1)]));
-    assert!(rt; !are_shards(4096, &[shard_row(0, 2)]));
+    assert!(rt; !are_servers(&[beyond]));
     Ok(())
+}
+
+#[test]
+fn groups_keep_their_limits(rt: HostRuntime) {
+    assert!(rt; is_group(MAX_LIMIT, MAX_LIMIT));
+    assert!(rt; !is_group(MAX_LIMIT + 1, MAX_LIMIT));
+    assert!(rt; !is_group(MAX_LIMIT, MAX_LIMIT + 1));
+    assert!(rt; !are_groups(&[]));
+}
+
+#[test]
+fn shards_keep_their_limits(rt: HostRuntime) {
+    assert!(rt; is_shard(MAX_GROUPS, MAX_SHARD, 1));
+    assert!(rt; !is_shard(MAX_GROUPS - 1, MAX_SHARD, 1));
+    assert!(rt; !is_shard(MAX_GROUPS, 0, 2));
+    assert!(rt; !are_shards(MAX_GROUPS, &[]));
 }
