@@ -4,10 +4,10 @@ use sm_lines::Watched;
 use sm_model::run_model;
 use sm_run::{RunFault, Status};
 use std::alloc::Global;
-use std::io;
-use std::io::{Error, ErrorKind, Read, Write};
+use std::io::{Read, Write};
 use std::process::Abort;
 use std::test::Fail;
+use test_lines::fakes::{FailingReader, FailingWriter};
 
 /// A line of settings: shard 0 below `m`, shard 1 from `m` on.
 const SETTINGS: &[u8] =
@@ -81,47 +81,6 @@ fn takes_all_bytes_but_a_line_feed(rt: HostRuntime) -> Result<(), Fail> {
     check(&rt, rt.alloc(), &input, output)
 }
 
-/// Reads byte by byte, and fails once `left` calls were made.
-#[derive(Drop)]
-struct FailingReader<'a> {
-    bytes: &'a [u8],
-    left: usize,
-}
-
-impl Read for FailingReader<'_> {
-    fn read(&mut self, buf: &mut [u8]) -> io::Result<usize> {
-        if self.left == 0 {
-            return Err(Error::from(ErrorKind::Other));
-        }
-        self.left -= 1;
-        let one = buf.len().min(1);
-        self.bytes.read(&mut buf[..one])
-    }
-}
-
-/// Takes at most two bytes a call, and fails once `left` calls were made.
-#[derive(Drop)]
-struct FailingWriter<'a> {
-    bytes: &'a mut Vec<u8>,
-    left: usize,
-}
-
-impl Write for FailingWriter<'_> {
-    fn write(&mut self, buf: &[u8]) -> io::Result<usize> {
-        if self.left == 0 {
-            return Err(Error::from(ErrorKind::Other));
-        }
-        self.left -= 1;
-        let n = buf.len().min(2);
-        self.bytes.extend_from_slice(&buf[..n])?;
-        Ok(n)
-    }
-
-    fn flush(&mut self) -> io::Result<()> {
-        Ok(())
-    }
-}
-
 fn line_feeds(bytes: &[u8]) -> usize {
     bytes.iter().filter(|byte| **byte == b'\n').count()
 }
@@ -132,10 +91,7 @@ fn stops_where_the_reader_fails(rt: HostRuntime) -> Result<(), Fail> {
     let input = script_of(alloc, FIRST_PATH)?;
     for left in 0..=input.len() {
         let mut written = Vec::new(alloc);
-        let reader = FailingReader {
-            bytes: &input,
-            left,
-        };
+        let reader = FailingReader::new(&input, left);
         let ended = run_on(alloc, reader, &mut written);
         assert_eq!(rt; ended, Err(RunFault::Read), "at {left}");
         assert!(rt; FIRST_ANSWERS.starts_with(written.as_slice()), "at {left}");
@@ -155,10 +111,7 @@ fn stops_where_the_writer_fails(rt: HostRuntime) -> Result<(), Fail> {
     for (script, answers) in cases {
         for left in 0..answers.len().div_ceil(2) {
             let mut written = Vec::new(alloc);
-            let writer = FailingWriter {
-                bytes: &mut written,
-                left,
-            };
+            let writer = FailingWriter::new(&mut written, left);
             let ended = run_on(alloc, script, writer);
             assert_eq!(rt; ended, Err(RunFault::Write), "at {left}");
             assert!(rt; answers.starts_with(written.as_slice()), "at {left}");
