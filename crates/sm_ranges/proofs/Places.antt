@@ -1,9 +1,8 @@
 -- The first place in a list that passes a test.
-use Rattle.std.proofs.Common.{◌≡◌, ℕ, zero, suc, ◌+◌, ◌≤◌, Bool, true, false, cond, List, [], ◌∷◌, length, map, refl, ap, arith, zero-add}
-use Rattle.std.specs.Prelude.{not, count_by, position}
-use Rattle.std.specs.List.{position_or_len, zip, AllWithin}
+use Rattle.std.proofs.Common.{◌≡◌, ◌+◌, Bool, cond, List, [], ◌∷◌, map, refl, ap}
+use Rattle.std.specs.Prelude.{not, position}
+use Rattle.std.specs.List.{position_or_len, zip}
 use Rattle.std.proofs.lemmas.List.{length-map}
-use Rattle.std.proofs.lemmas.List.Sums.{sum_by-cons}
 
 module _ {X Y : Type 0} (p : Y → Bool) (f : X → Y) where
   position_or_len-map : (xs : List X) → position_or_len p (map f xs) ≡ position_or_len (λ x. p (f x)) xs

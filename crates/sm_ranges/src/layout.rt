@@ -3,6 +3,7 @@ ghost use Rattle.sm_ranges.specs.Ranges.{Covers, IsLayout, shard_of};
 ghost use Rattle.sm_ranges.specs.LayoutFault.{texts_of, first_not_rising, first_too_long, first_layout_fault};
 
 use crate::limits::{MAX_KEY, MAX_SHARDS};
+use crate::order::{is_at_most, is_below};
 use crate::shard_id::ShardId;
 use std::alloc::{AllocError, Global};
 use std::marker::Model;
@@ -156,7 +157,7 @@ fn last_reached(bounds: &[Bound], key: &[u8]) -> usize
     ensures only { (k : ℕ) → Covers bounds.now k key.now → k ≡ result }
     ensures value { result ≡ shard_of bounds.now key.now }
 {
-    bounds.partition_point(|bound| bound.as_bytes() <= key) - 1
+    bounds.partition_point(|bound| is_at_most(bound.as_bytes(), key)) - 1
 }
 
 // What is wrong with the bounds, memory aside.
@@ -187,7 +188,7 @@ fn first_not_rising(bounds: &[&[u8]]) -> Option<usize>
     bounds
         .iter()
         .zip(bounds.iter().skip(1))
-        .position(|(low, high)| low >= high)
+        .position(|(low, high)| !is_below(low, high))
         .map(|low| low + 1)
 }
 

@@ -2,7 +2,7 @@
 
 ghost use Rattle.std.specs.Prelude.{◌≡◌, ◌+◌, ◌≤◌, length, take, drop};
 ghost use Rattle.std.specs.Slice.Scan.{big_endian};
-ghost use Rattle.sm_ranges.specs.KeyOrder.{key_cmp};
+ghost use Rattle.sm_ranges.specs.KeyOrder.{key_cmp, is_at_most, is_below};
 
 use std::cmp::Ordering;
 
@@ -30,6 +30,20 @@ pub fn compare(first: &[u8], second: &[u8]) -> Ordering
         return x.cmp(&y);
     }
     first.len().cmp(&second.len())
+}
+
+/// Whether the first key comes before the second.
+pub(crate) fn is_below(first: &[u8], second: &[u8]) -> bool
+    ensures { result ≡ is_below first.now second.now }
+{
+    compare(first, second).is_lt()
+}
+
+/// Whether the first key comes before the second, or is the second.
+pub(crate) fn is_at_most(first: &[u8], second: &[u8]) -> bool
+    ensures { result ≡ is_at_most first.now second.now }
+{
+    compare(first, second).is_le()
 }
 
 // The number that the eight bytes from a place on spell, the greatest first.

@@ -1,13 +1,10 @@
-use Rattle.std.proofs.Common.{◌≡◌, rules, ◌∙◌, Some}
+use Rattle.std.proofs.Common.{rules}
 use Rattle.std.specs.Prelude.{not}
 use Rattle.std.proofs.lemmas.Iterator.{YieldsList-from_slice, YieldsList-from_zip}
 use Rattle.std.proofs.lemmas.Iterator.Adapters.{YieldsList-from_skip}
 use Rattle.std.proofs.lemmas.Iterator.Search.{position_from_yields_List}
-use Rattle.std.specs.Ordering.{nat_cmp, is_ge, is_some_and}
-use Rattle.std.specs.Cmp.Lexicographic.{slice_partial_cmp}
 use borrow.Author.Tests.{tests}
 use Rattle.sm_ranges.specs.KeyOrder.{is_below}
-use Rattle.sm_ranges.proofs.Comparisons.{is_ge-not_below}
 use Rattle.sm_ranges.proofs.Layouts.{first_not_rising-found}
 use Rattle.sm_ranges.proofs.layout.first_not_rising.Goals as goal
 
@@ -17,7 +14,5 @@ returns c =
     first_not_rising-found bounds c.position.result c.map.result
     (position_from_yields_List (λ pair. not (is_below pair.0.now pair.1.now)) c.position.new.self _ _ c.position.ensures.ran
     (YieldsList-from_zip (YieldsList-from_slice bounds (cc)) (YieldsList-from_skip 1 (YieldsList-from_slice bounds (cc)) (cc)))
-    (λ pair b q k.
-    let test : b ≡ is_some_and is_ge (slice_partial_cmp (λ y z. Some (nat_cmp y z)) pair.0.now.now pair.1.now.now) = search (rules, tests) in
-    (search (rules, tests), test ∙ is_ge-not_below pair.0.now.now pair.1.now.now)))
+    (λ pair b q k. search (rules, tests)))
     (search rules)
