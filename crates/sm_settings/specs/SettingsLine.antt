@@ -16,8 +16,8 @@ use Rattle.sm_settings.specs.Members.{number_at, string_of, items_at, is_whole, 
 use Rattle.sm_settings.specs.SettingsRows.{is_server_object, server_row_of, is_group_object, group_row_of, is_shard_object, shard_row_of, rule_of_servers, rule_of_groups, rule_of_shards}
 
 -- exactly the members of settings, each of its type
-abbrev pub is_settings_object : Data → Bool
-is_settings_object = is_object_of (
+unfoldable pub is_settings_object : Data → Bool
+is_settings_object d = is_object_of (
     (codes "version", is_whole) ∷
     (codes "bounds", is_array_of is_string) ∷
     (codes "servers", is_array_of is_server_object) ∷
@@ -26,7 +26,7 @@ is_settings_object = is_object_of (
     (codes "ops", is_whole) ∷
     (codes "kept", is_whole) ∷
     (codes "ceiling", is_whole) ∷
-    (codes "workers", is_whole) ∷ [])
+    (codes "workers", is_whole) ∷ []) d
 
 -- what settings say: the bounds of the layout, the rows, and the limits
 pub record SettingsValues : Type 0 where

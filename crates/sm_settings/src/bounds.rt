@@ -1,15 +1,28 @@
 ghost use Rattle.std.specs.Prelude.{◌≡◌, map, is_none, IfOk};
 ghost use Rattle.std.specs.List.{list_all};
+ghost use Rattle.serde_json.specs.Find.{get};
 ghost use Rattle.serde_json.specs.View.{view};
 ghost use Rattle.sm_ranges.specs.LayoutFault.{texts_of, first_layout_fault};
-ghost use Rattle.sm_settings.specs.Members.{is_string, string_of, when};
+ghost use Rattle.sm_settings.specs.Members.{holds_of, is_array_of, is_string, string_of, when};
 
+use crate::members::array;
 use serde_json::Value;
 use sm_ranges::layout::{Layout, LayoutFault};
 use std::alloc::{AllocError, Global};
 
+/// Whether an array is at the member, and each of its items is a text.
+#[tactic(auto, using(crate::proofs::Viewed::holds_of_array))]
+pub fn has_texts(value: &Value, name: &str) -> bool
+    ensures { result ≡ holds_of (is_array_of is_string) (get name.now (view value.now)) }
+{
+    match array(value, name) {
+        Some(values) => are_texts(values),
+        None => false,
+    }
+}
+
 /// Whether each value is a text.
-pub fn are_texts(values: &[Value]) -> bool
+fn are_texts(values: &[Value]) -> bool
     ensures { result ≡ list_all is_string (map view values.now) }
 {
     values.iter().all(|value| value.is_string())

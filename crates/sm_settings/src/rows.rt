@@ -1,21 +1,23 @@
 ghost use Rattle.std.specs.Prelude.{◌≡◌, ◌≤◌, map, vec_len, IfOk, IfSome, option_map};
 ghost use Rattle.std.specs.List.{list_all};
+ghost use Rattle.serde_json.specs.Find.{get};
 ghost use Rattle.serde_json.specs.View.{view};
-ghost use Rattle.sm_settings.specs.Members.{when};
-ghost use Rattle.sm_settings.specs.SettingsRows.{group_row_of, rule_of_groups, rule_of_servers, rule_of_shards, server_row_of, shard_row_of};
+ghost use Rattle.sm_settings.specs.Members.{holds_of, is_array_of, when};
 
-use crate::members::{has_number, has_size, number_within};
+use crate::members::{array, has_number, has_size, number_within};
 use serde_json::Value;
 use sm_ranges::server_id::ServerId;
-use sm_rows::limits::{MAX_CAP, MAX_DOMAIN, MAX_GROUPS, MAX_LIMIT, MAX_SERVERS};
+use sm_rows::limits::{MAX_CAP, MAX_DOMAIN, MAX_LIMIT, MAX_SERVERS, MAX_SHARDS};
 use sm_rows::{GroupRow, ServerRow, ShardRow, are_groups, are_servers, are_shards};
 use std::alloc::{AllocError, Global};
 
 /// A row that settings write as an object of numbers.
 pub(crate) trait Row: Copy + Drop {
-    ghost use Rattle.std.specs.Prelude.{◌≡◌, ℕ, Bool};
+    ghost use Rattle.std.specs.Prelude.{◌≡◌, ◌≤◌, ℕ, Bool, false, true, List, length};
+    ghost use Rattle.std.specs.List.{list_all};
     ghost use Rattle.serde_json.specs.Data.{Data};
     ghost use Rattle.serde_json.specs.View.{view};
+    ghost use Rattle.sm_rows.specs.declared.limits.TheConstants.{MAX_SHARDS as MOST_ROWS};
     ghost use Rattle.sm_settings.specs.Members.{when};
 
     /// Whether data is an object with exactly the row's members.
@@ -27,6 +29,9 @@ pub(crate) trait Row: Copy + Drop {
     /// Whether each number of a row is in its range, where there are so many groups.
     ghost is_row: { ℕ → Self → Bool };
 
+    /// Whether rows keep their rules, where there are so many bounds and groups.
+    ghost rule: { ℕ → ℕ → List Self → Bool };
+
     /// Whether the value has exactly the members of a row, each a number.
     fn has_shape(value: &Value) -> bool
         ensures { result ≡ is_object (view value.now) };
@@ -34,17 +39,35 @@ pub(crate) trait Row: Copy + Drop {
     /// The row of the value's members, where each number is in its range and there are so many groups.
     fn from_value(value: &Value, groups: u16) -> Option<Self>
         ensures { result ≡ when (is_row groups (row_of (view value.now))) (row_of (view value.now)) };
+
+    /// Whether the rows keep their rules, where there are so many bounds and groups.
+    fn keep_rule(rows: &[Self], bounds: usize, groups: u16) -> bool
+        ensures { result ≡ rule bounds groups rows.now };
+
+    // A number out of its range breaks the rule.
+    ghost refused: { (bounds groups : ℕ) (rows : List Self)
+        → list_all (is_row groups) rows ≡ false → rule bounds groups rows ≡ false };
+
+    // No kind has more rows than there may be shards.
+    ghost few: { (bounds groups : ℕ) (rows : List Self) → rule bounds groups rows ≡ true → length rows ≤ MOST_ROWS };
 }
 
 impl Row for ServerRow {
     ghost use Rattle.sm_rows.specs.Rows.{is_server_row};
-    ghost use Rattle.sm_settings.specs.SettingsRows.{is_server_object, server_row_of};
+    ghost use Rattle.sm_settings.specs.SettingsRows.{is_server_object, server_row_of, rule_of_servers};
+    ghost use Rattle.sm_settings.specs.lemmas.RuledRows.{servers_few, servers_refused};
 
     ghost is_object = { is_server_object };
 
     ghost row_of = { server_row_of };
 
     ghost is_row = { λ _ row. is_server_row row };
+
+    ghost rule = { λ _ _ rows. rule_of_servers rows };
+
+    ghost refused = { λ _ _ rows out. servers_refused rows out };
+
+    ghost few = { λ _ _ rows kept. servers_few rows kept };
 
     fn has_shape(value: &Value) -> bool {
         has_size(value, 3)
@@ -64,17 +87,29 @@ impl Row for ServerRow {
             capacity: capacity as u32,
         })
     }
+
+    #[tactic(auto, unfolding(crate::specs::SettingsRows::rule_of_servers))]
+    fn keep_rule(rows: &[ServerRow], _bounds: usize, _groups: u16) -> bool {
+        are_servers(rows)
+    }
 }
 
 impl Row for GroupRow {
     ghost use Rattle.sm_rows.specs.Rows.{is_group_row};
-    ghost use Rattle.sm_settings.specs.SettingsRows.{is_group_object, group_row_of};
+    ghost use Rattle.sm_settings.specs.SettingsRows.{is_group_object, group_row_of, rule_of_groups};
+    ghost use Rattle.sm_settings.specs.lemmas.RuledRows.{groups_few, groups_refused};
 
     ghost is_object = { is_group_object };
 
     ghost row_of = { group_row_of };
 
     ghost is_row = { λ _ row. is_group_row row };
+
+    ghost rule = { λ _ _ rows. rule_of_groups rows };
+
+    ghost refused = { λ _ _ rows out. groups_refused rows out };
+
+    ghost few = { λ _ _ rows kept. groups_few rows kept };
 
     fn has_shape(value: &Value) -> bool {
         has_size(value, 2) && has_number(value, "limit") && has_number(value, "down")
@@ -88,17 +123,29 @@ impl Row for GroupRow {
             down: down as u16,
         })
     }
+
+    #[tactic(auto, unfolding(crate::specs::SettingsRows::rule_of_groups))]
+    fn keep_rule(rows: &[GroupRow], _bounds: usize, _groups: u16) -> bool {
+        are_groups(rows)
+    }
 }
 
 impl Row for ShardRow {
     ghost use Rattle.sm_rows.specs.Rows.{is_shard_row};
-    ghost use Rattle.sm_settings.specs.SettingsRows.{is_shard_object, shard_row_of};
+    ghost use Rattle.sm_settings.specs.SettingsRows.{is_shard_object, shard_row_of, rule_of_shards};
+    ghost use Rattle.sm_settings.specs.lemmas.RuledRows.{shards_few, shards_refused};
 
     ghost is_object = { is_shard_object };
 
     ghost row_of = { shard_row_of };
 
     ghost is_row = { is_shard_row };
+
+    ghost rule = { rule_of_shards };
+
+    ghost refused = { shards_refused };
+
+    ghost few = { shards_few };
 
     fn has_shape(value: &Value) -> bool {
         has_size(value, 3)
@@ -118,10 +165,26 @@ impl Row for ShardRow {
             cap: cap as u8,
         })
     }
+
+    #[tactic(auto, unfolding(crate::specs::SettingsRows::rule_of_shards))]
+    fn keep_rule(rows: &[ShardRow], bounds: usize, groups: u16) -> bool {
+        rows.len() == bounds && are_shards(usize::from(groups), rows)
+    }
+}
+
+/// Whether an array is at the member, and each of its items has the members of a row.
+#[tactic(auto, using(crate::proofs::Viewed::holds_of_array))]
+pub(crate) fn has_rows<T: Row>(value: &Value, name: &str) -> bool
+    ensures { result ≡ holds_of (is_array_of T.is_object) (get name.now (view value.now)) }
+{
+    match array(value, name) {
+        Some(values) => have_shape::<T>(values),
+        None => false,
+    }
 }
 
 /// Whether each value has the members of a row.
-pub(crate) fn have_shape<T: Row>(values: &[Value]) -> bool
+fn have_shape<T: Row>(values: &[Value]) -> bool
     ensures { result ≡ list_all T.is_object (map view values.now) }
 {
     values.iter().all(|value| T::has_shape(value))
@@ -146,78 +209,21 @@ fn rows_of<T: Row>(
     Ok(Some(rows))
 }
 
-/// Whether the servers keep their rules.
-fn keep_rule_of_servers(rows: &[ServerRow]) -> bool
-    ensures { result ≡ rule_of_servers rows.now }
-{
-    are_servers(rows)
-}
-
-/// Whether the groups keep their rules.
-fn keep_rule_of_groups(rows: &[GroupRow]) -> bool
-    ensures { result ≡ rule_of_groups rows.now }
-{
-    are_groups(rows)
-}
-
-/// Whether there is a shard for each of so many bounds, and they keep their rules, where there are so many groups.
-fn keep_rule_of_shards(rows: &[ShardRow], bounds: usize, groups: usize) -> bool
-    ensures { result ≡ rule_of_shards bounds groups rows.now }
-{
-    rows.len() == bounds && are_shards(groups, rows)
-}
-
-/// The servers that the values say, where they keep their rules.
-pub(crate) fn servers_from(
-    alloc: Global,
-    values: &[Value],
-) -> Result<Option<Vec<ServerRow>>, AllocError>
-    ensures { let rows = map server_row_of (map view values.now) in
-        IfOk result (λ found. option_map (λ list. list.items) found ≡ when (rule_of_servers rows) rows) }
-{
-    let Some(rows) = rows_of(alloc, values, 0)? else {
-        return Ok(None);
-    };
-    if keep_rule_of_servers(&rows) {
-        Ok(Some(rows))
-    } else {
-        Ok(None)
-    }
-}
-
-/// The groups that the values say, where they keep their rules.
-pub(crate) fn groups_from(
-    alloc: Global,
-    values: &[Value],
-) -> Result<Option<Vec<GroupRow>>, AllocError>
-    ensures rows { let rows = map group_row_of (map view values.now) in
-        IfOk result (λ found. option_map (λ list. list.items) found ≡ when (rule_of_groups rows) rows) }
-    ensures few { IfOk result (λ found. IfSome found (λ list. vec_len list ≤ MAX_GROUPS)) }
-{
-    let Some(rows) = rows_of(alloc, values, 0)? else {
-        return Ok(None);
-    };
-    if keep_rule_of_groups(&rows) {
-        Ok(Some(rows))
-    } else {
-        Ok(None)
-    }
-}
-
-/// The shards that the values say, where they keep their rules for so many bounds and groups.
-pub(crate) fn shards_from(
+/// The rows that the values say, where they keep their rules for so many bounds and groups.
+pub(crate) fn rows_from<T: Row>(
     alloc: Global,
     values: &[Value],
     bounds: usize,
     groups: u16,
-) -> Result<Option<Vec<ShardRow>>, AllocError>
-    ensures { let rows = map shard_row_of (map view values.now) in
-        IfOk result (λ found. option_map (λ list. list.items) found ≡ when (rule_of_shards bounds groups rows) rows) }
+) -> Result<Option<Vec<T>>, AllocError>
+    ensures rows { let rows = map T.row_of (map view values.now) in
+        IfOk result (λ found. option_map (λ list. list.items) found ≡ when (T.rule bounds groups rows) rows) }
+    ensures few { IfOk result (λ found. IfSome found (λ list. vec_len list ≤ MAX_SHARDS)) }
 {
-    let Some(rows) = rows_of(alloc, values, groups)? else {
+    let Some(rows) = rows_of::<T>(alloc, values, groups)? else {
         return Ok(None);
     };
-    if keep_rule_of_shards(&rows, bounds, usize::from(groups)) {
+    if T::keep_rule(&rows, bounds, groups) {
         Ok(Some(rows))
     } else {
         Ok(None)

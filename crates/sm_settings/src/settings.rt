@@ -5,9 +5,9 @@ ghost use Rattle.sm_rows.specs.Rows.{is_within};
 ghost use Rattle.sm_settings.specs.SettingsLine.{is_settings_object, verdict_of, values_of, settings_of};
 ghost use Rattle.sm_settings.specs.SettingsRules.{KeepsRules};
 
-use crate::bounds::{are_texts, layout_from};
-use crate::members::{array, has_number, has_size, items, number, number_within};
-use crate::rows::{groups_from, have_shape, servers_from, shards_from};
+use crate::bounds::{has_texts, layout_from};
+use crate::members::{has_number, has_size, items, number, number_within};
+use crate::rows::{has_rows, rows_from};
 use crate::settings_fault::SettingsFault;
 use serde_json::Value;
 use sm_ranges::layout::Layout;
@@ -91,14 +91,15 @@ fn judge(alloc: Global, value: &Value) -> Result<Settings, SettingsFault>
     let Some(layout) = layout_from(alloc, items(value, "bounds"))? else {
         return Err(SettingsFault::BadLayout);
     };
-    let Some(servers) = servers_from(alloc, items(value, "servers"))? else {
+    let Some(servers) = rows_from::<ServerRow>(alloc, items(value, "servers"), 0, 0)? else {
         return Err(SettingsFault::BadServers);
     };
-    let Some(groups) = groups_from(alloc, items(value, "groups"))? else {
+    let Some(groups) = rows_from::<GroupRow>(alloc, items(value, "groups"), 0, 0)? else {
         return Err(SettingsFault::BadGroups);
     };
     let (bounds, group_count) = (layout.count(), groups.len() as u16);
-    let Some(shards) = shards_from(alloc, items(value, "shards"), bounds, group_count)? else {
+    let Some(shards) = rows_from::<ShardRow>(alloc, items(value, "shards"), bounds, group_count)?
+    else {
         return Err(SettingsFault::BadShards);
     };
     let ops = limit(value, "ops", 0, MAX_OPS, SettingsFault::BadOps)?;
@@ -142,16 +143,16 @@ fn limit(
 }
 
 // Whether the value has exactly the members of settings, each of its type.
-#[tactic(auto, using(crate::proofs::Viewed::holds_of_array))]
+#[tactic(auto, unfolding(crate::specs::SettingsLine::is_settings_object))]
 fn has_shape(value: &Value) -> bool
     ensures { result ≡ is_settings_object (view value.now) }
 {
     has_size(value, 9)
         && has_number(value, "version")
-        && array(value, "bounds").is_some_and(are_texts)
-        && array(value, "servers").is_some_and(have_shape::<ServerRow>)
-        && array(value, "groups").is_some_and(have_shape::<GroupRow>)
-        && array(value, "shards").is_some_and(have_shape::<ShardRow>)
+        && has_texts(value, "bounds")
+        && has_rows::<ServerRow>(value, "servers")
+        && has_rows::<GroupRow>(value, "groups")
+        && has_rows::<ShardRow>(value, "shards")
         && has_number(value, "ops")
         && has_number(value, "kept")
         && has_number(value, "ceiling")
