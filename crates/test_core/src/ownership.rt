@@ -2,6 +2,7 @@ use sm_ownership::record::MAX_GENERATION;
 use sm_ownership::{AdmitFault, Change, ChangeFault, Mode, PhaseFault, Record, Table};
 use sm_ranges::limits::{MAX_SERVER, MAX_SHARD, MAX_SHARDS};
 use sm_ranges::{ServerId, ShardId, Stand};
+use std::process::Abort;
 use std::test::Fail;
 
 // The example of the crate's documentation.
@@ -21,31 +22,112 @@ fn migrates_a_record(rt: HostRuntime) -> Result<(), Fail> {
     Ok(())
 }
 
+// A call of a table.
+#[derive(Clone, Copy, PartialEq, Eq, Drop)]
+enum Call {
+    Apply(ShardId, Change),
+    Admit(ShardId, ServerId),
+    Done(ShardId),
+    Record(ShardId),
+}
+
+// What a table answers.
+#[derive(Clone, Copy, PartialEq, Eq, Drop)]
+enum Told {
+    Made,
+    NotChanged(ChangeFault),
+    NotAdmitted(AdmitFault),
+    Seen(Record),
+    // The table may not be called so.
+    Uncalled,
+}
+
+fn applied(table: &mut Table, k: ShardId, change: Change) -> Told {
+    match table.apply(k, change) {
+        Ok(()) => Told::Made,
+        Err(fault) => Told::NotChanged(fault),
+    }
+}
+
+fn admitted(table: &mut Table, k: ShardId, server: ServerId) -> Told {
+    if k.index() >= table.count() {
+        return Told::Uncalled;
+    }
+    match table.admit(k, server, Mode::Direct) {
+        Ok(()) => Told::Made,
+        Err(fault) => Told::NotAdmitted(fault),
+    }
+}
+
+fn done(table: &mut Table, k: ShardId) -> Told {
+    if k.index() >= table.count() || !table.record(k).admitted {
+        return Told::Uncalled;
+    }
+    table.done(k);
+    Told::Made
+}
+
+fn seen(table: &Table, k: ShardId) -> Told {
+    if k.index() >= table.count() {
+        return Told::Uncalled;
+    }
+    Told::Seen(table.record(k))
+}
+
+fn answer_of(table: &mut Table, call: Call) -> Told {
+    match call {
+        Call::Apply(k, change) => applied(table, k, change),
+        Call::Admit(k, server) => admitted(table, k, server),
+        Call::Done(k) => done(table, k),
+        Call::Record(k) => seen(table, k),
+    }
+}
+
+fn serving(owner: ServerId, admitted: bool, generation: u64) -> Record {
+    Record {
+        stand: Stand::Serving(owner),
+        admitted,
+        generation,
+    }
+}
+
+// Makes the calls, each of which is to be answered so.
+fn follow(rt: &impl Abort, table: &mut Table, cases: &[(Call, Told)]) {
+    for (call, told) in cases {
+        assert!(rt; answer_of(table, *call) == *told);
+    }
+}
+
 #[test]
 fn changes_and_admits_up_to_the_ceiling(rt: HostRuntime) -> Result<(), Fail> {
     let (one, two) = (ServerId::of(1), ServerId::of(2));
     let k = ShardId::new(0).ok_or("shard 0")?;
     let unknown = ShardId::new(1).ok_or("shard 1")?;
-    let assign = Change::Assign(one);
+    let cases = [
+        (
+            Call::Apply(unknown, Change::Assign(one)),
+            Told::NotChanged(ChangeFault::UnknownShard),
+        ),
+        (
+            Call::Apply(k, Change::Pause),
+            Told::NotChanged(ChangeFault::WrongPhase),
+        ),
+        (Call::Apply(k, Change::Assign(one)), Told::Made),
+        (
+            Call::Admit(k, two),
+            Told::NotAdmitted(AdmitFault::NotExecutor),
+        ),
+        (Call::Admit(k, one), Told::Made),
+        (Call::Done(k), Told::Made),
+        (Call::Record(k), Told::Seen(serving(one, false, 3))),
+        (
+            Call::Apply(k, Change::Pause),
+            Told::NotChanged(ChangeFault::Spent(serving(one, false, 3))),
+        ),
+        (Call::Admit(k, one), Told::NotAdmitted(AdmitFault::Spent)),
+    ];
     let mut table = Table::new(rt.alloc(), 1, 3)?;
-    assert!(rt; table.apply(unknown, assign) == Err(ChangeFault::UnknownShard));
-    assert!(rt; table.apply(k, Change::Pause) == Err(ChangeFault::WrongPhase));
-    assert!(rt; table.apply(k, assign) == Ok(()));
-    assert!(rt; k.index() < table.count());
-    assert!(rt; table.admit(k, two, Mode::Direct) == Err(AdmitFault::NotExecutor));
-    assert!(rt; k.index() < table.count());
-    assert!(rt; table.admit(k, one, Mode::Direct) == Ok(()));
-    assert!(rt; k.index() < table.count() && table.record(k).admitted);
-    table.done(k);
-    let spent = Record {
-        stand: Stand::Serving(one),
-        admitted: false,
-        generation: 3,
-    };
-    assert!(rt; k.index() < table.count() && table.record(k) == spent);
-    assert!(rt; table.apply(k, Change::Pause) == Err(ChangeFault::Spent(spent)));
-    assert!(rt; k.index() < table.count());
-    assert!(rt; table.admit(k, one, Mode::Direct) == Err(AdmitFault::Spent));
+    follow(&rt, &mut table, &cases);
     Ok(())
 }
 
@@ -53,8 +135,6 @@ fn changes_and_admits_up_to_the_ceiling(rt: HostRuntime) -> Result<(), Fail> {
 fn reaches_the_last_shard_and_the_last_server(rt: HostRuntime) -> Result<(), Fail> {
     let (first, last) = (ServerId::of(1), ServerId::of(MAX_SERVER));
     let k = ShardId::new(MAX_SHARD).ok_or("shard 4095")?;
-    let mut table = Table::new(rt.alloc(), MAX_SHARDS, MAX_GENERATION)?;
-    assert!(rt; table.count() == 4096);
     let changes = [
         Change::Assign(last),
         Change::Pause,
@@ -68,19 +148,25 @@ fn reaches_the_last_shard_and_the_last_server(rt: HostRuntime) -> Result<(), Fai
         Change::Pause,
         Change::Resume,
     ];
+    let cases = [
+        (Call::Admit(k, last), Told::Made),
+        (Call::Record(k), Told::Seen(serving(last, true, 12))),
+        (
+            Call::Apply(k, Change::Pause),
+            Told::NotChanged(ChangeFault::Busy(serving(last, true, 12))),
+        ),
+    ];
+    let mut table = Table::new(rt.alloc(), MAX_SHARDS, MAX_GENERATION)?;
     for change in &changes {
-        table.apply(k, *change)?;
+        follow(&rt, &mut table, &[(Call::Apply(k, *change), Told::Made)]);
     }
-    assert!(rt; k.index() < table.count());
-    table.admit(k, last, Mode::Direct)?;
-    assert!(rt; k.index() < table.count());
-    let admitted = Record {
-        stand: Stand::Serving(last),
-        admitted: true,
-        generation: 12,
-    };
-    assert!(rt; table.record(k) == admitted);
-    assert!(rt; table.apply(k, Change::Pause) == Err(ChangeFault::Busy(admitted)));
+    follow(&rt, &mut table, &cases);
+    Ok(())
+}
+
+#[test]
+fn table_has_as_many_shards_as_may_be(rt: HostRuntime) -> Result<(), Fail> {
+    assert!(rt; Table::new(rt.alloc(), MAX_SHARDS, MAX_GENERATION)?.count() == 4096);
     Ok(())
 }
 

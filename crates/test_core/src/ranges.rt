@@ -1,7 +1,9 @@
 use sm_ranges::limits::{MAX_KEY, MAX_SERVER, MAX_SHARD, MAX_SHARDS};
 use sm_ranges::order::compare;
 use sm_ranges::{Key, KeyFault, Layout, LayoutFault, ServerId, ShardId, Stand};
+use std::alloc::{AllocError, Global};
 use std::cmp::Ordering;
+use std::process::Abort;
 use std::test::Fail;
 
 // The example of the crate's documentation.
@@ -16,14 +18,17 @@ fn finds_the_shard_of_a_key(rt: HostRuntime) -> Result<(), Fail> {
     Ok(())
 }
 
+// Whether a key of these bytes, and a clone of it, show them.
+fn holds(alloc: Global, bytes: &[u8]) -> Result<bool, Fail> {
+    let key = Key::new(alloc, bytes)?;
+    let clone = key.try_clone(alloc)?;
+    Ok(key.as_bytes() == bytes && clone.as_bytes() == bytes)
+}
+
 #[test]
 fn key_holds_its_bytes(rt: HostRuntime) -> Result<(), Fail> {
-    let key = Key::new(rt.alloc(), b"m\x00")?;
-    assert!(rt; key.as_bytes() == b"m\x00".as_slice());
-    assert!(rt; key.try_clone(rt.alloc())?.as_bytes() == b"m\x00".as_slice());
-    let longest = Key::new(rt.alloc(), &[0xFF; MAX_KEY])?;
-    assert!(rt; longest.as_bytes() == [0xFF; MAX_KEY].as_slice());
-    assert!(rt; longest.try_clone(rt.alloc())?.as_bytes() == longest.as_bytes());
+    assert!(rt; holds(rt.alloc(), b"m\x00")?);
+    assert!(rt; holds(rt.alloc(), &[0xFF; MAX_KEY])?);
     Ok(())
 }
 
@@ -55,27 +60,49 @@ fn compares_keys(rt: HostRuntime) {
     }
 }
 
+// What the server of this number says its number is.
+fn server_number(number: u16) -> Option<u16> {
+    Some(ServerId::new(number)?.number())
+}
+
 #[test]
-fn servers_go_from_1_to_4095(rt: HostRuntime) -> Result<(), Fail> {
-    let first = ServerId::new(1).ok_or("server 1")?;
-    let last = ServerId::new(MAX_SERVER).ok_or("server 4095")?;
-    assert!(rt; first.number() == 1);
-    assert!(rt; last.number() == 4095);
-    assert!(rt; last == ServerId::of(4095) && first < last);
-    assert!(rt; ServerId::new(0) == None);
-    assert!(rt; ServerId::new(4096) == None);
+fn servers_go_from_1_to_4095(rt: HostRuntime) {
+    let cases = [(0, None), (1, Some(1)), (4095, Some(4095)), (4096, None)];
+    for (number, found) in cases {
+        assert!(rt; server_number(number) == found);
+    }
+}
+
+#[test]
+fn servers_are_ordered_and_printed_by_their_numbers(rt: HostRuntime) -> Result<(), Fail> {
+    let last = ServerId::of(MAX_SERVER);
+    assert!(rt; ServerId::of(1) < last);
     assert!(rt; format!(in rt.alloc(); "{last}")?.as_str() == "4095");
     Ok(())
 }
 
+// What the shard of this number says its number and its place are.
+fn shard_number(number: u16) -> Option<(u16, usize)> {
+    let k = ShardId::new(number)?;
+    Some((k.number(), k.index()))
+}
+
 #[test]
-fn shards_go_from_0_to_4095(rt: HostRuntime) -> Result<(), Fail> {
+fn shards_go_from_0_to_4095(rt: HostRuntime) {
+    let cases = [
+        (0, Some((0, 0))),
+        (MAX_SHARD, Some((4095, MAX_SHARDS - 1))),
+        (4096, None),
+    ];
+    for (number, found) in cases {
+        assert!(rt; shard_number(number) == found);
+    }
+}
+
+#[test]
+fn shards_are_ordered_and_printed_by_their_numbers(rt: HostRuntime) -> Result<(), Fail> {
     let first = ShardId::new(0).ok_or("shard 0")?;
     let last = ShardId::new(MAX_SHARD).ok_or("shard 4095")?;
-    assert!(rt; first.index() == 0);
-    assert!(rt; last.number() == 4095);
-    assert!(rt; last.index() + 1 == MAX_SHARDS);
-    assert!(rt; ShardId::new(4096) == None);
     assert!(rt; first < last);
     assert!(rt; format!(in rt.alloc(); "{last}")?.as_str() == "4095");
     Ok(())
@@ -116,31 +143,44 @@ fn stand_names_its_servers(rt: HostRuntime) {
     }
 }
 
+// The number of the shard of a key.
+fn number_of(layout: &Layout, key: &[u8]) -> u16 {
+    layout.shard_of(key).number()
+}
+
+// The range of the shard of a key.
+fn range_of<'a>(layout: &'a Layout, key: &[u8]) -> (&'a [u8], Option<&'a [u8]>) {
+    layout.range(layout.shard_of(key))
+}
+
 #[test]
 fn layout_gives_each_key_its_shard(rt: HostRuntime) -> Result<(), Fail> {
-    let layout = Layout::new(rt.alloc(), &[b"", b"m"])?;
     let mut before_m = [0xFF; 255];
     before_m[0] = b'l';
-    assert!(rt; layout.shard_of(b"m").number() == 1);
-    assert!(rt; layout.shard_of(b"m\x00").number() == 1);
-    assert!(rt; layout.shard_of(&before_m).number() == 0);
-    assert!(rt; layout.shard_of(&[0xFF; 255]).number() == 1);
-    assert!(rt; layout.shard_of(b"").number() == 0);
-    assert!(rt; layout.shard_of(&[b'l'; 300]).number() == 0);
+    let cases: [(&[u8], u16); 6] = [
+        (b"m", 1),
+        (b"m\x00", 1),
+        (&before_m, 0),
+        (&[0xFF; 255], 1),
+        (b"", 0),
+        (&[b'l'; 300], 0),
+    ];
+    let layout = Layout::new(rt.alloc(), &[b"", b"m"])?;
+    for (key, number) in &cases {
+        assert!(rt; number_of(&layout, key) == *number);
+    }
     Ok(())
 }
 
 #[test]
 fn layout_has_a_range_for_each_shard(rt: HostRuntime) -> Result<(), Fail> {
+    let cases: [(&[u8], &[u8], Option<&[u8]>); 2] = [(b"a", b"", Some(b"m")), (b"z", b"m", None)];
     let layout = Layout::new(rt.alloc(), &[b"", b"m"])?;
     assert!(rt; layout.count() == 2);
     let layout = layout.try_clone(rt.alloc())?;
-    let first = layout.range(layout.shard_of(b"a"));
-    assert!(rt; first.0 == b"".as_slice());
-    assert!(rt; first.1.ok_or("a next shard")? == b"m".as_slice());
-    let last = layout.range(layout.shard_of(b"z"));
-    assert!(rt; last.0 == b"m".as_slice());
-    assert!(rt; last.1.is_none());
+    for (key, low, high) in &cases {
+        assert!(rt; range_of(&layout, key) == (*low, *high));
+    }
     Ok(())
 }
 
@@ -169,35 +209,47 @@ fn bound_from(number: u16) -> [u8; 255] {
     bound
 }
 
-#[test]
-fn layout_has_at_most_4096_bounds(rt: HostRuntime) -> Result<(), Fail> {
-    let texts: Vec<[u8; 255]> = (0..4096u16).map(bound_from).collect(rt.alloc())?;
-    let mut bounds: Vec<&[u8]> = Vec::new(rt.alloc());
+// The empty bound, and these after it.
+fn bounds_of<'a>(alloc: Global, texts: &'a [[u8; 255]]) -> Result<Vec<&'a [u8]>, AllocError> {
+    let mut bounds: Vec<&[u8]> = Vec::new(alloc);
     bounds.push(b"")?;
-    for text in &texts {
+    for text in texts {
         bounds.push(text)?;
     }
-    let fault = Layout::new(rt.alloc(), &bounds).err();
-    assert!(rt; fault == Some(LayoutFault::TooMany));
+    Ok(bounds)
+}
 
-    let _ = bounds.pop();
-    let layout = Layout::new(rt.alloc(), &bounds)?.try_clone(rt.alloc())?;
-    assert!(rt; layout.count() == MAX_SHARDS);
+// Each bound is the least key of its own shard, which ends at the next bound.
+fn finds_each(rt: &impl Abort, layout: &Layout, bounds: &[&[u8]]) {
     for (at, bound) in bounds.iter().enumerate() {
-        let k = layout.shard_of(bound);
-        assert!(rt; k.index() == at);
-        let (low, high) = layout.range(k);
+        assert!(rt; layout.shard_of(bound).index() == at);
+        let (low, high) = range_of(layout, bound);
         assert!(rt; low == *bound);
         assert!(rt; high == bounds.get(at.saturating_add(1)).copied());
     }
+}
 
-    // `shard_of` looks for a key by this search.
+// With how many bounds a key is compared: `shard_of` looks for a key by this search.
+fn comparisons(bounds: &[&[u8]], key: &[u8]) -> u32 {
     let mut compared = 0u32;
     let _ = bounds.partition_point(|bound| {
         compared = compared.wrapping_add(1);
-        *bound <= b"m".as_slice()
+        *bound <= key
     });
-    assert!(rt; compared == 13);
+    compared
+}
+
+#[test]
+fn layout_has_at_most_4096_bounds(rt: HostRuntime) -> Result<(), Fail> {
+    let texts: Vec<[u8; 255]> = (0..4096u16).map(bound_from).collect(rt.alloc())?;
+    let mut bounds = bounds_of(rt.alloc(), &texts)?;
+    let fault = Layout::new(rt.alloc(), &bounds).err();
+    assert!(rt; fault == Some(LayoutFault::TooMany));
+    let _ = bounds.pop();
+    let layout = Layout::new(rt.alloc(), &bounds)?.try_clone(rt.alloc())?;
+    assert!(rt; layout.count() == MAX_SHARDS);
+    finds_each(&rt, &layout, &bounds);
+    assert!(rt; comparisons(&bounds, b"m") == 13);
     Ok(())
 }
 

@@ -6,7 +6,6 @@ use sm_ownership::record::MAX_GENERATION;
 use sm_ranges::{ServerId, Stand};
 use sm_word::{admit_word, done_word, pack, record_of_word, record_served, unpack};
 use std::process::Abort;
-use std::test::Fail;
 
 // The example of the crate's documentation.
 #[test]
@@ -57,10 +56,8 @@ fn admitted(stand: Stand, generation: u64) -> Record
 }
 
 #[test]
-fn words_of_records(rt: HostRuntime) -> Result<(), Fail> {
-    let one = ServerId::new(1).ok_or("server 1")?;
-    let two = ServerId::new(2).ok_or("server 2")?;
-    let last = ServerId::new(4095).ok_or("server 4095")?;
+fn words_of_records(rt: HostRuntime) {
+    let (one, two) = (ServerId::of(1), ServerId::of(2));
     let prepared = Stand::Prepared {
         owner: one,
         next: two,
@@ -83,32 +80,31 @@ fn words_of_records(rt: HostRuntime) -> Result<(), Fail> {
     is_word_of(&rt, 0x4001_0020_0000_0002, &idle(prepared, 2));
     is_word_of(&rt, 0x6001_0020_0000_0003, &idle(forwarding, 3));
     is_word_of(&rt, 0x8002_0010_0000_0004, &idle(taken, 4));
+}
+
+#[test]
+fn words_of_the_last_server(rt: HostRuntime) {
+    let last = ServerId::of(4095);
+    let taken = Stand::Taken {
+        owner: last,
+        previous: ServerId::of(4094),
+    };
     is_word_of(&rt, 0xafff_0000_0000_0005, &idle(Stand::Paused(last), 5));
     is_word_of(
         &rt,
         0x3fff_000f_ffff_ffff,
         &admitted(Stand::Serving(last), MAX_GENERATION),
     );
-    let between_last = Stand::Taken {
-        owner: last,
-        previous: ServerId::of(4094),
-    };
-    is_word_of(
-        &rt,
-        0x8fff_ffef_ffff_ffff,
-        &idle(between_last, MAX_GENERATION),
-    );
-    Ok(())
+    is_word_of(&rt, 0x8fff_ffef_ffff_ffff, &idle(taken, MAX_GENERATION));
 }
 
 #[test]
-fn words_of_an_admission(rt: HostRuntime) -> Result<(), Fail> {
-    let one = ServerId::new(1).ok_or("server 1")?;
+fn words_of_an_admission(rt: HostRuntime) {
+    let one = ServerId::of(1);
     let before = pack(idle(Stand::Serving(one), 1));
     assert!(rt; admit_word(before) == 0x3001_0000_0000_0002);
     let between = pack(admitted(Stand::Serving(one), 2));
     assert!(rt; done_word(between) == 0x2001_0000_0000_0003);
-    Ok(())
 }
 
 #[test]
