@@ -1,6 +1,7 @@
 -- An envelope that reaches its server, in the parts and in the world that they stand for.
-use Rattle.std.proofs.Common.{◌≡◌, ℕ, true, false, List, refl, sym, ap, subst, ◌∙◌}
+use Rattle.std.proofs.Common.{◌≡◌, ◌≤◌, ℕ, true, false, List, length, refl, sym, ap, subst, ◌∙◌}
 use Rattle.std.specs.Prelude.{Option, Some, None, Result, Ok, Err, is_some, remove, slice_get}
+use Rattle.std.proofs.lemmas.Option.{slice_get_past}
 use Rattle.sm_ownership.specs.declared.admit_fault.AdmitFault.{AdmitFault}
 use Rattle.sm_ownership.specs.declared.mode.Mode.{Mode}
 use Rattle.sm_ownership.specs.declared.record.Record.{Record}
@@ -12,16 +13,24 @@ use Rattle.sm_envelope.specs.declared.refusal.Refusal.TheVariants.{Admit as NotA
 use Rattle.sm_table.specs.declared.step.Step.TheVariants.{Deliver}
 use Rattle.sm_table.specs.declared.world_answer.WorldAnswer.{WorldAnswer}
 use Rattle.sm_table.specs.declared.world_answer.WorldAnswer.TheVariants.{Began, Refused}
+use Rattle.sm_table.specs.declared.world_fault.WorldFault.TheVariants.{NoEnvelope}
 use Rattle.sm_envelope.specs.Envelope.{EnvelopeView, forwarded, sent_on}
 use Rattle.sm_body.specs.Service.{Service}
 use Rattle.sm_table.specs.World.{WorldState, Plain, world_record, hand_of, reached, after_hop, without_flight, mark_of, outcome}
 use Rattle.sm_table.specs.Standing.{WorldView, StandsFor, Follows, with_admission}
 use Rattle.sm_table.proofs.Admissions.{entered, entered_parts, entered_keeps}
-use Rattle.sm_table.proofs.Parts.{parts_of, parts-from_StandsFor, Follows-changed}
+use Rattle.sm_table.proofs.Parts.{parts_of, parts-from_StandsFor, Follows-unchanged, Follows-changed}
 
 none_of : {X : Type 0} (option : Option X) → is_some option ≡ false → option ≡ None
 none_of None is = refl
 none_of (Some x) is = absurd cc
+
+-- there is no envelope at the place
+pub not_there : {Q R : Type 0} (service : Service Q R) (v now : WorldView Q) → v ≡ now → (w : WorldState Q) → StandsFor now w → (place : ℕ) → length v.in_flight ≤ place → Follows {R = R} now (Err NoEnvelope) (outcome service w Plain (Deliver place))
+not_there service v now same w given place past =
+    let stands = subst (λ u. StandsFor u w) (sym same) given in
+    let none : slice_get w.in_flight place ≡ None = slice_get_past w.in_flight place (subst (λ (flights : List (Flight _)). length flights ≤ place) stands.in_flight past) in
+    Follows-unchanged service w Plain (Deliver place) now now (Err NoEnvelope) given (rw none refl) refl
 
 -- a hop is a plain step
 plain_hop : {Q : Type 0} (R : Type 0) (in_flight : List (Flight Q)) (sent : Result (ℕ × EnvelopeView Q) (EnvelopeView Q)) → mark_of (Ok (after_hop {R = R} in_flight sent).0) ≡ Plain

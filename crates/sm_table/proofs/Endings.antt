@@ -1,6 +1,6 @@
 -- The end of an admission, in the parts and in the world that they stand for.
 use Rattle.std.proofs.Common.{◌≡◌, ℕ, ◌<◌, ◌≤◌, true, false, List, [], ◌∷◌, ◌++◌, length, refl, sym, ap, subst, ◌∙◌, arith, ⊎_elim}
-use Rattle.std.specs.Prelude.{Option, Some, None, Ok, nat_lt, slice_index_or, slice_set, ◌==◌}
+use Rattle.std.specs.Prelude.{Option, Some, None, Ok, Err, nat_lt, slice_index_or, slice_set, ◌==◌}
 use Rattle.std.proofs.lemmas.Bool.{cases_eq, lt-ltb}
 use Rattle.std.proofs.lemmas.Bool.Decides.{nat_tests}
 use Rattle.std.proofs.lemmas.List.{get_or-set_same, get_or-set_other, length-set}
@@ -13,14 +13,15 @@ use Rattle.std.specs.Option.{option_map}
 use Rattle.sm_envelope.specs.declared.refusal.Refusal.TheVariants.{KeptFull, NoMemory as NoMemoryFor}
 use Rattle.sm_table.specs.declared.step.Step.TheVariants.{Finish}
 use Rattle.sm_table.specs.declared.world_answer.WorldAnswer.TheVariants.{Replied, Refused}
+use Rattle.sm_table.specs.declared.world_fault.WorldFault.TheVariants.{NotHeld}
 use Rattle.sm_ownership.specs.History.{record_at, after_done, kept}
 use Rattle.sm_table.specs.Bodies.{BodiesView}
 use Rattle.sm_ownership.specs.Tables.{TableView, table_done}
 use Rattle.sm_body.specs.Service.{Service}
-use Rattle.sm_table.specs.World.{WorldState, Plain, Unserved, count_of, desk_of, ended, outcome}
+use Rattle.sm_table.specs.World.{WorldState, Mark, Plain, Unserved, count_of, desk_of, ended, worked, served, outcome}
 use Rattle.sm_table.specs.Standing.{IsSound, WorldView, StandsFor, Follows}
 use Rattle.sm_ownership.specs.lemmas.Growth.{fits-push, table_of-push, kept-push_none, kept-push_other, kept-push_some}
-use Rattle.sm_table.proofs.Parts.{parts_of, Keeps, parts-from_StandsFor, Follows-changed}
+use Rattle.sm_table.proofs.Parts.{parts_of, Keeps, parts-from_StandsFor, Follows-unchanged, Follows-changed}
 use Rattle.sm_table.proofs.Admissions.{stands-push}
 use Rattle.sm_table.specs.lemmas.Entries.{hand_within}
 
@@ -56,6 +57,21 @@ module _ {Q : Type 0} (w : WorldState Q) (shard : ℕ) (server : ℕ) (request :
       let shown = stands-push (count_of w) w.frame.ceiling w.history entry after.legal refl in
       ap (λ stands. record (done_parts lists (parts_of w before)) { desk = record { servers = w.frame.servers; stands = stands } }) (sym shown)
       ∙ ap (λ records. record (done_parts lists (parts_of w before)) { desk = desk_of (ended w shard server request); records = records }) (sym grown)
+
+worked-none : {Q R : Type 0} (service : Service Q R) (w : WorldState Q) (mark : Mark) (shard server : ℕ) (work : Option (Work Q)) → None ≡ option_map (begun server) work → worked service w mark shard server work ≡ (Err NotHeld, w)
+worked-none service w mark shard server None none = refl
+worked-none service w mark shard server (Some work) none = absurd cc
+
+served-none : {Q R : Type 0} (service : Service Q R) (w : WorldState Q) (mark : Mark) (shard : ℕ) (hand : Option (InHand Q)) → None ≡ work_of hand → served service w mark shard hand ≡ (Err NotHeld, w)
+served-none service w mark shard None none = refl
+served-none service w mark shard (Some hand) none = worked-none service w mark shard hand.server hand.work none
+
+-- no server has begun a request on the shard
+pub not_begun : {Q R : Type 0} (service : Service Q R) (v now : WorldView Q) → v ≡ now → (w : WorldState Q) → StandsFor now w → (shard : ℕ) (hands : List (Option (InHand Q))) → None ≡ work_of (slice_index_or v.in_hand shard None) → hands ≡ v.in_hand → Follows (record v { in_hand = hands }) (Err NotHeld) (outcome service w Plain (Finish shard))
+not_begun service v now same w given shard hands none stays =
+    let stands = subst (λ u. StandsFor u w) (sym same) given in
+    let nothing : None ≡ work_of (slice_index_or w.in_hand shard None) = none ∙ ap (λ all. work_of (slice_index_or all shard None)) stands.in_hand in
+    Follows-unchanged service w Plain (Finish shard) (record v { in_hand = hands }) v (Err NotHeld) stands (served-none service w Plain shard (slice_index_or w.in_hand shard None) nothing) (ap (λ all. record v { in_hand = all }) stays)
 
 module _ {Q R : Type 0} (service : Service Q R) (v now : WorldView Q) (same : v ≡ now) (w : WorldState Q) (given : StandsFor now w) (shard : ℕ) (server : ℕ) (work : Work Q) (held : slice_index_or v.in_hand shard None ≡ in_hand server (Some work)) where
   stands : StandsFor v w

@@ -1,14 +1,36 @@
-use Rattle.std.proofs.Common.{◌≡◌, ◌<◌, ◌∙◌, ap, refl, subst, sym, length, arith}
+use Rattle.std.proofs.Common.{◌≡◌, ◌<◌, ◌≤◌, ◌∙◌, ap, refl, subst, sym, length, arith}
 use Rattle.std.specs.Prelude.{All, slice_get, Some}
 use Rattle.std.proofs.lemmas.Option.{slice_get_read}
 use Rattle.sm_body.specs.Service.{meaning_of}
 use Rattle.sm_ownership.specs.Rules.{forward_to}
 use Rattle.sm_table.specs.declared.flight.Flight.{Flight}
-use Rattle.sm_table.specs.World.{hand_of}
+use Rattle.sm_table.specs.declared.step.Step.TheVariants.{Deliver}
+use Rattle.sm_table.specs.World.{hand_of, may_go}
+use Rattle.sm_table.specs.Standing.{WorldView}
 use Rattle.sm_table.specs.declared.in_hand.InHand.{InHand}
-use Rattle.sm_table.proofs.Deliveries.{forwarded_on, refused, began}
+use Rattle.sm_table.proofs.Deliveries.{not_there, forwarded_on, refused, began}
 use Rattle.sm_table.proofs.Fitting.{IsTogether-in_flight, flight_there, flights-hop, flights-remove}
 use Rattle.sm_table.proofs.world.World.deliver.Goals as goal
+
+pub returns-then-place-len-clause-stands : goal.returns-then-place-len-clause-stands
+returns-then-place-len-clause-stands g c = λ w stands.
+    let past : length c.self.inside.in_flight.items ≤ c.args.place = omega (arith, c.self.inside.in_flight.ok.0) in
+    not_there (meaning_of g.S.Service.initial g.S.Service.next g.S.Service.answer g.S.Service.key_of) _ _ c.self.view_is w stands c.args.place past
+
+pub record-state-requires : goal.record-state-requires
+record-state-requires g c =
+    let place_there : c.args.place < length c.self.inside.in_flight.items = omega (arith, c.self.inside.in_flight.ok.0) in
+    let there = flight_there _ c.self.invariant c.args.place c.remove-to.result place_there c.remove-to.ensures.value in
+    subst (λ shard. shard < length c.self.inside.table.records) (sym c.shard-k.ensures) there
+
+pub returns-then-place-len-clause-bounds : goal.returns-then-place-len-clause-bounds
+returns-then-place-len-clause-bounds g c = refl
+
+pub returns-then-is_some-clause-marks : goal.returns-then-is_some-clause-marks
+returns-then-is_some-clause-marks g c = ap (may_go {Q = g.row.S-Request.Denot} (Deliver c.args.place)) c.send_on.ensures.plain
+
+pub returns-then-is_some-clause-bounds : goal.returns-then-is_some-clause-bounds
+returns-then-is_some-clause-bounds g c = ap (λ (view : WorldView g.row.S-Request.Denot). view.bounds) c.self.view_is
 
 pub invariant_of-self : goal.invariant_of-self
 invariant_of-self g c =
@@ -45,3 +67,8 @@ returns-clause-stands g c = λ w stands.
     ap (λ n. record { server = c.remove-to.result.to; work = Some (record { number = n; request = c.parts-request.result.0 }) }) c.number-number.ensures
     ∙ ap (λ q. record { server = c.remove-to.result.to; work = Some (record { number = c.remove-to.result.envelope.number; request = q }) }) c.parts-request.ensures.request in
     began (meaning_of g.S.Service.initial g.S.Service.next g.S.Service.answer g.S.Service.key_of) _ _ c.self.view_is w stands c.args.place c.remove-to.result there c.remove-to.new.self.items c.remove-to.ensures.items c.shard-k.result c.shard-k.ensures c.record-state.result c.record-state.ensures (rw c.forward_to.ensures at (sym c.if-is_some.ensures)) c.mode-mode.result c.mode-mode.ensures hand c.admit.new.self c.in_default.ensures.fault hand_is c.in_default.ensures.admitted
+
+pub returns-clause-bounds : goal.returns-clause-bounds
+returns-clause-bounds g c =
+    ap (λ (view : WorldView g.row.S-Request.Denot). view.bounds) c.in_default.ensures.admitted
+    ∙ ap (λ (view : WorldView g.row.S-Request.Denot). view.bounds) c.self.view_is
