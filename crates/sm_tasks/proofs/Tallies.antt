@@ -10,6 +10,7 @@ use Rattle.std.proofs.lemmas.List.{length-replicate, get_or-replicate, length-se
 use Rattle.std.proofs.lemmas.List.FromFn.{length-range_with_len, get_or-range_with_len}
 use Rattle.std.proofs.lemmas.List.Sums.{sum_by_more, count_by-le-length, position_or_len_is}
 use Rattle.sm_ranges.specs.declared.stand.Stand.{Stand}
+use Rattle.sm_rows.specs.declared.limits.TheConstants.{MAX_GROUPS}
 use Rattle.sm_place.specs.declared.shard.Shard.{Shard}
 use Rattle.sm_place.specs.Books.{BooksView}
 use Rattle.sm_ranges.specs.Stand.{names}
@@ -18,8 +19,8 @@ use Rattle.sm_tasks.specs.Groups.{is_of, group_count, down_of}
 
 -- the counts of the first shards
 pub record CountsTo (test : Stand → Bool) (shards : List Shard) (i : ℕ) (counts : List ℕ) : Type 0 where
-  pub len : length counts ≡ 4096
-  pub at : (g : ℕ) → g < 4096 → get_or counts g 0 ≡ group_count test (take i shards) g
+  pub len : length counts ≡ MAX_GROUPS
+  pub at : (g : ℕ) → g < MAX_GROUPS → get_or counts g 0 ≡ group_count test (take i shards) g
 
 group_count-more : (test : Stand → Bool) (shards : List Shard) (i g : ℕ) (shard : Shard) → i < length shards → shard ≡ get_or shards i shard
     → group_count test (take (i + 1) shards) g ≡ group_count test (take i shards) g + cond (is_of test g shard) 1 0
@@ -29,7 +30,7 @@ group_count-more test shards i g shard h e =
 
 -- a shard that passes counts in its group
 pub CountsTo-counted : (test : Stand → Bool) (shards : List Shard) (i : ℕ) (counts : List ℕ) (shard : Shard) (n : ℕ)
-    → i < length shards → shard ≡ get_or shards i shard → test shard.stand ≡ true → shard.row.group < 4096
+    → i < length shards → shard ≡ get_or shards i shard → test shard.stand ≡ true → shard.row.group < MAX_GROUPS
     → n ≡ get_or counts shard.row.group 0
     → CountsTo test shards i counts → CountsTo test shards (i + 1) (set counts shard.row.group (n + 1))
 CountsTo-counted test shards i counts shard n h e pass small en so = record {
@@ -68,7 +69,7 @@ CountsTo-passed test shards i counts shard h e fail so = record {
       omega (arith, more, none, so.at g hg);
 }
 
-pub CountsTo-none : (test : Stand → Bool) (shards : List Shard) (n : ℕ) → n ≡ 4096 → CountsTo test shards 0 (replicate n 0)
+pub CountsTo-none : (test : Stand → Bool) (shards : List Shard) (n : ℕ) → n ≡ MAX_GROUPS → CountsTo test shards 0 (replicate n 0)
 CountsTo-none test shards n e = record {
   len = length-replicate n 0 ∙ e;
   at = λ g hg. get_or-replicate n g 0 0 (omega arith);
@@ -76,13 +77,13 @@ CountsTo-none test shards n e = record {
 
 -- so many shards count at most so much
 pub CountsTo-le : (test : Stand → Bool) (shards : List Shard) (i : ℕ) (counts : List ℕ) (g : ℕ) → CountsTo test shards i counts
-    → g < 4096 → get_or counts g 0 ≤ i
+    → g < MAX_GROUPS → get_or counts g 0 ≤ i
 CountsTo-le test shards i counts g so hg =
     omega (arith, so.at g hg, count_by-le-length (is_of test g) (take i shards), length-take i shards)
 
 -- all shards
 pub CountsTo-all : (test : Stand → Bool) (shards : List Shard) (i : ℕ) (counts : List ℕ) → length shards ≤ i → CountsTo test shards i counts
-    → (g : ℕ) → g < 4096 → get_or counts g 0 ≡ group_count test shards g
+    → (g : ℕ) → g < MAX_GROUPS → get_or counts g 0 ≡ group_count test shards g
 CountsTo-all test shards i counts h so g hg = so.at g hg ∙ ap (λ xs. group_count test xs g) (take_all i shards h)
 
 -- the first number that passes

@@ -1,5 +1,6 @@
-ghost use Rattle.std.specs.Prelude.{◌≡◌, ◌<◌, IfSome};
+ghost use Rattle.std.specs.Prelude.{◌≡◌, IfSome};
 ghost use Rattle.sm_place.specs.Books.{IsKnown};
+ghost use Rattle.sm_ranges.specs.ShardId.{IsShard};
 ghost use Rattle.sm_ranges.specs.Stand.{passes, AllNamed};
 ghost use Rattle.sm_tasks.specs.Approvals.{capped_shard, leaving_count, names_down, serving_shard, would_be_down};
 
@@ -41,7 +42,7 @@ pub(crate) fn serving_shard(books: &Books, a: ServerId) -> Option<ShardId>
 
 // The shard of the place, where there is one.
 fn shard_id(place: Option<usize>) -> Option<ShardId>
-    requires { IfSome place (λ at. at < 4096) }
+    requires { IfSome place IsShard }
     ensures { result ≡ place }
 {
     match place {

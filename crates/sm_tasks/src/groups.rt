@@ -1,11 +1,13 @@
 ghost use Rattle.std.specs.Prelude.{◌≡◌, ℕ, ◌<◌, slice_index};
 ghost use Rattle.sm_ranges.specs.Stand.{names};
+ghost use Rattle.sm_rows.specs.declared.limits.TheConstants.{MAX_GROUPS};
 ghost use Rattle.sm_tasks.specs.Approvals.{full_group, names_down};
 ghost use Rattle.sm_tasks.specs.Groups.{group_count};
 
 use crate::counts::names_down;
 use sm_place::Books;
 use sm_ranges::ServerId;
+use sm_rows::limits::MAX_GROUPS;
 
 /// The lowest group, by its place from 0, of which a shard names the server, where more shards than the group's `down`
 /// name it or a server that is leaving. The counts stand on the stack, so that no memory is taken.
@@ -24,11 +26,11 @@ pub(crate) fn full_group(books: &Books, a: ServerId) -> Option<u16>
 }
 
 // For each group, how many of its shards name the server.
-fn named_by_group(books: &Books, a: ServerId) -> [u16; 4096]
-    ensures { (g : ℕ) → g < 4096 → slice_index result g ≡ group_count (λ stand. names stand a) books.now.shards g }
+fn named_by_group(books: &Books, a: ServerId) -> [u16; MAX_GROUPS]
+    ensures { (g : ℕ) → g < MAX_GROUPS → slice_index result g ≡ group_count (λ stand. names stand a) books.now.shards g }
 {
     books.soundness();
-    let mut counts = [0; 4096];
+    let mut counts = [0; MAX_GROUPS];
     for shard in books.shards() {
         if shard.stand.names(a) {
             counts[usize::from(shard.row.group)] += 1;
@@ -38,11 +40,11 @@ fn named_by_group(books: &Books, a: ServerId) -> [u16; 4096]
 }
 
 // For each group, how many of its shards name the server or one that is leaving.
-fn down_by_group(books: &Books, a: ServerId) -> [u16; 4096]
-    ensures { (g : ℕ) → g < 4096 → slice_index result g ≡ group_count (names_down books.now a) books.now.shards g }
+fn down_by_group(books: &Books, a: ServerId) -> [u16; MAX_GROUPS]
+    ensures { (g : ℕ) → g < MAX_GROUPS → slice_index result g ≡ group_count (names_down books.now a) books.now.shards g }
 {
     books.soundness();
-    let mut counts = [0; 4096];
+    let mut counts = [0; MAX_GROUPS];
     for shard in books.shards() {
         if names_down(books, &shard.stand, a) {
             counts[usize::from(shard.row.group)] += 1;

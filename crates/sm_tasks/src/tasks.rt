@@ -1,4 +1,5 @@
 ghost use Rattle.std.specs.Prelude.{◌≡◌, ◌≤◌, OnErr, OnOk};
+ghost use Rattle.sm_ranges.specs.declared.limits.TheConstants.{MAX_SERVER};
 ghost use Rattle.sm_place.specs.Books.{IsKnown, with_state};
 ghost use Rattle.sm_place.specs.declared.server_state.ServerState.TheVariants.{Approved, Asked, Failed, Stopped, Up};
 ghost use Rattle.sm_tasks.specs.Approvals.{approvable, askable, failable, returnable, stoppable};
@@ -19,12 +20,13 @@ pub struct Tasks {
 
 impl Model for Tasks {
     ghost use Rattle.std.specs.Prelude.{ℕ, ◌≤◌};
+    ghost use Rattle.sm_ranges.specs.declared.limits.TheConstants.{MAX_SERVER};
 
     ghost Value = { ℕ };
 
     ghost view = { λ tasks. tasks.ops };
 
-    ghost invariant = { λ tasks. tasks.ops ≤ 4095 };
+    ghost invariant = { λ tasks. tasks.ops ≤ MAX_SERVER };
 
     ghost inverse = { λ ops. record { ops = ops } };
 }
@@ -32,7 +34,7 @@ impl Model for Tasks {
 impl Tasks {
     /// Steps where at most `ops` servers, 0 to 4,095, may be approved to restart, stopped or failed for an approval.
     pub fn new(ops: u16) -> Tasks
-        requires { ops ≤ 4095 }
+        requires { ops ≤ MAX_SERVER }
         ensures { result ≡ ops }
     {
         Tasks { ops }
