@@ -1,41 +1,41 @@
-use Rattle.std.proofs.Common.{◌≡◌, arith, cond}
-use Rattle.std.specs.Prelude.{slice_index}
-use Rattle.sm_place.specs.Books.{domain_of, shard_at}
+use Rattle.std.proofs.Common.{ℕ, ◌≡◌, ◌+◌, ◌<◌, List, length, ap, arith, cond}
+use Rattle.std.specs.Prelude.{remove, slice_index}
+use Rattle.sm_rows.specs.declared.server_row.ServerRow.{ServerRow}
+use Rattle.sm_place.specs.declared.shard.Shard.{Shard}
+use Rattle.sm_place.specs.Books.{domain_of, shard_at, IsKnown}
 use Rattle.sm_place.specs.Cells.{cell_of}
-use Rattle.sm_place.specs.Room.{names_domain}
+use Rattle.sm_place.specs.Counters.{AreBelow, HasCells, HasCounts}
+use Rattle.sm_place.specs.Room.{count_in, names_domain}
 use Rattle.sm_place.proofs.Counting.{count_others}
 use Rattle.sm_place.proofs.tallies.other_count.Goals as goal
 
+-- the counter of the server's domain has the other shards, and the shard where it names a server there
+count_of_others : (servers : List ServerRow) (w : ℕ) (shards : List Shard) (k a cell d own count : ℕ) (counts : List ℕ) (shard : Shard)
+    → k < length shards → AreBelow servers w → HasCells counts (shard_at shards k).row.group w → IsKnown servers a
+    → HasCounts servers shards counts w → shard ≡ shard_at shards k → cell ≡ cell_of servers w shard.row.group a → d ≡ domain_of servers a
+    → own ≡ cond (names_domain servers shard.stand d) 1 0 → count ≡ slice_index counts cell
+    → count_in servers (remove shards k) (shard_at shards k).row.group (domain_of servers a) + own ≡ count
+count_of_others servers w shards k a cell d own count counts shard inside below cells known has is here there takes holds =
+    let mine : own ≡ cond (names_domain servers (shard_at shards k).stand (domain_of servers a)) 1 0 = rw (is, there) at takes in
+    let all : count ≡ slice_index counts (cell_of servers w (shard_at shards k).row.group a) = rw (here, is) at holds in
+    omega (arith, mine, all, count_others servers w shards k a counts inside below cells known has)
+
 pub overflow_sub-result : goal.overflow_sub-result
 overflow_sub-result c =
-    let is = c.shard_at-shard.ensures in
-    let g = (shard_at c.args.shards.now c.args.at).row.group in
-    let own : c.count_by.result
-    ≡ cond (names_domain c.args.roster.now (shard_at c.args.shards.now c.args.at).stand (domain_of c.args.roster.now c.args.a)) 1 0 =
-    rw (is, c.row.ensures) at c.count_by.ensures in
-    let all : c.from.result ≡ slice_index c.args.counts.now (cell_of c.args.roster.now c.args.width g c.args.a) =
-    rw (c.cell-cell.ensures, is) at c.from.ensures in
     omega (
       arith,
-      own,
-      all,
-      count_others c.args.roster.now c.args.width c.args.shards.now c.args.at c.args.a c.args.counts.now c.requires.shard
-          c.requires.domains c.requires.cells c.requires.known c.requires.counts,
+      count_of_others c.args.roster.now c.args.width c.args.shards.now c.args.at c.args.a c.cell-cell.result
+          c.row.result.domain c.count_by.result c.from.result c.args.counts.now c.shard_at-shard.result.now c.requires.shard
+          c.requires.domains c.requires.cells c.requires.known c.requires.counts c.shard_at-shard.ensures c.cell-cell.ensures
+          (ap (λ (r : ServerRow). r.domain) c.row.ensures) c.count_by.ensures c.from.ensures,
     )
 
 pub returns : goal.returns
 returns c =
-    let is = c.shard_at-shard.ensures in
-    let g = (shard_at c.args.shards.now c.args.at).row.group in
-    let own : c.count_by.result
-    ≡ cond (names_domain c.args.roster.now (shard_at c.args.shards.now c.args.at).stand (domain_of c.args.roster.now c.args.a)) 1 0 =
-    rw (is, c.row.ensures) at c.count_by.ensures in
-    let all : c.from.result ≡ slice_index c.args.counts.now (cell_of c.args.roster.now c.args.width g c.args.a) =
-    rw (c.cell-cell.ensures, is) at c.from.ensures in
     omega (
       arith,
-      own,
-      all,
-      count_others c.args.roster.now c.args.width c.args.shards.now c.args.at c.args.a c.args.counts.now c.requires.shard
-          c.requires.domains c.requires.cells c.requires.known c.requires.counts,
+      count_of_others c.args.roster.now c.args.width c.args.shards.now c.args.at c.args.a c.cell-cell.result
+          c.row.result.domain c.count_by.result c.from.result c.args.counts.now c.shard_at-shard.result.now c.requires.shard
+          c.requires.domains c.requires.cells c.requires.known c.requires.counts c.shard_at-shard.ensures c.cell-cell.ensures
+          (ap (λ (r : ServerRow). r.domain) c.row.ensures) c.count_by.ensures c.from.ensures,
     )
