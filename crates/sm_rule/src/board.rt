@@ -9,6 +9,7 @@ ghost use Rattle.sm_rule.specs.Views.{Adds, Looks, record_in};
 mod admitting;
 mod changing;
 mod closing;
+mod executing;
 mod making;
 
 use crate::chair::Chair;

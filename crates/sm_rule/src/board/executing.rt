@@ -1,0 +1,59 @@
+//! Requests that the body of an admitted shard applies.
+ghost use Rattle.std.specs.Prelude.{◌≡◌, ◌<◌, ◌≤◌, ◌++◌, ◌∷◌, [], Some, None, IfErr, IfOk, OnErr, OnOk, fold, length};
+ghost use Rattle.sm_ownership.specs.declared.entry.Kind.TheVariants.{Done};
+ghost use Rattle.sm_ownership.specs.History.{kept};
+ghost use Rattle.sm_rule.specs.Admissions.{HoldsPermit};
+ghost use Rattle.sm_rule.specs.Passes.{PassAdds, record_of};
+ghost use Rattle.sm_rule.specs.Views.{list_held};
+
+use super::Board;
+use crate::pass::Pass;
+use crate::permit::{Front, Permit};
+use sm_body::service::{ApplyFault, Service};
+
+impl<S: Service> Board<S> {
+    /// Has the permit's body, as the admission gave it, apply the request, and ends the admission. The entry keeps the
+    /// request where it is applied, and else none; a request that isn't applied comes back with the reason.
+    pub fn execute(
+        &self,
+        pass: &mut Pass<S>,
+        mut permit: Permit<S>,
+        request: S::Request,
+    ) -> (Result<S::Reply, (S::Request, ApplyFault)>, Front)
+        requires board { pass.old.board ≡ self.now }
+        requires permit { HoldsPermit pass.old permit }
+        requires body { S.requests permit.body ≡ list_held pass.old.held }
+
+        // An applied request is the last one kept for the shard, and its reply is that of the state after those before it.
+        ensures applied { OnOk result.0 (PassAdds pass.old permit.shard (Done (Some request)) pass.new) }
+        ensures kept { OnOk result.0 (kept pass.new.seen permit.shard ≡ S.requests permit.body ++ request ∷ []) }
+        ensures reply { IfOk result.0 (λ reply.
+            reply ≡ S.answer (fold S.next (S.base permit.body) (S.requests permit.body)) request) }
+        ensures room { OnOk result.0 (length (S.requests permit.body) < S.limit permit.body) }
+
+        // A refused one comes back, as the body refuses it, and the entry keeps none.
+        ensures refused { OnErr result.0 (PassAdds pass.old permit.shard (Done None) pass.new) }
+        ensures unchanged { OnErr result.0 (kept pass.new.seen permit.shard ≡ S.requests permit.body) }
+        ensures handed_back { IfErr result.0 (λ back. back.0 ≡ request) }
+        ensures full { IfErr result.0 (λ back.
+            back.1 ≡ ApplyFault.KeptFull → S.limit permit.body ≤ length (S.requests permit.body)) }
+        ensures no_memory { IfErr result.0 (λ back.
+            back.1 ≡ ApplyFault.NoMemory → length (S.requests permit.body) < S.limit permit.body) }
+
+        ensures board { pass.new.board ≡ pass.old.board }
+        ensures free { pass.new.held ≡ None }
+        ensures shard { result.1.shard ≡ permit.shard }
+        ensures generation { result.1.generation ≡ (record_of pass.new permit.shard).generation }
+    {
+        match permit.body().apply(request) {
+            Ok(reply) => {
+                let front = self.finish(pass, permit);
+                (Ok(reply), front)
+            }
+            Err(back) => {
+                let front = self.finish(pass, permit);
+                (Err(back), front)
+            }
+        }
+    }
+}
