@@ -61,8 +61,10 @@ fn assert_drained(
     Ok(())
 }
 
-// Two servers in two domains, of which the second has room for the one shard.
-fn books_of_one_shard(alloc: Global) -> Result<Books, Fail> {
+// The example of the documentation of sm_place: the second server alone has room for the shard.
+#[test]
+fn plans_a_shard(rt: HostRuntime) -> Result<(), Fail> {
+    let alloc = rt.alloc();
     let servers = [server_row(1, 0, 2)?, server_row(2, 1, 3)?];
     let group = GroupRow { limit: 1, down: 0 };
     let shard = ShardRow {
@@ -70,13 +72,11 @@ fn books_of_one_shard(alloc: Global) -> Result<Books, Fail> {
         load: 3,
         cap: 0,
     };
-    Ok(Books::new(alloc, &servers, &[group], &[shard])?)
-}
-
-#[test]
-fn plans_a_shard(rt: HostRuntime) -> Result<(), Fail> {
-    let books = books_of_one_shard(rt.alloc())?;
-    assert_assigned(&rt, rt.alloc(), &books, &[(0, 2)], &[])
+    let books = Books::new(alloc, &servers, &[group], &[shard])?;
+    let plan = books.plan_assign(alloc)?;
+    assert!(rt; has_moves(&plan, &[(0, 2)]));
+    assert!(rt; has_left(&plan, &[]));
+    Ok(())
 }
 
 #[test]

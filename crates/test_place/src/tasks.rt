@@ -140,17 +140,18 @@ fn steps_out_of_turn(rt: HostRuntime) -> Result<(), Fail> {
     make_all(&rt, &mut books, &steps)
 }
 
+// The example of the documentation of sm_tasks.
 #[test]
 fn restarts_a_server(rt: HostRuntime) -> Result<(), Fail> {
     let mut books = new_books(rt.alloc(), GroupRow { limit: 2, down: 1 }, 2)?;
-    let steps = [
-        (1, Step::Ask(Ok(()))),
-        (1, Step::Approve(Ok(()))),
-        (1, Step::Stopped(Ok(()))),
-        (1, Step::Back(Ok(()))),
-    ];
-    make_all(&rt, &mut books, &steps)?;
-    assert_state(&rt, &books, 1, ServerState::Up)
+    let a = server(&rt, &books, 1)?;
+    let tasks = Tasks::new(1);
+    tasks.ask(&mut books, a)?;
+    tasks.approve(&mut books, a)?;
+    tasks.stopped(&mut books, a)?;
+    tasks.back(&mut books, a)?;
+    assert!(rt; books.state(a) == ServerState::Up);
+    Ok(())
 }
 
 fn assert_state(rt: &impl Abort, books: &Books, a: u16, state: ServerState) -> Result<(), Fail> {
