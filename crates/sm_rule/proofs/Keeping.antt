@@ -444,7 +444,7 @@ module _ {S Q : Type 0} (requests : S → List Q) (limits : Limits) (slots id wo
 
       fits_read : kind_fits limits.ceiling history read id word kind ≡ true
       fits_read =
-          subst (λ (pair : Limits × ℕ). kind_fits pair.0.ceiling history read pair.1 word kind ≡ true) (λ i. (fit.limits_are i, fit.number_is i)) (may.fits history (fit_by_view limits id me.0 history fit))
+          subst (λ (pair : Limits × ℕ). kind_fits pair.0.ceiling history read pair.1 word kind ≡ true) (λ i. (fit.limits_are i, fit.number_is i)) (may.follows history (fit_by_view limits id me.0 history fit))
 
       fits_here : kind_fits limits.ceiling history here id word kind ≡ true
       fits_here = subst (λ (state : Record). kind_fits limits.ceiling history state id word kind ≡ true) (sym same) fits_read
@@ -645,7 +645,7 @@ held_some (Some one) shard state is =
 module _ {S Q : Type 0} (id : TableId) (view : View Q) (pass : PassValue Q) (permit : PermitValue S) (of_pass : pass_value id view ≡ pass) (holds : HoldsPermit pass permit) where
   held_view : (one : Held Q) × (view.held ≡ Some one) × (one.shard ≡ permit.shard) × (one.state ≡ permit.state)
   held_view =
-      let is = held_some pass.held permit.shard permit.state holds in
+      let is = held_some pass.held permit.shard permit.state holds.1 in
       (is.0, ap (λ (it : PassValue Q). it.held) of_pass ∙ is.1, is.2, is.3)
 
   pub held_within : IfSome view.held (λ held. held.shard < view.limits.count) → permit.shard < view.limits.count

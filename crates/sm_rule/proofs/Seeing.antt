@@ -8,6 +8,7 @@ use Rattle.atomic_table.specs.Table.{rest}
 use Rattle.sm_ranges.specs.ServerId.{IsServer}
 use Rattle.sm_ranges.specs.declared.stand.Stand.{Stand}
 use Rattle.sm_ranges.specs.declared.stand.Stand.TheVariants.{Vacant, Serving, Prepared, Forwarding, Taken, Paused}
+use Rattle.sm_ownership.specs.declared.admit_fault.AdmitFault.{AdmitFault}
 use Rattle.sm_ownership.specs.declared.admit_fault.AdmitFault.TheVariants.{NotExecutor}
 use Rattle.sm_ownership.specs.declared.change.Change.{Change}
 use Rattle.sm_ownership.specs.declared.entry.Entry.{Entry}
@@ -26,7 +27,7 @@ use Rattle.sm_word.specs.Known.{NewlyNamesServer}
 use Rattle.sm_word.specs.Word.{IsWellFormed, word_of}
 use Rattle.sm_rule.specs.declared.limits.Limits.{Limits}
 use Rattle.sm_rule.specs.declared.view.View.{View}
-use Rattle.sm_rule.specs.Admissions.{Races, fault_of}
+use Rattle.sm_rule.specs.Admissions.{Races, fault_for}
 use Rattle.sm_rule.specs.Boards.{BoardValue}
 use Rattle.sm_rule.specs.Changes.{ChairAdds, ChairLooks, ChairValue, IsChairView, chair_value}
 use Rattle.sm_rule.specs.Passes.{IsPassView, PassAdds, PassLooks, PassValue, pass_value, slots_of}
@@ -102,10 +103,14 @@ fault_some (Forwarding owner next) none = absurd (cc)
 fault_some (Taken owner previous) none = absurd (cc)
 fault_some (Paused owner) none = absurd (cc)
 
--- no fault applies to a server alone
-pub of_server : (ceiling : ℕ) (state : Record) (server : Option ℕ) (mode : Mode) → fault_of ceiling state server mode ≡ None → (one : ℕ) × (server ≡ Some one) × (admit_fault ceiling state one mode ≡ None)
-of_server ceiling state None mode none = absurd (fault_some state.stand none)
-of_server ceiling state (Some server) mode none = (server, refl, none)
+-- the fault that was found is that of a server, and there is none
+pub of_server : (ceiling : ℕ) (state : Record) (server : Option ℕ) (mode : Mode) (found : Option AdmitFault) → found ≡ fault_for ceiling state server mode → found ≡ None → (one : ℕ) × (server ≡ Some one) × (admit_fault ceiling state one mode ≡ None)
+of_server ceiling state None mode found is none = absurd (fault_some state.stand (sym is ∙ none))
+of_server ceiling state (Some server) mode found is none = (server, refl, sym is ∙ none)
+
+-- the same of an equal ceiling and an equal server
+pub no_fault : (ceiling top : ℕ) (state : Record) (server one : Option ℕ) (mode : Mode) (found : Option AdmitFault) → ceiling ≡ top → server ≡ one → found ≡ fault_for top state one mode → found ≡ None → fault_for ceiling state server mode ≡ None
+no_fault ceiling top state server one mode found tops ones is none = (λ i. fault_for (tops i) state (ones i) mode) ∙ (sym is ∙ none)
 
 -- a record that admits a server
 module _ (ceiling : ℕ) (state : Record) (server : ℕ) (mode : Mode) (none : admit_fault ceiling state server mode ≡ None) where
@@ -134,7 +139,7 @@ module _ (ceiling : ℕ) (state : Record) (server : ℕ) (mode : Mode) (none : a
     begins = refl;
     free = tt;
     own_server = λ one its. eq-eqb server one (same_some server one (sym is ∙ its));
-    fits = λ history fit.
+    follows = λ history fit.
         let apart : not (view.number == 0) ≡ true = ap not (ne_eqb view.number 0 other) in
         let here = subst (λ top. (not state.admitted && (nat_le (state.generation + 2) top && accepts state server mode)) ≡ true) (sym same) admitting in
         and_from _ _ apart (and_from _ _ (fit.server server is) here);
@@ -147,7 +152,7 @@ may_change view shard state change known chair free idle below leads = record {
   begins = refl;
   free = free;
   own_server = λ one its. refl;
-  fits = λ history fit.
+  follows = λ history fit.
       and_from _ _ (eq-eqb view.number 0 chair) (and_from _ _ (ap not idle) (and_from _ _ (lt-ltb state.generation view.limits.ceiling below) leads));
 }
 

@@ -11,13 +11,14 @@ use Rattle.sm_ownership.specs.Rules.{admit_fault, fault_at}
 use Rattle.sm_rule.specs.declared.admit_refusal.AdmitRefusal.{AdmitRefusal}
 use Rattle.sm_rule.specs.declared.admit_refusal.AdmitRefusal.TheVariants.{Refused, Raced}
 use Rattle.sm_rule.specs.declared.limits.Limits.{Limits}
+use Rattle.sm_rule.specs.Boards.{BoardValue}
 use Rattle.sm_rule.specs.Passes.{PassAdds, PassValue, record_of}
 use Rattle.sm_rule.specs.Views.{record_in}
 
 -- the first reason for which a record doesn't admit a server, or who has none
-abbrev pub fault_of : ℕ → Record → Option ℕ → Mode → Option AdmitFault
-fault_of ceiling state None mode = fault_at state.stand (Some NotExecutor)
-fault_of ceiling state (Some server) mode = admit_fault ceiling state server mode
+abbrev pub fault_for : ℕ → Record → Option ℕ → Mode → Option AdmitFault
+fault_for ceiling state None mode = fault_at state.stand (Some NotExecutor)
+fault_for ceiling state (Some server) mode = admit_fault ceiling state server mode
 
 -- the second history begins with the first
 abbrev pub Begins : {Q : Type 0} → List (Entry Q) → List (Entry Q) → Type 0
@@ -38,27 +39,28 @@ PassAdmitted before shard mode after =
 -- why a pass isn't admitted, by the record that it has then seen; or it was overtaken, and no fault applies to the record read
 abbrev pub RefusedBy : {Q : Type 0} → PassValue Q → PassValue Q → ℕ → Mode → AdmitRefusal → Type 0
 RefusedBy before after shard mode (Refused fault state) =
-    (state ≡ record_of after shard) × (fault_of before.board.limits.ceiling state before.server mode ≡ Some fault)
+    (state ≡ record_of after shard) × (fault_for before.board.limits.ceiling state before.server mode ≡ Some fault)
 RefusedBy before after shard mode (Raced read found) =
-    (fault_of before.board.limits.ceiling read before.server mode ≡ None)
+    (fault_for before.board.limits.ceiling read before.server mode ≡ None)
     × Races before.board.limits before.seen after.seen shard read found
 
--- a permit: the shard, its record since the admission, and its body
+-- a permit: the board that gave it, the shard, its record since the admission, and its body
 pub record PermitValue (S : Type 0) : Type 0 where
+  pub board : BoardValue
   pub shard : ℕ
   pub state : Record
   pub body : S
 
 abbrev pub with_body : {S : Type 0} → PermitValue S → S → PermitValue S
-with_body permit body = record { shard = permit.shard; state = permit.state; body = body }
+with_body permit body = record permit { body = body }
 
 -- the shard that a pass holds, with its record since the admission
-abbrev pub held_of : {Q : Type 0} → PassValue Q → Option (ℕ × Record)
-held_of pass = option_map (λ held. (held.shard, held.state)) pass.held
+abbrev pub held_admission : {Q : Type 0} → PassValue Q → Option (ℕ × Record)
+held_admission pass = option_map (λ held. (held.shard, held.state)) pass.held
 
 -- the permit is the one that the pass holds
 abbrev pub HoldsPermit : {S Q : Type 0} → PassValue Q → PermitValue S → Type 0
-HoldsPermit pass permit = held_of pass ≡ Some (permit.shard, permit.state)
+HoldsPermit pass permit = (permit.board ≡ pass.board) × (held_admission pass ≡ Some (permit.shard, permit.state))
 
 -- the request that a list has beyond another, if any
 abbrev pub beyond : {Q : Type 0} → List Q → List Q → Option Q

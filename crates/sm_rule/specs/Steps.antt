@@ -66,4 +66,4 @@ pub record MayAdd {Q : Type 0} (view : View Q) (shard : ℕ) (state : Record) (k
   pub begins : is_end kind ≡ false
   pub free : IsFree view kind
   pub own_server : (server : ℕ) → view.server ≡ Some server → admits_only server kind ≡ true
-  pub fits : (history : List (Entry Q)) → Fits view.limits view.number view history → kind_fits view.limits.ceiling history state view.number shard kind ≡ true
+  pub follows : (history : List (Entry Q)) → Fits view.limits view.number view history → kind_fits view.limits.ceiling history state view.number shard kind ≡ true

@@ -1,4 +1,3 @@
-use std::alloc::AllocError;
 use thiserror::Error;
 
 /// Why there is no such board. The first that applies is answered, in this order.
@@ -16,15 +15,4 @@ pub enum MakeFault {
     /// Memory for the board was refused.
     #[error("out of memory")]
     NoMemory,
-}
-
-impl From<AllocError> for MakeFault {
-    ghost use Rattle.std.specs.Prelude.{◌≡◌};
-    ghost use Rattle.sm_rule.specs.declared.make_fault.MakeFault.TheVariants.{NoMemory};
-
-    ghost from_gives = { λ _ fault. fault ≡ NoMemory };
-
-    fn from(_: AllocError) -> Self {
-        MakeFault::NoMemory
-    }
 }

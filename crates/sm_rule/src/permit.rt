@@ -3,13 +3,18 @@ ghost use Rattle.std.specs.Prelude.{◌≡◌};
 ghost use Rattle.sm_rule.specs.contracts.permit.Permit.{the_row};
 ghost use Rattle.sm_rule.specs.Admissions.{with_body};
 
+use crate::board::Board;
+use sm_body::service::Service;
 use sm_ownership::record::Record;
 use sm_ranges::shard_id::ShardId;
 use std::marker::Model;
+use std::snapshot::Snapshot;
 
 /// The leave to execute for a shard, which an admission gives, with the shard's body. It must be spent by the end of the
 /// admission: it can't be dropped.
-pub struct Permit<S> {
+pub struct Permit<S: Service> {
+    // The board that gave it, as proofs see it. It takes no memory.
+    pub(crate) board: Snapshot<Board<S>>,
     pub(crate) shard: ShardId,
     pub(crate) state: Record,
     // The shard's word since the admission.
@@ -17,7 +22,7 @@ pub struct Permit<S> {
     pub(crate) body: S,
 }
 
-impl<S> Model for Permit<S> {
+impl<S: Service> Model for Permit<S> {
     ghost use Rattle.std.specs.Prelude.{◌≡◌, true};
     ghost use Rattle.sm_ownership.specs.History.{after_done};
     ghost use Rattle.sm_word.specs.Word.{IsWellFormed, word_of};
@@ -25,16 +30,16 @@ impl<S> Model for Permit<S> {
 
     ghost Value = { PermitValue S };
 
-    ghost view = { λ permit. record { shard = permit.shard; state = permit.state; body = permit.body } };
+    ghost view = { λ permit. record { board = permit.board.value; shard = permit.shard; state = permit.state; body = permit.body } };
 
     ghost invariant = { λ permit. IsWellFormed (after_done permit.state) × IsWellFormed permit.state
         × (permit.state.admitted ≡ true) × (permit.word ≡ word_of permit.state) };
 }
 
-impl<S> Permit<S> {
+impl<S: Service> Permit<S> {
     /// The shard's body. What is written through the loan is in the permit once the loan ends.
     pub fn body(&mut self) -> &mut S
-        ensures* writes_back { sem 𝓛 (Lends (the_row S.row) S.row self.entry result (λ body. with_body self.old body)) }
+        ensures* writes_back { sem 𝓛 (Lends (the_row S.row S.Request.row S.Reply.row S.Service) S.row self.entry result (λ body. with_body self.old body)) }
         ensures value { result.now ≡ self.old.body }
     {
         &mut self.body

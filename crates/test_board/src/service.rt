@@ -1,19 +1,20 @@
-use sm_ranges::key::Key;
+use sm_ranges::key::{Key, KeyFault};
 use sm_service::{ApplyFault, Bytes, CounterText, Reply, Request, Service};
 use std::alloc::Global;
 use std::process::Abort;
 use std::test::Fail;
 
-fn get_of(alloc: Global, key: &[u8]) -> Result<Request, Fail> {
+fn get_of(alloc: Global, key: &[u8]) -> Result<Request, KeyFault> {
     Ok(Request::Get(Key::new(alloc, key)?))
 }
 
-fn put_of(alloc: Global, key: &[u8], text: &[u8]) -> Result<Request, Fail> {
-    Ok(Request::Put(Key::new(alloc, key)?, Bytes::new(alloc, text)?))
+fn put_of(alloc: Global, key: &[u8], text: &[u8]) -> Option<Request> {
+    let key = Key::new(alloc, key).ok()?;
+    Some(Request::Put(key, Bytes::new(alloc, text).ok()?))
 }
 
-fn inc_of(alloc: Global, key: &[u8], amount: i64) -> Result<Request, Fail> {
-    Ok(Request::Inc(Key::new(alloc, key)?, amount))
+fn inc_of(alloc: Global, key: &[u8], amount: i64) -> Option<Request> {
+    Some(Request::Inc(Key::new(alloc, key).ok()?, amount))
 }
 
 // The service, as generic code sees it.
@@ -24,10 +25,48 @@ fn applied<S: Service>(service: &mut S, request: S::Request) -> Result<S::Reply,
     }
 }
 
-fn text_of(reply: &Reply) -> Option<&[u8]> {
+fn get(service: &mut CounterText, alloc: Global, key: &[u8]) -> Option<Reply> {
+    applied(service, get_of(alloc, key).ok()?).ok()
+}
+
+fn put(service: &mut CounterText, alloc: Global, key: &[u8], text: &[u8]) -> Option<Reply> {
+    applied(service, put_of(alloc, key, text)?).ok()
+}
+
+fn inc(service: &mut CounterText, alloc: Global, key: &[u8], amount: i64) -> Option<Reply> {
+    applied(service, inc_of(alloc, key, amount)?).ok()
+}
+
+fn is_text(reply: &Option<Reply>, want: &[u8]) -> bool {
     match reply {
-        Reply::Text(text) => Some(text.as_bytes()),
-        _ => None,
+        Some(Reply::Text(text)) => text.as_bytes() == want,
+        _ => false,
+    }
+}
+
+// Whether a get answers this text.
+fn has_text(service: &mut CounterText, alloc: Global, key: &[u8], want: &[u8]) -> bool {
+    is_text(&get(service, alloc, key), want)
+}
+
+// Whether a put is done, and a get then answers its text.
+fn puts_text(service: &mut CounterText, alloc: Global, key: &[u8], text: &[u8]) -> bool {
+    let done = put(service, alloc, key, text);
+    matches!(done, Some(Reply::Done)) && has_text(service, alloc, key, text)
+}
+
+fn counts(service: &mut CounterText, alloc: Global, key: &[u8], amount: i64, want: i64) -> bool {
+    match inc(service, alloc, key, amount) {
+        Some(Reply::Count(count)) => count == want,
+        _ => false,
+    }
+}
+
+// Whether a get answers this count.
+fn has_count(service: &mut CounterText, alloc: Global, key: &[u8], want: i64) -> bool {
+    match get(service, alloc, key) {
+        Some(Reply::Count(count)) => count == want,
+        _ => false,
     }
 }
 
@@ -40,6 +79,16 @@ fn answers_requests(rt: HostRuntime) -> Result<(), Fail> {
     assert_eq!(rt; CounterText::key(&put), b"user-17".as_slice());
     assert!(rt; matches!(body.apply(put), Ok(Reply::Done)));
     assert_eq!(rt; body.kept(), 1);
+    Ok(())
+}
+
+#[test]
+fn requests_have_keys(rt: HostRuntime) -> Result<(), Fail> {
+    let alloc = rt.alloc();
+    let get = get_of(alloc, b"\xff\xfe")?;
+    assert!(rt; CounterText::key(&get) == b"\xff\xfe".as_slice());
+    let inc = inc_of(alloc, b"a", 1).ok_or("an increment")?;
+    assert!(rt; CounterText::key(&inc) == b"a".as_slice());
     Ok(())
 }
 
@@ -60,14 +109,12 @@ fn hands_back_above_the_limit(rt: HostRuntime) -> Result<(), Fail> {
     Ok(())
 }
 
+// A text over an older one, an empty text, keys that begin alike, bytes that are not UTF-8.
 #[test]
-fn puts_and_gets(rt: HostRuntime) -> Result<(), Fail> {
+fn puts_and_gets(rt: HostRuntime) {
     let alloc = rt.alloc();
     let mut service = CounterText::new(alloc, 100);
-    let absent = applied(&mut service, get_of(alloc, b"m")?)?;
-    assert!(rt; matches!(absent, Reply::Nothing));
-
-    // A text over an older one, an empty text, keys that begin alike, bytes that are not UTF-8.
+    assert!(rt; matches!(get(&mut service, alloc, b"m"), Some(Reply::Nothing)));
     let pairs: [(&[u8], &[u8]); 6] = [
         (b"m", b"hello"),
         (b"mm", b"longer"),
@@ -77,42 +124,22 @@ fn puts_and_gets(rt: HostRuntime) -> Result<(), Fail> {
         (b"a", b"first"),
     ];
     for (key, text) in pairs {
-        let put = put_of(alloc, key, text)?;
-        assert_eq!(rt; CounterText::key(&put), key);
-        let done = applied(&mut service, put)?;
-        assert!(rt; matches!(done, Reply::Done), "at {key:?}");
-        let get = get_of(alloc, key)?;
-        assert_eq!(rt; CounterText::key(&get), key);
-        let reply = applied(&mut service, get)?;
-        assert_eq!(rt; text_of(&reply), Some(text), "at {key:?}");
+        assert!(rt; puts_text(&mut service, alloc, key, text));
     }
-    let held: [(&[u8], &[u8]); 5] = [
-        (b"m", b""),
-        (b"mm", b"longer"),
-        (b"m\0", b"zero"),
-        (b"\xff\xfe", b"\x80 \xff"),
-        (b"a", b"first"),
-    ];
+    let held: [(&[u8], &[u8]); 3] = [(b"mm", b"longer"), (b"m\0", b"zero"), (b"m", b"")];
     for (key, text) in held {
-        let reply = applied(&mut service, get_of(alloc, key)?)?;
-        assert_eq!(rt; text_of(&reply), Some(text), "at {key:?}");
+        assert!(rt; has_text(&mut service, alloc, key, text));
     }
-    assert_eq!(rt; service.kept(), 18);
-    Ok(())
+    assert!(rt; service.kept() == 16);
 }
 
 #[test]
-fn keeps_up_to_the_limit(rt: HostRuntime) -> Result<(), Fail> {
+fn keeps_up_to_the_limit(rt: HostRuntime) {
     let alloc = rt.alloc();
     let mut service = CounterText::new(alloc, 2);
-    let done = applied(&mut service, put_of(alloc, b"a", b"x")?)?;
-    assert!(rt; matches!(done, Reply::Done));
-    let reply = applied(&mut service, get_of(alloc, b"a")?)?;
-    assert_eq!(rt; text_of(&reply), Some(b"x".as_slice()));
-    let fault = applied(&mut service, get_of(alloc, b"a")?).err();
-    assert_eq!(rt; fault, Some(ApplyFault::KeptFull));
-    assert_eq!(rt; service.kept(), 2);
-    Ok(())
+    assert!(rt; puts_text(&mut service, alloc, b"a", b"x"));
+    assert!(rt; get(&mut service, alloc, b"a").is_none());
+    assert!(rt; service.kept() == 2);
 }
 
 #[test]
@@ -121,14 +148,15 @@ fn holds_texts_up_to_the_longest(rt: HostRuntime) -> Result<(), Fail> {
     let mut service = CounterText::new(alloc, 10);
     let longest: Vec<u8> = vec![in alloc; b'x'; 65_535]?;
     let longer: Vec<u8> = vec![in alloc; b'y'; 65_536]?;
-    let put = Request::Put(Key::new(alloc, b"k")?, Bytes::from(longest));
-    let done = applied(&mut service, put)?;
-    assert!(rt; matches!(done, Reply::Done));
-    let refused = applied(&mut service, put_of(alloc, b"k", &longer)?)?;
-    assert!(rt; matches!(refused, Reply::TooLong));
-    let reply = applied(&mut service, get_of(alloc, b"k")?)?;
-    assert_eq!(rt; text_of(&reply).map_or(0, |text| text.len()), 65_535);
-    assert_eq!(rt; service.kept(), 3);
+    assert!(rt; puts_text(&mut service, alloc, b"k", &longest));
+    assert!(rt;
+        matches!(
+            put(&mut service, alloc, b"k", &longer),
+            Some(Reply::TooLong)
+        )
+    );
+    assert!(rt; has_text(&mut service, alloc, b"k", &longest));
+    assert!(rt; service.kept() == 4);
     Ok(())
 }
 
@@ -136,50 +164,38 @@ fn holds_texts_up_to_the_longest(rt: HostRuntime) -> Result<(), Fail> {
 fn replies_to_counts(rt: HostRuntime) -> Result<(), Fail> {
     let alloc = rt.alloc();
     let mut service = CounterText::new(alloc, 10);
-    let first = applied(&mut service, inc_of(alloc, b"a", -7)?)?;
-    assert!(rt; matches!(first, Reply::Count(-7)));
     let longer: Vec<u8> = vec![in alloc; b'y'; 65_536]?;
-    for text in [b"x".as_slice(), longer.as_slice()] {
-        let refused = applied(&mut service, put_of(alloc, b"a", text)?)?;
-        assert!(rt; matches!(refused, Reply::WrongKind));
-    }
-    let reply = applied(&mut service, get_of(alloc, b"a")?)?;
-    assert!(rt; matches!(reply, Reply::Count(-7)));
-    assert_eq!(rt; service.kept(), 4);
+    assert!(rt; counts(&mut service, alloc, b"a", -7, -7));
+    assert!(rt; matches!(put(&mut service, alloc, b"a", b"x"), Some(Reply::WrongKind)));
+    assert!(rt;
+        matches!(
+            put(&mut service, alloc, b"a", &longer),
+            Some(Reply::WrongKind)
+        )
+    );
+    assert!(rt; has_count(&mut service, alloc, b"a", -7));
+    assert!(rt; service.kept() == 4);
     Ok(())
 }
 
 #[test]
-fn counts_up_to_64_bits(rt: HostRuntime) -> Result<(), Fail> {
+fn counts_up_to_64_bits(rt: HostRuntime) {
     let alloc = rt.alloc();
     let mut service = CounterText::new(alloc, 100);
-    let reply = applied(&mut service, inc_of(alloc, b"a", 9223372036854775807)?)?;
-    assert!(rt; matches!(reply, Reply::Count(9223372036854775807)));
-    let reply = applied(&mut service, inc_of(alloc, b"a", 1)?)?;
-    assert!(rt; matches!(reply, Reply::Overflow));
-    let reply = applied(&mut service, get_of(alloc, b"a")?)?;
-    assert!(rt; matches!(reply, Reply::Count(9223372036854775807)));
-    let reply = applied(&mut service, put_of(alloc, b"a", b"x")?)?;
-    assert!(rt; matches!(reply, Reply::WrongKind));
-    let reply = applied(&mut service, inc_of(alloc, b"b", -9223372036854775808)?)?;
-    assert!(rt; matches!(reply, Reply::Count(-9223372036854775808)));
-    assert_eq!(rt; service.kept(), 5);
-    Ok(())
+    assert!(rt; counts(&mut service, alloc, b"a", i64::MAX, i64::MAX));
+    assert!(rt; matches!(inc(&mut service, alloc, b"a", 1), Some(Reply::Overflow)));
+    assert!(rt; has_count(&mut service, alloc, b"a", i64::MAX));
+    assert!(rt; counts(&mut service, alloc, b"b", i64::MIN, i64::MIN));
+    assert!(rt; service.kept() == 4);
 }
 
 #[test]
-fn increments_no_text(rt: HostRuntime) -> Result<(), Fail> {
+fn increments_no_text(rt: HostRuntime) {
     let alloc = rt.alloc();
     let mut service = CounterText::new(alloc, 100);
-    let inc = inc_of(alloc, b"a", 1)?;
-    assert_eq!(rt; CounterText::key(&inc), b"a".as_slice());
-    let done = applied(&mut service, put_of(alloc, b"a", b"1")?)?;
-    assert!(rt; matches!(done, Reply::Done));
-    let reply = applied(&mut service, inc)?;
-    assert!(rt; matches!(reply, Reply::WrongKind));
-    let reply = applied(&mut service, get_of(alloc, b"a")?)?;
-    assert_eq!(rt; text_of(&reply), Some(b"1".as_slice()));
-    Ok(())
+    assert!(rt; puts_text(&mut service, alloc, b"a", b"1"));
+    assert!(rt; matches!(inc(&mut service, alloc, b"a", 1), Some(Reply::WrongKind)));
+    assert!(rt; has_text(&mut service, alloc, b"a", b"1"));
 }
 
 // Applies the request; where memory is refused, sees that nothing has changed and that it came back, and tries again.
@@ -187,14 +203,14 @@ fn applied_in_two(
     rt: &impl Abort,
     service: &mut CounterText,
     request: Request,
-) -> Result<Reply, Fail> {
+) -> Result<Reply, ApplyFault> {
     let kept = service.kept();
     match service.apply(request) {
         Ok(reply) => Ok(reply),
         Err((back, fault)) => {
-            assert_eq!(rt; fault, ApplyFault::NoMemory);
-            assert_eq!(rt; service.kept(), kept);
-            Ok(applied(service, back)?)
+            assert!(rt; fault == ApplyFault::NoMemory);
+            assert!(rt; service.kept() == kept);
+            applied(service, back)
         }
     }
 }
@@ -204,24 +220,20 @@ fn applied_in_two(
 fn hands_back_what_memory_refuses(rt: HostRuntime) -> Result<(), Fail> {
     let alloc = rt.alloc();
     let requests = [
-        put_of(alloc, b"b", b"one")?,
-        put_of(alloc, b"a", b"two")?,
-        put_of(alloc, b"b", b"three")?,
+        put_of(alloc, b"b", b"one").ok_or("a put")?,
+        put_of(alloc, b"a", b"two").ok_or("a put")?,
+        put_of(alloc, b"b", b"three").ok_or("a put")?,
     ];
-    let gets = [get_of(alloc, b"a")?, get_of(alloc, b"b")?];
-    let inc = inc_of(alloc, b"c", 3)?;
     let mut service = CounterText::new(alloc, 6);
-    let counted = applied_in_two(&rt, &mut service, inc)?;
-    assert!(rt; matches!(counted, Reply::Count(3)));
     for request in requests {
-        let done = applied_in_two(&rt, &mut service, request)?;
-        assert!(rt; matches!(done, Reply::Done));
+        let done = applied_in_two(&rt, &mut service, request);
+        assert!(rt; matches!(done, Ok(Reply::Done)));
     }
-    let wants: [&[u8]; 2] = [b"two", b"three"];
-    for (get, want) in gets.into_iter().zip(wants) {
-        let reply = applied_in_two(&rt, &mut service, get)?;
-        assert_eq!(rt; text_of(&reply), Some(want));
-    }
-    assert_eq!(rt; service.kept(), 6);
+    let inc = inc_of(alloc, b"c", 3).ok_or("an increment")?;
+    let counted = applied_in_two(&rt, &mut service, inc);
+    assert!(rt; matches!(counted, Ok(Reply::Count(3))));
+    assert!(rt; has_text(&mut service, alloc, b"a", b"two"));
+    assert!(rt; has_text(&mut service, alloc, b"b", b"three"));
+    assert!(rt; service.kept() == 6);
     Ok(())
 }

@@ -9,7 +9,7 @@ use Rattle.sm_ownership.specs.declared.mode.Mode.{Mode}
 use Rattle.sm_rule.specs.declared.admit_refusal.AdmitRefusal.{AdmitRefusal}
 use Rattle.sm_rule.specs.declared.admit_refusal.AdmitRefusal.TheVariants.{Refused, Raced}
 use Rattle.sm_rule.specs.declared.limits.Limits.{Limits}
-use Rattle.sm_rule.specs.Admissions.{Begins, PassAdmitted, Races, RefusedBy, fault_of}
+use Rattle.sm_rule.specs.Admissions.{Begins, PassAdmitted, Races, RefusedBy, fault_for}
 use Rattle.sm_rule.specs.Boards.{BoardValue}
 use Rattle.sm_rule.specs.Passes.{PassAdds, PassLooks, PassValue, pass_adding, pass_seeing}
 use Rattle.sm_rule.specs.Views.{Grows, entry_of}
@@ -66,8 +66,8 @@ module _ {Q : Type 0} (p q r : PassValue Q) (first : PassLooks p q) where
   -- a look, and then a refusal
   pub looks_refused : (shard : ℕ) (mode : Mode) (refusal : AdmitRefusal) → RefusedBy q r shard mode refusal → RefusedBy p r shard mode refusal
   looks_refused shard mode (Refused fault state) second =
-      (second.0, subst (λ (pair : BoardValue × Option ℕ). fault_of pair.0.limits.ceiling state pair.1 mode ≡ Some fault) (λ i. (board_stays i, server_stays i)) second.1)
+      (second.0, subst (λ (pair : BoardValue × Option ℕ). fault_for pair.0.limits.ceiling state pair.1 mode ≡ Some fault) (λ i. (board_stays i, server_stays i)) second.1)
   looks_refused shard mode (Raced read found) second =
-      let free = subst (λ (pair : BoardValue × Option ℕ). fault_of pair.0.limits.ceiling read pair.1 mode ≡ None) (λ i. (board_stays i, server_stays i)) second.0 in
+      let free = subst (λ (pair : BoardValue × Option ℕ). fault_for pair.0.limits.ceiling read pair.1 mode ≡ None) (λ i. (board_stays i, server_stays i)) second.0 in
       let race : Races p.board.limits q.seen r.seen shard read found = subst (λ (board : BoardValue). Races board.limits q.seen r.seen shard read found) board_stays second.1 in
       (free, (race.0, begins_begins p.seen q.seen race.0 (grows_begins p.board.limits p.number p.seen q.seen [] first.0) race.1, race.2, race.3, race.4, race.5))

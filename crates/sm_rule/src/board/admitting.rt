@@ -2,7 +2,7 @@
 ghost use Rattle.std.specs.Prelude.{◌≡◌, ◌<◌, Option, Some, None, IfErr, IfOk, OnOk, [], ◌∷◌, unwrap_or};
 ghost use Rattle.sm_ownership.specs.declared.entry.Kind.TheVariants.{Admit, Done};
 ghost use Rattle.sm_ownership.specs.History.{kept};
-ghost use Rattle.sm_rule.specs.Admissions.{HoldsPermit, PassAdmitted, RefusedBy, beyond, fault_of};
+ghost use Rattle.sm_rule.specs.Admissions.{HoldsPermit, PassAdmitted, RefusedBy, beyond, fault_for};
 ghost use Rattle.sm_rule.specs.Passes.{PassAdds, PassLooks, record_of};
 ghost use Rattle.sm_rule.specs.Views.{list_held, list_with};
 
@@ -22,6 +22,7 @@ use sm_ranges::shard_id::ShardId;
 use sm_ranges::stand::Stand;
 use sm_word::word::{admit_word, done_word};
 use std::marker::Brand;
+use std::snapshot::Snapshot;
 
 impl<S: Service> Board<S> {
     /// The first reason for which a record of this board doesn't admit the server for a request that came so, if any.
@@ -31,7 +32,7 @@ impl<S: Service> Board<S> {
         server: Option<ServerId>,
         mode: Mode,
     ) -> Option<AdmitFault>
-        ensures { result ≡ fault_of self.now.limits.ceiling state.now server mode }
+        ensures { result ≡ fault_for self.now.limits.ceiling state.now server mode }
     {
         match server {
             Some(server) => state.admit_fault(server, mode, self.limits.ceiling),
@@ -100,6 +101,7 @@ impl<S: Service> Board<S> {
         }
         let body = self.taken(&mut pass.seat, k);
         Ok(Permit {
+            board: Snapshot::of(self),
             shard: k,
             state,
             word: next,
@@ -149,6 +151,7 @@ impl<S: Service> Board<S> {
         ensures generation { result.generation ≡ (record_of pass.new permit.shard).generation }
     {
         let Permit {
+            board: _,
             shard,
             state,
             word,

@@ -8,6 +8,7 @@ use crate::limits::Limits;
 use crate::make_fault::MakeFault;
 use atomic_table::Table;
 use sm_body::service::Service;
+use sm_ownership::record::MAX_GENERATION;
 use sm_ranges::limits::MAX_SHARDS;
 use sm_ranges::stand::Stand;
 use std::alloc::{AllocError, Global};
@@ -73,7 +74,7 @@ fn first_fault(count: usize, ceiling: u64) -> Option<MakeFault>
     if count > MAX_SHARDS {
         return Some(MakeFault::TooMany);
     }
-    if ceiling < 3 || ceiling > 68_719_476_735 {
+    if ceiling < 3 || ceiling > MAX_GENERATION {
         return Some(MakeFault::BadCeiling);
     }
     None
