@@ -2,6 +2,8 @@
 #![tactic(auto)]
 
 #[cfg(test)]
+mod executing;
+#[cfg(test)]
 mod logged;
 #[cfg(test)]
 mod rule;
