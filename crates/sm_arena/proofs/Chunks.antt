@@ -8,7 +8,9 @@ use Rattle.std.proofs.lemmas.List.Folds.{sum_by-replicate}
 use Rattle.sm_arena.specs.declared.span.Span.{Span}
 use Rattle.sm_arena.specs.declared.block.Block.{Block}
 use Rattle.sm_arena.specs.declared.blocks.Blocks.{Blocks}
-use Rattle.sm_arena.specs.Blocks.{chunks_in, chunks_of, bytes_at, total, IsWriting, IsFilled, HasSpace}
+use Rattle.sm_arena.specs.Blocks.{chunks_in, bytes_at, total, IsWriting, IsFilled, HasSpace}
+use Rattle.sm_arena.specs.Chunks.{chunks_of}
+use Rattle.sm_arena.specs.Sizes.{sizes_in}
 
 pub is_nil : (xs : List ℕ) → length xs ≤ 0 → xs ≡ []
 is_nil [] le = refl
@@ -110,6 +112,9 @@ module _ (old : List Block) (place : ℕ) (piece : List ℕ) (inside : place < l
   was : get_or (chunks_in old) place [] ≡ block.chunk.bytes
   was = get_or-map (λ (b : Block). b.chunk.bytes) old place block [] inside ∙ ap (λ (b : Block). b.chunk.bytes) at
 
+  was_size : get_or (sizes_in old) place 0 ≡ block.size
+  was_size = get_or-map (λ (b : Block). b.size) old place block 0 inside ∙ ap (λ (b : Block). b.size) at
+
   room : (count : ℕ) → HasSpace old place (length piece + count) → HasSpace (set old place block') place count
   room count has =
       let here : (d : Block) → get_or (set old place block') place d ≡ block' = λ d. get_or-set_same old place block' d inside in
@@ -121,12 +126,14 @@ module _ (old : List Block) (place : ℕ) (piece : List ℕ) (inside : place < l
   fills = record {
     chunks = map-set (λ (b : Block). b.chunk.bytes) old place block' ∙ ap (λ (l : List ℕ). set (chunks_in old) place l) (bytes ∙ ap (λ (l : List ℕ). l ++ piece) (sym was));
     room = room;
+    sizes = map-set (λ (b : Block). b.size) old place block' ∙ (ap (λ (n : ℕ). set (sizes_in old) place n) (size ∙ sym was_size) ∙ set-get_or (sizes_in old) place 0);
   }
 
 pub fills_nothing : (old : List Block) (place : ℕ) → IsFilled old place [] old
 fills_nothing old place = record {
   chunks = sym (ap (λ (l : List ℕ). set (chunks_in old) place l) (append-nil (get_or (chunks_in old) place [])) ∙ set-get_or (chunks_in old) place []);
   room = λ count has. let same : 0 + count ≡ count = omega arith in subst (λ (n : ℕ). HasSpace old place n) same has;
+  sizes = refl;
 }
 
 -- one piece after the other
@@ -139,6 +146,7 @@ fills_both a b c place p q inside first second =
     (λ i. set (first.chunks i) place (middle i ++ q)) ∙ (set-set (chunks_in a) place (x ++ p) ((x ++ p) ++ q) ∙ ap (λ (l : List ℕ). set (chunks_in a) place l) (append_assoc x p q)) in
     record {
       chunks = second.chunks ∙ last;
+      sizes = second.sizes ∙ first.sizes;
       room = λ count has. second.room count (first.room (length q + count) (subst (λ (n : ℕ). HasSpace a place n) (omega (arith, length-append p q)) has));
     }
 

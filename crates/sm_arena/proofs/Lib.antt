@@ -6,3 +6,4 @@ pub mod Placing
 pub mod Reading
 pub mod Rooms
 pub mod Sending
+pub mod Sizes

@@ -143,12 +143,12 @@ pieces_grow cs more (s ∷ spans) span piece lie written =
     λ i. (s, written.keeps s full i) ∷ rest i
 
 -- a piece that was written
-module _ (cs more : List (List ℕ)) (here away : ℕ) (spans gone : List Span) (held : IsArena cs here away (lying cs spans gone)) (span : Span) (piece : List ℕ) (written : IsWriting cs piece span more) where
+module _ (cs more : List (List ℕ)) (sizes sizes' : List ℕ) (here away : ℕ) (spans gone : List Span) (held : IsArena cs here away (lying cs sizes spans gone)) (span : Span) (piece : List ℕ) (written : IsWriting cs piece span more) where
   abbrev v : ArenaValue
-  v = lying cs spans gone
+  v = lying cs sizes spans gone
 
   abbrev w : ArenaValue
-  w = lying more (spans ++ span ∷ []) gone
+  w = lying more sizes' (spans ++ span ∷ []) gone
 
   placed : w.placed ≡ v.placed ++ (span, piece) ∷ []
   placed = pieces_grow cs more spans span piece held.lies written
@@ -163,25 +163,25 @@ module _ (cs more : List (List ℕ)) (here away : ℕ) (spans gone : List Span) 
       by (inl none) = none
       by (inr is) = absurd (omega (arith, some, written.whole, (lies_at cs v.placed span held.lies is).1, ap length written.fresh))
 
-  pub held_written : IsArena more (here + length piece) away (lying more (spans ++ span ∷ []) gone)
+  pub held_written : IsArena more (here + length piece) away (lying more sizes' (spans ++ span ∷ []) gone)
   held_written = held_placed cs more here away v w held span piece placed refl moved (written.reads, sym written.whole) is_new written.total
 
-  pub is_placing_written : IsPlacing (lying cs spans gone) piece span (lying more (spans ++ span ∷ []) gone)
+  pub is_placing_written : IsPlacing (lying cs sizes spans gone) piece span (lying more sizes' (spans ++ span ∷ []) gone)
   is_placing_written = is_placing cs more here away v w held span piece placed refl moved (written.reads, sym written.whole) is_new written.total
 
 -- two pieces that were written
-module _ (cs more : List (List ℕ)) (here away : ℕ) (spans gone : List Span) (held : IsArena cs here away (lying cs spans gone)) (s t : Span) (first second : List ℕ) (written : IsWritingPair cs first second (s, t) more) where
-  held_between : IsArena written.middle (here + length first) away (lying written.middle (spans ++ s ∷ []) gone)
-  held_between = held_written cs written.middle here away spans gone held s first written.one
+module _ (cs more : List (List ℕ)) (sizes sizes' : List ℕ) (here away : ℕ) (spans gone : List Span) (held : IsArena cs here away (lying cs sizes spans gone)) (s t : Span) (first second : List ℕ) (written : IsWritingPair cs first second (s, t) more) where
+  held_between : IsArena written.middle (here + length first) away (lying written.middle sizes' (spans ++ s ∷ []) gone)
+  held_between = held_written cs written.middle sizes sizes' here away spans gone held s first written.one
 
-  pub held_pair : IsArena more (here + length first + length second) away (lying more ((spans ++ s ∷ []) ++ t ∷ []) gone)
-  held_pair = held_written written.middle more (here + length first) away (spans ++ s ∷ []) gone held_between t second written.other
+  pub held_pair : IsArena more (here + length first + length second) away (lying more sizes' ((spans ++ s ∷ []) ++ t ∷ []) gone)
+  held_pair = held_written written.middle more sizes' sizes' (here + length first) away (spans ++ s ∷ []) gone held_between t second written.other
 
-  pub is_placing_pair : IsPlacingPair (lying cs spans gone) first second (s, t) (lying more ((spans ++ s ∷ []) ++ t ∷ []) gone)
+  pub is_placing_pair : IsPlacingPair (lying cs sizes spans gone) first second (s, t) (lying more sizes' ((spans ++ s ∷ []) ++ t ∷ []) gone)
   is_placing_pair = record {
-    middle = lying written.middle (spans ++ s ∷ []) gone;
-    one = is_placing_written cs written.middle here away spans gone held s first written.one;
-    other = is_placing_written written.middle more (here + length first) away (spans ++ s ∷ []) gone held_between t second written.other;
+    middle = lying written.middle sizes' (spans ++ s ∷ []) gone;
+    one = is_placing_written cs written.middle sizes sizes' here away spans gone held s first written.one;
+    other = is_placing_written written.middle more sizes' sizes' (here + length first) away (spans ++ s ∷ []) gone held_between t second written.other;
   }
 
 -- ---- forgetting
@@ -248,7 +248,7 @@ module _ (cs : List (List ℕ)) (here away : ℕ) (v : ArenaValue) (held : IsAre
   none = kept (omega (arith, size, long))
 
   abbrev now : ArenaValue
-  now = record { placed = v.placed; forgotten = v.forgotten ++ span ∷ [] }
+  now = record { placed = v.placed; forgotten = v.forgotten ++ span ∷ []; sizes = v.sizes }
 
   times_now : (s : Span) → times_forgotten now s ≡ times_forgotten v s + once (same_span span s)
   times_now s = sum_by_push (λ t. cond (same_span t s) 1 0) v.forgotten span

@@ -3,14 +3,11 @@ use Rattle.std.specs.Prelude.{◌≡◌, ◌+◌, ◌<◌, ◌≤◌, ◌++◌, 
 use Rattle.std.specs.List.{sum_by}
 use Rattle.sm_arena.specs.declared.span.Span.{Span}
 use Rattle.sm_arena.specs.declared.block.Block.{Block}
-use Rattle.sm_arena.specs.declared.blocks.Blocks.{Blocks}
+use Rattle.sm_arena.specs.Sizes.{sizes_in}
 
 -- the bytes of each block
 abbrev pub chunks_in : List Block → List (List ℕ)
 chunks_in blocks = map (λ block. block.chunk.bytes) blocks
-
-abbrev pub chunks_of : Blocks → List (List ℕ)
-chunks_of b = chunks_in b.blocks.items
 
 -- what lies at a span of these chunks
 abbrev pub bytes_at : List (List ℕ) → Span → List ℕ
@@ -38,6 +35,7 @@ next_span chunks place count = record { chunk = place; start = length (slice_ind
 pub record IsFilled (old : List Block) (place : ℕ) (piece : List ℕ) (new : List Block) : Type 0 where
   pub chunks : chunks_in new ≡ slice_set (chunks_in old) place (slice_index_or (chunks_in old) place [] ++ piece)
   pub room : (count : ℕ) → HasSpace old place (length piece + count) → HasSpace new place count
+  pub sizes : sizes_in new ≡ sizes_in old
 
 -- new is old with the piece written at the span, where nothing was written before
 pub record IsWriting (old : List (List ℕ)) (piece : List ℕ) (span : Span) (new : List (List ℕ)) : Type 0 where

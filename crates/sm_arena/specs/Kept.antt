@@ -2,7 +2,8 @@
 use Rattle.std.specs.Prelude.{◌≡◌, ◌<◌, ◌≤◌, ◌+◌, ℕ, List, All, length, map, count_by}
 use Rattle.sm_arena.specs.declared.arena.Arena.TheInside.{Inside}
 use Rattle.sm_arena.specs.declared.span.Span.{Span}
-use Rattle.sm_arena.specs.Blocks.{chunks_of, bytes_at, total}
+use Rattle.sm_arena.specs.Blocks.{bytes_at, total}
+use Rattle.sm_arena.specs.Chunks.{chunks_of, sizes_of}
 use Rattle.sm_arena.specs.Pieces.{Places, IsPlaced, same_span}
 use Rattle.sm_arena.specs.Value.{ArenaValue, dead_of, live_of, times_forgotten}
 
@@ -10,12 +11,12 @@ use Rattle.sm_arena.specs.Value.{ArenaValue, dead_of, live_of, times_forgotten}
 abbrev pub pieces_in : List (List ℕ) → List Span → Places
 pieces_in chunks spans = map (λ s. (s, bytes_at chunks s)) spans
 
--- the arena with these chunks, in which these spans were placed, and these were forgotten
-abbrev pub lying : List (List ℕ) → List Span → List Span → ArenaValue
-lying chunks placed forgotten = record { placed = pieces_in chunks placed; forgotten = forgotten }
+-- the arena with these chunks of these sizes, in which these spans were placed, and these were forgotten
+abbrev pub lying : List (List ℕ) → List ℕ → List Span → List Span → ArenaValue
+lying chunks sizes placed forgotten = record { placed = pieces_in chunks placed; forgotten = forgotten; sizes = sizes }
 
-abbrev pub value_of : Inside → ArenaValue
-value_of a = lying (chunks_of a.blocks) a.placed.items a.forgotten.items
+abbrev pub arena_value : Inside → ArenaValue
+arena_value a = lying (chunks_of a.blocks) (sizes_of a.blocks) a.placed.items a.forgotten.items
 
 -- the entry's bytes lie at its span
 abbrev pub Lies : List (List ℕ) → Span × List ℕ → Type 0
@@ -35,5 +36,5 @@ pub record IsArena (chunks : List (List ℕ)) (here away : ℕ) (v : ArenaValue)
   pub dead : away ≡ dead_of v
   pub bounded : here + away ≤ total chunks
 
-abbrev pub IsKept : Inside → Type 0
-IsKept a = IsArena (chunks_of a.blocks) a.live a.gone (value_of a)
+abbrev pub KeepsArena : Inside → Type 0
+KeepsArena a = IsArena (chunks_of a.blocks) a.live a.gone (arena_value a)

@@ -1,6 +1,8 @@
 pub mod Pieces
 pub mod Value
+pub mod Sizes
 pub mod Blocks
+pub mod Chunks
 pub mod Kept
 pub mod Ownership
 pub mod lemmas

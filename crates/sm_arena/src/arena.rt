@@ -1,5 +1,6 @@
-ghost use Rattle.std.specs.Prelude.{◌≡◌, ◌<◌, ◌++◌, [], length, OnErr, IfOk};
+ghost use Rattle.std.specs.Prelude.{◌≡◌, ◌+◌, ◌<◌, ◌≤◌, ◌++◌, [], length, sum, OnErr, OnOk, IfOk};
 ghost use Rattle.sm_arena.specs.Pieces.{IsPlaced, bytes_of};
+ghost use Rattle.sm_arena.specs.Sizes.{HasGrown};
 ghost use Rattle.sm_arena.specs.Value.{IsPlacing, IsPlacingPair, forgetting, times_forgotten, dead_of, live_of};
 
 use crate::blocks::Blocks;
@@ -10,8 +11,9 @@ use std::marker::Model;
 
 /// Memory for pieces of bytes: a piece stays where it was placed, and reads the same, until the arena is dropped.
 ///
-/// Contracts see an arena as the pieces that were placed, by their spans, and the list of the spans that were
-/// forgotten.
+/// Contracts see an arena as the pieces that were placed, by their spans, the list of the spans that were forgotten, and the
+/// sizes of its chunks. The first chunk has 1,024 bytes, and each next one twice as many, up to 65,536. A longer piece, or a
+/// longer pair, has a chunk of its own.
 #[derive(Drop)]
 pub struct Arena {
     blocks: Blocks,
@@ -26,17 +28,18 @@ impl Model for Arena {
 
     ghost Value = { ArenaValue };
 
-    ghost use Rattle.sm_arena.specs.Kept.{value_of, IsKept};
+    ghost use Rattle.sm_arena.specs.Kept.{arena_value, KeepsArena};
 
-    ghost view = { value_of };
+    ghost view = { arena_value };
 
-    ghost invariant = { IsKept };
+    ghost invariant = { KeepsArena };
 }
 
 impl Arena {
     /// An arena in which nothing was placed. It takes no memory yet.
     pub fn new(alloc: Global) -> Arena
-        ensures { (result.placed ≡ []) × (result.forgotten ≡ []) }
+        ensures placed { (result.placed ≡ []) × (result.forgotten ≡ []) }
+        ensures sizes { result.sizes ≡ [] }
     {
         Arena {
             blocks: Blocks::new(alloc),
@@ -55,6 +58,7 @@ impl Arena {
     /// `AllocError` where memory is refused; the arena is then as it was.
     pub fn place(&mut self, piece: &[u8]) -> Result<Span, AllocError>
         ensures placed { IfOk result (λ span. IsPlacing self.old piece.now span self.new) }
+        ensures sizes { OnOk result (HasGrown self.old.sizes (length piece.now) self.new.sizes) }
         ensures err { OnErr result (self.new ≡ self.old) }
     {
         let span = self.blocks.write(piece)?;
@@ -70,6 +74,7 @@ impl Arena {
     /// `AllocError` where memory is refused; the arena is then as it was.
     pub fn place_pair(&mut self, first: &[u8], second: &[u8]) -> Result<(Span, Span), AllocError>
         ensures placed { IfOk result (λ spans. IsPlacingPair self.old first.now second.now spans self.new) }
+        ensures sizes { OnOk result (HasGrown self.old.sizes (length first.now + length second.now) self.new.sizes) }
         ensures err { OnErr result (self.new ≡ self.old) }
     {
         let (first_span, second_span) = self.blocks.write_pair(first, second)?;
@@ -89,6 +94,7 @@ impl Arena {
     pub fn concat(&mut self, head: Span, tail: &[u8]) -> Result<Span, AllocError>
         requires { IsPlaced self.old.placed head }
         ensures placed { IfOk result (λ span. IsPlacing self.old (bytes_of self.old.placed head ++ tail.now) span self.new) }
+        ensures sizes { OnOk result (HasGrown self.old.sizes (length (bytes_of self.old.placed head ++ tail.now)) self.new.sizes) }
         ensures err { OnErr result (self.new ≡ self.old) }
     {
         let span = self.blocks.write_joined(head, tail)?;
@@ -123,6 +129,14 @@ impl Arena {
         ensures { result ≡ live_of self.now }
     {
         self.live
+    }
+
+    /// The sum of the chunks' sizes in bytes.
+    pub fn held(&self) -> u128
+        ensures value { result ≡ sum self.now.sizes }
+        ensures covers { live_of self.now + dead_of self.now ≤ result }
+    {
+        self.blocks.held()
     }
 
     /// The sum of the lengths of the pieces that were forgotten.

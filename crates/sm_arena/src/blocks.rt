@@ -1,5 +1,6 @@
-ghost use Rattle.std.specs.Prelude.{◌≡◌, ◌<◌, ◌≤◌, ◌++◌, [], length, slice_index_or, IfOk, OnErr, IsTrue};
-ghost use Rattle.sm_arena.specs.Blocks.{chunks_of, bytes_at, next_span, IsWriting, IsWritingPair, IsGrown, IsFilled, HasSpace};
+ghost use Rattle.std.specs.Prelude.{◌≡◌, ◌+◌, ◌<◌, ◌≤◌, ◌^◌, ◌++◌, ◌∷◌, [], length, max, replicate, sum, slice_index_or, IfOk, OnOk, OnErr, IsTrue};
+ghost use Rattle.sm_arena.specs.Blocks.{chunks_in, bytes_at, next_span, IsWriting, IsWritingPair, IsGrown, IsFilled, HasSpace};
+ghost use Rattle.sm_arena.specs.Sizes.{sizes_in, next_size, size_holding, least_after, HasGrown};
 
 use crate::block::Block;
 use crate::span::Span;
@@ -12,7 +13,14 @@ pub(crate) struct Blocks {
     pub(crate) blocks: Vec<Block>,
     // The place of the block that short pieces are written into.
     filling: usize,
+    // The least size of the next block.
+    least: usize,
+    // The sum of the blocks' sizes.
+    held: u128,
+    ghost tied: { (least ≡ next_size (sizes_in blocks.items)) × (held ≡ sum (sizes_in blocks.items)) },
 }
+
+const FIRST_BYTES: usize = 1_024;
 
 // A longer piece, or a longer pair, has a block of its own.
 const BLOCK_BYTES: usize = 65_536;
@@ -33,19 +41,29 @@ const NOTHING: Span = Span {
 impl Blocks {
     /// No blocks.
     pub(crate) fn new(alloc: Global) -> Blocks
-        ensures { chunks_of result ≡ [] }
+        ensures { result.blocks.items ≡ [] }
     {
         Blocks {
             alloc,
             blocks: Vec::new(alloc),
             filling: 0,
+            least: FIRST_BYTES,
+            held: 0,
         }
+    }
+
+    /// The sum of the blocks' sizes.
+    pub(crate) fn held(&self) -> u128
+        ensures { result ≡ sum (sizes_in self.now.blocks.items) }
+    {
+        self.held
     }
 
     /// Writes the piece where nothing was written yet, and answers where it lies. An empty piece takes no block.
     pub(crate) fn write(&mut self, piece: &[u8]) -> Result<Span, AllocError>
-        ensures written { IfOk result (λ span. IsWriting (chunks_of self.old) piece.now span (chunks_of self.new)) }
-        ensures err { OnErr result (chunks_of self.new ≡ chunks_of self.old) }
+        ensures written { IfOk result (λ span. IsWriting (chunks_in self.old.blocks.items) piece.now span (chunks_in self.new.blocks.items)) }
+        ensures sizes { OnOk result (HasGrown (sizes_in self.old.blocks.items) (length piece.now) (sizes_in self.new.blocks.items)) }
+        ensures err { OnErr result ((chunks_in self.new.blocks.items ≡ chunks_in self.old.blocks.items) × (sizes_in self.new.blocks.items ≡ sizes_in self.old.blocks.items)) }
     {
         if piece.is_empty() {
             return Ok(NOTHING);
@@ -60,8 +78,9 @@ impl Blocks {
         first: &[u8],
         second: &[u8],
     ) -> Result<(Span, Span), AllocError>
-        ensures written { IfOk result (λ spans. IsWritingPair (chunks_of self.old) first.now second.now spans (chunks_of self.new)) }
-        ensures err { OnErr result (chunks_of self.new ≡ chunks_of self.old) }
+        ensures written { IfOk result (λ spans. IsWritingPair (chunks_in self.old.blocks.items) first.now second.now spans (chunks_in self.new.blocks.items)) }
+        ensures sizes { OnOk result (HasGrown (sizes_in self.old.blocks.items) (length first.now + length second.now) (sizes_in self.new.blocks.items)) }
+        ensures err { OnErr result ((chunks_in self.new.blocks.items ≡ chunks_in self.old.blocks.items) × (sizes_in self.new.blocks.items ≡ sizes_in self.old.blocks.items)) }
     {
         let length = first.len() + second.len();
         if length == 0 {
@@ -76,9 +95,10 @@ impl Blocks {
     /// Writes the bytes at the span and then the tail, as one piece, where nothing was written yet, and answers where it
     /// lies.
     pub(crate) fn write_joined(&mut self, head: Span, tail: &[u8]) -> Result<Span, AllocError>
-        requires { length (bytes_at (chunks_of self.old) head) ≡ head.length }
-        ensures written { IfOk result (λ span. IsWriting (chunks_of self.old) (bytes_at (chunks_of self.old) head ++ tail.now) span (chunks_of self.new)) }
-        ensures err { OnErr result (chunks_of self.new ≡ chunks_of self.old) }
+        requires { length (bytes_at (chunks_in self.old.blocks.items) head) ≡ head.length }
+        ensures written { IfOk result (λ span. IsWriting (chunks_in self.old.blocks.items) (bytes_at (chunks_in self.old.blocks.items) head ++ tail.now) span (chunks_in self.new.blocks.items)) }
+        ensures sizes { OnOk result (HasGrown (sizes_in self.old.blocks.items) (length (bytes_at (chunks_in self.old.blocks.items) head ++ tail.now)) (sizes_in self.new.blocks.items)) }
+        ensures err { OnErr result ((chunks_in self.new.blocks.items ≡ chunks_in self.old.blocks.items) × (sizes_in self.new.blocks.items ≡ sizes_in self.old.blocks.items)) }
     {
         if head.length == 0 {
             return self.write(tail);
@@ -97,8 +117,8 @@ impl Blocks {
 
     /// The bytes at a span inside the blocks.
     pub(crate) fn piece(&self, span: Span) -> &[u8]
-        requires { length (bytes_at (chunks_of self.now) span) ≡ span.length }
-        ensures { result.now ≡ bytes_at (chunks_of self.now) span }
+        requires { length (bytes_at (chunks_in self.now.blocks.items) span) ≡ span.length }
+        ensures { result.now ≡ bytes_at (chunks_in self.now.blocks.items) span }
     {
         if span.length == 0 {
             return &[];
@@ -109,7 +129,7 @@ impl Blocks {
     // How many bytes are written in a block.
     fn written(&self, place: usize) -> usize
         requires { place < length self.now.blocks.items }
-        ensures { result ≡ length (slice_index_or (chunks_of self.now) place []) }
+        ensures { result ≡ length (slice_index_or (chunks_in self.now.blocks.items) place []) }
     {
         self.blocks[place].bytes().len()
     }
@@ -117,7 +137,7 @@ impl Blocks {
     // Writes the piece into a block that has room for it, and answers where it lies.
     fn fill(&mut self, place: usize, piece: &[u8]) -> Span
         requires { HasSpace self.old.blocks.items place (length piece.now) }
-        ensures span { result ≡ next_span (chunks_of self.old) place (length piece.now) }
+        ensures span { result ≡ next_span (chunks_in self.old.blocks.items) place (length piece.now) }
         ensures filled { IsFilled self.old.blocks.items place piece.now self.new.blocks.items }
     {
         let start = self.written(place);
@@ -132,9 +152,9 @@ impl Blocks {
     // Writes the bytes at a span once more, into a block that has room for them: part by part, as the span may lie in
     // that very block.
     fn copy(&mut self, span: Span, place: usize)
-        requires inside { length (bytes_at (chunks_of self.old) span) ≡ span.length }
+        requires inside { length (bytes_at (chunks_in self.old.blocks.items) span) ≡ span.length }
         requires room { HasSpace self.old.blocks.items place span.length }
-        ensures { IsFilled self.old.blocks.items place (bytes_at (chunks_of self.old) span) self.new.blocks.items }
+        ensures { IsFilled self.old.blocks.items place (bytes_at (chunks_in self.old.blocks.items) span) self.new.blocks.items }
     {
         let mut copied = 0;
         while copied < span.length {
@@ -150,10 +170,10 @@ impl Blocks {
 
     // The same of a short span, by a buffer.
     fn copy_part(&mut self, part: Span, place: usize)
-        requires inside { length (bytes_at (chunks_of self.old) part) ≡ part.length }
+        requires inside { length (bytes_at (chunks_in self.old.blocks.items) part) ≡ part.length }
         requires room { HasSpace self.old.blocks.items place part.length }
         requires short { part.length ≤ 1024 }
-        ensures { IsFilled self.old.blocks.items place (bytes_at (chunks_of self.old) part) self.new.blocks.items }
+        ensures { IsFilled self.old.blocks.items place (bytes_at (chunks_in self.old.blocks.items) part) self.new.blocks.items }
     {
         let mut buffer = [0; PART_BYTES];
         let bytes = &mut buffer[..part.length];
@@ -173,9 +193,11 @@ impl Blocks {
 
     // The place of a block into which so many bytes can be written: the one that is being filled, or a new one.
     fn block_for(&mut self, count: usize) -> Result<usize, AllocError>
+        requires { 0 < count }
         ensures room { IfOk result (λ place. HasSpace self.new.blocks.items place count) }
-        ensures grown { IsGrown (chunks_of self.old) (chunks_of self.new) }
-        ensures err { OnErr result (chunks_of self.new ≡ chunks_of self.old) }
+        ensures grown { IsGrown (chunks_in self.old.blocks.items) (chunks_in self.new.blocks.items) }
+        ensures sizes { OnOk result (HasGrown (sizes_in self.old.blocks.items) count (sizes_in self.new.blocks.items)) }
+        ensures err { OnErr result ((chunks_in self.new.blocks.items ≡ chunks_in self.old.blocks.items) × (sizes_in self.new.blocks.items ≡ sizes_in self.old.blocks.items)) }
     {
         if self.has_room(count) {
             return Ok(self.filling);
@@ -184,11 +206,52 @@ impl Blocks {
             return Err(AllocError);
         }
         let place = self.blocks.len();
-        let block = Block::new(self.alloc, count.max(BLOCK_BYTES))?;
-        self.blocks.push(block)?;
+        self.grow(block_size(self.least.max(count)))?;
         if count <= BLOCK_BYTES {
             self.filling = place;
         }
         Ok(place)
     }
+
+    // Makes one more block, of so many bytes.
+    fn grow(&mut self, size: usize) -> Result<(), AllocError>
+        requires { size < 2 ^ 63 }
+        ensures room { OnOk result (HasSpace self.new.blocks.items (length self.old.blocks.items) size) }
+        ensures chunks { OnOk result (chunks_in self.new.blocks.items ≡ chunks_in self.old.blocks.items ++ replicate 1 []) }
+        ensures sizes { OnOk result (sizes_in self.new.blocks.items ≡ sizes_in self.old.blocks.items ++ size ∷ []) }
+        ensures err { OnErr result ((chunks_in self.new.blocks.items ≡ chunks_in self.old.blocks.items) × (sizes_in self.new.blocks.items ≡ sizes_in self.old.blocks.items)) }
+    {
+        let block = Block::new(self.alloc, size)?;
+        self.blocks.push(block)?;
+        self.held += size as u128;
+        self.least = next_least(self.least, size);
+        Ok(())
+    }
+}
+
+// The least of the sizes of blocks that holds so many bytes, or just so many where none does.
+fn block_size(count: usize) -> usize
+    ensures value { result ≡ size_holding count }
+    ensures holds { (count ≤ result) × (result ≤ max 65536 count) }
+{
+    match count {
+        0..=1_024 => 1_024,
+        1_025..=2_048 => 2_048,
+        2_049..=4_096 => 4_096,
+        4_097..=8_192 => 8_192,
+        8_193..=16_384 => 16_384,
+        16_385..=32_768 => 32_768,
+        32_769..=65_536 => 65_536,
+        _ => count,
+    }
+}
+
+// The least size of the block after one of this size, where it was `least` for that one.
+fn next_least(least: usize, size: usize) -> usize
+    ensures { result ≡ least_after least size }
+{
+    if size <= BLOCK_BYTES {
+        return BLOCK_BYTES.min(size.saturating_mul(2));
+    }
+    least
 }

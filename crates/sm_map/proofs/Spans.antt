@@ -141,7 +141,7 @@ record Forgot (v : ArenaValue) (span : Span) (w : ArenaValue) : Type 0 where
   dead : dead_of w ≡ dead_of v + length (bytes_of v.placed span)
 
 forgot : (v : ArenaValue) (span : Span) → Forgot v span (forgetting v span)
-forgot v span = cond_both (eqb (length (bytes_of v.placed span)) 0) v (record { placed = v.placed; forgotten = v.forgotten ++ span ∷ [] }) (Forgot v span)
+forgot v span = cond_both (eqb (length (bytes_of v.placed span)) 0) v (record { placed = v.placed; forgotten = v.forgotten ++ span ∷ []; sizes = v.sizes }) (Forgot v span)
     (λ e. record { placed = refl; times = λ s. omega arith; dead = let none : length (bytes_of v.placed span) ≡ 0 = grind (arith, nat_tests) in omega (arith, none) })
     (λ e. record {
       placed = refl;

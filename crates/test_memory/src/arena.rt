@@ -83,6 +83,47 @@ fn lengths_round_a_chunk_read_back(rt: HostRuntime) -> Result<(), Fail> {
     Ok(())
 }
 
+// The first chunk has 1,024 bytes, each next one twice as many, and a longer piece has one of its own.
+#[test]
+fn chunks_grow(rt: HostRuntime) -> Result<(), Fail> {
+    let mut arena = Arena::new(rt.alloc());
+    assert!(rt; arena.held() == 0);
+    let piece = bytes_from(rt.alloc(), 0, 1_024)?;
+    arena.place(b"x")?;
+    assert!(rt; arena.held() == 1_024);
+    arena.place(piece.as_slice())?;
+    assert!(rt; arena.held() == 3_072);
+    Ok(())
+}
+
+// How many bytes the arena holds once it has the piece too.
+fn held_with(arena: &mut Arena, piece: &[u8]) -> Result<u128, AllocError> {
+    arena.place(piece)?;
+    Ok(arena.held())
+}
+
+#[test]
+fn chunks_skip_sizes_and_stop_growing(rt: HostRuntime) -> Result<(), Fail> {
+    let mut arena = Arena::new(rt.alloc());
+    let long = bytes_from(rt.alloc(), 1, 70_000)?;
+    let bytes = long.as_slice();
+    let mut expected = 0;
+    // A piece of 5,000 bytes takes a chunk of 8,192, and the long one leaves the next chunk's size as it was.
+    for (length, more) in [
+        (5_000, 8_192),
+        (70_000, 70_000),
+        (16_384, 16_384),
+        (40_000, 65_536),
+        (30_000, 65_536),
+        (35_000, 0),
+        (65_536, 65_536),
+    ] {
+        expected += more;
+        assert!(rt; held_with(&mut arena, &bytes[..length])? == expected);
+    }
+    Ok(())
+}
+
 // Places both pieces, and tells whether they read the same.
 #[tactic(auto, using(sm_arena::specs::lemmas::Placing::pair_now))]
 fn pair_reads_back(arena: &mut Arena, first: &[u8], second: &[u8]) -> Result<bool, AllocError> {
@@ -114,7 +155,7 @@ fn joins(arena: &mut Arena, head: &[u8], tail: &[u8]) -> Result<bool, AllocError
     )
 }
 
-// The long joined piece has a block of its own.
+// The long joined piece has a chunk of its own.
 #[test]
 fn joined_pieces_read_back(rt: HostRuntime) -> Result<(), Fail> {
     let mut arena = Arena::new(rt.alloc());

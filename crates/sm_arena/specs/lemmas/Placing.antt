@@ -20,6 +20,6 @@ pair_later old first second s t new pair u is = placed_later pair.middle second 
 pub placed_after : (v : ArenaValue) (span s : Span) → IsPlaced v.placed s → IsPlaced (forgetting v span).placed s
 placed_after v span s is = by (eqb (length (bytes_of v.placed span)) 0)
   where
-    by : (b : Bool) → IsPlaced (cond b v (record { placed = v.placed; forgotten = v.forgotten ++ span ∷ [] })).placed s
+    by : (b : Bool) → IsPlaced (cond b v (record { placed = v.placed; forgotten = v.forgotten ++ span ∷ []; sizes = v.sizes })).placed s
     by true = is
     by false = is

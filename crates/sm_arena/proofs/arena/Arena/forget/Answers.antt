@@ -1,5 +1,5 @@
 use Rattle.std.proofs.Common.{arith}
-use Rattle.sm_arena.specs.Blocks.{chunks_of}
+use Rattle.sm_arena.specs.Chunks.{chunks_of}
 use Rattle.sm_arena.proofs.Chunks.{total_fits}
 use Rattle.sm_arena.proofs.Placing.{was_live, held_forgotten, forgets, forgets_nothing}
 use Rattle.sm_arena.proofs.arena.Arena.forget.Goals as goal

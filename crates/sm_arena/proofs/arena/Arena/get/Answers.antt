@@ -1,6 +1,6 @@
 use Rattle.std.proofs.Common.{sym, subst}
 use Rattle.sm_arena.specs.Pieces.{IsPlaced}
-use Rattle.sm_arena.specs.Blocks.{chunks_of}
+use Rattle.sm_arena.specs.Chunks.{chunks_of}
 use Rattle.sm_arena.proofs.Placing.{lies_at}
 use Rattle.sm_arena.proofs.arena.Arena.get.Goals as goal
 

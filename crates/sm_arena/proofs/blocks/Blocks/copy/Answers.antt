@@ -1,5 +1,6 @@
 use Rattle.std.proofs.Common.{◌≤◌, ◌+◌, length, take_all, subst, arith}
-use Rattle.sm_arena.specs.Blocks.{chunks_of, bytes_at, IsFilled}
+use Rattle.sm_arena.specs.Blocks.{bytes_at, IsFilled}
+use Rattle.sm_arena.specs.Chunks.{chunks_of}
 use Rattle.sm_arena.proofs.Chunks.{fills_nothing, span_fits, part_there, part_room, part_filled}
 use Rattle.sm_arena.proofs.blocks.Blocks.copy.Goals as goal
 

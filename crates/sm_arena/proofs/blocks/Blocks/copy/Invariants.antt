@@ -1,5 +1,6 @@
 use Rattle.std.proofs.Common.{◌≤◌, ◌-◌, take}
-use Rattle.sm_arena.specs.Blocks.{chunks_of, bytes_at, IsFilled}
+use Rattle.sm_arena.specs.Blocks.{bytes_at, IsFilled}
+use Rattle.sm_arena.specs.Chunks.{chunks_of}
 use Rattle.sm_arena.proofs.blocks.Blocks.copy.Given as goal
 
 abbrev pub invariant-loop-copied : goal.invariant-loop-copied

@@ -1,5 +1,5 @@
 use Rattle.std.proofs.Common.{rules, ◌≤◌, length}
-use Rattle.sm_arena.specs.Blocks.{chunks_of}
+use Rattle.sm_arena.specs.Chunks.{chunks_of}
 use Rattle.sm_arena.proofs.Chunks.{writes, writes_nothing}
 use Rattle.sm_arena.proofs.blocks.Blocks.write.Goals as goal
 

@@ -1,6 +1,7 @@
-use Rattle.std.proofs.Common.{rules, ◌≡◌, ◌+◌, ◌++◌, List, ℕ, length, ap, arith}
+use Rattle.std.proofs.Common.{rules, ◌≡◌, ◌+◌, ◌++◌, List, ℕ, length, ap, ◌∙◌, arith}
 use Rattle.std.proofs.lemmas.List.{length-append}
-use Rattle.sm_arena.specs.Blocks.{chunks_of, bytes_at}
+use Rattle.sm_arena.specs.Blocks.{bytes_at}
+use Rattle.sm_arena.specs.Chunks.{chunks_of}
 use Rattle.sm_arena.proofs.Chunks.{writes, fills_both, grown_reads}
 use Rattle.sm_arena.proofs.blocks.Blocks.write_joined.Goals as goal
 
@@ -21,3 +22,6 @@ returns-clause-written c =
     writes (chunks_of c.args.self.now) c.block_for.new.self.blocks.items c.fill.new.self.blocks.items c.block_for.ensures.grown.0 c.in_ok-chunk.chunk (head ++ c.args.tail.now) c.block_for.ensures.grown.1 c.in_ok-chunk.ensures.room.0
     (rw same at both)
     )
+
+pub copy-requires-clause-inside : goal.copy-requires-clause-inside
+copy-requires-clause-inside c = ap length (grown_reads (chunks_of c.args.self.now) (chunks_of c.block_for.new.self) c.block_for.ensures.grown.0 c.block_for.ensures.grown.1 c.args.head) ∙ c.requires

@@ -1,0 +1,16 @@
+use Rattle.std.proofs.Common.{rules, ◌≡◌, ◌+◌, [], ◌∷◌, ◌++◌, ℕ, sum, ap, sym, ◌∙◌, arith}
+use Rattle.sm_arena.specs.Sizes.{sizes_in, next_size, least_after}
+use Rattle.sm_arena.proofs.Sizes.{next_pushed, sum_pushed, held_fits}
+use Rattle.sm_arena.proofs.blocks.Blocks.grow.Goals as goal
+
+pub overflow_add-self : goal.overflow_add-self
+overflow_add-self c = record { fits = omega (arith, c.args.self.now.tied.1, held_fits c.args.self.now) }
+
+pub invariant_of-self-2 : goal.invariant_of-self-2
+invariant_of-self-2 c =
+    let items : c.push.new.self.items ≡ c.args.self.now.blocks.items ++ c.in_ok-block.block ∷ [] = search rules in
+    let next = next_pushed c.args.self.now.blocks.items c.in_ok-block.block in
+    let all = sum_pushed c.args.self.now.blocks.items c.in_ok-block.block in
+    let least = c.next_least-self.ensures ∙ ((λ i. least_after (c.args.self.now.tied.0 i) (sym c.in_ok-block.ensures.0 i)) ∙ sym next) in
+    let held = (λ i. c.args.self.now.tied.1 i + sym c.in_ok-block.ensures.0 i) ∙ sym all in
+    rw items (record { tied = (least, held) })

@@ -1,0 +1,11 @@
+-- The chunks of an arena's blocks, and their sizes.
+use Rattle.std.specs.Prelude.{ℕ, List}
+use Rattle.sm_arena.specs.declared.blocks.Blocks.{Blocks}
+use Rattle.sm_arena.specs.Blocks.{chunks_in}
+use Rattle.sm_arena.specs.Sizes.{sizes_in}
+
+abbrev pub chunks_of : Blocks → List (List ℕ)
+chunks_of b = chunks_in b.blocks.items
+
+abbrev pub sizes_of : Blocks → List ℕ
+sizes_of b = sizes_in b.blocks.items

@@ -1,0 +1,31 @@
+-- The sizes of chunks: each is twice the one before, from 1,024 to 65,536 bytes.
+use Rattle.std.specs.Prelude.{◌≡◌, ◌*◌, ◌<◌, ◌++◌, ◌⊎◌, ℕ, nat_le, List, None, [], ◌∷◌, filter, find, map, unwrap_or, cond, min, max}
+use Rattle.std.specs.List.{last_or}
+use Rattle.sm_arena.specs.declared.block.Block.{Block}
+
+abbrev pub chunk_sizes : List ℕ
+chunk_sizes = 1024 ∷ 2048 ∷ 4096 ∷ 8192 ∷ 16384 ∷ 32768 ∷ 65536 ∷ []
+
+-- the least of them that holds so many bytes; more bytes than all of them hold have a chunk of just their size
+abbrev pub size_holding : ℕ → ℕ
+size_holding count = unwrap_or (find (λ size. nat_le count size) chunk_sizes) count
+
+-- the least size of the chunk that comes after those of these sizes
+abbrev pub next_size : List ℕ → ℕ
+next_size sizes = min 65536 (2 * unwrap_or (last_or None (filter (λ size. nat_le size 65536) sizes)) 512)
+
+-- the same after one chunk more, where it was `least` before
+abbrev pub least_after : ℕ → ℕ → ℕ
+least_after least size = cond (nat_le size 65536) (min 65536 (2 * size)) least
+
+-- the size of the chunk that is made for so many bytes
+abbrev pub size_for : List ℕ → ℕ → ℕ
+size_for sizes count = size_holding (max (next_size sizes) count)
+
+-- new is old, with a chunk more at most, and that one made for so many bytes
+abbrev pub HasGrown : List ℕ → ℕ → List ℕ → Type 0
+HasGrown old count new = (new ≡ old) ⊎ ((0 < count) × (new ≡ old ++ size_for old count ∷ []))
+
+-- the size of each block
+abbrev pub sizes_in : List Block → List ℕ
+sizes_in blocks = map (λ block. block.size) blocks
