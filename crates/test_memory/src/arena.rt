@@ -96,30 +96,27 @@ fn chunks_grow(rt: HostRuntime) -> Result<(), Fail> {
     Ok(())
 }
 
-// How many bytes the arena holds once it has the piece too.
-fn held_with(arena: &mut Arena, piece: &[u8]) -> Result<u128, AllocError> {
-    arena.place(piece)?;
+// Places so many bytes, and tells how many the arena then holds.
+fn held_with(alloc: Global, arena: &mut Arena, count: usize) -> Result<u128, AllocError> {
+    let piece = bytes_from(alloc, 1, count)?;
+    arena.place(piece.as_slice())?;
     Ok(arena.held())
 }
 
+// A piece of 5,000 bytes takes a chunk of 8,192, and one of 70,000 leaves the next chunk's size as it was.
 #[test]
 fn chunks_skip_sizes_and_stop_growing(rt: HostRuntime) -> Result<(), Fail> {
     let mut arena = Arena::new(rt.alloc());
-    let long = bytes_from(rt.alloc(), 1, 70_000)?;
-    let bytes = long.as_slice();
-    let mut expected = 0;
-    // A piece of 5,000 bytes takes a chunk of 8,192, and the long one leaves the next chunk's size as it was.
-    for (length, more) in [
+    for (count, held) in [
         (5_000, 8_192),
-        (70_000, 70_000),
-        (16_384, 16_384),
-        (40_000, 65_536),
-        (30_000, 65_536),
-        (35_000, 0),
-        (65_536, 65_536),
+        (70_000, 78_192),
+        (16_384, 94_576),
+        (40_000, 160_112),
+        (30_000, 225_648),
+        (35_000, 225_648),
+        (65_536, 291_184),
     ] {
-        expected += more;
-        assert!(rt; held_with(&mut arena, &bytes[..length])? == expected);
+        assert!(rt; held_with(rt.alloc(), &mut arena, count)? == held);
     }
     Ok(())
 }
