@@ -61,9 +61,11 @@ impl Blocks {
 
     /// Writes the piece where nothing was written yet, and answers where it lies. An empty piece takes no block.
     pub(crate) fn write(&mut self, piece: &[u8]) -> Result<Span, AllocError>
-        ensures written { IfOk result (λ span. IsWriting (chunks_in self.old.blocks.items) piece.now span (chunks_in self.new.blocks.items)) }
+        ensures written { IfOk result (λ span.
+            IsWriting (chunks_in self.old.blocks.items) piece.now span (chunks_in self.new.blocks.items)) }
         ensures sizes { OnOk result (HasGrown (sizes_in self.old.blocks.items) (length piece.now) (sizes_in self.new.blocks.items)) }
-        ensures err { OnErr result ((chunks_in self.new.blocks.items ≡ chunks_in self.old.blocks.items) × (sizes_in self.new.blocks.items ≡ sizes_in self.old.blocks.items)) }
+        ensures err { OnErr result ((chunks_in self.new.blocks.items ≡ chunks_in self.old.blocks.items)
+            × (sizes_in self.new.blocks.items ≡ sizes_in self.old.blocks.items)) }
     {
         if piece.is_empty() {
             return Ok(NOTHING);
@@ -78,9 +80,12 @@ impl Blocks {
         first: &[u8],
         second: &[u8],
     ) -> Result<(Span, Span), AllocError>
-        ensures written { IfOk result (λ spans. IsWritingPair (chunks_in self.old.blocks.items) first.now second.now spans (chunks_in self.new.blocks.items)) }
-        ensures sizes { OnOk result (HasGrown (sizes_in self.old.blocks.items) (length first.now + length second.now) (sizes_in self.new.blocks.items)) }
-        ensures err { OnErr result ((chunks_in self.new.blocks.items ≡ chunks_in self.old.blocks.items) × (sizes_in self.new.blocks.items ≡ sizes_in self.old.blocks.items)) }
+        ensures written { IfOk result (λ spans.
+            IsWritingPair (chunks_in self.old.blocks.items) first.now second.now spans (chunks_in self.new.blocks.items)) }
+        ensures sizes { OnOk result
+            (HasGrown (sizes_in self.old.blocks.items) (length first.now + length second.now) (sizes_in self.new.blocks.items)) }
+        ensures err { OnErr result ((chunks_in self.new.blocks.items ≡ chunks_in self.old.blocks.items)
+            × (sizes_in self.new.blocks.items ≡ sizes_in self.old.blocks.items)) }
     {
         let length = first.len() + second.len();
         if length == 0 {
@@ -96,9 +101,14 @@ impl Blocks {
     /// lies.
     pub(crate) fn write_joined(&mut self, head: Span, tail: &[u8]) -> Result<Span, AllocError>
         requires { length (bytes_at (chunks_in self.old.blocks.items) head) ≡ head.length }
-        ensures written { IfOk result (λ span. IsWriting (chunks_in self.old.blocks.items) (bytes_at (chunks_in self.old.blocks.items) head ++ tail.now) span (chunks_in self.new.blocks.items)) }
-        ensures sizes { OnOk result (HasGrown (sizes_in self.old.blocks.items) (length (bytes_at (chunks_in self.old.blocks.items) head ++ tail.now)) (sizes_in self.new.blocks.items)) }
-        ensures err { OnErr result ((chunks_in self.new.blocks.items ≡ chunks_in self.old.blocks.items) × (sizes_in self.new.blocks.items ≡ sizes_in self.old.blocks.items)) }
+        ensures written { IfOk result (λ span.
+            IsWriting (chunks_in self.old.blocks.items) (bytes_at (chunks_in self.old.blocks.items) head ++ tail.now)
+            span (chunks_in self.new.blocks.items)) }
+        ensures sizes { OnOk result
+            (HasGrown (sizes_in self.old.blocks.items) (length (bytes_at (chunks_in self.old.blocks.items) head ++ tail.now))
+            (sizes_in self.new.blocks.items)) }
+        ensures err { OnErr result ((chunks_in self.new.blocks.items ≡ chunks_in self.old.blocks.items)
+            × (sizes_in self.new.blocks.items ≡ sizes_in self.old.blocks.items)) }
     {
         if head.length == 0 {
             return self.write(tail);
@@ -197,7 +207,8 @@ impl Blocks {
         ensures room { IfOk result (λ place. HasSpace self.new.blocks.items place count) }
         ensures grown { IsGrown (chunks_in self.old.blocks.items) (chunks_in self.new.blocks.items) }
         ensures sizes { OnOk result (HasGrown (sizes_in self.old.blocks.items) count (sizes_in self.new.blocks.items)) }
-        ensures err { OnErr result ((chunks_in self.new.blocks.items ≡ chunks_in self.old.blocks.items) × (sizes_in self.new.blocks.items ≡ sizes_in self.old.blocks.items)) }
+        ensures err { OnErr result ((chunks_in self.new.blocks.items ≡ chunks_in self.old.blocks.items)
+            × (sizes_in self.new.blocks.items ≡ sizes_in self.old.blocks.items)) }
     {
         if self.has_room(count) {
             return Ok(self.filling);
@@ -219,7 +230,8 @@ impl Blocks {
         ensures room { OnOk result (HasSpace self.new.blocks.items (length self.old.blocks.items) size) }
         ensures chunks { OnOk result (chunks_in self.new.blocks.items ≡ chunks_in self.old.blocks.items ++ replicate 1 []) }
         ensures sizes { OnOk result (sizes_in self.new.blocks.items ≡ sizes_in self.old.blocks.items ++ size ∷ []) }
-        ensures err { OnErr result ((chunks_in self.new.blocks.items ≡ chunks_in self.old.blocks.items) × (sizes_in self.new.blocks.items ≡ sizes_in self.old.blocks.items)) }
+        ensures err { OnErr result ((chunks_in self.new.blocks.items ≡ chunks_in self.old.blocks.items)
+            × (sizes_in self.new.blocks.items ≡ sizes_in self.old.blocks.items)) }
     {
         let block = Block::new(self.alloc, size)?;
         self.blocks.push(block)?;
