@@ -12,8 +12,8 @@ use std::marker::Model;
 /// Memory for pieces of bytes: a piece stays where it was placed, and reads the same, until the arena is dropped.
 ///
 /// Contracts see an arena as the pieces that were placed, by their spans, the list of the spans that were forgotten, and the
-/// sizes of its chunks. The first chunk has 1,024 bytes, and each next one twice as many, up to 65,536. A longer piece, or a
-/// longer pair, has a chunk of its own.
+/// sizes of its chunks. The first chunk has 1,024 bytes, and each next one twice as many, up to 65,536; a size that doesn't hold
+/// the piece, or the pair, is skipped. A piece or a pair of more than 65,536 bytes has a chunk of just its size.
 #[derive(Drop)]
 pub struct Arena {
     blocks: Blocks,
@@ -36,7 +36,7 @@ impl Model for Arena {
 }
 
 impl Arena {
-    /// An arena in which nothing was placed. It takes no memory yet.
+    /// An arena in which nothing was placed. It has no chunk yet.
     pub fn new(alloc: Global) -> Arena
         ensures placed { (result.placed ≡ []) × (result.forgotten ≡ []) }
         ensures sizes { result.sizes ≡ [] }
@@ -111,7 +111,7 @@ impl Arena {
         self.blocks.piece(span)
     }
 
-    /// Counts the piece at the span as dead; its bytes stay. An empty piece is never dead.
+    /// Counts the piece at the span, which wasn't forgotten before, as dead; its bytes stay. An empty piece is never dead.
     pub fn forget(&mut self, span: Span)
         requires placed { IsPlaced self.old.placed span }
         requires kept { 0 < length (bytes_of self.old.placed span) → times_forgotten self.old span ≡ 0 }

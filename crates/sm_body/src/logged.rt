@@ -9,7 +9,7 @@ use std::alloc::{AllocError, Global};
 use std::marker::Model;
 
 /// The service of a machine: the body that applies requests to it. No call reads a request again once it is applied, so of
-/// the list in memory there is the length alone; the list itself and the base are values that proofs alone read.
+/// the list only the length is in memory; the list itself and the base are values that proofs alone read.
 #[derive(Drop)]
 pub struct Logged<M: Machine> {
     alloc: Global,
@@ -55,7 +55,7 @@ impl<M: Machine> Logged<M> {
         }
     }
 
-    /// The machine, after the requests that are kept.
+    /// The machine after the requests that are kept, from the base on.
     pub fn machine(&self) -> &M
         ensures { result.now ≡ fold M.after self.now.base self.now.requests }
     {

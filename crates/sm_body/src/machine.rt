@@ -21,7 +21,7 @@ pub trait Machine: Drop + Send {
     /// The bytes whose shard executes the request.
     ghost key_of: { Self.Request → List ℕ };
 
-    /// The machine before any request. It takes no memory yet.
+    /// The machine before any request. It can't answer that memory was refused, so it should take none.
     fn new(alloc: Global) -> Self
         ensures { result ≡ start };
 
@@ -35,7 +35,8 @@ pub trait Machine: Drop + Send {
         ensures after { OnOk result (self.new ≡ after self.old request.now) }
         ensures err { OnErr result (self.new ≡ self.old) };
 
-    /// Moves the machine into fresh memory, or leaves it in the old where a growth is refused. It stands for the same.
+    /// Is to move the machine into fresh memory, or to leave it in the old where a growth is refused. In both cases its value
+    /// stays the same, and that alone is proved.
     fn rebuild(&mut self, alloc: Global) -> Result<(), AllocError>
         ensures { self.new ≡ self.old };
 }

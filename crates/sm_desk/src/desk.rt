@@ -56,7 +56,8 @@ impl Desk {
         self.servers.contains(&server.number())
     }
 
-    /// Whether the command may be carried out, or the first fault that applies.
+    /// Whether the servers and the stands allow the command, or the first fault that applies. `Spent` and `Busy` are
+    /// for the ownership table to answer.
     pub fn check(&self, command: &Command) -> Result<(), CommandFault>
         ensures { result_err result ≡ desk_fault self.now command.now }
     {
@@ -82,7 +83,7 @@ impl Desk {
         Ok(())
     }
 
-    /// Notes that the command was carried out.
+    /// Sets the stand that the command leads to. The desk doesn't refuse the command.
     pub fn commit(&mut self, command: Command)
         requires { desk_fault self.old command ≡ None }
         ensures { self.new ≡ desk_after self.old command }

@@ -1,4 +1,5 @@
-//! Reads a text line by line and writes an answer to each, with every failure told apart and nothing lost before it.
+//! Reads a text line by line and writes an answer to each. A failed reader, a failed writer and want of memory are told apart,
+//! and after each the contracts say which answers were written.
 //!
 //! ```rust
 //! let mut reader = Watched::new(b"one\nthree".as_slice());
@@ -20,5 +21,5 @@ pub use piece_writer::{PieceWriter, WriteFault, write_whole};
 pub use respond::{AnswerFault, Responder, answer_lines};
 pub use watch::{COUNT_LIMIT, Watched};
 
-/// How many bytes are read or written at a time.
+/// How many bytes are read at a time, and how many wait to be written, at most.
 pub const PIECE: usize = 65_536;

@@ -11,7 +11,7 @@ use std::marker::Model;
 
 const LINE_FEED: u8 = b'\n';
 
-/// Reads a text in pieces of [`PIECE`] bytes and gives its lines one by one, each without its line feed.
+/// Reads a text in pieces of at most [`PIECE`] bytes and gives its lines one by one, each without its line feed.
 ///
 /// A last line without a line feed counts if it isn't empty. Of a line beyond its limit only the first bytes are kept.
 /// One reader is read from the first call to the last: a `LineReader` holds bytes of it that belong to later lines.
@@ -250,8 +250,8 @@ impl LineReader {
 
     /// Reads the next line, whose bytes [`LineReader::line`] then lends.
     ///
-    /// Nothing is read where the line's end is already held, nor once the end of the text was seen. After a fault the
-    /// line in front may have lost some of its bytes.
+    /// Nothing is read once the end of the text was seen. Nothing is read either where the line's end is already held, but no
+    /// clause says so. After a fault the line in front may have lost some of its bytes.
     pub fn next_line<R: Read>(
         &mut self,
         reader: &mut Watched<R>,

@@ -36,7 +36,7 @@ pub fn write_whole<W: Write>(writer: &mut Watched<W>, bytes: &[u8]) -> Result<()
 
 /// Collects bytes and writes them in pieces; contracts see it as the bytes that wait to be written, [`PIECE`] at most.
 ///
-/// After a fault it is of no further use: part of what waited was written.
+/// After a fault it is of no further use: a front of what waited was written, and nothing tells how much.
 #[derive(Drop)]
 pub struct PieceWriter {
     pending: Vec<u8>,

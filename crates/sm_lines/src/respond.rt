@@ -205,8 +205,9 @@ fn answer_rest<R: Read, W: Write, E: Responder>(
 /// Answers each line to come by the responder, until the input ends. A line beyond the limit is answered by its first
 /// bytes, as many as the limit.
 ///
-/// Before the reader is called all answers so far are written. Where reading stopped or no memory was left, exactly the
-/// answers to the lines before were written; where writing failed, a front of the answers to the lines that were read.
+/// Where reading stopped or no memory was left, exactly the answers to the lines before were written; where writing failed, a
+/// front of the answers to the lines that were read. Before the reader is called all answers so far are written, so that whoever
+/// gives the next line may wait for them; no clause of this function says so.
 pub fn answer_lines<R: Read, W: Write, E: Responder>(
     alloc: Global,
     lines: &mut LineReader,

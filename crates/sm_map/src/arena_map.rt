@@ -39,7 +39,7 @@ impl Model for ArenaMap {
 }
 
 impl ArenaMap {
-    /// The map that holds nothing. It takes no memory yet.
+    /// The map that holds nothing.
     pub fn new(alloc: Global) -> ArenaMap
         ensures { (result.pairs ≡ []) × (result.dead ≡ 0) }
     {

@@ -11,7 +11,7 @@ use sm_settings::settings::Settings;
 use std::alloc::{AllocError, Global};
 use std::io::{Read, Write};
 
-/// Runs scripts on a world: the whole shard manager on one thread, exactly as the definitions say.
+/// Runs scripts on a world, on one thread, exactly as the definitions say.
 #[derive(Clone, Copy, Debug, Drop)]
 pub struct ModelEngine {
     alloc: Global,
@@ -45,8 +45,9 @@ impl Engine for ModelEngine {
 /// writer that tell theirs.
 ///
 /// `Read` comes only where the reader failed, or 2^32 of its calls or lines were counted; `Write` only where the writer
-/// failed. The answers to all lines before the one at which a fault came were written, and nothing else, but for a front
-/// of that line's answer where writing failed.
+/// failed; `NoMemory` only where neither failed. The answers to all lines before the one at which a fault came were
+/// written, and nothing else, but for a front of that line's answer where writing failed. Where memory was refused, all
+/// lines before that one were taken off the reader, and beyond it at most a piece was read.
 pub fn run_model<R: Read, W: Write>(
     alloc: Global,
     reader: &mut Watched<R>,

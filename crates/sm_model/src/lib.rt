@@ -1,4 +1,4 @@
-//! The model: the whole shard manager on one thread, and the scripts that run on it.
+//! The model: a world of the sample service on one thread, and the scripts that run on it.
 //!
 //! ```rust
 //! let mut written = Vec::new(alloc);

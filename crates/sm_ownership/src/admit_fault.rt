@@ -1,6 +1,6 @@
 use thiserror::Error;
 
-/// Why a server is not admitted to a shard, by the shard's record. The first that applies is answered.
+/// Why a server is not admitted to a shard, by the shard's record. The first that applies is answered, in this order.
 #[derive(Clone, Copy, Debug, PartialEq, Eq, Drop, Error)]
 pub enum AdmitFault {
     /// Nobody owns the shard.
@@ -18,7 +18,7 @@ pub enum AdmitFault {
     /// The shard has an admission that hasn't ended.
     #[error("the shard is admitted")]
     Admitted,
-    /// The shard's generation has no room below the ceiling for an admission and its end.
+    /// An admission and its end would take the shard's generation above the ceiling.
     #[error("the shard's generations are spent")]
     Spent,
 }

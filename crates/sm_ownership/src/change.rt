@@ -17,7 +17,7 @@ pub enum Change {
     AddShard,
     /// The previous owner drops the shard: the migration ends.
     DropShard,
-    /// The migration is given up, and the shard stays with its owner.
+    /// Before `AddShard`: the migration is given up, and the shard stays with its owner.
     Cancel,
     /// Nobody executes until the shard is resumed or reassigned.
     Pause,

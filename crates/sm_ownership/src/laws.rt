@@ -28,8 +28,8 @@ pub fn admission_refused_exactly<Q>()
         ↔ ((actor ≢ 0) × IsTrue (acts_as earlier actor server) × (admit_fault ceiling state server mode ≡ None)) }
 {}
 
-/// A change is the next entry of a legal history exactly where the history's table refuses it by no fault, and makes the
-/// table of the longer history.
+/// A change by the control is the next entry of a legal history exactly where the history's table refuses it by no fault, and
+/// makes the table of the longer history.
 pub fn change_extends_history<Q>()
     ensures { (count ceiling : ℕ) (history : List (Entry Q)) (shard : ℕ) (change : Change) → IsLegal count ceiling history
         → let table = table_view count ceiling history in
@@ -127,17 +127,17 @@ pub fn two_servers<Q>()
         → IsApart (record_at (table_of count ceiling history) shard).stand }
 {}
 
-/// While a shard is neither vacant nor paused, no phase of a migration refuses by its stand what reaches the shard's owner, or
-/// its previous owner until that one drops the shard: the server executes it, or forwards it to the executor, which executes
-/// it and forwards nothing, also where the migration has gone on meanwhile.
+/// While a shard is neither vacant nor paused, no phase of a migration refuses by its stand what comes directly to the shard's
+/// owner, or to its previous owner until that one drops the shard: the stand has the server execute it, or forward it to the
+/// executor, which accepts it and forwards nothing, also after `AddShard` and `DropShard`. Of a `Cancel` meanwhile nothing is said.
 pub fn no_phase_refuses<Q>()
     ensures { (count ceiling : ℕ) (history : List (Entry Q)) (shard server : ℕ) → IsLegal count ceiling history
         → let stand = (record_at (table_of count ceiling history) shard).stand in
         IsReached stand server → IsServed stand server }
 {}
 
-/// A request that a record accepts is refused for no other reason than that the shard is admitted, or that its generations
-/// are spent.
+/// A server that a record accepts, for a request that came so, is refused its admission for no other reason than that the shard
+/// is admitted, or that its generations are spent.
 pub fn accepted_is_admitted()
     ensures { (ceiling : ℕ) (state : Record) (server : ℕ) (mode : Mode) → IsTrue (accepts state server mode)
         → admit_fault ceiling state server mode

@@ -11,7 +11,7 @@ use crate::mode::Mode;
 use sm_ranges::server_id::ServerId;
 use sm_ranges::stand::Stand;
 
-/// The greatest ceiling of generations: a generation below it fits the word of a record.
+/// The greatest ceiling of a world or a board: the greatest generation that fits the word of a record.
 pub const MAX_GENERATION: u64 = (1 << 36) - 1;
 
 /// What the ownership table holds for a shard.
@@ -38,7 +38,8 @@ impl Record {
         }
     }
 
-    /// Whether the server executes a request that came to it so.
+    /// Whether the stand has the server execute a request that came to it so. An admission for it may still be refused, by
+    /// `Admitted` or `Spent`.
     pub fn accepts(&self, server: ServerId, mode: Mode) -> bool
         ensures { result ≡ accepts self.now server mode }
     {

@@ -7,6 +7,6 @@ pub struct Route {
     pub shard: ShardId,
     /// The shard's owner when the route was made.
     pub server: ServerId,
-    /// The shard's generation when the route was made. A newer route of the shard has a greater one.
+    /// The shard's generation when the route was made. A publisher takes only a greater one than that of the shard's last route.
     pub generation: u64,
 }

@@ -148,7 +148,7 @@ impl Books {
         self.states[at] = state;
     }
 
-    /// Sets the stand of the shard, where the servers that the stand names have room for it.
+    /// Sets the stand of the shard, where the servers that the stand names have rows, and the books have room for it.
     pub fn set_stand(&mut self, k: ShardId, stand: Stand)
         requires shard { k < length self.old.shards }
         requires known { AllNamed (IsKnown self.old.servers) stand }

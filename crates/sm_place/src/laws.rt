@@ -9,7 +9,7 @@ ghost use Rattle.sm_ranges.specs.Stand.{AllNamed, names};
 ghost use Rattle.sm_place.specs.ServerState.{is_leaving};
 
 /// A server that a shard fits is not leaving, and there is room for each stand that names it beside servers that the
-/// shard names already: so for the server to serve the shard, or to make ready beside the owner.
+/// shard names already: so for the server to serve the shard, or to be prepared beside the owner.
 pub fn fit_leaves_room()
     ensures stays { (books : BooksView) (k a : ℕ) → fit books k a ≡ Ok tt → is_leaving (state_of books a) ≡ false }
     ensures named { (books : BooksView) (k a : ℕ) (stand : Stand) → k < length books.shards

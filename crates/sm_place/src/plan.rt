@@ -63,7 +63,7 @@ impl Plan {
         Ok(())
     }
 
-    /// Adds the shard as one that fits no server.
+    /// Adds the shard as one that fits none of the plan's servers in its turn.
     pub(crate) fn add_left(&mut self, shard: ShardId) -> Result<(), AllocError>
         ensures { OnOk result (self.new ≡ joined self.old (turn shard None)) }
     {

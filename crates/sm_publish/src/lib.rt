@@ -1,4 +1,4 @@
-//! The published map: one publisher of routes, and routers that read its map without a lock and never go back.
+//! The published map: one publisher of routes, and routers that read its map. What a router has seen only grows.
 //!
 //! ```rust
 //! let (mut publisher, mut routers) = Publisher::new(&rt, rt.alloc(), 2, 1)?;

@@ -31,8 +31,8 @@ impl Model for Publisher {
 }
 
 impl Publisher {
-    /// A publisher of routes for so many shards, and the routers of its map, of which there is at least one and which have
-    /// seen nothing. It may wait only where a router finds no place at the map, of which a new one has enough.
+    /// A publisher of routes for so many shards, and routers of its map, 1 to 2^32 - 1, which have seen nothing. The error is want
+    /// of memory, or that a router found no place at the map; then it may wait. No contract says that a new map has places enough.
     pub fn new<R: Wait>(
         rt: &R,
         alloc: Global,

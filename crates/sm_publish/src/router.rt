@@ -11,7 +11,7 @@ use sm_ranges::layout::Layout;
 use sm_ranges::shard_id::ShardId;
 use std::marker::Model;
 
-/// A reader of the published map. What it reads may be stale, and it never goes back. It may move to another thread.
+/// A reader of the published map. What it reads may be stale, and what it has seen only grows. It may move to another thread.
 ///
 /// Contracts see it as the table that its map lies in, and the publications that it has seen there, in order.
 #[derive(Drop)]
@@ -37,7 +37,7 @@ impl Router {
 
     /// The route of the key's shard that was published last of those that the router has then seen, or none where it has
     /// seen none. What it has seen begins with all that it had seen before. Where the read is refused the answer is none,
-    /// and nothing more is seen.
+    /// and nothing more is seen. That it goes on reading the map of the same table no clause says.
     pub fn route(&mut self, layout: &Layout, key: &[u8]) -> Option<Route>
         ensures later { Extends self.new.seen self.old.seen }
         ensures route { (result ≡ routes_of self.new.seen (shard_of layout.now key.now)) ⊎ ((result ≡ None) × (self.new.seen ≡ self.old.seen)) }

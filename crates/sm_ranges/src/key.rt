@@ -51,7 +51,7 @@ impl Key {
     ghost use Rattle.std.specs.Prelude.{length, ◌<◌};
     ghost use Rattle.sm_ranges.specs.Key.{IsKey};
 
-    /// The key with these bytes.
+    /// The key with these bytes, of which there are 1 to 255, or else the fault.
     pub fn new(alloc: Global, bytes: &[u8]) -> Result<Key, KeyFault>
         ensures ok { IfOk result (λ key. key ≡ bytes.now) }
         ensures is_key { OnOk result (IsKey bytes.now) }

@@ -63,7 +63,7 @@ pub enum LayoutFault {
     /// There are no bounds.
     #[error("a layout has at least one bound")]
     Empty,
-    /// The first bound has a byte.
+    /// The first bound has a byte or more.
     #[error("the first bound is not empty")]
     FirstNotEmpty,
     /// The bound is the first that is not above the one before it.
@@ -110,7 +110,7 @@ impl Layout {
     }
 
     /// The shard of these bytes, which may be any: the last shard whose bound is at most them.
-    /// The search halves: it compares at most 13 bounds.
+    /// No clause counts its comparisons; a test of the same search counts 13 at 4,096 bounds.
     pub fn shard_of(&self, key: &[u8]) -> ShardId
         ensures within { result < length self.now }
         ensures covers { Covers self.now result key.now }

@@ -8,7 +8,7 @@ use std::cmp::Ordering;
 
 /// The order of two keys: their bytes are compared as unsigned numbers, and a proper prefix comes first.
 // Eight bytes at a time as numbers; the last eight may overlap those before. `cmp` goes byte by byte through the eight that
-// differ, and a processor can't foretell where it stops.
+// differ, and the branch at which it stops is often mispredicted.
 pub fn compare(first: &[u8], second: &[u8]) -> Ordering
     ensures { result ≡ key_cmp first.now second.now }
 {

@@ -10,13 +10,13 @@ pub enum Stand {
     Vacant,
     /// The owner executes requests.
     Serving(ServerId),
-    /// The owner executes requests, and the next owner makes ready.
+    /// The owner executes requests, and a migration to the next owner has begun.
     Prepared { owner: ServerId, next: ServerId },
     /// The next owner executes what the owner forwards to it.
     Forwarding { owner: ServerId, next: ServerId },
     /// The new owner executes requests, and the previous one forwards what still reaches it.
     Taken { owner: ServerId, previous: ServerId },
-    /// Nobody executes requests until the owner resumes or another server is assigned.
+    /// The server owns the shard, and nobody executes requests until the shard is resumed or reassigned.
     Paused(ServerId),
 }
 

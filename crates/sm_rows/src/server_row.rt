@@ -12,7 +12,7 @@ pub struct ServerRow {
     pub id: ServerId,
     /// The fault domain, 0 to 4,095: servers of one domain tend to fail together.
     pub domain: u16,
-    /// The loads of the shards that name the server add up to at most this.
+    /// In books the loads of the shards that name the server add up to at most this, 0 to 4,294,967,295.
     pub capacity: u32,
 }
 

@@ -9,7 +9,7 @@ use crate::limits::{MAX_CAP, MAX_SHARDS};
 pub struct ShardRow {
     /// The place of its group among the groups, from 0.
     pub group: u16,
-    /// What it takes of the capacity of each server that it names.
+    /// What it takes of the capacity of each server that its stand names, 0 to 4,294,967,295.
     pub load: u32,
     /// How many of its replicas, of which there is one, may be down for a planned restart: 0 or 1.
     pub cap: u8,

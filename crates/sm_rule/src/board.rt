@@ -26,8 +26,8 @@ use sm_word::word::{record_of_word, record_served};
 use std::alloc::Global;
 use std::marker::{Brand, Model};
 
-/// One word and one body for each shard, shared by threads: each word is that of the shard's record in one history that all
-/// steps make, and the body of each idle shard is at home and keeps what that history kept for it.
+/// One word and one body for each shard, shared by threads. By the board's rule each word is that of the shard's record in one
+/// history that all steps make, and the body of each idle shard is in its slot and keeps what that history kept for it.
 #[derive(Drop)]
 pub struct Board<S: Service> {
     table: Table<Option<S>, View<S::Request>, Limits, BoardRule<Kept<S>>, Global>,

@@ -34,7 +34,7 @@ impl<S: Service> Chair<S> {
     ghost use Rattle.sm_rule.specs.Changes.{record_at_chair};
     ghost use Rattle.sm_rule.specs.Views.{record_in};
 
-    /// The shard's stand, which nobody else changes: it is the shard's in every history to which the one that the chair
+    /// The shard's stand, which nobody else changes: it is the shard's in every legal history to which the one that the chair
     /// has seen may grow by entries of passes.
     pub fn stand(&self, k: ShardId) -> Stand
         requires { k < self.now.board.limits.count }

@@ -1,5 +1,5 @@
 //! The board: one word and one body for each shard, which threads read, change and borrow in single atomic steps, and
-//! passes, which know the one history that all these steps make.
+//! passes, each of which has seen a front of the one history that all these steps make.
 //!
 //! A pass is admitted to a shard and ends the admission, and the board is closed:
 //! ```rust

@@ -25,7 +25,7 @@ impl<S: Service> Model for Pass<S> {
 impl<S: Service> Pass<S> {
     ghost use Rattle.std.specs.Prelude.{◌≡◌};
 
-    /// The server that the pass is admitted as; none admits nothing.
+    /// The server that the pass is admitted as; a pass without one is never admitted.
     pub fn server(&self) -> Option<ServerId>
         ensures { result ≡ self.now.server }
     {

@@ -10,8 +10,8 @@ use sm_ranges::shard_id::ShardId;
 use std::marker::Model;
 use std::snapshot::Snapshot;
 
-/// The leave to execute for a shard, which an admission gives, with the shard's body. It must be spent by the end of the
-/// admission: it can't be dropped.
+/// The right to execute requests of a shard, which an admission gives, with the shard's body. It must be spent by the end of
+/// the admission: it can't be dropped.
 pub struct Permit<S: Service> {
     // The board that gave it, as proofs see it. It takes no memory.
     pub(crate) board: Snapshot<Board<S>>,

@@ -17,7 +17,8 @@ use sm_settings::Settings;
 use std::alloc::Global;
 use std::io::{Read, Write};
 
-/// Runs the script of the reader on the engine, and writes its answers.
+/// Runs the script of the reader on the engine, and writes its answers. What is said of bytes holds of a reader and a writer that
+/// tell theirs.
 ///
 /// `Read` comes only where the reader failed, or 2^32 of its calls or lines were counted; `Write` only where the writer
 /// failed; `NoMemory` only where neither failed. The answers to all lines before the one at which a fault came were

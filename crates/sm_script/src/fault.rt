@@ -5,13 +5,13 @@ use std::alloc::AllocError;
 use std::error::Error;
 use std::fmt;
 
-/// Why a line of a script makes no call. Of several faults the first in this order is the answer,
-/// and of several words the leftmost.
+/// Why a line of a script makes no call. Of several faults the first in this order is the answer, but
+/// of `BadNumber` and `BadKey` that of the leftmost word.
 #[derive(Clone, Copy, Debug, PartialEq, Eq, Drop)]
 pub enum LineFault {
-    /// The line has more bytes than a line may have.
+    /// The line has more than 70,000 bytes, and is no comment.
     LineTooLong,
-    /// The first word, or the word after `at A` or `client`, is not one of the script's.
+    /// The first word is not one of the script's, or the word after `at A` or `client` not one of a request.
     UnknownWord,
     /// There are too few or too many words.
     BadLine,

@@ -13,7 +13,7 @@ use crate::words::Words;
 use sm_ownership::change::Change;
 use std::alloc::Global;
 
-/// The most bytes that a line may have; a comment may have more.
+/// The most bytes that a line may have without its line feed; a comment may have more.
 pub const MAX_LINE: usize = 70_000;
 
 // A line of a shard and a server.
@@ -186,7 +186,7 @@ fn has_no_answer(line: &[u8]) -> bool
 ///
 /// # Errors
 ///
-/// `Line` with the first fault of the line, in the order of `LineFault`; `NoMemory` where memory
+/// `Line` with the first fault of the line, as `LineFault` orders them; `NoMemory` where memory
 /// for a request was refused.
 #[tactic(auto, unfolding(crate::specs::Lines::meaning_of))]
 pub fn parse(alloc: Global, line: &[u8]) -> Result<Option<Call>, ParseFault>

@@ -27,7 +27,7 @@ pub(crate) enum Word {
     PrepareDrop,
     /// `add K`: the next owner becomes the owner.
     Add,
-    /// `drop K`: the previous owner forgets the shard.
+    /// `drop K`: the previous owner drops the shard.
     Drop,
     /// `cancel K`: the migration is given up.
     Cancel,
@@ -37,11 +37,11 @@ pub(crate) enum Word {
     Resume,
     /// `reassign K B`: another owner for the paused shard.
     Reassign,
-    /// `ask A`: the server asks to stop.
+    /// `ask A`: a restart of the server is asked for.
     Ask,
-    /// `approve A`: the server may stop.
+    /// `approve A`: the restart of the server is approved.
     Approve,
-    /// `stopped A`: the server has stopped.
+    /// `stopped A`: the server was stopped for its restart.
     Stopped,
     /// `back A`: the server is back.
     Back,

@@ -16,7 +16,8 @@ use std::marker::Model;
 /// The longest text that a key holds, in bytes.
 pub const MAX_TEXT: usize = 65_535;
 
-/// A `put` moves the map into fresh memory where more bytes than this are dead, and more than live.
+/// Where more bytes than this are dead, and more than live, a `put` first moves the map into fresh memory, unless that is
+/// refused. No clause says so.
 pub const MAX_DEAD: u128 = 65_536;
 
 /// The sample service: texts and counts by key.
@@ -84,7 +85,7 @@ impl Machine for KeyMachine {
 }
 
 impl KeyMachine {
-    /// How many bytes of keys and texts are dead: those that were written over since the map came into fresh memory.
+    /// How many bytes of the map are dead, as `ArenaMap::dead` counts them. It has no clause of its own.
     pub fn dead(&self) -> u128 {
         self.map.dead()
     }

@@ -14,7 +14,7 @@ pub enum Reply {
     /// The key holds a count where the request is for a text, or a text where it is for a count, and
     /// nothing has changed.
     WrongKind,
-    /// The new count would not have 64 bits, and nothing has changed.
+    /// The new count would be below -2^63 or above 2^63 - 1, and nothing has changed.
     Overflow,
     /// The new text would be longer than `MAX_TEXT` bytes, and nothing has changed.
     TooLong,

@@ -17,13 +17,13 @@ use std::alloc::{AllocError, Global};
 /// The most bytes that a settings line may have, without its line feed.
 pub const MAX_SETTINGS: usize = 1 << 20;
 
-/// The most servers that may be away at once.
+/// The greatest `ops`.
 pub const MAX_OPS: u64 = 4_095;
 
 /// The most requests that a shard may keep.
 pub const MAX_KEPT: u64 = 1_048_576;
 
-/// The least ceiling: an admission and its end take two generations.
+/// The least ceiling: an assignment, an admission and its end take three generations.
 pub const MIN_CEILING: u64 = 3;
 
 /// The greatest ceiling: the greatest number of 36 bits.
@@ -40,13 +40,13 @@ pub struct Settings {
     pub groups: Vec<GroupRow>,
     /// A row for each shard of the layout.
     pub shards: Vec<ShardRow>,
-    /// How many servers may be away at once where a restart of one of them is approved.
+    /// How many servers may be approved to restart, stopped or failed, with the one whose restart is approved: 0 to 4,095.
     pub ops: u16,
-    /// How many requests a shard keeps at most.
+    /// How many requests a shard keeps at most: 1 to 1,048,576.
     pub kept: u32,
-    /// The greatest generation of a shard.
+    /// The greatest generation of a shard: 3 to 2^36 - 1.
     pub ceiling: u64,
-    /// How many workers a server has.
+    /// How many workers a server has: 1 to 8.
     pub workers: u8,
 }
 
@@ -54,7 +54,7 @@ impl Settings {
     /// The settings that a line says, or the fault of the first rule that it breaks.
     ///
     /// The line is one JSON object, without its line feed. Of two equal members the last counts.
-    /// `NoMemory` comes only where memory was refused; whether the line breaks a rule is then open.
+    /// `NoMemory` is for refused memory, which no clause can tell; whether the line breaks a rule is then open, but for its length.
     #[tactic(auto, using(crate::proofs::Lines::settings_of_decides, crate::proofs::Lines::settings_of_nothing))]
     pub fn read(alloc: Global, line: &[u8]) -> Result<Settings, SettingsFault>
         ensures ok { IfOk result (λ settings. settings_of line.now ≡ Ok (values_of settings)) }

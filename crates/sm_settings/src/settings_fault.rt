@@ -2,16 +2,16 @@ use std::alloc::AllocError;
 use std::error::Error;
 use std::fmt;
 
-/// Why a settings line is refused, in the order of the checks.
+/// Why a settings line is refused, in the order of the checks. `NoMemory` may come in place of any answer but `TooLong`.
 #[derive(Clone, Copy, Debug, PartialEq, Eq, Drop)]
 pub enum SettingsFault {
     /// The line has more than 1,048,576 bytes.
     TooLong,
-    /// The line is not one JSON value in UTF-8.
+    /// The line is not one JSON value in UTF-8, nests deeper than 127, or holds a number too large for a float.
     BadJson,
     /// The value is no object with the number 1 as its member `version`.
     BadVersion,
-    /// A member is missing, unknown or of another type.
+    /// A member is missing, unknown or of another type, here or in a row.
     BadShape,
     /// The bounds make no layout.
     BadLayout,
@@ -29,7 +29,7 @@ pub enum SettingsFault {
     BadCeiling,
     /// `workers` is not 1 to 8.
     BadWorkers,
-    /// Memory was refused: whether the line has another fault is not known.
+    /// Memory was refused: the line isn't too long, and whether it has another fault is not known.
     NoMemory,
 }
 

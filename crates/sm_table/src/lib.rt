@@ -1,5 +1,5 @@
-//! The world: the whole shard manager as one thread runs it, with the laws that hold of it. What it stands on is passed
-//! on: the ownership table, the desk that checks control commands, and envelopes.
+//! The world: shards, servers and requests on their way as one thread runs them, with the laws that hold of it. What it
+//! stands on is passed on: the ownership table, the desk that checks control commands, and envelopes.
 //!
 //! ```rust
 //! world.step(Step::Control(Command::Change(k, Change::Assign(one))))?;

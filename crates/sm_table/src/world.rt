@@ -35,7 +35,8 @@ use sm_ranges::shard_id::ShardId;
 use std::alloc::{AllocError, Global};
 use std::marker::Model;
 
-/// The whole shard manager, as one thread runs it: all shards and servers, and the requests on their way.
+/// All shards and servers, and the requests on their way, as one thread runs them. Plans, restarts and published routes are no
+/// part of it.
 #[derive(Drop)]
 pub struct World<S: Service> {
     layout: Layout,
@@ -105,7 +106,7 @@ impl<S: Service> World<S> {
 
     /// Makes a step. Where the world stands for one of the definitions, it answers as that one does, and then stands for
     /// the next. A step that a fault refuses changes nothing. Want of memory is told of a `Send`, by `NoMemory`, and of a
-    /// `Finish`, which then refuses its request; no other step takes memory.
+    /// `Finish`, which then refuses its request; of no other step.
     pub fn step(&mut self, step: Step<S::Request>) -> Result<WorldAnswer<S::Reply>, WorldFault>
         ensures stands { GoesAs (meaning_of S.initial S.next S.answer S.key_of) self.old result self.new step }
         ensures marks { may_go step (mark_of result) ≡ true }
@@ -164,8 +165,8 @@ impl<S: Service> World<S> {
         }
     }
 
-    /// Puts a direct request for the server in flight, as `Step::Send` does, for the shard `k` that it finds by the
-    /// request's key.
+    /// Puts a direct request for the server in flight, as `Step::Send` does, where `k` is the shard of the request's key. It
+    /// answers `Sent`, `UnknownServer` or `NoMemory`.
     pub fn send(
         &mut self,
         to: ServerId,

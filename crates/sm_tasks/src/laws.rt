@@ -42,8 +42,8 @@ pub fn steps_keep_caps()
         → MeetsCaps ops books → MeetsCaps ops (with_state books a Failed) }
 {}
 
-/// A new stand of a shard keeps the caps where it takes on no server that is leaving: so where a server that stays
-/// comes to serve the shard, or makes ready beside the owner, and where a shard that is not paused names no further
+/// A new stand of a shard keeps the caps where it takes on no server that is leaving: so where a server that isn't leaving
+/// comes to serve the shard, or is prepared beside the owner, and where a shard that is not paused names no further
 /// server. A shard that is paused and keeps naming a server that is leaving has to stay paused.
 pub fn stands_keep_caps()
     ensures taken { (ops : ℕ) (books : BooksView) (k : ℕ) (stand : Stand) → k < length books.shards

@@ -9,17 +9,17 @@ pub struct NotUp;
 /// Why a restart is not approved: the first reason that applies, in this order.
 #[derive(Clone, Copy, Debug, PartialEq, Eq, Drop, Error)]
 pub enum ApproveFault {
-    /// The restart was not asked for, or it is further on.
+    /// The server is not Asked.
     #[error("the restart is not asked for")]
     NotAsked,
     /// With this server, more than `ops` servers would be Approved, Stopped or Failed.
     #[error("too many servers are leaving")]
     GlobalCap,
-    /// The lowest shard that names the server and may not be down for a restart.
+    /// The lowest shard of cap 0 that names the server.
     #[error("shard {0} may not be down")]
     ShardCap(ShardId),
-    /// The lowest group, by its place from 0, of which a shard names the server, where more shards than the group's `down`
-    /// name it or a server that is leaving.
+    /// The lowest group, by its place from 0, of which a shard names the server, where more of its shards than its `down` name
+    /// the server or one that is leaving.
     #[error("too many shards of group {0} would be down")]
     GroupCap(u16),
 }
@@ -27,7 +27,7 @@ pub enum ApproveFault {
 /// Why a server may not be stopped: the first reason that applies, in this order.
 #[derive(Clone, Copy, Debug, PartialEq, Eq, Drop, Error)]
 pub enum StoppedFault {
-    /// The restart is not approved, or it is further on.
+    /// The server is not Approved.
     #[error("the restart is not approved")]
     NotApproved,
     /// The lowest shard that names the server and is not paused.

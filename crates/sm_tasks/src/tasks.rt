@@ -12,7 +12,8 @@ use sm_ranges::ServerId;
 use std::marker::Model;
 
 /// The steps of planned restarts, and what an approval keeps to.
-/// A step that is refused changes nothing, and none takes memory. Each has a check, which says whether it would be made.
+/// A step that is refused changes nothing, and none can be refused for want of memory. Each has a check, which says whether it
+/// would be made.
 #[derive(Clone, Copy, Debug, Drop)]
 pub struct Tasks {
     ops: u16,
@@ -155,7 +156,7 @@ impl Tasks {
         }
     }
 
-    /// Notes that the server failed, whatever its restart had come to.
+    /// Notes that the server failed, whatever its restart had come to. One that is Failed already is refused.
     pub fn fail(&self, books: &mut Books, a: ServerId) -> Result<(), AlreadyFailed>
         requires { IsKnown books.old.servers a }
         ensures answer { result ≡ failable books.old a }

@@ -3,7 +3,7 @@ ghost use Rattle.std.specs.Borrow.{ftrue};
 
 use std::marker::{Model, PhantomData};
 
-/// What a value was when it was lent, for proofs alone: it takes no memory.
+/// What a value was when [`Shadow::of`] was called, for proofs alone: it takes no memory.
 pub struct Shadow<T> {
     of: PhantomData<T>,
     pub ghost value: { T },

@@ -68,7 +68,8 @@ pub fn record_of_word(word: u64) -> Record
     }
 }
 
-/// The record of a word that has one. It is read at once where the likely server serves the shard and isn't admitted to it.
+/// The record of a word that has one. The likely server changes nothing of the answer: where it serves the shard and isn't
+/// admitted to it, one comparison finds that record.
 pub fn record_served(word: u64, likely: Option<ServerId>) -> Record
     requires { (state : RecordValue) × IsWellFormed state × (word_of state ≡ word) }
     ensures { (state : RecordValue) → IsWellFormed state → word_of state ≡ word → result ≡ state }

@@ -25,7 +25,8 @@ use std::marker::Brand;
 use std::snapshot::Snapshot;
 
 impl<S: Service> Board<S> {
-    /// The first reason for which a record of this board doesn't admit the server for a request that came so, if any.
+    /// The first reason for which a record of this board doesn't admit the server for a request that came so, if any. Without a
+    /// server that is `Vacant`, `Paused`, or else `NotExecutor`.
     pub fn refusal(
         &self,
         state: &Record,
@@ -46,7 +47,7 @@ impl<S: Service> Board<S> {
 
     /// Admits the pass to the shard, for a request that came to its server so, and gives the permit with the shard's body,
     /// which keeps what was kept for the shard; or answers the first fault that applies to the record read, or that it was
-    /// overtaken. A refusal adds no entry of the pass. It takes one load and at most one exchange, and waits for nobody.
+    /// overtaken. A refusal adds no entry of the pass. That a call adds none of other actors no clause says.
     #[inline(always)]
     pub fn admit(
         &self,
@@ -124,7 +125,7 @@ impl<S: Service> Board<S> {
     }
 
     /// Ends the admission of the permit, and gives its body back. The entry keeps the request that the body has gained
-    /// since the admission, or none. It always succeeds, by one store.
+    /// since the admission, or none; the body may have gained one at most. It can't be refused.
     pub fn finish(&self, pass: &mut Pass<S>, permit: Permit<S>) -> Front
         requires board { pass.old.board ≡ self.now }
         requires permit { HoldsPermit pass.old permit }

@@ -19,8 +19,8 @@ use std::marker::Brand;
 
 impl<S: Service> Board<S> {
     /// Makes the change, which the shard's stand in all that the chair has seen allows; or answers that the shard's
-    /// generations are spent, that it is admitted, or that it was overtaken. A refusal adds no entry of the chair. It takes
-    /// one load and at most one exchange, and waits for nobody.
+    /// generations are spent, that the shard is admitted, or that the call was overtaken. A refusal adds no entry of the chair.
+    /// That a call adds none of other actors no clause says.
     pub fn change(
         &self,
         chair: &mut Chair<S>,

@@ -13,7 +13,8 @@ use sm_body::service::{ApplyFault, Service};
 
 impl<S: Service> Board<S> {
     /// Has the permit's body, as the admission gave it, apply the request, and ends the admission. The entry keeps the
-    /// request where it is applied, and else none; a request that isn't applied comes back with the reason.
+    /// request where it is applied, and else none; a request that isn't applied comes back with the reason: `KeptFull` where the
+    /// body keeps as many as its limit, `NoMemory` only where it keeps fewer.
     pub fn execute(
         &self,
         pass: &mut Pass<S>,
