@@ -9,7 +9,7 @@ use Rattle.std.specs.Io.KnownBytes.{Appends}
 use Rattle.sm_lines.specs.Answers.{AnswersLine, AnswersAll}
 use Rattle.sm_lines.specs.Lines.{lines_of}
 use Rattle.sm_script.specs.declared.line.TheConstants.{MAX_LINE}
-use Rattle.sm_script.specs.Lines.{meaning_of}
+use Rattle.sm_script.specs.Lines.{call_of_line}
 use Rattle.sm_service.specs.declared.request.Request.{Request}
 use Rattle.sm_settings.specs.SettingsLine.{SettingsValues, settings_of}
 use Rattle.sm_table.specs.Standing.{WorldView}
@@ -34,7 +34,7 @@ long_response : (before : WorldView Request) (w : WorldState Request) (line text
     → take MAX_LINE line ++ drop MAX_LINE line ≡ whole → MAX_LINE < length whole
     → IsAt before w → RespondsLong (take MAX_LINE line) text → after ≡ before → 0 < length (take MAX_LINE line) → IsResponse w whole text after
 long_response before w line text after whole is long at responds stays some =
-    let at_whole = subst (λ (l : List ℕ). MAX_LINE < length l → (text ≡ (responded w (meaning_of l)).0) × ((responded w (meaning_of l)).1 ≡ w)) is
+    let at_whole = subst (λ (l : List ℕ). MAX_LINE < length l → (text ≡ (responded w (call_of_line l)).0) × ((responded w (call_of_line l)).1 ≡ w)) is
     (responds w (drop MAX_LINE line) some) long in
     record { text_is = at_whole.0; stands = subst (λ (v : WorldState Request). IsAt after v) (sym at_whole.1) (subst (λ (m : WorldView Request). IsAt m w) (sym stays) at) }
 

@@ -2,7 +2,7 @@
 use Rattle.std.specs.Prelude.{ℕ, Option, Some, None, Result, Ok, Err, List, [], ◌∷◌, ◌++◌, drop}
 use Rattle.sm_lines.specs.Lines.{lines_of}
 use Rattle.sm_script.specs.Answers.{answer_text}
-use Rattle.sm_script.specs.Lines.{meaning_of}
+use Rattle.sm_script.specs.Lines.{call_of_line}
 use Rattle.sm_script.specs.declared.answer.Answer.{Answer}
 use Rattle.sm_script.specs.declared.answer.Answer.TheVariants.{Error}
 use Rattle.sm_script.specs.declared.call.Call.{Call}
@@ -30,7 +30,7 @@ responded w (Ok (Some call)) = (optional_line (answer_of (called w call).0), (ca
 
 -- what is written for a line of a script, and the world that it leaves
 abbrev pub line_response : WorldState Request → List ℕ → List ℕ × WorldState Request
-line_response w line = responded w (meaning_of line)
+line_response w line = responded w (call_of_line line)
 
 -- what is written for all lines, one after another
 abbrev pub responses : WorldState Request → List (List ℕ) → List ℕ

@@ -3,7 +3,7 @@ use Rattle.std.specs.Prelude.{◌≡◌, ℕ, ◌<◌, ◌++◌, List, [], Some,
 use Rattle.sm_envelope.specs.declared.envelope.TheConstants.{MOST_HOPS}
 use Rattle.sm_model.specs.Calls.{Stepped, after_hops, answer_of, called, settings_frame, stepped}
 use Rattle.sm_model.specs.Script.{responded}
-use Rattle.sm_script.specs.Lines.{meaning_of}
+use Rattle.sm_script.specs.Lines.{call_of_line}
 use Rattle.sm_script.specs.declared.answer.Answer.{Answer}
 use Rattle.sm_script.specs.declared.call.Call.{Call}
 use Rattle.sm_script.specs.declared.line.TheConstants.{MAX_LINE}
@@ -39,13 +39,13 @@ GivesAnswer before call answer after =
 -- at every world the line has this response
 abbrev pub Responds : WorldView Request → List ℕ → List ℕ → WorldView Request → Type 0
 Responds before line text after =
-    (w : WorldState Request) → IsAt before w → (text ≡ (responded w (meaning_of line)).0) × IsAt after (responded w (meaning_of line)).1
+    (w : WorldState Request) → IsAt before w → (text ≡ (responded w (call_of_line line)).0) × IsAt after (responded w (call_of_line line)).1
 
 -- at every world each line that begins so and is longer than is read has this response, and leaves the world as it is
 abbrev pub RespondsLong : List ℕ → List ℕ → Type 0
 RespondsLong start text =
     (w : WorldState Request) (rest : List ℕ) → 0 < length start → MAX_LINE < length (start ++ rest)
-    → (text ≡ (responded w (meaning_of (start ++ rest))).0) × ((responded w (meaning_of (start ++ rest))).1 ≡ w)
+    → (text ≡ (responded w (call_of_line (start ++ rest))).0) × ((responded w (call_of_line (start ++ rest))).1 ≡ w)
 
 -- ---- the steps of a call
 

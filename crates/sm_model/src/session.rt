@@ -12,8 +12,7 @@ use sm_rows::ServerRow;
 use sm_script::{Answer, Call, ParseFault, long_line_fault, parse};
 use sm_service::counter_text::CounterText;
 use sm_settings::settings::Settings;
-use sm_table::setup::Setup;
-use sm_table::world::World;
+use sm_table::world::{Setup, World};
 use std::alloc::{AllocError, Global};
 use std::marker::Model;
 

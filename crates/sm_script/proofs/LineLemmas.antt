@@ -5,7 +5,7 @@ use Rattle.sm_script.specs.declared.fault.LineFault.{LineFault}
 use Rattle.sm_script.specs.declared.fault.ParseFault.{ParseFault}
 use Rattle.sm_script.specs.declared.fault.ParseFault.TheVariants.{Line, NoMemory}
 use Rattle.sm_script.specs.declared.line.TheConstants.{MAX_LINE}
-use Rattle.sm_script.specs.Lines.{IsFaultIn, IsFaultOf, some_call, has_no_answer, call_of_words, meaning_of}
+use Rattle.sm_script.specs.Lines.{IsFaultIn, IsFaultOf, some_call, has_no_answer, call_of_words, call_of_line}
 use Rattle.sm_script.specs.Words.{words_of}
 
 -- why the words give no call is why the line gives none
@@ -16,8 +16,8 @@ some_fault NoMemory (Ok asked) has = has
 some_fault NoMemory (Err fault) has = absurd has
 
 pub fault_of_line : (line : List ℕ) (words : List (List ℕ)) (fault : ParseFault) → has_no_answer line ≡ false → length line ≤ MAX_LINE
-    → words ≡ words_of line → IsFaultIn fault (call_of_words words) → IsFaultOf fault (meaning_of line)
-unfolding meaning_of
+    → words ≡ words_of line → IsFaultIn fault (call_of_words words) → IsFaultOf fault (call_of_line line)
+unfolding call_of_line
 fault_of_line line words fault answered short view is =
     let within : nat_lt MAX_LINE (length line) ≡ false = grind (arith) in
     rw (answered, within, ← view) (some_fault fault (call_of_words words) is)

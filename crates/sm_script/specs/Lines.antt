@@ -105,8 +105,8 @@ some_call (Ok asked) = Ok (Some asked)
 some_call (Err fault) = Err fault
 
 -- what the line asks for, where it asks for anything
-unfoldable pub meaning_of : List ℕ → Result (Option Call) LineFault
-meaning_of line =
+unfoldable pub call_of_line : List ℕ → Result (Option Call) LineFault
+call_of_line line =
     if has_no_answer line then Ok None
     else (if nat_lt MAX_LINE (length line) then Err LineTooLong
     else some_call (call_of_words (words_of line)))

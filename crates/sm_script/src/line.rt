@@ -1,6 +1,6 @@
 ghost use Rattle.std.specs.Prelude.{◌≡◌, ◌<◌, ℕ, List, [], ◌∷◌, ◌++◌, length, IfOk, IfErr, IfNone, IsTrue};
 ghost use Rattle.sm_script.specs.Grammar.{takes_word, arguments_fault, shapes_of, word_among, first_words};
-ghost use Rattle.sm_script.specs.Lines.{call_with, unless_fault, at_server, at_call, client_fault, plain_call, call_of_words, has_no_answer, meaning_of, IsFaultIn, IsFaultOf, meaning_if_long};
+ghost use Rattle.sm_script.specs.Lines.{call_with, unless_fault, at_server, at_call, client_fault, plain_call, call_of_words, has_no_answer, call_of_line, IsFaultIn, IsFaultOf, meaning_if_long};
 ghost use Rattle.sm_script.specs.declared.shape.Shape.TheVariants.{Shard, Server};
 
 use crate::argument::{server, shard};
@@ -188,10 +188,10 @@ fn has_no_answer(line: &[u8]) -> bool
 ///
 /// `Line` with the first fault of the line, as `LineFault` orders them; `NoMemory` where memory
 /// for a request was refused.
-#[tactic(auto, unfolding(crate::specs::Lines::meaning_of))]
+#[tactic(auto, unfolding(crate::specs::Lines::call_of_line))]
 pub fn parse(alloc: Global, line: &[u8]) -> Result<Option<Call>, ParseFault>
-    ensures call { IfOk result (λ call. meaning_of line.now ≡ Ok call) }
-    ensures fault { IfErr result (λ fault. IsFaultOf fault (meaning_of line.now)) }
+    ensures call { IfOk result (λ call. call_of_line line.now ≡ Ok call) }
+    ensures fault { IfErr result (λ fault. IsFaultOf fault (call_of_line line.now)) }
 {
     if has_no_answer(line) {
         return Ok(None);
@@ -207,11 +207,11 @@ pub fn parse(alloc: Global, line: &[u8]) -> Result<Option<Call>, ParseFault>
 
 /// The fault of a line of more than `MAX_LINE` bytes, by some bytes that it begins with; none where
 /// it has no answer. So such a line need not be kept.
-#[tactic(auto, unfolding(crate::specs::Lines::meaning_of))]
+#[tactic(auto, unfolding(crate::specs::Lines::call_of_line))]
 pub fn long_line_fault(start: &[u8]) -> Option<LineFault>
     requires { 0 < length start.now }
     ensures { (rest : List ℕ) → MAX_LINE < length (start.now ++ rest)
-        → meaning_of (start.now ++ rest) ≡ meaning_if_long result }
+        → call_of_line (start.now ++ rest) ≡ meaning_if_long result }
 {
     if has_no_answer(start) {
         None

@@ -8,7 +8,7 @@ use Rattle.sm_ownership.specs.declared.mode.Mode.{Mode}
 use Rattle.sm_ownership.specs.declared.record.Record.{Record}
 use Rattle.sm_ownership.specs.History.{vacant, record_at, after_kind, table_of, IsLegal}
 use Rattle.sm_ownership.specs.lemmas.Growth.{fits-push, table_of-push, kept-push_none}
-use Rattle.sm_table.specs.declared.in_hand.InHand.{InHand}
+use Rattle.sm_table.specs.declared.hands.InHand.{InHand}
 use Rattle.sm_table.specs.World.{WorldState, count_of, with_entry, with_hand, desk_of}
 use Rattle.sm_table.specs.Standing.{IsSound, with_admission}
 use Rattle.sm_table.proofs.Parts.{parts_of, Keeps}

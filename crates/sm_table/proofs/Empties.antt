@@ -6,8 +6,8 @@ use Rattle.std.proofs.lemmas.List.{get_or-replicate, get_or_past, length-replica
 use Rattle.std.proofs.lemmas.List.Elements.{All-nil}
 use Rattle.sm_ranges.specs.declared.stand.Stand.TheVariants.{Vacant}
 use Rattle.sm_ownership.specs.declared.record.Record.{Record}
-use Rattle.sm_table.specs.declared.flight.Flight.{Flight}
-use Rattle.sm_table.specs.declared.in_hand.InHand.{InHand}
+use Rattle.sm_table.specs.declared.world.Flight.{Flight}
+use Rattle.sm_table.specs.declared.hands.InHand.{InHand}
 use Rattle.sm_ownership.specs.History.{vacant}
 use Rattle.sm_table.specs.World.{Frame, empty_world}
 use Rattle.sm_table.specs.Standing.{IsFrame, WorldView, StandsFor, IsTogether}

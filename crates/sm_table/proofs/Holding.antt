@@ -8,8 +8,8 @@ use Rattle.sm_ownership.specs.lemmas.Growth.{kept-push_none, length-table_of}
 use Rattle.sm_ownership.specs.History.{record_at}
 use Rattle.sm_ownership.specs.Rules.{admit_fault}
 use Rattle.sm_ownership.specs.Tables.{TableView, table_done}
-use Rattle.sm_table.specs.declared.in_hand.InHand.{InHand}
-use Rattle.sm_table.specs.declared.in_hand.Work.{Work}
+use Rattle.sm_table.specs.declared.hands.InHand.{InHand}
+use Rattle.sm_table.specs.declared.hands.Work.{Work}
 use Rattle.sm_table.specs.declared.step.Step.TheVariants.{Hold, Free}
 use Rattle.sm_table.specs.declared.world_answer.WorldAnswer.TheVariants.{Made}
 use Rattle.sm_table.specs.declared.world_fault.WorldFault.TheVariants.{NotHeld}

@@ -3,7 +3,7 @@ use Rattle.std.proofs.Common.{◌≡◌, ℕ, true, List, [], ◌∷◌, ◌++�
 use Rattle.std.specs.Prelude.{Ok, Err}
 use Rattle.sm_ranges.specs.Ranges.{shard_of}
 use Rattle.sm_ownership.specs.declared.mode.Mode.TheVariants.{Direct}
-use Rattle.sm_table.specs.declared.flight.Flight.{Flight}
+use Rattle.sm_table.specs.declared.world.Flight.{Flight}
 use Rattle.sm_table.specs.declared.step.Step.TheVariants.{Send}
 use Rattle.sm_table.specs.declared.world_answer.WorldAnswer.TheVariants.{Sent}
 use Rattle.sm_table.specs.declared.world_fault.WorldFault.TheVariants.{NoMemory}

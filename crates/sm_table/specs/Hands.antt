@@ -1,8 +1,8 @@
 -- What a server that is admitted to a shard has in hand.
 use Rattle.std.specs.Prelude.{ℕ, Bool, false, Option, Some, None, is_none}
 use Rattle.std.specs.Option.{option_map}
-use Rattle.sm_table.specs.declared.in_hand.InHand.{InHand}
-use Rattle.sm_table.specs.declared.in_hand.Work.{Work}
+use Rattle.sm_table.specs.declared.hands.InHand.{InHand}
+use Rattle.sm_table.specs.declared.hands.Work.{Work}
 
 -- the server, and the request that it has begun
 abbrev pub work_of : {Q : Type 0} → Option (InHand Q) → Option (ℕ × Work Q)

@@ -7,9 +7,9 @@ use Rattle.sm_ranges.specs.ServerId.{IsServer}
 use Rattle.sm_ranges.specs.Stand.{AllNamed}
 use Rattle.sm_ownership.specs.declared.entry.Entry.{Entry}
 use Rattle.sm_ownership.specs.declared.record.Record.{Record}
-use Rattle.sm_table.specs.declared.flight.Flight.{Flight}
-use Rattle.sm_table.specs.declared.in_hand.InHand.{InHand}
-use Rattle.sm_table.specs.declared.setup.Setup.{Setup}
+use Rattle.sm_table.specs.declared.world.Flight.{Flight}
+use Rattle.sm_table.specs.declared.hands.InHand.{InHand}
+use Rattle.sm_table.specs.declared.world.Setup.{Setup}
 use Rattle.sm_table.specs.declared.step.Step.{Step}
 use Rattle.sm_table.specs.declared.world_answer.WorldAnswer.{WorldAnswer}
 use Rattle.sm_table.specs.declared.world_fault.WorldFault.{WorldFault}

@@ -13,9 +13,9 @@ use Rattle.sm_ownership.specs.declared.entry.Kind.{Kind}
 use Rattle.sm_ownership.specs.declared.entry.Kind.TheVariants.{Change as Changed, Admit, Done}
 use Rattle.sm_ownership.specs.declared.mode.Mode.TheVariants.{Direct}
 use Rattle.sm_ownership.specs.declared.record.Record.{Record}
-use Rattle.sm_table.specs.declared.flight.Flight.{Flight}
-use Rattle.sm_table.specs.declared.in_hand.InHand.{InHand}
-use Rattle.sm_table.specs.declared.in_hand.Work.{Work}
+use Rattle.sm_table.specs.declared.world.Flight.{Flight}
+use Rattle.sm_table.specs.declared.hands.InHand.{InHand}
+use Rattle.sm_table.specs.declared.hands.Work.{Work}
 use Rattle.sm_envelope.specs.declared.refusal.Refusal.TheVariants.{TooManyHops, Admit as NotAdmitted, KeptFull, NoMemory as NoMemoryFor}
 use Rattle.sm_table.specs.declared.step.Step.{Step}
 use Rattle.sm_table.specs.declared.step.Step.TheVariants.{Control, Look, Send, Deliver, Finish, Lose, Hold, Free}

@@ -1,11 +1,24 @@
 ghost use Rattle.std.specs.Prelude.{◌≡◌, ◌<◌, if◌then◌else◌, None, IfOk, is_some, length, replicate, slice_index_or, slice_set};
 ghost use Rattle.sm_table.specs.Hands.{is_alone, work_of};
 
-use crate::in_hand::{InHand, Work};
 use sm_ranges::server_id::ServerId;
 use sm_ranges::shard_id::ShardId;
 use std::alloc::{AllocError, Global};
 use std::marker::Model;
+
+/// What the server admitted to a shard has in hand: a request, or none where it only holds the shard.
+#[derive(Debug, Drop)]
+pub struct InHand<Q: Drop> {
+    pub server: ServerId,
+    pub work: Option<Work<Q>>,
+}
+
+/// A request that a server has begun, and its number.
+#[derive(Debug, Drop)]
+pub struct Work<Q: Drop> {
+    pub number: u64,
+    pub request: Q,
+}
 
 /// By shard, what the server that is admitted to it has in hand.
 #[derive(Drop)]
@@ -15,7 +28,7 @@ pub struct Hands<Q: Drop> {
 
 impl<Q: Drop> Model for Hands<Q> {
     ghost use Rattle.std.specs.Prelude.{Option, List};
-    ghost use Rattle.sm_table.specs.declared.in_hand.InHand.{InHand as InHandOf};
+    ghost use Rattle.sm_table.specs.declared.hands.InHand.{InHand as InHandOf};
 
     ghost Value = { List (Option (InHandOf Q)) };
 

@@ -9,23 +9,18 @@
 #![tactic(auto)]
 
 mod bodies;
-pub mod flight;
 mod hands;
-pub mod in_hand;
 pub mod laws;
-pub mod setup;
 pub mod step;
 pub mod world;
 pub mod world_answer;
 pub mod world_fault;
 
-pub use flight::Flight;
-pub use in_hand::{InHand, Work};
-pub use setup::Setup;
+pub use hands::{InHand, Work};
 pub use sm_desk::{Command, CommandFault, Desk, command, desk};
 pub use sm_envelope::{Envelope, Refusal, Shell, envelope, refusal, shell};
 pub use sm_ownership::{admit_fault, change, change_fault, entry, mode, record, route, table};
 pub use step::Step;
-pub use world::World;
+pub use world::{Flight, Setup, World};
 pub use world_answer::WorldAnswer;
 pub use world_fault::WorldFault;

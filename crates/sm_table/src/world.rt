@@ -12,10 +12,7 @@ ghost use Rattle.sm_desk.specs.declared.command.Command.TheVariants.{Change as C
 ghost use Rattle.sm_table.specs.declared.step.Step.TheVariants.{Control as ControlOf, Look as LookAt, Send as SendOf, Deliver as DeliverAt, Finish as FinishAt, Lose as LoseAt, Hold as HoldAt, Free as FreeAt};
 
 use crate::bodies::Bodies;
-use crate::flight::Flight;
-use crate::hands::Hands;
-use crate::in_hand::{InHand, Work};
-use crate::setup::Setup;
+use crate::hands::{Hands, InHand, Work};
 use crate::step::Step;
 use crate::world_answer::WorldAnswer;
 use crate::world_fault::WorldFault;
@@ -34,6 +31,24 @@ use sm_ranges::server_id::ServerId;
 use sm_ranges::shard_id::ShardId;
 use std::alloc::{AllocError, Global};
 use std::marker::Model;
+
+/// What a world is made from, beside the bodies of its shards.
+#[derive(Debug, Drop)]
+pub struct Setup {
+    /// Which shard a key belongs to.
+    pub layout: Layout,
+    /// The servers that exist, and the stand of each shard.
+    pub desk: Desk,
+    /// The greatest generation of a shard, 3 to 2^36 - 1.
+    pub ceiling: u64,
+}
+
+/// An envelope in flight, and the server that it goes to.
+#[derive(Debug, Drop)]
+pub struct Flight<Q: Drop> {
+    pub to: ServerId,
+    pub envelope: Envelope<Q>,
+}
 
 /// All shards and servers, and the requests on their way, as one thread runs them. Plans, restarts and published routes are no
 /// part of it.

@@ -16,7 +16,7 @@ use Rattle.sm_ownership.specs.declared.entry.Kind.{Kind}
 use Rattle.sm_ownership.specs.declared.entry.Kind.TheVariants.{Change as Changed, Admit, Done}
 use Rattle.sm_ownership.specs.declared.mode.Mode.{Mode}
 use Rattle.sm_ownership.specs.declared.record.Record.{Record}
-use Rattle.sm_table.specs.declared.in_hand.InHand.{InHand}
+use Rattle.sm_table.specs.declared.hands.InHand.{InHand}
 use Rattle.sm_ownership.specs.Rules.{phase_fault, admit_fault}
 use Rattle.sm_desk.specs.Desk.{stand_at, desk_change_fault, command_fault_from}
 use Rattle.sm_desk.specs.lemmas.Changes.{let_through}

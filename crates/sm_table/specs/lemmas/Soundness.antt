@@ -14,9 +14,9 @@ use Rattle.sm_ownership.specs.declared.admit_fault.AdmitFault.{AdmitFault}
 use Rattle.sm_ownership.specs.declared.change.Change.{Change}
 use Rattle.sm_desk.specs.declared.command.CommandFault.{CommandFault}
 use Rattle.sm_desk.specs.declared.command.Command.TheVariants.{Change as ChangeOf}
-use Rattle.sm_table.specs.declared.flight.Flight.{Flight}
-use Rattle.sm_table.specs.declared.in_hand.InHand.{InHand}
-use Rattle.sm_table.specs.declared.in_hand.Work.{Work}
+use Rattle.sm_table.specs.declared.world.Flight.{Flight}
+use Rattle.sm_table.specs.declared.hands.InHand.{InHand}
+use Rattle.sm_table.specs.declared.hands.Work.{Work}
 use Rattle.sm_ownership.specs.declared.mode.Mode.TheVariants.{Direct}
 use Rattle.sm_ownership.specs.declared.record.Record.{Record}
 use Rattle.sm_table.specs.declared.step.Step.{Step}

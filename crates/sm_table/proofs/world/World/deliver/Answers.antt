@@ -3,11 +3,11 @@ use Rattle.std.specs.Prelude.{All, slice_get, Some}
 use Rattle.std.proofs.lemmas.Option.{slice_get_read}
 use Rattle.sm_body.specs.Service.{meaning_of}
 use Rattle.sm_ownership.specs.Rules.{forward_to}
-use Rattle.sm_table.specs.declared.flight.Flight.{Flight}
+use Rattle.sm_table.specs.declared.world.Flight.{Flight}
 use Rattle.sm_table.specs.declared.step.Step.TheVariants.{Deliver}
 use Rattle.sm_table.specs.World.{hand_of, may_go}
 use Rattle.sm_table.specs.Standing.{WorldView}
-use Rattle.sm_table.specs.declared.in_hand.InHand.{InHand}
+use Rattle.sm_table.specs.declared.hands.InHand.{InHand}
 use Rattle.sm_table.proofs.Deliveries.{not_there, forwarded_on, refused, began}
 use Rattle.sm_table.proofs.Fitting.{IsTogether-in_flight, flight_there, flights-hop, flights-remove}
 use Rattle.sm_table.proofs.world.World.deliver.Goals as goal
