@@ -10,7 +10,7 @@ use Rattle.sm_ranges.specs.Stand.{passes}
 use Rattle.sm_place.specs.Books.{BooksView, shard_at, with_stand}
 use Rattle.sm_place.specs.Room.{fit}
 
--- where shards go, and which find no server
+-- where shards go, and which fit none of the plan's servers in their turn
 pub record PlanView : Type 0 where
   pub moves : List Move
   pub left : List ℕ

@@ -1,4 +1,4 @@
--- The world: the whole shard manager as one thread would run it. What each step answers, and what it leaves.
+-- The world: shards, servers and requests on their way, as one thread would run them. What each step answers, and what it leaves.
 use Rattle.std.specs.Prelude.{ℕ, Bool, true, false, Option, Some, None, Result, Ok, Err, nat_lt, if◌then◌else◌, List, [], ◌∷◌, ◌++◌, length, map, remove, replicate, slice_get, slice_index_or, slice_set}
 use Rattle.std.specs.Option.{option_map, option_or}
 use Rattle.sm_body.specs.Service.{Service}
