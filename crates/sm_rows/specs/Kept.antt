@@ -2,7 +2,8 @@
 use Rattle.std.specs.Prelude.{ℕ, ◌<◌, ◌≤◌, ◌^◌, List, length, map, All}
 use Rattle.std.specs.List.Sorted.{IsStrictlyIncreasing}
 use Rattle.sm_ranges.specs.ServerId.{IsServer}
-use Rattle.sm_rows.specs.declared.limits.TheConstants.{MAX_SERVERS, MAX_DOMAIN, MAX_GROUPS, MAX_LIMIT, MAX_SHARDS, MAX_CAP}
+use Rattle.sm_ranges.specs.declared.limits.TheConstants.{MAX_SERVER, MAX_SHARDS}
+use Rattle.sm_rows.specs.declared.limits.TheConstants.{MAX_DOMAIN, MAX_GROUPS, MAX_LIMIT, MAX_CAP}
 use Rattle.sm_rows.specs.declared.server_row.ServerRow.{ServerRow}
 use Rattle.sm_rows.specs.declared.group_row.GroupRow.{GroupRow}
 use Rattle.sm_rows.specs.declared.shard_row.ShardRow.{ShardRow}
@@ -10,7 +11,7 @@ use Rattle.sm_rows.specs.declared.shard_row.ShardRow.{ShardRow}
 -- what holds of servers by their rules
 pub record AreServers (rows : List ServerRow) : Type 0 where
   pub some : 1 ≤ length rows
-  pub few : length rows ≤ MAX_SERVERS
+  pub few : length rows ≤ MAX_SERVER
   pub ids : All (λ row. IsServer row.id) rows
   pub ids_rise : IsStrictlyIncreasing (map (λ row. row.id) rows)
   pub domains : All (λ row. row.domain ≤ MAX_DOMAIN) rows

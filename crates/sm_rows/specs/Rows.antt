@@ -1,7 +1,8 @@
 -- The rules of the rows of servers, groups and shards, as tests.
 use Rattle.std.specs.Prelude.{ℕ, ◌&&◌, List, length, drop, Bool, nat_le, nat_lt}
 use Rattle.std.specs.List.{list_all, zip}
-use Rattle.sm_rows.specs.declared.limits.TheConstants.{MAX_SERVERS, MAX_DOMAIN, MAX_GROUPS, MAX_LIMIT, MAX_SHARDS, MAX_CAP}
+use Rattle.sm_ranges.specs.declared.limits.TheConstants.{MAX_SERVER, MAX_SHARDS}
+use Rattle.sm_rows.specs.declared.limits.TheConstants.{MAX_DOMAIN, MAX_GROUPS, MAX_LIMIT, MAX_CAP}
 use Rattle.sm_rows.specs.declared.server_row.ServerRow.{ServerRow}
 use Rattle.sm_rows.specs.declared.group_row.GroupRow.{GroupRow}
 use Rattle.sm_rows.specs.declared.shard_row.ShardRow.{ShardRow}
@@ -12,7 +13,7 @@ is_within low high n = nat_le low n && nat_le n high
 
 -- each number of a server's row is in its range
 abbrev pub is_server_row : ServerRow → Bool
-is_server_row row = is_within 1 MAX_SERVERS row.id && is_within 0 MAX_DOMAIN row.domain && is_within 0 4294967295 row.capacity
+is_server_row row = is_within 1 MAX_SERVER row.id && is_within 0 MAX_DOMAIN row.domain && is_within 0 4294967295 row.capacity
 
 -- the number of each server is below the next one's
 abbrev pub are_rising : List ServerRow → Bool
@@ -20,7 +21,7 @@ are_rising rows = list_all (λ pair. nat_lt pair.0.id pair.1.id) (zip rows (drop
 
 -- the rules of servers: 1 to 4,095 rows, each in its ranges, by rising numbers
 abbrev pub are_servers : List ServerRow → Bool
-are_servers rows = is_within 1 MAX_SERVERS (length rows) && list_all is_server_row rows && are_rising rows
+are_servers rows = is_within 1 MAX_SERVER (length rows) && list_all is_server_row rows && are_rising rows
 
 -- each number of a group's row is in its range
 abbrev pub is_group_row : GroupRow → Bool

@@ -1,7 +1,4 @@
-//! The limits of rows.
-
-/// The most servers that there are, which is the greatest number of one.
-pub const MAX_SERVERS: usize = 4095;
+//! The limits of rows. How many servers and shards there may be `sm_ranges` says.
 
 /// The greatest fault domain.
 pub const MAX_DOMAIN: u16 = 4095;
@@ -11,9 +8,6 @@ pub const MAX_GROUPS: usize = 4096;
 
 /// The greatest `limit` and `down` of a group.
 pub const MAX_LIMIT: u16 = 4096;
-
-/// The most shards that there are.
-pub const MAX_SHARDS: usize = 4096;
 
 /// The greatest cap of a shard.
 pub const MAX_CAP: u8 = 1;

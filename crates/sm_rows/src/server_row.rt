@@ -2,7 +2,8 @@ ghost use Rattle.std.specs.Prelude.{◌≡◌};
 ghost use Rattle.std.specs.List.{list_all};
 ghost use Rattle.sm_rows.specs.Rows.{are_rising, are_servers, is_server_row};
 
-use crate::limits::{MAX_DOMAIN, MAX_SERVERS};
+use crate::limits::MAX_DOMAIN;
+use sm_ranges::limits::MAX_SERVER;
 use sm_ranges::server_id::ServerId;
 
 /// A server, as the settings give it.
@@ -32,7 +33,10 @@ impl ServerRow {
 pub fn are_servers(rows: &[ServerRow]) -> bool
     ensures { result ≡ are_servers rows.now }
 {
-    !rows.is_empty() && rows.len() <= MAX_SERVERS && rows_in_range(rows) && are_rising(rows)
+    !rows.is_empty()
+        && rows.len() <= usize::from(MAX_SERVER)
+        && rows_in_range(rows)
+        && are_rising(rows)
 }
 
 fn rows_in_range(rows: &[ServerRow]) -> bool

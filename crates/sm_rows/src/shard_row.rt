@@ -2,7 +2,8 @@ ghost use Rattle.std.specs.Prelude.{◌≡◌};
 ghost use Rattle.std.specs.List.{list_all};
 ghost use Rattle.sm_rows.specs.Rows.{are_shards, is_shard_row};
 
-use crate::limits::{MAX_CAP, MAX_SHARDS};
+use crate::limits::MAX_CAP;
+use sm_ranges::limits::MAX_SHARDS;
 
 /// A shard, as the settings give it.
 #[derive(Clone, Copy, Debug, PartialEq, Eq, Drop)]

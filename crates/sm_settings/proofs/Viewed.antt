@@ -4,6 +4,7 @@ use Rattle.serde_json.specs.Data.{Data, Members}
 use Rattle.serde_json.specs.View.{view, items_view, members_view}
 use Rattle.serde_json.specs.declared.value.Value.{Value}
 use Rattle.std.specs.List.{list_all}
+use Rattle.std.proofs.lemmas.List.Folds.{list_all-map}
 use Rattle.std.specs.Prelude.{option_and_then}
 use Rattle.serde_json.specs.Find.{as_array}
 use Rattle.sm_settings.specs.Members.{member_count, holds_of, list_of, array_of, is_array_of}
@@ -30,3 +31,9 @@ array_of_list items member found is_array is_found =
 pub holds_of_array : (test : Data → Bool) (o : Option Data) → holds_of (is_array_of test) o ≡ holds_of (list_all test) (option_and_then array_of o)
 holds_of_array test None = refl
 holds_of_array test (Some d) = refl
+
+-- and so by the values that are seen as its items
+pub all_viewed : (test : Data → Bool) (values : List Value) (o : Option Data) → Some (map view values) ≡ option_and_then array_of o
+    → list_all (λ value. test (view value)) values ≡ holds_of (is_array_of test) o
+all_viewed test values o items =
+    sym (list_all-map test view values) ∙ ap (holds_of (list_all test)) items ∙ sym (holds_of_array test o)

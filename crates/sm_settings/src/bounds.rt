@@ -23,7 +23,7 @@ pub fn has_texts(value: &Value, name: &str) -> bool
 
 /// Whether each value is a text.
 fn are_texts(values: &[Value]) -> bool
-    ensures { result ≡ list_all is_string (map view values.now) }
+    ensures { result ≡ list_all (λ value. is_string (view value)) values.now }
 {
     values.iter().all(|value| value.is_string())
 }

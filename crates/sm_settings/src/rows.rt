@@ -6,8 +6,9 @@ ghost use Rattle.sm_settings.specs.Members.{holds_of, is_array_of, when};
 
 use crate::members::{array, has_number, has_size, number_within};
 use serde_json::Value;
+use sm_ranges::limits::{MAX_SERVER, MAX_SHARDS};
 use sm_ranges::server_id::ServerId;
-use sm_rows::limits::{MAX_CAP, MAX_DOMAIN, MAX_LIMIT, MAX_SERVERS, MAX_SHARDS};
+use sm_rows::limits::{MAX_CAP, MAX_DOMAIN, MAX_LIMIT};
 use sm_rows::{GroupRow, ServerRow, ShardRow, are_groups, are_servers, are_shards};
 use std::alloc::{AllocError, Global};
 
@@ -17,7 +18,7 @@ pub(crate) trait Row: Copy + Drop {
     ghost use Rattle.std.specs.List.{list_all};
     ghost use Rattle.serde_json.specs.Data.{Data};
     ghost use Rattle.serde_json.specs.View.{view};
-    ghost use Rattle.sm_rows.specs.declared.limits.TheConstants.{MAX_SHARDS as MOST_ROWS};
+    ghost use Rattle.sm_ranges.specs.declared.limits.TheConstants.{MAX_SHARDS as MOST_ROWS};
     ghost use Rattle.sm_settings.specs.Members.{when};
 
     /// Whether data is an object with exactly the row's members.
@@ -77,7 +78,7 @@ impl Row for ServerRow {
     }
 
     fn from_value(value: &Value, _groups: u16) -> Option<ServerRow> {
-        let id = number_within(value, "id", 1, MAX_SERVERS as u64)?;
+        let id = number_within(value, "id", 1, u64::from(MAX_SERVER))?;
         let id = ServerId::new(id as u16)?;
         let domain = number_within(value, "domain", 0, u64::from(MAX_DOMAIN))?;
         let capacity = number_within(value, "capacity", 0, u64::from(u32::MAX))?;
@@ -185,7 +186,7 @@ pub(crate) fn has_rows<T: Row>(value: &Value, name: &str) -> bool
 
 /// Whether each value has the members of a row.
 fn have_shape<T: Row>(values: &[Value]) -> bool
-    ensures { result ≡ list_all T.is_object (map view values.now) }
+    ensures { result ≡ list_all (λ value. T.is_object (view value)) values.now }
 {
     values.iter().all(|value| T::has_shape(value))
 }

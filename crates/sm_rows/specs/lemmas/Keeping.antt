@@ -6,7 +6,8 @@ use Rattle.std.specs.List.Sorted.{IsStrictlyIncreasing}
 use Rattle.std.proofs.lemmas.Bool.{and_parts, leb-true, ltb-true}
 use Rattle.std.proofs.lemmas.List.Elements.{All-nil, All-cons}
 use Rattle.sm_ranges.specs.ServerId.{IsServer}
-use Rattle.sm_rows.specs.declared.limits.TheConstants.{MAX_SERVERS, MAX_DOMAIN, MAX_GROUPS, MAX_LIMIT, MAX_SHARDS, MAX_CAP}
+use Rattle.sm_ranges.specs.declared.limits.TheConstants.{MAX_SERVER, MAX_SHARDS}
+use Rattle.sm_rows.specs.declared.limits.TheConstants.{MAX_DOMAIN, MAX_GROUPS, MAX_LIMIT, MAX_CAP}
 use Rattle.sm_rows.specs.declared.server_row.ServerRow.{ServerRow}
 use Rattle.sm_rows.specs.declared.group_row.GroupRow.{GroupRow}
 use Rattle.sm_rows.specs.declared.shard_row.ShardRow.{ShardRow}
@@ -45,12 +46,12 @@ IsStrictlyIncreasing-are_rising (row ∷ next ∷ rows) e (suc k) within =
 -- servers that pass keep their rules
 pub AreServers-are_servers : (rows : List ServerRow) → are_servers rows ≡ true → AreServers rows
 AreServers-are_servers rows e =
-    let tests = three (is_within 1 MAX_SERVERS (length rows)) (list_all is_server_row rows) (are_rising rows) e in
-    let count = is_within-true 1 MAX_SERVERS (length rows) tests.0 in
+    let tests = three (is_within 1 MAX_SERVER (length rows)) (list_all is_server_row rows) (are_rising rows) e in
+    let count = is_within-true 1 MAX_SERVER (length rows) tests.0 in
     record {
       some = count.0;
       few = count.1;
-      ids = All-list_all (λ row. IsServer row.id) is_server_row (λ row t. is_within-true 1 MAX_SERVERS row.id (parts row t).0) rows tests.1;
+      ids = All-list_all (λ row. IsServer row.id) is_server_row (λ row t. is_within-true 1 MAX_SERVER row.id (parts row t).0) rows tests.1;
       ids_rise = IsStrictlyIncreasing-are_rising rows tests.2;
       domains = All-list_all (λ row. row.domain ≤ MAX_DOMAIN) is_server_row
           (λ row t. (is_within-true 0 MAX_DOMAIN row.domain (parts row t).1).1) rows tests.1;
@@ -59,8 +60,8 @@ AreServers-are_servers rows e =
     }
   where
     parts : (row : ServerRow) → is_server_row row ≡ true
-        → (is_within 1 MAX_SERVERS row.id ≡ true) × (is_within 0 MAX_DOMAIN row.domain ≡ true) × (is_within 0 4294967295 row.capacity ≡ true)
-    parts row t = three (is_within 1 MAX_SERVERS row.id) (is_within 0 MAX_DOMAIN row.domain) (is_within 0 4294967295 row.capacity) t
+        → (is_within 1 MAX_SERVER row.id ≡ true) × (is_within 0 MAX_DOMAIN row.domain ≡ true) × (is_within 0 4294967295 row.capacity ≡ true)
+    parts row t = three (is_within 1 MAX_SERVER row.id) (is_within 0 MAX_DOMAIN row.domain) (is_within 0 4294967295 row.capacity) t
 
 -- groups that pass keep their rules
 pub AreGroups-are_groups : (rows : List GroupRow) → are_groups rows ≡ true → AreGroups rows

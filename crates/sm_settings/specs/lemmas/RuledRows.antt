@@ -5,7 +5,8 @@ use Rattle.std.proofs.lemmas.Bool.{and_parts}
 use Rattle.sm_rows.specs.Rows.{is_within, is_server_row, is_group_row, is_shard_row, are_rising, are_shards}
 use Rattle.sm_rows.specs.lemmas.Keeping.{AreServers-are_servers, AreGroups-are_groups, AreShards-are_shards}
 use Rattle.sm_rows.specs.declared.group_row.GroupRow.{GroupRow}
-use Rattle.sm_rows.specs.declared.limits.TheConstants.{MAX_SERVERS, MAX_GROUPS, MAX_SHARDS}
+use Rattle.sm_ranges.specs.declared.limits.TheConstants.{MAX_SERVER, MAX_SHARDS}
+use Rattle.sm_rows.specs.declared.limits.TheConstants.{MAX_GROUPS}
 use Rattle.sm_rows.specs.declared.server_row.ServerRow.{ServerRow}
 use Rattle.sm_rows.specs.declared.shard_row.ShardRow.{ShardRow}
 use Rattle.sm_settings.specs.SettingsRows.{rule_of_servers, rule_of_groups, rule_of_shards}
@@ -20,7 +21,7 @@ middle_false false c = refl
 
 pub servers_refused : (rows : List ServerRow) → list_all is_server_row rows ≡ false → rule_of_servers rows ≡ false
 unfolding rule_of_servers
-servers_refused rows out = ap (λ b. is_within 1 MAX_SERVERS (length rows) && b && are_rising rows) out ∙ middle_false (is_within 1 MAX_SERVERS (length rows)) (are_rising rows)
+servers_refused rows out = ap (λ b. is_within 1 MAX_SERVER (length rows) && b && are_rising rows) out ∙ middle_false (is_within 1 MAX_SERVER (length rows)) (are_rising rows)
 
 pub groups_refused : (rows : List GroupRow) → list_all is_group_row rows ≡ false → rule_of_groups rows ≡ false
 unfolding rule_of_groups
