@@ -16,10 +16,12 @@
 //! ```
 #![tactic(auto)]
 
+pub mod bytes;
 pub mod logged;
 pub mod machine;
 pub mod service;
 
+pub use bytes::Bytes;
 pub use logged::Logged;
 pub use machine::Machine;
 pub use service::{ApplyFault, Service};

@@ -10,7 +10,6 @@
 //! ```
 #![tactic(auto)]
 
-pub mod bytes;
 pub mod counter_text;
 pub mod reply;
 pub mod request;
@@ -20,4 +19,4 @@ pub use counter_text::{CounterText, KeyMachine};
 pub use reply::Reply;
 pub use request::Request;
 pub use service::{ApplyFault, Service};
-pub use sm_body::service;
+pub use sm_body::{bytes, service};

@@ -3,8 +3,9 @@ ghost use Rattle.std.specs.Prelude.{◌≡◌, IfOk};
 use std::alloc::{AllocError, Global};
 use std::marker::Model;
 
-/// Bytes in memory of their own, such as a text. They need not be UTF-8.
-#[derive(Debug, Drop)]
+/// Bytes in memory of their own, such as a text. They need not be UTF-8. Contracts see the list of them, so what holds them is
+/// told by what they say, and not by where they lie.
+#[derive(Clone, Debug, Drop)]
 pub struct Bytes {
     bytes: Vec<u8>,
 }
@@ -40,12 +41,5 @@ impl Bytes {
         ensures { result.now ≡ self.now }
     {
         &self.bytes
-    }
-
-    /// The same bytes again.
-    pub fn try_clone(&self, alloc: Global) -> Result<Bytes, AllocError>
-        ensures { IfOk result (λ text. text ≡ self.now) }
-    {
-        Bytes::new(alloc, self.as_bytes())
     }
 }
