@@ -3,6 +3,7 @@ use sm_publish::{PublishFault, Publisher, Router};
 use sm_ranges::layout::Layout;
 use sm_ranges::server_id::ServerId;
 use sm_ranges::shard_id::ShardId;
+use std::alloc::{AllocError, Global};
 use std::process::Abort;
 use std::sync::Wait;
 use std::test::Fail;
@@ -41,6 +42,54 @@ fn router_reads_new_routes(rt: HostRuntime) -> Result<(), Fail> {
     publisher.end(&rt);
     let last = router.route(&layout, b"a");
     assert!(rt; last.is_none() || last == Some(next));
+    Ok(())
+}
+
+// The texts of two bytes that spell the numbers from 1 on.
+fn spelled(alloc: Global) -> Result<Vec<[u8; 2]>, AllocError> {
+    let mut numbers = Vec::new(alloc);
+    for number in 1..4_096u16 {
+        numbers.push(number.to_be_bytes())?;
+    }
+    Ok(numbers)
+}
+
+// As many shards as there may be, each with the keys that begin with its number.
+fn widest_layout(alloc: Global) -> Result<Layout, Fail> {
+    let numbers = spelled(alloc)?;
+    let mut bounds: Vec<&[u8]> = Vec::new(alloc);
+    bounds.push(b"")?;
+    for number in &numbers {
+        bounds.push(number)?;
+    }
+    Ok(Layout::new(alloc, &bounds)?)
+}
+
+// Publishes a route of each shard, to the server of the same number where there is one, and else to the last.
+fn publish_each<R: Wait + Abort>(rt: &R, publisher: &mut Publisher) -> Result<(), PublishFault> {
+    for shard in 0..4_096u16 {
+        publisher.publish(rt, route_of(rt, shard, shard.max(1), 1))?;
+    }
+    Ok(())
+}
+
+// Whether the router knows the route of each shard.
+fn reads_each(router: &mut Router, layout: &Layout) -> bool {
+    (0..4_096u16).all(|shard| {
+        router
+            .route(layout, &shard.to_be_bytes())
+            .is_some_and(|route| route.server.number() == shard.max(1))
+    })
+}
+
+#[test]
+fn routes_of_all_shards(rt: HostRuntime) -> Result<(), Fail> {
+    let layout = widest_layout(rt.alloc())?;
+    let (mut publisher, mut routers) = Publisher::new(&rt, rt.alloc(), 4_096, 2)?;
+    assert_eq!(rt; publish_each(&rt, &mut publisher), Ok(()));
+    assert!(rt; reads_each(&mut routers[0], &layout));
+    assert!(rt; reads_each(&mut routers[1], &layout));
+    publisher.end(&rt);
     Ok(())
 }
 

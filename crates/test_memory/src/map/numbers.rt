@@ -4,16 +4,16 @@ use std::alloc::{AllocError, Global};
 
 // A small generator of numbers: a linear congruence, of which the high bits are taken.
 #[derive(Drop)]
-pub struct Numbers {
+pub(crate) struct Numbers {
     state: u64,
 }
 
 impl Numbers {
-    pub fn new(seed: u64) -> Numbers {
+    pub(crate) fn new(seed: u64) -> Numbers {
         Numbers { state: seed }
     }
 
-    pub fn below(&mut self, bound: u64) -> u64
+    pub(crate) fn below(&mut self, bound: u64) -> u64
         requires { 0 < bound }
         ensures { result < bound }
     {
@@ -25,7 +25,7 @@ impl Numbers {
     }
 
     // Up to `most` bytes, of four different values.
-    pub fn bytes(&mut self, alloc: Global, most: u64) -> Result<Vec<u8>, AllocError>
+    pub(crate) fn bytes(&mut self, alloc: Global, most: u64) -> Result<Vec<u8>, AllocError>
         requires { most < 1000 }
     {
         let mut bytes = Vec::new(alloc);

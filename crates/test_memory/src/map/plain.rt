@@ -3,25 +3,25 @@ use std::alloc::{AllocError, Global};
 
 // What a row holds: a text, or a count.
 #[derive(Drop)]
-pub enum Held {
+pub(crate) enum Held {
     Text(Vec<u8>),
     Count(i64),
 }
 
 // A plain list of rows in the order of their keys, which each operation goes through from its begin.
 #[derive(Drop)]
-pub struct Plain {
+pub(crate) struct Plain {
     rows: Vec<(Vec<u8>, Held)>,
 }
 
 impl Plain {
-    pub fn new(alloc: Global) -> Plain {
+    pub(crate) fn new(alloc: Global) -> Plain {
         Plain {
             rows: Vec::new(alloc),
         }
     }
 
-    pub fn within(
+    pub(crate) fn within(
         &self,
         alloc: Global,
         low: &[u8],
@@ -41,13 +41,13 @@ impl Plain {
         Ok(seen)
     }
 
-    pub fn remove(&mut self, key: &[u8]) -> bool {
+    pub(crate) fn remove(&mut self, key: &[u8]) -> bool {
         let before = self.rows.len();
         self.rows.retain(|row| row.0.as_slice() != key);
         self.rows.len() < before
     }
 
-    pub fn put(&mut self, key: Vec<u8>, held: Held) -> Result<(), AllocError> {
+    pub(crate) fn put(&mut self, key: Vec<u8>, held: Held) -> Result<(), AllocError> {
         self.remove(&key);
         let below = self.rows.iter().filter(|row| row.0 < key).count();
         let at = below.min(self.rows.len());
@@ -55,7 +55,7 @@ impl Plain {
         Ok(())
     }
 
-    pub fn append(&mut self, key: &[u8], tail: &[u8]) -> Result<bool, AllocError> {
+    pub(crate) fn append(&mut self, key: &[u8], tail: &[u8]) -> Result<bool, AllocError> {
         for row in self.rows.iter_mut() {
             if row.0.as_slice() == key {
                 if let Held::Text(text) = &mut row.1 {
