@@ -1,4 +1,6 @@
-ghost use Rattle.std.specs.Prelude.{◌≡◌, ◌+◌, ◌<◌, ℕ, Some, length, slice_get, option_copied, IfOk, OnOk, IfSome, IfNone, IsOkUnless};
+ghost use Rattle.std.specs.Prelude.{◌≡◌, ◌+◌, ◌<◌, ℕ, Some, length, drop, not, position, slice_get, option_copied, IfOk, OnOk, IfSome, IfNone, IsOkUnless};
+ghost use Rattle.std.specs.List.{zip};
+ghost use Rattle.sm_ranges.specs.KeyOrder.{is_below};
 ghost use Rattle.sm_ranges.specs.Ranges.{Covers, IsLayout, shard_of};
 ghost use Rattle.sm_ranges.specs.LayoutFault.{texts_of, first_not_rising, first_too_long, first_layout_fault};
 
@@ -185,11 +187,19 @@ fn first_fault(bounds: &[&[u8]]) -> Option<LayoutFault>
 fn first_not_rising(bounds: &[&[u8]]) -> Option<usize>
     ensures { result ≡ first_not_rising (texts_of bounds.now) }
 {
+    first_unordered(bounds).map(|low| low + 1)
+}
+
+// The place of the first bound that the next one is not above.
+fn first_unordered(bounds: &[&[u8]]) -> Option<usize>
+    ensures value { result ≡ position (λ pair. not (is_below pair.0.now pair.1.now))
+        (zip bounds.now (drop 1 bounds.now)) }
+    ensures within { IfSome result (λ low. low < length bounds.now) }
+{
     bounds
         .iter()
         .zip(bounds.iter().skip(1))
         .position(|(low, high)| !is_below(low, high))
-        .map(|low| low + 1)
 }
 
 fn first_too_long(bounds: &[&[u8]]) -> Option<usize>
