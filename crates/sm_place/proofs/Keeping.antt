@@ -7,6 +7,7 @@ use Rattle.sm_rows.specs.declared.group_row.GroupRow.{GroupRow}
 use Rattle.sm_place.specs.declared.shard.Shard.{Shard}
 use Rattle.sm_place.specs.declared.server_state.ServerState.{ServerState}
 use Rattle.sm_place.specs.Counters.{HasRanges, HasRows, HasLoads, HasCounts, IsTallied}
+use Rattle.sm_place.specs.Ranks.{Ranking}
 use Rattle.sm_ranges.specs.Stand.{AllNamed}
 use Rattle.sm_place.specs.Books.{moved, IsKnown, shard_at, with_stand}
 use Rattle.sm_place.specs.Room.{HasRoom, count_in}
@@ -37,14 +38,14 @@ HasRows-with_stand servers groups shards k stand inside known rows = record {
 }
 
 pub IsTallied-with_stand : (servers : List ServerRow) (groups : List GroupRow) (shards : List Shard) (states : List ServerState)
-    (loads counts loads' counts' : List ℕ) (w k : ℕ) (stand : Stand)
+    (loads counts loads' counts' : List ℕ) (r : Ranking) (k : ℕ) (stand : Stand)
     → k < length shards → AllNamed (IsKnown servers) stand → HasRoom servers groups (with_stand shards k stand)
-    → IsTallied servers groups shards states loads counts w
+    → IsTallied servers groups shards states loads counts r
     → HasLoads servers (with_stand shards k stand) loads'
-    → HasCounts servers (with_stand shards k stand) counts' w
+    → HasCounts servers (with_stand shards k stand) counts' r
     → length counts' ≡ length counts
-    → IsTallied servers groups (with_stand shards k stand) states loads' counts' w
-IsTallied-with_stand servers groups shards states loads counts loads' counts' w k stand inside known room tallied has_loads has_counts e =
+    → IsTallied servers groups (with_stand shards k stand) states loads' counts' r
+IsTallied-with_stand servers groups shards states loads counts loads' counts' r k stand inside known room tallied has_loads has_counts e =
     record {
       has_ranges = tallied.has_ranges;
       has_rows = HasRows-with_stand servers groups shards k stand inside known tallied.has_rows;
@@ -55,9 +56,9 @@ IsTallied-with_stand servers groups shards states loads counts loads' counts' w 
     }
 
 -- the counts of a group within its limit fit their type
-pub count_fits : (servers : List ServerRow) (groups : List GroupRow) (shards shards' : List Shard) (states : List ServerState) (w k : ℕ)
-    → k < length shards → HasRanges servers groups states w → HasRows servers groups shards → HasRoom servers groups shards'
+pub count_fits : (servers : List ServerRow) (groups : List GroupRow) (shards shards' : List Shard) (states : List ServerState) (r : Ranking) (k : ℕ)
+    → k < length shards → HasRanges servers groups states r → HasRows servers groups shards → HasRoom servers groups shards'
     → (d : ℕ) → count_in servers shards' (shard_at shards k).row.group d < 65536
-count_fits servers groups shards shards' states w k inside ranges rows room d =
+count_fits servers groups shards shards' states r k inside ranges rows room d =
     let h = rows.group k inside in
     omega (arith, room.limit (shard_at shards k).row.group d h, ranges.limits (shard_at shards k).row.group h)

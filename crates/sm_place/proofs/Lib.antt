@@ -3,6 +3,7 @@ mod Keeping
 mod Leaving
 mod Placing
 mod Planning
+mod Ranking
 mod Rooms
 mod Sharing
 mod Starting

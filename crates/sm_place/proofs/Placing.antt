@@ -8,6 +8,7 @@ use Rattle.std.proofs.lemmas.List.{get_or-set_same, get_or-map, get_or-set_other
 use Rattle.std.proofs.lemmas.List.Kept.{AllPairs-from_increasing}
 use Rattle.std.specs.List.Sorted.{IsStrictlyIncreasing}
 use Rattle.std.proofs.lemmas.List.Sums.{position_or_len_is, prefix_len-le-length}
+use Rattle.sm_ranges.specs.declared.limits.TheConstants.{MAX_SERVER}
 use Rattle.sm_rows.specs.declared.server_row.ServerRow.{ServerRow}
 use Rattle.sm_place.specs.Books.{no_server, place_of, IsKnown}
 use Rattle.sm_place.specs.Counters.{HasPlaces}
@@ -94,10 +95,10 @@ IsFilled-next servers m places i a rise h e small filled = record {
 
 -- after the last row each server has its place
 pub HasPlaces-filled : (servers : List ServerRow) (places : List ℕ) (n : ℕ) → n ≡ length servers
-    → IsFilled servers 4096 places n → HasPlaces servers places
+    → IsFilled servers (MAX_SERVER + 1) places n → HasPlaces servers places
 HasPlaces-filled servers places n e filled = record {
   len = filled.len;
-  at = λ a h. filled.at a h ∙ ap (λ v. cond (ltb (place_of servers a) v) (place_of servers a) (length servers)) e
+  at = λ a h. filled.at a (omega (arith, h)) ∙ ap (λ v. cond (ltb (place_of servers a) v) (place_of servers a) (length servers)) e
       ∙ whole a (split (place_of servers a) (length servers));
 }
   where

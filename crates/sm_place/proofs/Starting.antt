@@ -1,10 +1,11 @@
 -- Why rows that keep their rules make books.
-use Rattle.std.proofs.Common.{ℕ, zero, suc, ◌+◌, ◌*◌, ◌<◌, ◌≤◌, ◌^◌, ◌≡◌, Bool, true, false, cond, eqb, List}
+use Rattle.std.proofs.Common.{ℕ, zero, suc, ◌*◌, ◌<◌, ◌≤◌, ◌^◌, ◌≡◌, Bool, true, false, cond, eqb, List}
 use Rattle.std.proofs.Common.{[], ◌∷◌, length, get_or, map, sym, refl, ◌∙◌, arith, ◌&&◌, Option, Some, None}
 use Rattle.std.specs.Prelude.{replicate}
 use Rattle.std.proofs.lemmas.List.Elements.{All-get_or}
 use Rattle.std.proofs.lemmas.List.Sums.{sum_by-cons}
 use Rattle.std.proofs.lemmas.List.{length-replicate, get_or-replicate, length-map}
+use Rattle.sm_rows.specs.declared.limits.TheConstants.{MAX_LIMIT}
 use Rattle.sm_rows.specs.declared.server_row.ServerRow.{ServerRow}
 use Rattle.sm_rows.specs.declared.group_row.GroupRow.{GroupRow}
 use Rattle.sm_rows.specs.declared.shard_row.ShardRow.{ShardRow}
@@ -16,7 +17,8 @@ use Rattle.sm_place.specs.declared.books_fault.BooksFault.{BooksFault}
 use Rattle.sm_place.specs.declared.books_fault.BooksFault.TheVariants.{BadServers, BadGroups, BadShards}
 use Rattle.sm_place.specs.Books.{no_server, no_group, no_shard, place_of, first_books_fault, vacant_shard, shard_at}
 use Rattle.sm_place.specs.Room.{load_on, is_in, count_in}
-use Rattle.sm_place.specs.Counters.{AreBelow, IsTallied}
+use Rattle.sm_place.specs.Counters.{IsTallied}
+use Rattle.sm_place.specs.Ranks.{Ranking, domain_cell, AreRanked}
 
 -- rows without a fault keep their rules
 pub record AreBooks (servers : List ServerRow) (groups : List GroupRow) (shards : List ShardRow) : Type 0 where
@@ -73,18 +75,18 @@ shard_at-vacant (row ∷ rows) zero h = refl
 shard_at-vacant (row ∷ rows) (suc k) h = shard_at-vacant rows k (omega arith)
 
 -- new counters agree with new books
-pub IsTallied-new : (servers : List ServerRow) (groups : List GroupRow) (shards : List ShardRow) (w : ℕ)
-    → AreBooks servers groups shards → AreBelow servers w
+pub IsTallied-new : (servers : List ServerRow) (groups : List GroupRow) (shards : List ShardRow) (r : Ranking)
+    → AreBooks servers groups shards → AreRanked servers r
     → IsTallied servers groups (map vacant_shard shards) (replicate (length servers) Up) (replicate (length servers) 0)
-    (replicate (length groups * w) 0) w
-IsTallied-new servers groups shards w ok below = record {
+    (replicate (length groups * r.width) 0) r
+IsTallied-new servers groups shards r ok ranked = record {
   has_ranges = record {
     servers_rise = ok.of_servers.ids_rise;
     states_len = length-replicate (length servers) Up;
-    domains = below;
+    domains = ranked;
     capacities = λ a known. All-get_or (λ row. row.capacity < 2 ^ 32) servers (place_of servers a) no_server known ok.of_servers.capacities;
     group_count = ok.of_groups.few;
-    limits = λ g h. All-get_or (λ row. row.limit ≤ 4096) groups g no_group h ok.of_groups.limits;
+    limits = λ g h. All-get_or (λ row. row.limit ≤ MAX_LIMIT) groups g no_group h ok.of_groups.limits;
   };
   has_rows = record {
     count = let few = ok.of_shards.few in let same = length-vacant shards in omega arith;
@@ -104,10 +106,10 @@ IsTallied-new servers groups shards w ok below = record {
     len = length-replicate (length servers) 0;
     at = λ a known. get_or-replicate (length servers) (place_of servers a) 0 0 known ∙ sym (load_on-vacant shards a);
   };
-  counts_len = length-replicate (length groups * w) 0;
+  counts_len = length-replicate (length groups * r.width) 0;
   has_counts = record {
     at = λ g d hd hi.
-        let inside : g * w + d < length groups * w = rw (length-replicate {A = ℕ} (length groups * w) 0) at hi in
-        get_or-replicate (length groups * w) (g * w + d) 0 0 inside ∙ sym (count_in-vacant servers shards g d);
+        let inside : domain_cell r g d < length groups * r.width = rw (length-replicate {A = ℕ} (length groups * r.width) 0) at hi in
+        get_or-replicate (length groups * r.width) (domain_cell r g d) 0 0 inside ∙ sym (count_in-vacant servers shards g d);
   };
 }

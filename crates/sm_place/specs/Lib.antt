@@ -2,6 +2,7 @@ pub mod Books
 pub mod Cells
 pub mod Counters
 pub mod Plans
+pub mod Ranks
 pub mod Room
 pub mod ServerState
 pub mod Sound

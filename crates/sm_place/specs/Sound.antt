@@ -1,6 +1,8 @@
 -- What holds of all books.
 use Rattle.std.specs.Prelude.{ℕ, ◌≡◌, ◌<◌, ◌≤◌, length, map}
 use Rattle.std.specs.List.Sorted.{IsStrictlyIncreasing}
+use Rattle.sm_ranges.specs.declared.limits.TheConstants.{MAX_SHARDS}
+use Rattle.sm_rows.specs.declared.limits.TheConstants.{MAX_GROUPS}
 use Rattle.sm_place.specs.Books.{BooksView, IsKnown, shard_at}
 use Rattle.sm_ranges.specs.Stand.{AllNamed}
 use Rattle.sm_place.specs.Room.{HasRoom}
@@ -9,8 +11,8 @@ use Rattle.sm_place.specs.Room.{HasRoom}
 pub record AreSound (books : BooksView) : Type 0 where
   pub servers_rise : IsStrictlyIncreasing (map (λ row. row.id) books.servers)
   pub states : length books.states ≡ length books.servers
-  pub groups : length books.groups ≤ 4096
-  pub shards : length books.shards ≤ 4096
+  pub groups : length books.groups ≤ MAX_GROUPS
+  pub shards : length books.shards ≤ MAX_SHARDS
   pub group : (k : ℕ) → k < length books.shards → (shard_at books.shards k).row.group < length books.groups
   pub known : (k : ℕ) → k < length books.shards → AllNamed (IsKnown books.servers) (shard_at books.shards k).stand
   pub room : HasRoom books.servers books.groups books.shards

@@ -14,7 +14,8 @@ use crate::candidates::{servers_but, shards_to_move};
 use crate::laws::fit_leaves_room;
 use crate::place_fault::PlaceFault;
 use crate::plan::Plan;
-use crate::roster::{Roster, width_of};
+use crate::ranks::Ranks;
+use crate::roster::Roster;
 use crate::server_state::ServerState;
 use crate::shard::{Shard, shard_at, vacant_shards};
 use crate::tallies::{move_count, move_load, other_count, other_load};
@@ -35,10 +36,9 @@ pub struct Books {
     states: Vec<ServerState>,
     // By the place of a server: the loads of the shards that name it.
     loads: Vec<u32>,
-    // By group and domain: the shards that name a server of the domain, 4,096 at most.
+    // By group and rank of a domain: the shards that name a server of the domain, 4,096 at most.
     counts: Vec<u16>,
-    // How many domains each group has a counter for.
-    width: usize,
+    ranks: Ranks,
 }
 
 impl Model for Books {
@@ -49,7 +49,7 @@ impl Model for Books {
 
     ghost view = { λ b. record { servers = b.roster; groups = b.groups.items; shards = b.shards.items; states = b.states.items } };
 
-    ghost invariant = { λ b. IsTallied b.roster b.groups.items b.shards.items b.states.items b.loads.items b.counts.items b.width };
+    ghost invariant = { λ b. IsTallied b.roster b.groups.items b.shards.items b.states.items b.loads.items b.counts.items b.ranks };
 }
 
 impl Books {
@@ -67,15 +67,15 @@ impl Books {
         if let Some(fault) = BooksFault::first(servers, groups, shards) {
             return Err(fault);
         }
-        let width = width_of(servers);
+        let ranks = Ranks::new(alloc, servers)?;
         Ok(Books {
             roster: Roster::new(alloc, servers)?,
             groups: Vec::from_slice(alloc, groups)?,
             shards: vacant_shards(alloc, shards)?,
             states: vec![in alloc; ServerState::Up; servers.len()]?,
             loads: vec![in alloc; 0; servers.len()]?,
-            counts: vec![in alloc; 0; groups.len() * width]?,
-            width,
+            counts: vec![in alloc; 0; groups.len() * ranks.width()]?,
+            ranks,
         })
     }
 
@@ -120,7 +120,7 @@ impl Books {
         ensures { AreSound self.now }
     {
         // This opens the value, whose invariant the proof cites.
-        let _ = &self.width;
+        let _ = &self.ranks;
     }
 
     /// The stand of the shard.
@@ -160,7 +160,7 @@ impl Books {
         move_count(
             &mut self.counts,
             &self.roster,
-            self.width,
+            &self.ranks,
             &self.shards,
             at,
             &stand,
@@ -209,7 +209,7 @@ impl Books {
             (count_in self.now.servers (remove self.now.shards k) group (domain_of self.now.servers a) + 1) }
     {
         let at = k.index();
-        let others = other_count(&self.counts, &self.roster, self.width, &self.shards, at, a);
+        let others = other_count(&self.counts, &self.roster, &self.ranks, &self.shards, at, a);
         let group = shard_at(&self.shards, at).row.group;
         others >= u32::from(self.groups[usize::from(group)].limit)
     }
@@ -308,7 +308,7 @@ impl Books {
             states: Vec::from_slice(alloc, &self.states)?,
             loads: Vec::from_slice(alloc, &self.loads)?,
             counts: Vec::from_slice(alloc, &self.counts)?,
-            width: self.width,
+            ranks: self.ranks.try_clone(alloc)?,
         })
     }
 }

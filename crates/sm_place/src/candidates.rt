@@ -1,4 +1,5 @@
 ghost use Rattle.std.specs.Prelude.{◌≡◌, ◌<◌, ◌≤◌, IfOk, length};
+ghost use Rattle.sm_ranges.specs.declared.limits.TheConstants.{MAX_SHARDS};
 ghost use Rattle.sm_place.specs.Plans.{servers_but, shards_to_move, stands_to_move};
 
 use crate::shard::Shard;
@@ -14,7 +15,7 @@ pub(crate) fn shards_to_move(
     shards: &[Shard],
     from: &Option<ServerId>,
 ) -> Result<Vec<ShardId>, AllocError>
-    requires { length shards.now ≤ 4096 }
+    requires { length shards.now ≤ MAX_SHARDS }
     ensures { IfOk result (λ numbers. numbers.items ≡ shards_to_move from.now shards.now) }
 {
     let mut numbers = Vec::new(alloc);
@@ -28,7 +29,7 @@ pub(crate) fn shards_to_move(
 
 // The shard of the number.
 fn shard_id(number: usize) -> ShardId
-    requires { number < 4096 }
+    requires { number < MAX_SHARDS }
     ensures { result ≡ number }
 {
     ShardId::new(number as u16).unwrap()

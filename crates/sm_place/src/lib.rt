@@ -20,6 +20,7 @@ mod counters;
 pub mod laws;
 pub mod place_fault;
 pub mod plan;
+mod ranks;
 mod roster;
 pub mod server_state;
 pub mod shard;

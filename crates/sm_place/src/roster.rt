@@ -1,17 +1,22 @@
-ghost use Rattle.std.specs.Prelude.{◌≡◌, ◌<◌, ◌≤◌, ◌↔◌, ◌==◌, All, IfOk, IfSome, IsTrue, length, map, option_map};
+ghost use Rattle.std.specs.Prelude.{◌≡◌, ◌≤◌, ◌↔◌, ◌==◌, IfOk, IfSome, IsTrue, length, map, option_map};
 ghost use Rattle.sm_place.specs.Cells.{cell_of, ArePlaces, AreCells};
 ghost use Rattle.std.specs.List.Sorted.{IsStrictlyIncreasing};
-ghost use Rattle.sm_rows.specs.declared.limits.TheConstants.{MAX_DOMAIN};
-ghost use Rattle.sm_place.specs.Counters.{AreBelow};
+ghost use Rattle.sm_ranges.specs.declared.limits.TheConstants.{MAX_SERVER};
+ghost use Rattle.sm_place.specs.Ranks.{AreRanked};
 ghost use Rattle.sm_ranges.specs.Stand.{passes, AllNamed};
 ghost use Rattle.sm_place.specs.Room.{names_domain};
 ghost use Rattle.sm_place.specs.Books.{domain_of, IsKnown, place_of, row_by_id};
 
+use crate::ranks::Ranks;
+use sm_ranges::limits::MAX_SERVER;
 use sm_ranges::server_id::ServerId;
 use sm_ranges::stand::Stand;
 use sm_rows::ServerRow;
 use std::alloc::{AllocError, Global};
 use std::marker::Model;
+
+/// How many numbers there are up to the greatest of a server, 0 included.
+const SERVER_NUMBERS: usize = MAX_SERVER as usize + 1;
 
 /// The rows of the servers, each found by its number.
 #[derive(Drop)]
@@ -37,10 +42,10 @@ impl Roster {
     /// The rows, whose numbers rise.
     pub fn new(alloc: Global, rows: &[ServerRow]) -> Result<Roster, AllocError>
         requires rise { IsStrictlyIncreasing (map (λ row. row.id) rows.now) }
-        requires few { length rows.now ≤ 4095 }
+        requires few { length rows.now ≤ MAX_SERVER }
         ensures { IfOk result (λ r. r ≡ rows.now) }
     {
-        let mut places = vec![in alloc; rows.len() as u16; 4096]?;
+        let mut places = vec![in alloc; rows.len() as u16; SERVER_NUMBERS]?;
         for (at, row) in rows.iter().enumerate() {
             places[usize::from(row.id.number())] = at as u16;
         }
@@ -125,53 +130,41 @@ impl Roster {
         }
     }
 
-    /// The counter of the group and the server's domain, where each group has `width` of them.
-    pub(crate) fn cell(&self, width: usize, group: u16, a: ServerId) -> usize
+    /// The counter of the group and the server's domain: each group has one for each domain of a rank.
+    pub(crate) fn cell(&self, ranks: &Ranks, group: u16, a: ServerId) -> usize
         requires known { IsKnown self.now a }
-        requires fits { width ≤ 4096 }
-        ensures { result ≡ cell_of self.now width group a }
+        requires ranked { AreRanked self.now ranks.now }
+        ensures { result ≡ cell_of self.now ranks.now group a }
     {
-        usize::from(group) * width + usize::from(self.row(a).domain)
+        usize::from(group) * ranks.width() + usize::from(ranks.rank(self.row(a).domain))
     }
 
     /// The counters of the group and the domains of the servers that the stand names.
     pub(crate) fn cells_of(
         &self,
-        width: usize,
+        ranks: &Ranks,
         group: u16,
         stand: &Stand,
     ) -> (Option<usize>, Option<usize>)
         requires known { AllNamed (IsKnown self.now) stand.now }
-        requires fits { width ≤ 4096 }
-        ensures { AreCells self.now width group stand.now result.0 result.1 }
+        requires ranked { AreRanked self.now ranks.now }
+        ensures { AreCells self.now ranks.now group stand.now result.0 result.1 }
     {
         (
-            self.cell_at(width, group, stand.owner()),
-            self.cell_at(width, group, stand.other()),
+            self.cell_at(ranks, group, stand.owner()),
+            self.cell_at(ranks, group, stand.other()),
         )
     }
 
     /// The counter, where there is a server.
-    fn cell_at(&self, width: usize, group: u16, server: Option<ServerId>) -> Option<usize>
+    fn cell_at(&self, ranks: &Ranks, group: u16, server: Option<ServerId>) -> Option<usize>
         requires known { IfSome server (IsKnown self.now) }
-        requires fits { width ≤ 4096 }
-        ensures { result ≡ option_map (cell_of self.now width group) server }
+        requires ranked { AreRanked self.now ranks.now }
+        ensures { result ≡ option_map (cell_of self.now ranks.now group) server }
     {
         match server {
-            Some(a) => Some(self.cell(width, group, a)),
+            Some(a) => Some(self.cell(ranks, group, a)),
             None => None,
         }
     }
-}
-
-/// One more than the greatest domain.
-pub(crate) fn width_of(rows: &[ServerRow]) -> usize
-    requires { All (λ row. row.domain ≤ MAX_DOMAIN) rows.now }
-    ensures { AreBelow rows.now result }
-{
-    let mut width = 0;
-    for row in rows {
-        width = width.max(usize::from(row.domain) + 1);
-    }
-    width
 }

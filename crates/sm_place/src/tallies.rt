@@ -2,9 +2,11 @@ ghost use Rattle.std.specs.Prelude.{◌≡◌, ◌^◌, ◌<◌, ℕ, if◌then�
 ghost use Rattle.sm_place.specs.Books.{domain_of, IsKnown, shard_at, with_stand};
 ghost use Rattle.sm_ranges.specs.Stand.{AllNamed};
 ghost use Rattle.sm_place.specs.Room.{count_in, load_by, load_on, names_domain};
-ghost use Rattle.sm_place.specs.Counters.{AreBelow, HasCells, HasCounts, HasLoads};
+ghost use Rattle.sm_place.specs.Counters.{HasCells, HasCounts, HasLoads};
+ghost use Rattle.sm_place.specs.Ranks.{AreRanked};
 
 use crate::counters::{count_in, count_out, lower, raise};
+use crate::ranks::Ranks;
 use crate::roster::Roster;
 use crate::shard::{Shard, shard_at};
 use sm_ranges::server_id::ServerId;
@@ -64,7 +66,7 @@ pub(crate) fn move_load(
 pub(crate) fn other_count(
     counts: &[u16],
     roster: &Roster,
-    width: usize,
+    ranks: &Ranks,
     shards: &[Shard],
     at: usize,
     a: ServerId,
@@ -72,14 +74,14 @@ pub(crate) fn other_count(
     requires shard { at < length shards.now }
     requires known { IsKnown roster.now a }
     requires before { AllNamed (IsKnown roster.now) (shard_at shards.now at).stand }
-    requires domains { AreBelow roster.now width }
-    requires cells { HasCells counts.now (shard_at shards.now at).row.group width }
-    requires counts { HasCounts roster.now shards.now counts.now width }
+    requires domains { AreRanked roster.now ranks.now }
+    requires cells { HasCells counts.now (shard_at shards.now at).row.group ranks.now }
+    requires counts { HasCounts roster.now shards.now counts.now ranks.now }
     ensures { result ≡ count_in roster.now (remove shards.now at) (shard_at shards.now at).row.group (domain_of roster.now a) }
 {
     let shard = shard_at(shards, at);
     let group = shard.row.group;
-    let cell = roster.cell(width, group, a);
+    let cell = roster.cell(ranks, group, a);
     u32::from(counts[cell]) - count_by(roster, shard, roster.row(a).domain)
 }
 
@@ -99,7 +101,7 @@ fn count_by(roster: &Roster, shard: &Shard, domain: u16) -> u32
 pub(crate) fn move_count(
     counts: &mut [u16],
     roster: &Roster,
-    width: usize,
+    ranks: &Ranks,
     shards: &[Shard],
     at: usize,
     stand: &Stand,
@@ -107,16 +109,16 @@ pub(crate) fn move_count(
     requires shard { at < length shards.now }
     requires before { AllNamed (IsKnown roster.now) (shard_at shards.now at).stand }
     requires after { AllNamed (IsKnown roster.now) stand.now }
-    requires domains { AreBelow roster.now width }
-    requires cells { HasCells counts.old (shard_at shards.now at).row.group width }
-    requires counts { HasCounts roster.now shards.now counts.old width }
+    requires domains { AreRanked roster.now ranks.now }
+    requires cells { HasCells counts.old (shard_at shards.now at).row.group ranks.now }
+    requires counts { HasCounts roster.now shards.now counts.old ranks.now }
     requires fits { (d : ℕ) → count_in roster.now (with_stand shards.now at stand.now) (shard_at shards.now at).row.group d < 2 ^ 16 }
-    ensures { HasCounts roster.now (with_stand shards.now at stand.now) counts.new width }
+    ensures { HasCounts roster.now (with_stand shards.now at stand.now) counts.new ranks.now }
 {
     let shard = shard_at(shards, at);
     let group = shard.row.group;
-    let (owner, other) = roster.cells_of(width, group, &shard.stand);
+    let (owner, other) = roster.cells_of(ranks, group, &shard.stand);
     count_out(counts, owner, other);
-    let (owner, other) = roster.cells_of(width, group, stand);
+    let (owner, other) = roster.cells_of(ranks, group, stand);
     count_in(counts, owner, other);
 }

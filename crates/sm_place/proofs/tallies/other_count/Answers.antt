@@ -4,27 +4,28 @@ use Rattle.sm_rows.specs.declared.server_row.ServerRow.{ServerRow}
 use Rattle.sm_place.specs.declared.shard.Shard.{Shard}
 use Rattle.sm_place.specs.Books.{domain_of, shard_at, IsKnown}
 use Rattle.sm_place.specs.Cells.{cell_of}
-use Rattle.sm_place.specs.Counters.{AreBelow, HasCells, HasCounts}
+use Rattle.sm_place.specs.Counters.{HasCells, HasCounts}
+use Rattle.sm_place.specs.Ranks.{Ranking, AreRanked}
 use Rattle.sm_place.specs.Room.{count_in, names_domain}
 use Rattle.sm_place.proofs.Counting.{count_others}
 use Rattle.sm_place.proofs.tallies.other_count.Goals as goal
 
 -- the counter of the server's domain has the other shards, and the shard where it names a server there
-count_of_others : (servers : List ServerRow) (w : ℕ) (shards : List Shard) (k a cell d own count : ℕ) (counts : List ℕ) (shard : Shard)
-    → k < length shards → AreBelow servers w → HasCells counts (shard_at shards k).row.group w → IsKnown servers a
-    → HasCounts servers shards counts w → shard ≡ shard_at shards k → cell ≡ cell_of servers w shard.row.group a → d ≡ domain_of servers a
+count_of_others : (servers : List ServerRow) (r : Ranking) (shards : List Shard) (k a cell d own count : ℕ) (counts : List ℕ) (shard : Shard)
+    → k < length shards → AreRanked servers r → HasCells counts (shard_at shards k).row.group r → IsKnown servers a
+    → HasCounts servers shards counts r → shard ≡ shard_at shards k → cell ≡ cell_of servers r shard.row.group a → d ≡ domain_of servers a
     → own ≡ cond (names_domain servers shard.stand d) 1 0 → count ≡ slice_index counts cell
     → count_in servers (remove shards k) (shard_at shards k).row.group (domain_of servers a) + own ≡ count
-count_of_others servers w shards k a cell d own count counts shard inside below cells known has is here there takes holds =
+count_of_others servers r shards k a cell d own count counts shard inside ranked cells known has is here there takes holds =
     let mine : own ≡ cond (names_domain servers (shard_at shards k).stand (domain_of servers a)) 1 0 = rw (is, there) at takes in
-    let all : count ≡ slice_index counts (cell_of servers w (shard_at shards k).row.group a) = rw (here, is) at holds in
-    omega (arith, mine, all, count_others servers w shards k a counts inside below cells known has)
+    let all : count ≡ slice_index counts (cell_of servers r (shard_at shards k).row.group a) = rw (here, is) at holds in
+    omega (arith, mine, all, count_others servers r shards k a counts inside ranked cells known has)
 
 pub overflow_sub-result : goal.overflow_sub-result
 overflow_sub-result c =
     omega (
       arith,
-      count_of_others c.args.roster.now c.args.width c.args.shards.now c.args.at c.args.a c.cell-cell.result
+      count_of_others c.args.roster.now c.args.ranks.now c.args.shards.now c.args.at c.args.a c.cell-cell.result
           c.row.result.domain c.count_by.result c.from.result c.args.counts.now c.shard_at-shard.result.now c.requires.shard
           c.requires.domains c.requires.cells c.requires.known c.requires.counts c.shard_at-shard.ensures c.cell-cell.ensures
           (ap (λ (r : ServerRow). r.domain) c.row.ensures) c.count_by.ensures c.from.ensures,
@@ -34,7 +35,7 @@ pub returns : goal.returns
 returns c =
     omega (
       arith,
-      count_of_others c.args.roster.now c.args.width c.args.shards.now c.args.at c.args.a c.cell-cell.result
+      count_of_others c.args.roster.now c.args.ranks.now c.args.shards.now c.args.at c.args.a c.cell-cell.result
           c.row.result.domain c.count_by.result c.from.result c.args.counts.now c.shard_at-shard.result.now c.requires.shard
           c.requires.domains c.requires.cells c.requires.known c.requires.counts c.shard_at-shard.ensures c.cell-cell.ensures
           (ap (λ (r : ServerRow). r.domain) c.row.ensures) c.count_by.ensures c.from.ensures,

@@ -16,7 +16,7 @@ invariant_of-self c =
     let inside : c.args.k < length shards = rw (← c.self.view_is) at c.requires.shard in
     let loads : HasLoads self.roster moved c.move_load.new.loads =
     rw (c.deref.ensures.value, c.index-at.ensures.value) at c.move_load.ensures in
-    let counts : HasCounts self.roster moved c.move_count.new.counts self.width =
+    let counts : HasCounts self.roster moved c.move_count.new.counts self.ranks =
     rw (c.deref-2.ensures.value, c.index-at.ensures.value) at c.move_count.ensures in
     let is : c.shard_at.result.now ≡ shard_at shards c.args.k =
     rw (c.deref-3.ensures.value, c.index-at.ensures.value) at c.shard_at.ensures in
@@ -30,4 +30,4 @@ invariant_of-self c =
     (self.counts.ok.0 ∙ sym counts_len) in
     rw (kept_loads, kept_counts, c.index-at.ensures.value, is)
     (IsTallied-with_stand self.roster self.groups.items shards self.states.items self.loads.items self.counts.items
-    c.move_load.new.loads c.move_count.new.counts self.width c.args.k c.args.stand inside known room c.self.invariant loads counts counts_len)
+    c.move_load.new.loads c.move_count.new.counts self.ranks c.args.k c.args.stand inside known room c.self.invariant loads counts counts_len)

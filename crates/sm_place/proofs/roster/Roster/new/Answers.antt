@@ -1,5 +1,6 @@
-use Rattle.std.proofs.Common.{◌≡◌, ◌<◌, ◌∙◌, ap, arith, length, get_or}
+use Rattle.std.proofs.Common.{◌≡◌, ◌<◌, ◌+◌, ◌∙◌, ap, arith, length, get_or}
 use Rattle.std.proofs.lemmas.List.{get_or_default}
+use Rattle.sm_ranges.specs.declared.limits.TheConstants.{MAX_SERVER}
 use Rattle.sm_rows.specs.declared.server_row.ServerRow.{ServerRow}
 use Rattle.sm_place.specs.Books.{no_server}
 use Rattle.sm_place.proofs.Placing.{IsFilled-new, IsFilled-next, HasPlaces-filled}
@@ -8,7 +9,7 @@ use Rattle.sm_place.proofs.roster.Roster.new.Goals as goal
 pub loop-at-init : goal.loop-at-init
 loop-at-init c =
     let empty = c.in_ok-places.ensures.items_if_clones_equal (λ y h. h) in
-    rw empty (IsFilled-new c.args.rows.now 4096 (length c.args.rows.now) cc)
+    rw empty (IsFilled-new c.args.rows.now (MAX_SERVER + 1) (length c.args.rows.now) cc)
 
 pub loop-at-preserved : goal.loop-at-preserved
 loop-at-preserved c =
@@ -17,9 +18,9 @@ loop-at-preserved c =
     let row : c.index-rows-at.result ≡ get_or rows i no_server =
     c.index-rows-at.is ∙ get_or_default rows i c.index-rows-at.result no_server c.loop-at-test.true in
     let id : c.number.result ≡ (get_or rows i no_server).id = c.number.ensures.value ∙ ap (λ (r : ServerRow). r.id) row in
-    let small : c.number.result < 4096 = omega (arith, c.number.ensures.value, c.number.ensures.in_range) in
+    let small : c.number.result < MAX_SERVER + 1 = omega (arith, c.number.ensures.value, c.number.ensures.in_range) in
     let here : c.from.result ≡ c.number.result = cc in
-    rw here (IsFilled-next rows 4096 c.loop-at.places.items i c.number.result c.requires.rise c.loop-at-test.true
+    rw here (IsFilled-next rows (MAX_SERVER + 1) c.loop-at.places.items i c.number.result c.requires.rise c.loop-at-test.true
     id small c.loop-at.invariant)
 
 pub invariant_of-result : goal.invariant_of-result

@@ -1,0 +1,86 @@
+ghost use Rattle.std.specs.Prelude.{◌≡◌, ◌<◌, ◌≤◌, All, IfOk, length};
+ghost use Rattle.sm_rows.specs.declared.limits.TheConstants.{MAX_DOMAIN};
+ghost use Rattle.sm_ranges.specs.declared.limits.TheConstants.{MAX_SERVER};
+ghost use Rattle.sm_place.specs.declared.ranks.TheConstants.{NO_RANK};
+ghost use Rattle.sm_place.specs.Ranks.{rank_of, with_rank, AreRanked};
+
+use sm_rows::ServerRow;
+use sm_rows::limits::MAX_DOMAIN;
+use std::alloc::{AllocError, Global};
+use std::marker::Model;
+
+/// What a domain that no server is of has in place of a rank: above each rank, and how many domains there can be.
+pub const NO_RANK: u16 = MAX_DOMAIN + 1;
+
+/// The ranks of the domains that servers are of: 0, 1 and so on, so that only these domains have counters.
+#[derive(Drop)]
+pub struct Ranks {
+    // by domain: its rank, or none
+    ranks: Vec<u16>,
+    width: u16,
+}
+
+impl Model for Ranks {
+    ghost use Rattle.sm_place.specs.Ranks.{Ranking};
+
+    ghost Value = { Ranking };
+
+    ghost view = { λ r. record { ranks = r.ranks.items; width = r.width } };
+}
+
+impl Ranks {
+    /// The ranks of the domains of these rows, each domain once.
+    pub fn new(alloc: Global, rows: &[ServerRow]) -> Result<Ranks, AllocError>
+        requires domains { All (λ row. row.domain ≤ MAX_DOMAIN) rows.now }
+        requires few { length rows.now ≤ MAX_SERVER }
+        ensures { IfOk result (λ ranks. AreRanked rows.now ranks) }
+    {
+        let mut ranks = Ranks {
+            ranks: vec![in alloc; NO_RANK; usize::from(NO_RANK)]?,
+            width: 0,
+        };
+        for row in rows {
+            ranks.add(row.domain);
+        }
+        Ok(ranks)
+    }
+
+    /// The same ranks again.
+    pub fn try_clone(&self, alloc: Global) -> Result<Ranks, AllocError>
+        ensures { IfOk result (λ ranks. ranks ≡ self.now) }
+    {
+        Ok(Ranks {
+            ranks: Vec::from_slice(alloc, &self.ranks)?,
+            width: self.width,
+        })
+    }
+
+    /// How many domains have a rank.
+    pub fn width(&self) -> usize
+        ensures { result ≡ self.now.width }
+    {
+        usize::from(self.width)
+    }
+
+    /// The rank of the domain, or `NO_RANK`.
+    pub fn rank(&self, domain: u16) -> u16
+        ensures { result ≡ rank_of self.now domain }
+    {
+        match self.ranks.get(usize::from(domain)) {
+            Some(rank) => *rank,
+            None => NO_RANK,
+        }
+    }
+
+    /// Gives the domain the next rank, where it has none.
+    fn add(&mut self, domain: u16)
+        requires domain { domain < length self.old.ranks }
+        requires few { self.old.width < NO_RANK }
+        ensures { self.new ≡ with_rank self.old domain }
+    {
+        if self.rank(domain) == NO_RANK {
+            self.ranks[usize::from(domain)] = self.width;
+            self.width += 1;
+        }
+    }
+}
