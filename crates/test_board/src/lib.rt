@@ -6,6 +6,8 @@ mod executing;
 #[cfg(test)]
 mod logged;
 #[cfg(test)]
+mod queue;
+#[cfg(test)]
 mod rule;
 #[cfg(test)]
 mod service;
