@@ -14,6 +14,7 @@ use Rattle.sm_word.specs.Word.{IsWellFormed, word_of}
 use Rattle.sm_word.specs.lemmas.Words.{word_once}
 use Rattle.sm_rule.specs.declared.limits.Limits.{Limits}
 use Rattle.sm_rule.specs.declared.view.View.{View}
+use Rattle.sm_rule.specs.Boards.{limit_at}
 use Rattle.sm_rule.specs.Changes.{chair_value}
 use Rattle.sm_rule.specs.Closing.{AreTaken, AreWords, IsLeft, IsTaken, WasClosed}
 use Rattle.sm_rule.specs.Rule.{Fits, Holds, Rule, table_in}
@@ -53,11 +54,11 @@ unset [] (suc at) = refl
 unset (one ∷ marks) zero = refl
 unset (one ∷ marks) (suc at) = unset marks at
 
-module _ {S Q : Type 0} (requests : S → List Q) (limits : Limits) (id : ℕ) (view : View Q) (words : List ℕ) (slots : List (Option S)) (low : limits.ceiling < 2 ^ 36) (last : Final (Seen (Rule requests limits) id view) words slots) where
+module _ {S Q : Type 0} (requests : S → List Q) (limit : S → ℕ) (limits : Limits) (id : ℕ) (view : View Q) (words : List ℕ) (slots : List (Option S)) (low : limits.ceiling < 2 ^ 36) (last : Final (Seen (Rule requests limit limits) id view) words slots) where
   abbrev history : List (Entry Q)
   history = last.1.0.0
 
-  abbrev holds : Holds requests limits last.0.words last.0.homes last.0.views history
+  abbrev holds : Holds requests limit limits last.0.words last.0.homes last.0.views history
   holds = last.1.0.1
 
   -- the word of a shard is that of its record
@@ -77,7 +78,7 @@ module _ {S Q : Type 0} (requests : S → List Q) (limits : Limits) (id : ℕ) (
 
   -- a row that was taken is what is left of its shard
   row_left : (rows : List (Record × Option S)) → AreTaken words slots rows → (shard : ℕ) (row : Record × Option S) → get_elem? rows shard ≡ some row
-      → (row.0 ≡ record_at (table_in limits history) shard) × (row.0.admitted ≡ true → row.1 ≡ None) × (row.0.admitted ≡ false → (body : S) × (row.1 ≡ Some body) × (requests body ≡ kept (reverse history) shard))
+      → (row.0 ≡ record_at (table_in limits history) shard) × (row.0.admitted ≡ true → row.1 ≡ None) × (row.0.admitted ≡ false → (body : S) × (row.1 ≡ Some body) × (requests body ≡ kept (reverse history) shard) × (limit body ≡ limit_at limits shard))
   row_left rows taken shard row at =
       let is = taken shard row at in
       let same : row.0 ≡ record_at (table_in limits history) shard = word_once row.0 (record_at (table_in limits history) shard) is.0 (formed_left shard) (sym (word_left shard (word_of row.0) is.1)) in
@@ -88,7 +89,7 @@ module _ {S Q : Type 0} (requests : S → List Q) (limits : Limits) (id : ℕ) (
             let home = holds.home shard within (ap (λ (state : Record). state.admitted) (sym same) ∙ idle) in
             let lies : get_elem? slots shard ≡ some (Some home.0) = last.4 shard (Some home.0) home.1 in
             let slot : is.2.0 ≡ Some home.0 = some-injective is.2.0 (Some home.0) (sym is.2.1 ∙ lies) in
-            (home.0, is.2.2 ∙ (ap (λ (flag : Bool). if flag then None else is.2.0) idle ∙ slot), home.2)),
+            (home.0, is.2.2 ∙ (ap (λ (flag : Bool). if flag then None else is.2.0) idle ∙ slot), home.2, home.3)),
       )
 
   module _ (live : view.spent ≡ false) (chair : view.number ≡ 0) where
@@ -99,7 +100,7 @@ module _ {S Q : Type 0} (requests : S → List Q) (limits : Limits) (id : ℕ) (
     whole : reverse history ≡ view.seen ++ reverse fit.later
     whole = in_order fit.later view.seen history fit.seen
 
-    pub was_closed : (board : TableId) (rows : List (Record × Option S)) → AreTaken words slots rows → length rows ≡ limits.count → WasClosed requests (chair_value board view) rows
+    pub was_closed : (board : TableId) (rows : List (Record × Option S)) → AreTaken words slots rows → length rows ≡ limits.count → WasClosed requests limit (chair_value board view) rows
     was_closed board rows taken many =
         let legal : IsLegal view.limits.count view.limits.ceiling (reverse history) = legal_all limits id view history fit holds.legal in
         let none : NoneBy 0 (reverse fit.later) = subst (λ n. NoneBy n (reverse fit.later)) chair (others_all limits id view history fit) in (
@@ -109,5 +110,6 @@ module _ {S Q : Type 0} (requests : S → List Q) (limits : Limits) (id : ℕ) (
           many ∙ ap (λ (its : Limits). its.count) (sym fit.limits_are),
           λ shard row at.
               let left = row_left rows taken shard row at in
-              subst (λ entries. IsLeft requests view.limits entries shard row) whole (left.0 ∙ sym (sees limits id view history fit shard), left.1, left.2),
+              subst (λ entries. IsLeft requests limit view.limits entries shard row) whole
+              (left.0 ∙ sym (sees limits id view history fit shard), left.1, λ idle. let body = left.2 idle in (body.0, body.1, body.2, body.3 ∙ ap (λ (its : Limits). limit_at its shard) (sym fit.limits_are))),
         )

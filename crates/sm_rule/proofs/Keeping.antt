@@ -1,6 +1,6 @@
 -- The steps on a board keep its rule.
 use Rattle.std.proofs.Common.{◌≡◌, ◌≢◌, ℕ, zero, suc, ◌<◌, ◌≤◌, ◌^◌, true, false, not, List, [], ◌∷◌, ◌++◌, length, replicate, refl, sym, ap, ◌∙◌, subst, arith, le_refl, length-append, inl, inr, ◌⊎◌, ⊎_elim}
-use Rattle.std.specs.Prelude.{All, IfSome, Option, Some, None, map, reverse, slice_index, slice_set, ◌==◌}
+use Rattle.std.specs.Prelude.{All, IfSome, Option, Some, None, map, reverse, slice_index, slice_index_or, slice_set, ◌==◌}
 use mathlib.Core.Option as math
 use Rattle.std.specs.Option.{option_map}
 use Rattle.std.proofs.lemmas.Bool.{and_from, and_parts, cases_eq, eq-eqb, lt-ltb, ne_eqb, not-true, true≢false}
@@ -31,14 +31,15 @@ use Rattle.sm_rule.specs.declared.limits.Limits.{Limits}
 use Rattle.sm_rule.specs.declared.view.Held.{Held}
 use Rattle.sm_rule.specs.declared.view.View.{View}
 use Rattle.sm_rule.specs.Admissions.{HoldsPermit, PermitValue, beyond}
+use Rattle.sm_rule.specs.Boards.{limit_at}
 use Rattle.sm_rule.specs.Passes.{PassValue, pass_value, slots_of}
 use Rattle.sm_rule.specs.Rule.{AreHome, Fits, Holds, HoldsShard, Rule, table_in}
 use Rattle.sm_rule.specs.Steps.{Entered, Exchanged, IsFree, IsWordOf, Loaded, MayAdd, Stored, TakesBody, is_end}
 use Rattle.sm_rule.specs.Views.{Adds, Looks, adding, entry_of, held_after, list_held, list_with, newcomer, record_in, seeing}
 
--- the key of a board has its ceiling
-pub low_key : (key limits : Limits) → key ≡ limits → limits.ceiling < 2 ^ 36 → key.ceiling < 2 ^ 36
-low_key key limits same low = subst (λ (its : Limits). its.ceiling < 2 ^ 36) (sym same) low
+-- the ceiling of a board's key is that of its origin
+pub low_ceiling : (key origin : ℕ) → key ≡ origin → origin < 2 ^ 36 → key < 2 ^ 36
+low_ceiling key origin same low = omega arith
 
 -- the views after one of them is set
 fit_set : {Q : Type 0} (P : ℕ → View Q → Type 0) (views : List (View Q)) (id : ℕ) (mine : View Q) → ((n : ℕ) (view : View Q) → n ≢ id → get_elem? views n ≡ some view → view.spent ≡ false → P n view) → P id mine → (n : ℕ) (view : View Q) → get_elem? (slice_set views id mine) n ≡ some view → view.spent ≡ false → P n view
@@ -111,8 +112,8 @@ word_seen limits history its shard word same is low legal known = (
 )
 
 -- a look changes the looking seat's view alone
-look_keeps : {S Q : Type 0} (requests : S → List Q) (limits : Limits) (id word : ℕ) (words : List ℕ) (homes : List (math.Option (Option S))) (views : List (View Q)) (history : List (Entry Q)) (view : View Q) → Holds requests limits words homes views history → get_elem? views id ≡ some view → view.spent ≡ false → Holds requests limits (slice_set words word (slice_index words word)) homes (slice_set views id (seeing view (reverse history))) history
-look_keeps requests limits id word words homes views history view holds at live =
+look_keeps : {S Q : Type 0} (requests : S → List Q) (limit : S → ℕ) (limits : Limits) (id word : ℕ) (words : List ℕ) (homes : List (math.Option (Option S))) (views : List (View Q)) (history : List (Entry Q)) (view : View Q) → Holds requests limit limits words homes views history → get_elem? views id ≡ some view → view.spent ≡ false → Holds requests limit limits (slice_set words word (slice_index words word)) homes (slice_set views id (seeing view (reverse history))) history
+look_keeps requests limit limits id word words homes views history view holds at live =
     let long = length-set views id (seeing view (reverse history)) in
     record {
       legal = holds.legal;
@@ -126,16 +127,16 @@ look_keeps requests limits id word words homes views history view holds at live 
     }
 
 -- a load keeps the rule
-pub loads : {S Q : Type 0} (requests : S → List Q) (limits : Limits) (slots id word : ℕ) (me : Me (Option S) (View Q)) → limits.ceiling < 2 ^ 36 → me.0.spent ≡ false
-    → Allows (Rule requests limits) slots id me word (λ n. n) (Loaded (step {S = Option S} slots word 0 0 none) me)
-loads requests limits slots id word me low live table rule size at small =
+pub loads : {S Q : Type 0} (requests : S → List Q) (limit : S → ℕ) (limits : Limits) (slots id word : ℕ) (me : Me (Option S) (View Q)) → limits.ceiling < 2 ^ 36 → me.0.spent ≡ false
+    → Allows (Rule requests limit limits) slots id me word (λ n. n) (Loaded (step {S = Option S} slots word 0 0 none) me)
+loads requests limit limits slots id word me low live table rule size at small =
     let history = rule.0 in
     let holds = rule.1 in
     let fit = holds.fit id me.0 at live in (
       seeing me.0 (reverse history),
       keeps,
       tt,
-      (history, look_keeps requests limits id word table.words table.homes table.views history me.0 holds at live),
+      (history, look_keeps requests limit limits id word table.words table.homes table.views history me.0 holds at live),
       (
         looks_all limits id me.0 history fit holds.legal,
         word_seen limits history me.0.limits word _ (sees limits id me.0 history fit word) (word_at table.words (table_in limits history) word holds.words_are) low holds.legal holds.known,
@@ -266,17 +267,17 @@ module _ {Q : Type 0} (limits : Limits) (number shard : ℕ) (view : View Q) (hi
       ∙ ap (λ entries. record_at (table_of_latest limits.count limits.ceiling entries) shard) (reverse-reverse (longer kind))
 
 -- the bodies of the other shards stay at home
-home_other : {S Q : Type 0} (requests : S → List Q) (limits : Limits) (homes : List (math.Option (Option S))) (slot : math.Option (Option S)) (entry : Entry Q) (history : List (Entry Q))
-    → AreHome requests limits homes history → fits limits.ceiling history (table_in limits history) entry ≡ true
+home_other : {S Q : Type 0} (requests : S → List Q) (limit : S → ℕ) (limits : Limits) (homes : List (math.Option (Option S))) (slot : math.Option (Option S)) (entry : Entry Q) (history : List (Entry Q))
+    → AreHome requests limit limits homes history → fits limits.ceiling history (table_in limits history) entry ≡ true
     → (shard : ℕ) → shard < limits.count → shard ≢ entry.shard → (record_at (table_in limits (entry ∷ history)) shard).admitted ≡ false
-    → (body : S) × (get_elem? (slice_set homes entry.shard slot) shard ≡ some (some (Some body))) × (requests body ≡ kept (reverse (entry ∷ history)) shard)
-home_other requests limits homes slot entry history home fit shard within apart idle =
+    → (body : S) × (get_elem? (slice_set homes entry.shard slot) shard ≡ some (some (Some body))) × (requests body ≡ kept (reverse (entry ∷ history)) shard) × (limit body ≡ limit_at limits shard)
+home_other requests limit limits homes slot entry history home fit shard within apart idle =
     let same : record_at (table_in limits (entry ∷ history)) shard ≡ record_at (table_in limits history) shard = record_at-latest_other limits.count limits.ceiling entry history shard apart fit in
     let before = home shard within (ap (λ (state : Record). state.admitted) (sym same) ∙ idle) in
     let differs : (entry.shard == shard) ≡ false = ne_eqb entry.shard shard (λ equal. apart (sym equal)) in
     let list : kept (reverse (entry ∷ history)) shard ≡ kept (reverse history) shard =
     ap (λ entries. kept entries shard) (reverse-append (entry ∷ []) history) ∙ kept-push_other (reverse history) entry shard differs in
-    (before.0, set_else homes entry.shard shard slot apart ∙ before.1, before.2 ∙ sym list)
+    (before.0, set_else homes entry.shard shard slot apart ∙ before.1, before.2 ∙ sym list, before.3)
 
 list_pushed : {Q : Type 0} (history : List (Entry Q)) (entry : Entry Q) (request : Option Q) → kept_of entry.kind ≡ request → kept (history ++ entry ∷ []) entry.shard ≡ list_with (kept history entry.shard) request
 list_pushed history entry None is = kept-push_none history entry entry.shard is
@@ -295,9 +296,9 @@ idle_admitted ceiling earlier state number server mode fit =
     not-true state.admitted (and_parts (not state.admitted) _ (and_parts (acts_as earlier number server) _ (and_parts (not (number == 0)) _ fit).1).1).0
 
 -- an admission takes its shard's body from home
-module _ {S Q : Type 0} (requests : S → List Q) (limits : Limits) (homes : List (math.Option (Option S))) (history : List (Entry Q)) (home : AreHome requests limits homes history) where
+module _ {S Q : Type 0} (requests : S → List Q) (limit : S → ℕ) (limits : Limits) (homes : List (math.Option (Option S))) (history : List (Entry Q)) (home : AreHome requests limit limits homes history) where
   abbrev at_home_after : Entry Q → List (math.Option (Option S)) → Type 0
-  at_home_after entry later = AreHome requests limits later (entry ∷ history)
+  at_home_after entry later = AreHome requests limit limits later (entry ∷ history)
 
   home_admitted : (entry : Entry Q) (server : ℕ) (mode : Mode) → entry.kind ≡ Admit server mode → fits limits.ceiling history (table_in limits history) entry ≡ true → at_home_after entry (slice_set homes entry.shard none)
   home_admitted entry server mode admits fit shard within idle =
@@ -306,7 +307,7 @@ module _ {S Q : Type 0} (requests : S → List Q) (limits : Limits) (homes : Lis
       let busy : (record_at (table_in limits (entry ∷ history)) entry.shard).admitted ≡ true =
       ap (λ (state : Record). state.admitted) (record_at-latest limits.count limits.ceiling entry history fit) ∙ ap (λ kind. (after_kind (record_at (table_in limits history) entry.shard) kind).admitted) admits in
       absurd (true≢false (sym busy ∙ subst (λ k. (record_at (table_in limits (entry ∷ history)) k).admitted ≡ false) same idle)))
-      (λ (apart : shard ≢ entry.shard). home_other requests limits homes none entry history home fit shard within apart idle)
+      (λ (apart : shard ≢ entry.shard). home_other requests limit limits homes none entry history home fit shard within apart idle)
       (cases_eq shard entry.shard)
 
   -- a change moves no body
@@ -316,34 +317,35 @@ module _ {S Q : Type 0} (requests : S → List Q) (limits : Limits) (homes : Lis
       (λ (same : shard ≡ entry.shard).
       let before = home shard within (subst (λ k. (record_at (table_in limits history) k).admitted ≡ false) (sym same) free) in
       let list : kept (reverse (entry ∷ history)) entry.shard ≡ kept (reverse history) entry.shard = list_here entry history ∙ ap (λ kind. list_with (kept (reverse history) entry.shard) (kept_of kind)) changes in
-      (before.0, before.1, before.2 ∙ subst (λ k. kept (reverse history) k ≡ kept (reverse (entry ∷ history)) k) (sym same) (sym list)))
+      (before.0, before.1, before.2 ∙ subst (λ k. kept (reverse history) k ≡ kept (reverse (entry ∷ history)) k) (sym same) (sym list), before.3))
       (λ (apart : shard ≢ entry.shard).
-      let there = home_other requests limits homes none entry history home fit shard within apart idle in
-      (there.0, sym (set_else homes entry.shard shard none apart) ∙ there.1, there.2))
+      let there = home_other requests limit limits homes none entry history home fit shard within apart idle in
+      (there.0, sym (set_else homes entry.shard shard none apart) ∙ there.1, there.2, there.3))
       (cases_eq shard entry.shard)
 
   -- the end of an admission brings the body home, with what it has gained
-  home_ended : (entry : Entry Q) (request : Option Q) (body : S) → entry.kind ≡ Done request → entry.shard < length homes → requests body ≡ list_with (kept (reverse history) entry.shard) request → fits limits.ceiling history (table_in limits history) entry ≡ true → at_home_after entry (slice_set homes entry.shard (some (Some body)))
-  home_ended entry request body ends within_homes gains fit shard within idle =
+  home_ended : (entry : Entry Q) (request : Option Q) (body : S) → entry.kind ≡ Done request → entry.shard < length homes → requests body ≡ list_with (kept (reverse history) entry.shard) request → limit body ≡ limit_at limits entry.shard → fits limits.ceiling history (table_in limits history) entry ≡ true → at_home_after entry (slice_set homes entry.shard (some (Some body)))
+  home_ended entry request body ends within_homes gains size fit shard within idle =
       ⊎_elim
       (λ (same : shard ≡ entry.shard).
       let list : requests body ≡ kept (reverse (entry ∷ history)) entry.shard = gains ∙ (ap (λ kind. list_with (kept (reverse history) entry.shard) (kept_of kind)) (sym ends) ∙ sym (list_here entry history)) in (
         body,
         subst (λ k. get_elem? (slice_set homes entry.shard (some (Some body))) k ≡ some (some (Some body))) (sym same) (set_here homes entry.shard (some (Some body)) within_homes),
         list ∙ ap (kept (reverse (entry ∷ history))) (sym same),
+        size ∙ ap (limit_at limits) (sym same),
       ))
-      (λ (apart : shard ≢ entry.shard). home_other requests limits homes (some (Some body)) entry history home fit shard within apart idle)
+      (λ (apart : shard ≢ entry.shard). home_other requests limit limits homes (some (Some body)) entry history home fit shard within apart idle)
       (cases_eq shard entry.shard)
 
 -- the whole board after an entry
-adds_keep : {S Q : Type 0} (requests : S → List Q) (limits : Limits) (id word new : ℕ) (words : List ℕ) (homes later : List (math.Option (Option S))) (views : List (View Q)) (history : List (Entry Q)) (view : View Q) (kind : Kind Q)
-    → Holds requests limits words homes views history → word < limits.count → get_elem? views id ≡ some view → view.spent ≡ false
-    → length later ≡ limits.count → AreHome requests limits later (entry_of id word kind ∷ history)
+adds_keep : {S Q : Type 0} (requests : S → List Q) (limit : S → ℕ) (limits : Limits) (id word new : ℕ) (words : List ℕ) (homes later : List (math.Option (Option S))) (views : List (View Q)) (history : List (Entry Q)) (view : View Q) (kind : Kind Q)
+    → Holds requests limit limits words homes views history → word < limits.count → get_elem? views id ≡ some view → view.spent ≡ false
+    → length later ≡ limits.count → AreHome requests limit limits later (entry_of id word kind ∷ history)
     → IsFree view kind → ((server : ℕ) → view.server ≡ Some server → admits_only server kind ≡ true) → KnownKind kind
     → fits limits.ceiling history (table_in limits history) (entry_of id word kind) ≡ true
     → new ≡ word_of (after_kind (record_at (table_in limits history) word) kind)
-    → Holds requests limits (slice_set words word new) later (slice_set views id (adding view word kind (reverse (entry_of id word kind ∷ history)))) (entry_of id word kind ∷ history)
-adds_keep requests limits id word new words homes later views history view kind holds within at live many home free only known fit is =
+    → Holds requests limit limits (slice_set words word new) later (slice_set views id (adding view word kind (reverse (entry_of id word kind ∷ history)))) (entry_of id word kind ∷ history)
+adds_keep requests limit limits id word new words homes later views history view kind holds within at live many home free only known fit is =
     let entry = entry_of id word kind in
     let mine = adding view word kind (reverse (entry ∷ history)) in
     let legal : IsLegalLatest limits.count limits.ceiling (entry ∷ history) = (fit, holds.legal) in
@@ -372,20 +374,20 @@ fits_kind limits id word history kind within fit =
     and_from _ _ (lt-ltb word (length (table_in limits history)) (let long = length-table limits history in omega arith)) fit
 
 -- an entry that may come by an exchange, and the record that it is made of
-module _ {S Q : Type 0} (requests : S → List Q) (limits : Limits) (homes : List (math.Option (Option S))) (history : List (Entry Q)) (number word : ℕ) (view : View Q) (carried : List (ℕ × Option S)) (within : word < limits.count) (long : length homes ≡ limits.count) (home : AreHome requests limits homes history) where
+module _ {S Q : Type 0} (requests : S → List Q) (limit : S → ℕ) (limits : Limits) (homes : List (math.Option (Option S))) (history : List (Entry Q)) (number word : ℕ) (view : View Q) (carried : List (ℕ × Option S)) (within : word < limits.count) (limits_are : view.limits ≡ limits) (long : length homes ≡ limits.count) (home : AreHome requests limit limits homes history) where
   -- what the slots become by it
   pub record Moves (kind : Kind Q) : Type 0 where
     pub act : Act (Option S)
     pub valid : Valid homes carried act
     pub slots : length (homes_after homes carried act) ≡ limits.count
-    pub at_home : AreHome requests limits (homes_after homes carried act) (entry_of number word kind ∷ history)
-    pub takes : TakesBody requests kind word carried (adding view word kind (reverse (entry_of number word kind ∷ history))) (carried_after carried act)
+    pub at_home : AreHome requests limit limits (homes_after homes carried act) (entry_of number word kind ∷ history)
+    pub takes : TakesBody requests limit kind word carried (adding view word kind (reverse (entry_of number word kind ∷ history))) (carried_after carried act)
 
   moves : (kind : Kind Q) → is_end kind ≡ false → kind_fits limits.ceiling history (record_at (table_in limits history) word) number word kind ≡ true → fits limits.ceiling history (table_in limits history) (entry_of number word kind) ≡ true → Moves kind
   moves (Changed change) begins fit fitting =
       let entry : Entry Q = entry_of number word (Changed change) in
       let free = idle_changed limits.ceiling (record_at (table_in limits history) word) number change fit in
-      record { act = keeps; valid = tt; slots = long; at_home = home_changed requests limits homes history home entry change refl free fitting; takes = refl }
+      record { act = keeps; valid = tt; slots = long; at_home = home_changed requests limit limits homes history home entry change refl free fitting; takes = refl }
   moves (Admit server mode) begins fit fitting =
       let entry : Entry Q = entry_of number word (Admit server mode) in
       let free = idle_admitted limits.ceiling history (record_at (table_in limits history) word) number server mode fit in
@@ -394,17 +396,17 @@ module _ {S Q : Type 0} (requests : S → List Q) (limits : Limits) (homes : Lis
         act = takes word (Some body.0);
         valid = body.1;
         slots = length-set homes word none ∙ long;
-        at_home = home_admitted requests limits homes history home entry server mode refl fitting;
-        takes = (body.0, refl, body.2 ∙ sym (list_here entry history));
+        at_home = home_admitted requests limit limits homes history home entry server mode refl fitting;
+        takes = (body.0, refl, body.2 ∙ sym (list_here entry history), body.3 ∙ ap (λ (its : Limits). limit_at its word) (sym limits_are));
       }
   moves (Done request) begins fit fitting = absurd (true≢false begins)
 
 -- an exchange of a seat's, which adds an entry where it finds the word expected, and else looks
-module _ {S Q : Type 0} (requests : S → List Q) (limits : Limits) (slots id word old new : ℕ) (me : Me (Option S) (View Q)) (kind : Kind Q) where
+module _ {S Q : Type 0} (requests : S → List Q) (limit : S → ℕ) (limits : Limits) (slots id word old new : ℕ) (me : Me (Option S) (View Q)) (kind : Kind Q) where
   abbrev Tells : ℕ → Me (Option S) (View Q) → Type 0
-  Tells found after = Exchanged requests kind (step {S = Option S} slots word old new none) me found after
+  Tells found after = Exchanged requests limit kind (step {S = Option S} slots word old new none) me found after
 
-  won_tells : (found : ℕ) (after : Me (Option S) (View Q)) → found ≡ old → Adds me.0 word kind after.0 × IsWordOf new after.0 word × TakesBody requests kind word me.1 after.0 after.1 → Tells found after
+  won_tells : (found : ℕ) (after : Me (Option S) (View Q)) → found ≡ old → Adds me.0 word kind after.0 × IsWordOf new after.0 word × TakesBody requests limit kind word me.1 after.0 after.1 → Tells found after
   won_tells found later hit won = ((λ _. won), (λ miss. absurd (miss hit)))
 
   lost_tells : (found : ℕ) (after : Me (Option S) (View Q)) → found ≢ old → Loaded (step {S = Option S} slots word old new none) me found after → Tells found after
@@ -413,9 +415,9 @@ module _ {S Q : Type 0} (requests : S → List Q) (limits : Limits) (slots id wo
   -- what it leaves of a table, where the word becomes n
   abbrev Leaves : State (Option S) (View Q) → ℕ → Type 0
   Leaves table n =
-      (view : View Q) × (act : Act (Option S)) × Valid table.homes me.1 act × Rule requests limits (stepped table word n id me.1 view act) × Tells (slice_index table.words word) (view, carried_after me.1 act)
+      (view : View Q) × (act : Act (Option S)) × Valid table.homes me.1 act × Rule requests limit limits (stepped table word n id me.1 view act) × Tells (slice_index table.words word) (view, carried_after me.1 act)
 
-  module _ (low : limits.ceiling < 2 ^ 36) (within : word < limits.count) (live : me.0.spent ≡ false) (table : State (Option S) (View Q)) (history : List (Entry Q)) (holds : Holds requests limits table.words table.homes table.views history) (at : get_elem? table.views id ≡ some me.0) where
+  module _ (low : limits.ceiling < 2 ^ 36) (within : word < limits.count) (live : me.0.spent ≡ false) (table : State (Option S) (View Q)) (history : List (Entry Q)) (holds : Holds requests limit limits table.words table.homes table.views history) (at : get_elem? table.views id ≡ some me.0) where
     abbrev here : Record
     here = record_at (table_in limits history) word
 
@@ -434,7 +436,7 @@ module _ {S Q : Type 0} (requests : S → List Q) (limits : Limits) (slots id wo
           seeing me.0 (reverse history),
           keeps,
           tt,
-          (history, look_keeps requests limits id word table.words table.homes table.views history me.0 holds at live),
+          (history, look_keeps requests limit limits id word table.words table.homes table.views history me.0 holds at live),
           lost_tells (slice_index table.words word) (seeing me.0 (reverse history), me.1) miss (looks_all limits id me.0 history fit holds.legal, word_is, refl),
         )
 
@@ -465,41 +467,41 @@ module _ {S Q : Type 0} (requests : S → List Q) (limits : Limits) (slots id wo
       word_made =
           word_seen limits (entry ∷ history) me.0.limits word new (sees_own limits id word me.0 history fit within kind) (made ∙ ap word_of (sym (record_adds limits entry history fitting))) low legal known
 
-      move : Moves requests limits table.homes history id word me.0 me.1 within holds.slots holds.home kind
-      move = moves requests limits table.homes history id word me.0 me.1 within holds.slots holds.home kind may.begins fits_here fitting
+      move : Moves requests limit limits table.homes history id word me.0 me.1 within fit.limits_are holds.slots holds.home kind
+      move = moves requests limit limits table.homes history id word me.0 me.1 within fit.limits_are holds.slots holds.home kind may.begins fits_here fitting
 
       wins : Leaves table new
       wins = (
         adding me.0 word kind (reverse (entry ∷ history)),
         move.act,
         move.valid,
-        (entry ∷ history, adds_keep requests limits id word new table.words table.homes (homes_after table.homes me.1 move.act) table.views history me.0 kind holds within at live move.slots move.at_home may.free may.own_server may.known fitting made),
+        (entry ∷ history, adds_keep requests limit limits id word new table.words table.homes (homes_after table.homes me.1 move.act) table.views history me.0 kind holds within at live move.slots move.at_home may.free may.own_server may.known fitting made),
         won_tells (slice_index table.words word) (adding me.0 word kind (reverse (entry ∷ history)), carried_after me.1 move.act) hit (adds_all limits id word me.0 history fit within kind legal, word_made, move.takes),
       )
 
-exchanges : {S Q : Type 0} (requests : S → List Q) (limits : Limits) (slots id word old new : ℕ) (me : Me (Option S) (View Q)) (read : Record) (kind : Kind Q)
+exchanges : {S Q : Type 0} (requests : S → List Q) (limit : S → ℕ) (limits : Limits) (slots id word old new : ℕ) (me : Me (Option S) (View Q)) (read : Record) (kind : Kind Q)
     → limits.ceiling < 2 ^ 36 → word < limits.count → me.0.spent ≡ false → IsWellFormed read → old ≡ word_of read → new ≡ word_of (after_kind read kind)
     → MayAdd me.0 word read kind
-    → Allows (Rule requests limits) slots id me word (λ n. either (n == old) new n) (Exchanged requests kind (step {S = Option S} slots word old new none) me)
-exchanges requests limits slots id word old new me read kind low within live formed packed written may table rule size at small =
-    exchanged (slice_index table.words word) old new (Leaves requests limits slots id word old new me kind table)
-    (wins requests limits slots id word old new me kind low within live table rule.0 rule.1 at read formed packed written may)
-    (loses requests limits slots id word old new me kind low within live table rule.0 rule.1 at)
+    → Allows (Rule requests limit limits) slots id me word (λ n. either (n == old) new n) (Exchanged requests limit kind (step {S = Option S} slots word old new none) me)
+exchanges requests limit limits slots id word old new me read kind low within live formed packed written may table rule size at small =
+    exchanged (slice_index table.words word) old new (Leaves requests limit limits slots id word old new me kind table)
+    (wins requests limit limits slots id word old new me kind low within live table rule.0 rule.1 at read formed packed written may)
+    (loses requests limit limits slots id word old new me kind low within live table rule.0 rule.1 at)
 
-pub exchange_allowed : {S Q : Type 0} (requests : S → List Q) (limits : Limits) (slots id shard word old new : ℕ) (me : Me (Option S) (View Q)) (read : Record) (kind : Kind Q)
+pub exchange_allowed : {S Q : Type 0} (requests : S → List Q) (limit : S → ℕ) (limits : Limits) (slots id shard word old new : ℕ) (me : Me (Option S) (View Q)) (read : Record) (kind : Kind Q)
     → word ≡ shard → limits.ceiling < 2 ^ 36 → shard < limits.count → me.0.spent ≡ false → IsWellFormed read → old ≡ word_of read → new ≡ word_of (after_kind read kind)
     → MayAdd me.0 shard read kind
-    → Allows (Rule requests limits) slots id me word (λ n. either (n == old) new n) (Exchanged requests kind (step {S = Option S} slots word old new none) me)
-exchange_allowed requests limits slots id shard word old new me read kind at low within live formed packed written may =
-    exchanges requests limits slots id word old new me read kind low (subst (λ k. k < limits.count) (sym at) within) live formed packed written (subst (λ k. MayAdd me.0 k read kind) (sym at) may)
+    → Allows (Rule requests limit limits) slots id me word (λ n. either (n == old) new n) (Exchanged requests limit kind (step {S = Option S} slots word old new none) me)
+exchange_allowed requests limit limits slots id shard word old new me read kind at low within live formed packed written may =
+    exchanges requests limit limits slots id word old new me read kind low (subst (λ k. k < limits.count) (sym at) within) live formed packed written (subst (λ k. MayAdd me.0 k read kind) (sym at) may)
 
 -- the store of the one who holds the shard, whose body has come back to the slot that it carries
-pub stores : {S Q : Type 0} (requests : S → List Q) (limits : Limits) (slots id word new : ℕ) (view : View Q) (body : S) (held : Held Q) (request : Option Q)
-    → limits.ceiling < 2 ^ 36 → view.spent ≡ false → view.held ≡ Some held → held.shard ≡ word → new ≡ word_of (after_done held.state) → requests body ≡ list_with held.list request
-    → Allows (Rule requests limits) slots id (view, (word, Some body) ∷ []) word (λ _. new) (λ _. Stored (Done request) (step {S = Option S} slots word new 0 none) (view, (word, Some body) ∷ []) new)
-stores {S} {Q} requests limits slots id word new view body held request low live holding shard written gains table rule size at small =
+pub stores : {S Q : Type 0} (requests : S → List Q) (limit : S → ℕ) (limits : Limits) (slots id word new : ℕ) (view : View Q) (body : S) (held : Held Q) (request : Option Q)
+    → limits.ceiling < 2 ^ 36 → view.spent ≡ false → view.held ≡ Some held → held.shard ≡ word → new ≡ word_of (after_done held.state) → requests body ≡ list_with held.list request → limit body ≡ limit_at limits word
+    → Allows (Rule requests limit limits) slots id (view, (word, Some body) ∷ []) word (λ _. new) (λ _. Stored (Done request) (step {S = Option S} slots word new 0 none) (view, (word, Some body) ∷ []) new)
+stores {S} {Q} requests limit limits slots id word new view body held request low live holding shard written gains same_limit table rule size at small =
     let history = rule.0 in
-    let holds : Holds requests limits table.words table.homes table.views history = rule.1 in
+    let holds : Holds requests limit limits table.words table.homes table.views history = rule.1 in
     let fit = holds.fit id view at live in
     let is = fit.held held holding in
     let kind : Kind Q = Done request in
@@ -514,11 +516,11 @@ stores {S} {Q} requests limits slots id word new view body held request low live
     let made : new ≡ word_of (after_kind here kind) = written ∙ ap (λ (one : Record). word_of (after_done one)) (sym state) in
     let list : kept (reverse history) word ≡ held.list = subst (λ k. kept (reverse history) k ≡ held.list) shard is.list in
     let gained : requests body ≡ list_with (kept (reverse history) word) request = gains ∙ ap (λ entries. list_with entries request) (sym list) in
-    let at_home = home_ended requests limits table.homes history holds.home entry request body refl (subst (λ many. word < many) (sym holds.slots) within) gained fitting in (
+    let at_home = home_ended requests limit limits table.homes history holds.home entry request body refl (subst (λ many. word < many) (sym holds.slots) within) gained same_limit fitting in (
       adding view word kind (reverse (entry ∷ history)),
       gives,
       tt,
-      (entry ∷ history, adds_keep requests limits id word new table.words table.homes (slice_set table.homes word (some (Some body))) table.views history view kind holds within at live (length-set table.homes word (some (Some body)) ∙ holds.slots) at_home tt (λ server _. refl) tt fitting made),
+      (entry ∷ history, adds_keep requests limit limits id word new table.words table.homes (slice_set table.homes word (some (Some body))) table.views history view kind holds within at live (length-set table.homes word (some (Some body)) ∙ holds.slots) at_home tt (λ server _. refl) tt fitting made),
       (
         adds_all limits id word view history fit within kind legal,
         word_seen limits (entry ∷ history) view.limits word new (sees_own limits id word view history fit within kind) (made ∙ ap word_of (sym (record_adds limits entry history fitting))) low legal known,
@@ -531,11 +533,11 @@ above : (n : ℕ) → 0 < n → n ≢ 0
 above n more is = omega arith
 
 -- the first load of a new seat
-pub enters : {S Q : Type 0} (requests : S → List Q) (limits : Limits) (slots word : ℕ) (server : Option ℕ) (first : Me (Option S) (View Q)) → first.0.limits ≡ limits
-    → Enters {S = Option S} (Rule requests limits) slots word (λ n view. Entered server (step {S = Option S} slots word 0 0 none) first n (view, []))
-enters {S} {Q} requests limits slots word server first same table rule size small =
+pub enters : {S Q : Type 0} (requests : S → List Q) (limit : S → ℕ) (limits : Limits) (slots word : ℕ) (server : Option ℕ) (first : Me (Option S) (View Q)) → first.0.limits ≡ limits
+    → Enters {S = Option S} (Rule requests limit limits) slots word (λ n view. Entered server (step {S = Option S} slots word 0 0 none) first n (view, []))
+enters {S} {Q} requests limit limits slots word server first same table rule size small =
     let history = rule.0 in
-    let holds : Holds requests limits table.words table.homes table.views history = rule.1 in
+    let holds : Holds requests limit limits table.words table.homes table.views history = rule.1 in
     let n = length table.views in
     let nobody : NoneBy n history = holds.unused n (le_refl n) in
     let mine : View Q = newcomer limits n server (reverse history) in
@@ -578,10 +580,11 @@ enters {S} {Q} requests limits slots word server first same table rule size smal
     )
 
 -- the body at a place of a list of bodies
-nth : {S : Type 0} (bodies : List S) (shard : ℕ) → shard < length bodies → (body : S) × (get_elem? (map some (map Some bodies)) shard ≡ some (some (Some body))) × (get_elem? bodies shard ≡ some body)
-nth [] shard within = absurd (omega arith)
-nth (body ∷ bodies) zero within = (body, refl, refl)
-nth (body ∷ bodies) (suc shard) within = nth bodies shard (omega arith)
+nth : {S : Type 0} (limit : S → ℕ) (bodies : List S) (shard : ℕ) → shard < length bodies
+    → (body : S) × (get_elem? (map some (map Some bodies)) shard ≡ some (some (Some body))) × (get_elem? bodies shard ≡ some body) × (limit body ≡ slice_index_or (map limit bodies) shard 0)
+nth limit [] shard within = absurd (omega arith)
+nth limit (body ∷ bodies) zero within = (body, refl, refl, refl)
+nth limit (body ∷ bodies) (suc shard) within = nth limit bodies shard (omega arith)
 
 all_at : {S : Type 0} (P : S → Type 0) (bodies : List S) (shard : ℕ) (body : S) → All P bodies → get_elem? bodies shard ≡ some body → P body
 all_at P [] shard body all at = absurd (some-ne-none body (sym at))
@@ -589,8 +592,8 @@ all_at P (one ∷ bodies) zero body all at = subst P (some-injective one body at
 all_at P (one ∷ bodies) (suc shard) body all at = all_at P bodies shard body (All-tail P one bodies all) at
 
 -- a board to which nothing has happened, with bodies that keep nothing
-pub begins : {S Q : Type 0} (requests : S → List Q) (limits : Limits) (words : List ℕ) (bodies : List S) (slots : List (Option S)) → words ≡ replicate limits.count 0 → limits.count ≡ length bodies → slots ≡ map Some bodies → All (λ body. requests body ≡ []) bodies → Rule requests limits (opening words slots (newcomer limits 0 None []))
-begins {S} {Q} requests limits words bodies slots are many put empty = (
+pub begins : {S Q : Type 0} (requests : S → List Q) (limit : S → ℕ) (limits : Limits) (words : List ℕ) (bodies : List S) (slots : List (Option S)) → words ≡ replicate limits.count 0 → limits.count ≡ length bodies → limits.bodies ≡ map limit bodies → slots ≡ map Some bodies → All (λ body. requests body ≡ []) bodies → Rule requests limit limits (opening words slots (newcomer limits 0 None []))
+begins {S} {Q} requests limit limits words bodies slots are many sizes put empty = (
   [],
   record {
     legal = tt;
@@ -598,8 +601,8 @@ begins {S} {Q} requests limits words bodies slots are many put empty = (
     words_are = are ∙ sym (map-replicate word_of limits.count vacant);
     slots = length-map slots some ∙ (ap length put ∙ (length-map bodies Some ∙ sym many));
     home = λ shard within idle.
-        let body = nth bodies shard (subst (λ n. shard < n) many within) in
-        (body.0, ap (λ (all : List (Option S)). get_elem? (map some all) shard) put ∙ body.1, all_at (λ one. requests one ≡ []) bodies shard body.0 empty body.2);
+        let body = nth limit bodies shard (subst (λ n. shard < n) many within) in
+        (body.0, ap (λ (all : List (Option S)). get_elem? (map some all) shard) put ∙ body.1, all_at (λ one. requests one ≡ []) bodies shard body.0 empty body.2, body.3 ∙ ap (λ all. slice_index_or all shard 0) (sym sizes));
     fit = λ n view at live. first n view at;
     unused = λ n past. All-nil (λ one. one.actor ≢ n);
     chaired = omega arith;
@@ -663,15 +666,16 @@ module _ {S Q : Type 0} (id : TableId) (view : View Q) (pass : PassValue Q) (per
   pub list_is : list_held view.held ≡ list_held pass.held
   list_is = ap (λ (it : PassValue Q). list_held it.held) of_pass
 
-  pub store_allowed : (requests : S → List Q) (limits : Limits) (slots seat word new : ℕ) (body : S) (me : Me (Option S) (View Q))
+  pub store_allowed : (requests : S → List Q) (limit : S → ℕ) (limits : Limits) (slots seat word new : ℕ) (body : S) (me : Me (Option S) (View Q))
       → me ≡ (view, (word, Some body) ∷ []) → limits.ceiling < 2 ^ 36 → view.spent ≡ false → permit.shard ≡ word → new ≡ word_of (after_done permit.state)
       → ((request : Option Q) × (requests body ≡ list_with (list_held pass.held) request))
-      → Allows (Rule requests limits) slots seat me word (λ _. new) (λ _. Stored (Done (beyond (list_held pass.held) (requests body))) (step {S = Option S} slots word new 0 none) me new)
-  store_allowed requests limits slots seat word new body me carries low live shard written gains =
+      → limit body ≡ limit_at limits word
+      → Allows (Rule requests limit limits) slots seat me word (λ _. new) (λ _. Stored (Done (beyond (list_held pass.held) (requests body))) (step {S = Option S} slots word new 0 none) me new)
+  store_allowed requests limit limits slots seat word new body me carries low live shard written gains same_limit =
       let is = held_view in
       let request = gains.0 in
       let list : is.0.list ≡ list_held pass.held = sym (ap list_held is.1) ∙ list_is in
       let kept_list : requests body ≡ list_with is.0.list request = gains.1 ∙ ap (λ entries. list_with entries request) (sym list) in
       let done : request ≡ beyond (list_held pass.held) (requests body) = sym (ap (beyond (list_held pass.held)) gains.1 ∙ beyond_with (list_held pass.held) request) in
-      let allowed = stores requests limits slots seat word new view body is.0 request low live is.1 (is.2 ∙ shard) (written ∙ ap (λ (state : Record). word_of (after_done state)) (sym is.3)) kept_list in
-      subst (λ (pair : Option Q × Me (Option S) (View Q)). Allows (Rule requests limits) slots seat pair.1 word (λ _. new) (λ _. Stored (Done pair.0) (step {S = Option S} slots word new 0 none) pair.1 new)) (λ i. (done i, sym carries i)) allowed
+      let allowed = stores requests limit limits slots seat word new view body is.0 request low live is.1 (is.2 ∙ shard) (written ∙ ap (λ (state : Record). word_of (after_done state)) (sym is.3)) kept_list same_limit in
+      subst (λ (pair : Option Q × Me (Option S) (View Q)). Allows (Rule requests limit limits) slots seat pair.1 word (λ _. new) (λ _. Stored (Done pair.0) (step {S = Option S} slots word new 0 none) pair.1 new)) (λ i. (done i, sym carries i)) allowed

@@ -1,6 +1,6 @@
 -- What the steps of one call tell together, and what they ask.
 use Rattle.std.proofs.Common.{◌≡◌, ◌≢◌, ℕ, ◌+◌, ◌<◌, ◌≤◌, ◌^◌, true, false, not, ◌&&◌, List, [], ◌∷◌, ◌++◌, refl, sym, ap, ◌∙◌, subst, arith, ⊎_elim}
-use Rattle.std.specs.Prelude.{IfSome, Option, Some, None, is_none, is_some, length, nat_le, slice_index_or, slice_set, ◌==◌}
+use Rattle.std.specs.Prelude.{IfSome, Option, Some, None, is_none, is_some, length, nat_le, slice_index_or, slice_set, unwrap_or, ◌==◌}
 use Rattle.std.proofs.lemmas.Bool.{and_from, and_parts, cases_eq, eq-eqb, leb-true, lt-ltb, ne_eqb, not-true}
 use Rattle.std.proofs.lemmas.List.{append-nil, get_or-set_other, get_or-set_same, length-set}
 use Rattle.atomic_table.specs.Seated.{TableId}
@@ -19,17 +19,19 @@ use Rattle.sm_ownership.specs.declared.record.Record.{Record}
 use Rattle.sm_ownership.specs.lemmas.Ceilings.{within_ceiling}
 use Rattle.sm_ownership.specs.lemmas.Faults.{admit_fault-none, phase_fault-none}
 use Rattle.sm_ownership.specs.lemmas.Growth.{fits-push, legal_prefix, record_at-push_other}
-use Rattle.sm_ownership.specs.History.{IsLegal, after_admit, after_done, kept, IsSameOrLater, NoneBy}
+use Rattle.sm_ownership.specs.History.{IsLegal, after_admit, after_change, after_done, kept, IsSameOrLater, NoneBy}
 use Rattle.sm_ownership.specs.lemmas.Lasting.{same_or_later, stand_stays}
 use Rattle.sm_ownership.specs.Rules.{accepts, admit_fault, fault_at, phase_fault, stand_after}
-use Rattle.sm_word.specs.lemmas.Histories.{formed_admit, formed_done}
+use Rattle.sm_word.specs.lemmas.Histories.{formed_admit, formed_change, formed_done}
 use Rattle.sm_word.specs.Known.{NewlyNamesServer}
 use Rattle.sm_word.specs.Word.{IsWellFormed, word_of}
 use Rattle.sm_rule.specs.declared.limits.Limits.{Limits}
 use Rattle.sm_rule.specs.declared.view.View.{View}
-use Rattle.sm_rule.specs.Admissions.{Races, fault_for}
-use Rattle.sm_rule.specs.Boards.{BoardValue}
-use Rattle.sm_rule.specs.Changes.{ChairAdds, ChairLooks, ChairValue, IsChairView, chair_value}
+use Rattle.sm_rule.specs.declared.admit_refusal.AdmitRefusal.TheVariants.{Raced as Overtaken}
+use Rattle.sm_rule.specs.Admissions.{PassAdmitted, Races, RefusedBy, fault_for}
+use Rattle.sm_rule.specs.Boards.{BoardValue, limit_at}
+use Rattle.sm_rule.specs.declared.change_refusal.ChangeRefusal.TheVariants.{Raced}
+use Rattle.sm_rule.specs.Changes.{ChairAdds, ChairLooks, ChairValue, IsChairView, NotMade, chair_value, record_at_chair}
 use Rattle.sm_rule.specs.Passes.{IsPassView, PassAdds, PassLooks, PassValue, pass_value, slots_of}
 use Rattle.sm_rule.specs.lemmas.Passing.{grows_on}
 use Rattle.sm_rule.specs.Steps.{IsWordOf, MayAdd, TakesBody}
@@ -190,15 +192,15 @@ room_adds u v w looked shard change added room enough =
     subst (λ (its : Limits). its.count ≤ room) (sym (ap (λ (view : View _). view.limits) added.1 ∙ ap (λ (view : View _). view.limits) looked.1)) enough
 
 -- a change takes no slot
-pub changed_slots : {S Q : Type 0} (requests : S → List Q) (kind : Kind Q) (change : Change) (shard : ℕ) (before after : List (ℕ × Option S)) (view : View Q) → kind ≡ Changed change → TakesBody requests kind shard before view after → after ≡ before
-changed_slots requests kind change shard before after view is takes = subst (λ (one : Kind _). TakesBody requests one shard before view after) is takes
+pub changed_slots : {S Q : Type 0} (requests : S → List Q) (limit : S → ℕ) (kind : Kind Q) (change : Change) (shard : ℕ) (before after : List (ℕ × Option S)) (view : View Q) → kind ≡ Changed change → TakesBody requests limit kind shard before view after → after ≡ before
+changed_slots requests limit kind change shard before after view is takes = subst (λ (one : Kind _). TakesBody requests limit one shard before view after) is takes
 
 -- an admission takes its shard's slot, which is then the only one
-pub admitted_slots : {S Q : Type 0} (requests : S → List Q) (kind : Kind Q) (server : ℕ) (mode : Mode) (shard : ℕ) (before after : List (ℕ × Option S)) (view : View Q) → kind ≡ Admit server mode → before ≡ [] → TakesBody requests kind shard before view after
-    → (body : S) × (after ≡ (shard, Some body) ∷ []) × (requests body ≡ kept view.seen shard)
-admitted_slots {S} {Q} requests kind server mode shard before after view is none takes =
-    let here : TakesBody requests (Admit server mode) shard before view after = subst (λ (one : Kind Q). TakesBody requests one shard before view after) is takes in
-    (here.0, here.1 ∙ ap (λ carried. (shard, Some here.0) ∷ carried) none, here.2)
+pub admitted_slots : {S Q : Type 0} (requests : S → List Q) (limit : S → ℕ) (kind : Kind Q) (server : ℕ) (mode : Mode) (shard : ℕ) (before after : List (ℕ × Option S)) (view : View Q) → kind ≡ Admit server mode → before ≡ [] → TakesBody requests limit kind shard before view after
+    → (body : S) × (after ≡ (shard, Some body) ∷ []) × (requests body ≡ kept view.seen shard) × (limit body ≡ limit_at view.limits shard)
+admitted_slots {S} {Q} requests limit kind server mode shard before after view is none takes =
+    let here : TakesBody requests limit (Admit server mode) shard before view after = subst (λ (one : Kind Q). TakesBody requests limit one shard before view after) is takes in
+    (here.0, here.1 ∙ ap (λ carried. (shard, Some here.0) ∷ carried) none, here.2, here.3)
 
 -- the slots of a pass that holds nothing
 pub no_slots : {S Q : Type 0} (id : TableId) (view : View Q) (pass : PassValue Q) (carried : List (ℕ × Option S)) → pass_value id view ≡ pass → pass.held ≡ None → carried ≡ slots_of view.held → carried ≡ []
@@ -307,3 +309,112 @@ module _ {Q : Type 0} (stands : List Stand) (u w : View Q) (is : IsChairView sta
       let chair = chair_looks stands u w is looked in
       let top : read.generation < w.limits.ceiling = subst (λ (its : Limits). read.generation < its.ceiling) (sym (ap (λ (view : View Q). view.limits) looked.1)) below in
       may_change w shard read change known chair.1 chair.2 idle top (leads_on read.stand change (fits_read allowed))
+
+  -- the same by the chair's value
+  module _ (id : TableId) (value : ChairValue Q) (of_chair : chair_value id u ≡ value) (allowed : phase_fault (record_at_chair value shard).stand change ≡ None) where
+    pub allowed_read : phase_fault read.stand change ≡ None
+    allowed_read = fits_read (subst (λ (it : ChairValue Q). phase_fault (record_at_chair it shard).stand change ≡ None) (sym of_chair) allowed)
+
+    pub below_board : (board : BoardValue) → value.board ≡ board → read.generation ≤ board.limits.ceiling
+    below_board board on =
+        subst (λ (its : Limits). read.generation ≤ its.ceiling) (ap (λ (it : ChairValue Q). it.board.limits) of_chair ∙ ap (λ (b : BoardValue). b.limits) on) below_read
+
+    -- the record after the change
+    pub formed_next : (next : Record) (ceiling : ℕ) → next ≡ after_change read change → IsWellFormed read → NewlyNamesServer change → read.admitted ≡ false → read.generation < ceiling → ceiling < 2 ^ 36 → IsWellFormed next
+    formed_next next ceiling is formed known idle below low =
+        subst IsWellFormed (sym is) (formed_change read change formed known idle (leads_on read.stand change allowed_read) (omega arith))
+
+    -- the chair may add it
+    pub may_make : (kind : Kind Q) (board : BoardValue) → kind ≡ Changed change → value.board ≡ board → NewlyNamesServer change → read.admitted ≡ false → read.generation < board.limits.ceiling → MayAdd w shard read kind
+    may_make kind board is_change on known idle below =
+        let limits = ap (λ (it : ChairValue Q). it.board.limits) of_chair ∙ ap (λ (b : BoardValue). b.limits) on in
+        let below_seat = subst (λ (its : Limits). read.generation < its.ceiling) (sym limits) below in
+        let fits = subst (λ (it : ChairValue Q). phase_fault (record_at_chair it shard).stand change ≡ None) (sym of_chair) allowed in
+        subst (MayAdd w shard read) (sym is_change) (may_read known fits idle below_seat)
+
+-- what a won exchange leaves of the chair
+pub chair_made : {S Q : Type 0} (requests : S → List Q) (limit : S → ℕ) (stands : List Stand) (u v w : View Q) (id : TableId) (value : ChairValue Q) (board : BoardValue) (kind : Kind Q) (change : Change) (shard at room : ℕ) (next : Record) (one two three : List (ℕ × Option S))
+    → IsChairView stands u → Looks u v → Adds v shard kind w → kind ≡ Changed change → chair_value id u ≡ value → value.board ≡ board → shard < board.limits.count → at ≡ shard
+    → next ≡ record_in w.limits w.seen shard → TakesBody requests limit kind shard two w three → two ≡ one → one ≡ [] → u.limits.count ≤ room
+    → IsChairView (slice_set stands at next.stand) w × (three ≡ []) × (w.limits.count ≤ room)
+chair_made {S} {Q} requests limit stands u v w id value board kind change shard at room next one two three is looked added is_change of_chair on within place next_is takes same none enough =
+    let limits : v.limits ≡ board.limits = ap (λ (view : View Q). view.limits) looked.1 ∙ (ap (λ (it : ChairValue Q). it.board.limits) of_chair ∙ ap (λ (b : BoardValue). b.limits) on) in
+    let there : shard < v.limits.count = subst (λ (its : Limits). shard < its.count) (sym limits) within in
+    let changed : Adds v shard (Changed change) w = subst (λ (k : Kind Q). Adds v shard k w) is_change added in (
+      subst (λ k. IsChairView (slice_set stands k next.stand) w) (sym place) (chair_adds stands v w (chair_looks stands u v is looked) shard change next there changed next_is),
+      changed_slots requests limit kind change shard two three w is_change takes ∙ (same ∙ none),
+      room_adds u v w looked shard change changed room enough,
+    )
+
+module _ {Q : Type 0} (u v w : View Q) (value : ChairValue Q) (id later : TableId) (of_chair : chair_value id u ≡ value) (same : later ≡ id) (chair : u.number ≡ 0) (first : Looks u v) (shard : ℕ) where
+  -- the chair has looked, and then made a change
+  pub chair_changes : (kind : Kind Q) (change : Change) → kind ≡ Changed change → Adds v shard kind w → ChairAdds value shard change (chair_value later w)
+  chair_changes kind change is_change added =
+      adds_of_chair value id later u w of_chair same chair shard change (looks_adds u v w first shard (Changed change) (subst (λ (k : Kind Q). Adds v shard k w) is_change added))
+
+  -- the chair has looked, and was then overtaken
+  pub chair_raced : (read found : Record) (board : BoardValue) → Looks v w → read ≡ record_in v.limits v.seen shard → found ≡ record_in w.limits w.seen shard → found ≢ read → read.admitted ≡ false → value.board ≡ board → read.generation < board.limits.ceiling
+      → ChairLooks value (chair_value later w) × NotMade value (chair_value later w) shard (Raced read found)
+  chair_raced read found board lost read_is found_is differs idle on below = (
+    looks_of_chair value id later u w of_chair same chair (looks_looks u v w first lost),
+    (
+      idle,
+      subst (λ (b : BoardValue). read.generation < b.limits.ceiling) (sym on) below,
+      subst (λ (it : ChairValue Q). Races it.board.limits it.seen w.seen shard read found) of_chair (races u v w first shard read found lost read_is found_is differs),
+    ),
+  )
+
+-- a pass that is admitted, as no fault was found in the record read
+module _ {Q : Type 0} (u : View Q) (server : Option ℕ) (value : PassValue Q) (id : TableId) (of_pass : pass_value id u ≡ value) (is : IsPassView server u) (board : BoardValue) (on : value.board ≡ board) (state : Record) (mode : Mode) (fault : Option AdmitFault) (fault_is : fault ≡ fault_for board.limits.ceiling state server mode) (none : fault ≡ None) where
+  free : (one : ℕ) × (server ≡ Some one) × (admit_fault board.limits.ceiling state one mode ≡ None)
+  free = of_server board.limits.ceiling state server mode fault fault_is none
+
+  own_server : value.server ≡ server
+  own_server = sym (ap (λ (pass : PassValue Q). pass.server) of_pass) ∙ is.2
+
+  admits : (kind : Kind Q) → kind ≡ Admit (unwrap_or value.server 0) mode → kind ≡ Admit free.0 mode
+  admits kind kind_is = kind_is ∙ ap (λ one. Admit (unwrap_or one 0) mode) (own_server ∙ free.1)
+
+  pub idle_read : state.admitted ≡ false
+  idle_read = idle board.limits.ceiling state free.0 mode free.2
+
+  pub next_read : board.limits.ceiling < 2 ^ 36 → IsWellFormed state → IsWellFormed (after_admit state)
+  next_read low formed = next_formed board.limits.ceiling state free.0 mode free.2 low formed
+
+  pub end_read : board.limits.ceiling < 2 ^ 36 → IsWellFormed state → IsWellFormed (after_done (after_admit state))
+  end_read low formed = end_formed board.limits.ceiling state free.0 mode free.2 low formed
+
+  -- the pass has looked, and was then admitted
+  pub pass_admitted : {S : Type 0} (v w : View Q) (kind : Kind Q) (shard : ℕ) (later last : TableId) (me : View Q × List (ℕ × Option S)) (carried : List (ℕ × Option S)) → kind ≡ Admit (unwrap_or value.server 0) mode → Looks u v → Adds v shard kind w → later ≡ id → last ≡ later → me ≡ (w, carried)
+      → PassAdmitted value shard mode (pass_value last me.0)
+  pass_admitted {S} v w kind shard later last me carried kind_is looked added same same_last out =
+      let adds = adds_of_pass value id later u w of_pass same shard kind (looks_adds u v w looked shard kind added) in
+      (free.0, own_server ∙ free.1, subst (λ (pair : Kind Q × PassValue Q). PassAdds value shard pair.0 pair.1) (λ i. (admits kind kind_is i, pass_value (sym same_last i) (sym out i).0)) adds)
+
+  -- and has taken the shard's slot
+  pub slot_taken : {S : Type 0} (w : View Q) (requests : S → List Q) (limit : S → ℕ) (kind : Kind Q) (shard : ℕ) (one two three : List (ℕ × Option S)) → kind ≡ Admit (unwrap_or value.server 0) mode → value.held ≡ None → one ≡ slots_of u.held → two ≡ one → TakesBody requests limit kind shard two w three
+      → (body : S) × (three ≡ (shard, Some body) ∷ []) × (requests body ≡ kept w.seen shard) × (limit body ≡ limit_at w.limits shard)
+  slot_taken w requests limit kind shard one two three kind_is holds_none slots same takes =
+      admitted_slots requests limit kind free.0 mode shard two three w (admits kind kind_is) (same ∙ no_slots id u value one of_pass holds_none slots) takes
+
+  -- with the shard's body
+  pub body_taken : {S : Type 0} (v w : View Q) (requests : S → List Q) (limit : S → ℕ) (kind : Kind Q) (shard : ℕ) (one two three carried : List (ℕ × Option S)) (me : View Q × List (ℕ × Option S)) (body : S) → kind ≡ Admit (unwrap_or value.server 0) mode → value.held ≡ None → one ≡ slots_of u.held → two ≡ one → TakesBody requests limit kind shard two w three
+      → Looks u v → Adds v shard kind w → three ≡ (shard, Some body) ∷ [] → me ≡ (w, carried) → (requests body ≡ kept me.0.seen shard) × (limit body ≡ limit_at board.limits shard)
+  body_taken {S} v w requests limit kind shard one two three carried me body kind_is holds_none slots same takes looked added out after =
+      let slot = slot_taken w requests limit kind shard one two three kind_is holds_none slots same takes in
+      let same_one : slot.0 ≡ body = same_body shard slot.0 body (sym slot.1 ∙ out) in
+      let limits : w.limits ≡ board.limits = ap (λ (view : View Q). view.limits) added.1 ∙ (ap (λ (view : View Q). view.limits) looked.1 ∙ (ap (λ (pass : PassValue Q). pass.board.limits) of_pass ∙ ap (λ (b : BoardValue). b.limits) on)) in (
+        ap requests (sym same_one) ∙ (slot.2 ∙ ap (λ (it : View Q × List (ℕ × Option S)). kept it.0.seen shard) (sym after)),
+        ap limit (sym same_one) ∙ (slot.3 ∙ ap (λ (its : Limits). limit_at its shard) limits),
+      )
+
+  -- the pass has looked, and was then overtaken
+  pub pass_raced : (v w : View Q) (later : TableId) (shard : ℕ) (found : Record) → later ≡ id → Looks u v → Looks v w → state ≡ record_in v.limits v.seen shard → found ≡ record_in w.limits w.seen shard → found ≢ state
+      → PassLooks value (pass_value later w) × RefusedBy value (pass_value later w) shard mode (Overtaken state found)
+  pass_raced v w later shard found same looked lost read_is found_is differs = (
+    looks_of_pass value id later u w of_pass same (looks_looks u v w looked lost),
+    (
+      no_fault value.board.limits.ceiling board.limits.ceiling state value.server server mode fault (ap (λ (b : BoardValue). b.limits.ceiling) on) own_server fault_is none,
+      subst (λ (pass : PassValue Q). Races pass.board.limits pass.seen w.seen shard state found) of_pass (races u v w looked shard state found lost read_is found_is differs),
+    ),
+  )

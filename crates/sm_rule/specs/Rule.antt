@@ -9,6 +9,7 @@ use Rattle.sm_ownership.specs.declared.record.Record.{Record}
 use Rattle.sm_ownership.specs.History.{IsLegalLatest, acts_as, is_admission_of, kept, latest_of, record_at, table_of_latest, NoneBy}
 use Rattle.sm_word.specs.Known.{AreKnown}
 use Rattle.sm_word.specs.Word.{word_of}
+use Rattle.sm_rule.specs.Boards.{limit_at}
 use Rattle.sm_rule.specs.declared.limits.Limits.{Limits}
 use Rattle.sm_rule.specs.declared.view.Held.{Held}
 use Rattle.sm_rule.specs.declared.view.View.{View}
@@ -37,24 +38,24 @@ pub record Fits {Q : Type 0} (limits : Limits) (number : ℕ) (view : View Q) (h
   pub server : (server : ℕ) → view.server ≡ Some server → acts_as history number server ≡ true
   pub held : (held : Held Q) → view.held ≡ Some held → HoldsShard limits number held history
 
--- the bodies of the idle shards are at home, and each keeps what the history kept for its shard
-abbrev pub AreHome : {S Q : Type 0} → (S → List Q) → Limits → List (math.Option (Option S)) → List (Entry Q) → Type 0
-AreHome {S} requests limits homes history =
+-- the bodies of the idle shards are at home: each keeps what the history kept for its shard, and has the shard's limit
+abbrev pub AreHome : {S Q : Type 0} → (S → List Q) → (S → ℕ) → Limits → List (math.Option (Option S)) → List (Entry Q) → Type 0
+AreHome {S} requests limit limits homes history =
     (shard : ℕ) → shard < limits.count → (record_at (table_in limits history) shard).admitted ≡ false
-    → (body : S) × (get_elem? homes shard ≡ some (some (Some body))) × (requests body ≡ kept (reverse history) shard)
+    → (body : S) × (get_elem? homes shard ≡ some (some (Some body))) × (requests body ≡ kept (reverse history) shard) × (limit body ≡ limit_at limits shard)
 
 -- the words are those of the table of a legal history of known servers; the bodies of its idle shards are at home; each seat
 -- knows it as far as it has looked, and a number that no seat has yet has no entry in it
-pub record Holds {S Q : Type 0} (requests : S → List Q) (limits : Limits) (words : List ℕ) (homes : List (math.Option (Option S))) (views : List (View Q)) (history : List (Entry Q)) : Type 0 where
+pub record Holds {S Q : Type 0} (requests : S → List Q) (limit : S → ℕ) (limits : Limits) (words : List ℕ) (homes : List (math.Option (Option S))) (views : List (View Q)) (history : List (Entry Q)) : Type 0 where
   pub legal : IsLegalLatest limits.count limits.ceiling history
   pub known : AreKnown history
   pub words_are : words ≡ map word_of (table_in limits history)
   pub slots : length homes ≡ limits.count
-  pub home : AreHome requests limits homes history
+  pub home : AreHome requests limit limits homes history
   pub fit : (number : ℕ) (view : View Q) → get_elem? views number ≡ some view → view.spent ≡ false → Fits limits number view history
   pub unused : (number : ℕ) → length views ≤ number → NoneBy number history
   pub chaired : 0 < length views
 
 -- there is one history
-abbrev pub Rule : {S Q : Type 0} → (S → List Q) → Limits → State (Option S) (View Q) → Type 0
-Rule requests limits table = (history : List (Entry _)) × Holds requests limits table.words table.homes table.views history
+abbrev pub Rule : {S Q : Type 0} → (S → List Q) → (S → ℕ) → Limits → State (Option S) (View Q) → Type 0
+Rule requests limit limits table = (history : List (Entry _)) × Holds requests limit limits table.words table.homes table.views history

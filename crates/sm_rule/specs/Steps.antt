@@ -9,6 +9,7 @@ use Rattle.sm_ownership.specs.History.{IsLegal, admits_only, kept, kept_of, kind
 use Rattle.sm_word.specs.Known.{KnownKind}
 use Rattle.sm_word.specs.Word.{IsWellFormed, word_of}
 use Rattle.sm_rule.specs.declared.view.View.{View}
+use Rattle.sm_rule.specs.Boards.{limit_at}
 use Rattle.sm_rule.specs.Rule.{Fits}
 use Rattle.sm_rule.specs.Views.{Adds, Looks, list_held, list_with, newcomer, record_in}
 
@@ -29,16 +30,16 @@ Entered server step first found after =
     × IsLegal first.0.limits.count first.0.limits.ceiling after.0.seen
     × (after.0 ≡ newcomer first.0.limits after.0.number server after.0.seen)
 
--- an admission takes the shard's slot, with a body that keeps what was kept for the shard; a change takes none
-abbrev pub TakesBody : {S Q : Type 0} → (S → List Q) → Kind Q → ℕ → List (ℕ × Option S) → View Q → List (ℕ × Option S) → Type 0
-TakesBody {S} requests (Admit server mode) shard before view after =
-    (body : S) × (after ≡ (shard, Some body) ∷ before) × (requests body ≡ kept view.seen shard)
-TakesBody requests _ shard before view after = after ≡ before
+-- an admission takes the shard's slot, with a body of its limit that keeps what was kept for the shard; a change takes none
+abbrev pub TakesBody : {S Q : Type 0} → (S → List Q) → (S → ℕ) → Kind Q → ℕ → List (ℕ × Option S) → View Q → List (ℕ × Option S) → Type 0
+TakesBody {S} requests limit (Admit server mode) shard before view after =
+    (body : S) × (after ≡ (shard, Some body) ∷ before) × (requests body ≡ kept view.seen shard) × (limit body ≡ limit_at view.limits shard)
+TakesBody requests limit _ shard before view after = after ≡ before
 
 -- an exchange that is won adds an admission or a change to all that was seen; one that is lost is a load
-abbrev pub Exchanged : {S Q : Type 0} → (S → List Q) → Kind Q → Step (Option S) → Me (Option S) (View Q) → ℕ → Me (Option S) (View Q) → Type 0
-Exchanged requests kind step before found after =
-    (found ≡ step.first → Adds before.0 step.word kind after.0 × IsWordOf step.second after.0 step.word × TakesBody requests kind step.word before.1 after.0 after.1)
+abbrev pub Exchanged : {S Q : Type 0} → (S → List Q) → (S → ℕ) → Kind Q → Step (Option S) → Me (Option S) (View Q) → ℕ → Me (Option S) (View Q) → Type 0
+Exchanged requests limit kind step before found after =
+    (found ≡ step.first → Adds before.0 step.word kind after.0 × IsWordOf step.second after.0 step.word × TakesBody requests limit kind step.word before.1 after.0 after.1)
     × (found ≢ step.first → Loaded step before found after)
 
 -- a store adds the end of an admission to all that was seen, which then keeps the request of the end after what was kept at the

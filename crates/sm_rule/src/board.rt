@@ -13,7 +13,7 @@ mod executing;
 mod making;
 
 use crate::chair::Chair;
-use crate::limits::Limits;
+use crate::origin::Origin;
 use crate::pass::Pass;
 use crate::rule::{Asks, BoardRule, Enter, Exchange, Hires, Kept, Load};
 use crate::view::View;
@@ -27,24 +27,29 @@ use std::alloc::Global;
 use std::marker::{Brand, Model};
 
 /// One word and one body for each shard, shared by threads. By the board's rule each word is that of the shard's record in one
-/// history that all steps make, and the body of each idle shard is in its slot and keeps what that history kept for it.
+/// history that all steps make, and the body of each idle shard is in its slot, has the shard's limit and keeps what that history
+/// kept for it.
 #[derive(Drop)]
 pub struct Board<S: Service> {
-    table: Table<Option<S>, View<S::Request>, Limits, BoardRule<Kept<S>>, Global>,
-    limits: Limits,
+    table: Table<Option<S>, View<S::Request>, Origin<S>, BoardRule<Kept<S>>, Global>,
+    count: u64,
+    ceiling: u64,
 }
 
 impl<S: Service> Model for Board<S> {
     ghost use Rattle.std.specs.Prelude.{◌≡◌, ◌<◌, ◌≤◌, ◌^◌};
-    ghost use Rattle.sm_rule.specs.Boards.{BoardValue};
+    ghost use Rattle.sm_rule.specs.Boards.{BoardValue, limits_of};
 
     ghost Value = { BoardValue };
 
-    ghost view = { λ board. record { id = board.table.shared.table_id; limits = board.limits } };
+    ghost view = { λ board. record {
+      id = board.table.shared.table_id;
+      limits = limits_of S.limit board.count board.ceiling board.table.shared.key.bodies.value.items;
+    } };
 
-    ghost invariant = { λ board. (board.table.shared.key ≡ board.limits) × (board.limits.count ≡ board.table.shared.table_id.words)
-        × (board.limits.count ≡ board.table.shared.table_id.slots)
-        × (1 ≤ board.limits.count) × (board.limits.count ≤ 4096) × (board.limits.ceiling < 2 ^ 36) };
+    ghost invariant = { λ board. (board.table.shared.key.count ≡ board.count) × (board.table.shared.key.ceiling ≡ board.ceiling)
+        × (board.count ≡ board.table.shared.table_id.words) × (board.count ≡ board.table.shared.table_id.slots)
+        × (1 ≤ board.count) × (board.count ≤ 4096) × (board.ceiling < 2 ^ 36) };
 }
 
 impl<S: Service> Board<S> {
@@ -52,7 +57,7 @@ impl<S: Service> Board<S> {
     pub fn count(&self) -> u32
         ensures { result ≡ self.now.limits.count }
     {
-        self.limits.count as u32
+        self.count as u32
     }
 
     /// A new pass with this server, for good. Its number isn't the chair's, and has no entry in what the pass has seen; by the
@@ -121,7 +126,7 @@ impl<S: Service> Board<S> {
         requires may { MayAdd seat.old.me.0 k read.now B.kind }
         ensures table { seat.new.table_id ≡ seat.old.table_id }
         ensures made { OnOk result (Adds seat.old.me.0 k B.kind seat.new.me.0) }
-        ensures slots { OnOk result (TakesBody S.requests B.kind k seat.old.me.1 seat.new.me.0 seat.new.me.1) }
+        ensures slots { OnOk result (TakesBody S.requests S.limit B.kind k seat.old.me.1 seat.new.me.0 seat.new.me.1) }
         ensures next { OnOk result (next.now ≡ record_in seat.new.me.0.limits seat.new.me.0.seen k) }
         ensures lost { OnErr result (Looks seat.old.me.0 seat.new.me.0) }
         ensures unchanged { OnErr result (seat.new.me.1 ≡ seat.old.me.1) }

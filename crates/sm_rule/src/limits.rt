@@ -1,6 +1,11 @@
-/// How many shards a board has, and the ceiling, which no generation of theirs passes.
-#[derive(Clone, Copy, Debug, PartialEq, Eq, Drop)]
+use std::collections::LinkedList;
+
+/// The sizes of a board, which stand in contracts and proofs alone: no value of it is made.
 pub struct Limits {
+    /// How many shards the board has.
     pub count: u64,
+    /// No generation of its shards passes it.
     pub ceiling: u64,
+    /// The most requests that the body of each shard keeps.
+    pub bodies: LinkedList<u64>,
 }

@@ -1,16 +1,18 @@
 //! The rule that every step on a board keeps, and the kinds of step.
 
-use crate::limits::Limits;
+use crate::origin::Origin;
 use crate::view::View;
 use atomic_table::{Play, TableRule};
 use sm_body::service::Service;
 use std::marker::{Brand, PhantomData};
 
-/// What the rule asks of bodies: the requests that each keeps.
+/// What the rule asks of bodies: the requests that each keeps, and the most that it keeps.
 pub trait Keeping<S, Q> {
-    ghost use Rattle.std.specs.Prelude.{List};
+    ghost use Rattle.std.specs.Prelude.{ℕ, List};
 
     ghost requests: { S → List Q };
+
+    ghost limit: { S → ℕ };
 }
 
 /// What the bodies of a service keep.
@@ -20,6 +22,8 @@ pub struct Kept<S> {
 
 impl<S: Service> Keeping<S, S::Request> for Kept<S> {
     ghost requests = { S.requests };
+
+    ghost limit = { S.limit };
 }
 
 /// What holds of a board's words and bodies, and of what each seat knows. It is generic in `Keeping`, and not in the
@@ -28,15 +32,18 @@ pub struct BoardRule<P> {
     keeping: PhantomData<P>,
 }
 
-impl<S, Q, P: Keeping<S, Q>> TableRule<Option<S>, View<Q>, Limits> for BoardRule<P> {
+impl<S, Q, P: Keeping<S, Q>> TableRule<Option<S>, View<Q>, Origin<S>> for BoardRule<P> {
     ghost use Rattle.std.specs.Prelude.{[], None};
+    ghost use Rattle.sm_rule.specs.Boards.{limits_of};
     ghost use Rattle.sm_rule.specs.Rule.{Rule};
     ghost use Rattle.sm_rule.specs.Views.{newcomer};
 
-    ghost holds = { λ limits table. Rule P.requests limits table };
+    ghost holds = { λ origin table.
+        Rule P.requests P.limit (limits_of P.limit origin.count origin.ceiling origin.bodies.value.items) table };
 
     // The chair's.
-    ghost first = { λ limits. newcomer limits 0 None [] };
+    ghost first = { λ origin.
+        newcomer (limits_of P.limit origin.count origin.ceiling origin.bodies.value.items) 0 None [] };
 }
 
 /// A load of a word.
@@ -47,6 +54,9 @@ impl<S, Q> Play<Option<S>, View<Q>> for Load {
 
     ghost then = { Loaded };
 }
+
+// A step tells what its brand says, and a proof picks the brand at a call of which it sees the arguments alone. So `pass`,
+// `admit`, `change` and `finish` have a twin each, of the same clauses, whose call is the one that picks.
 
 /// The server of a new seat. Each call picks it.
 pub trait Hires {
@@ -94,7 +104,7 @@ pub struct Exchange<P, B> {
 impl<S, Q, P: Keeping<S, Q>, B: Asks<Q>> Play<Option<S>, View<Q>> for Exchange<P, B> {
     ghost use Rattle.sm_rule.specs.Steps.{Exchanged};
 
-    ghost then = { Exchanged P.requests B.kind };
+    ghost then = { Exchanged P.requests P.limit B.kind };
 }
 
 /// The store that ends an admission, and gives the slot back.

@@ -3,6 +3,7 @@ ghost use Rattle.std.specs.Prelude.{◌≡◌, ◌<◌, Option, Some, None, IfEr
 ghost use Rattle.sm_ownership.specs.declared.entry.Kind.TheVariants.{Admit, Done};
 ghost use Rattle.sm_ownership.specs.History.{kept};
 ghost use Rattle.sm_rule.specs.Admissions.{HoldsPermit, PassAdmitted, RefusedBy, beyond, fault_for};
+ghost use Rattle.sm_rule.specs.Boards.{limit_at};
 ghost use Rattle.sm_rule.specs.Passes.{PassAdds, PassLooks, record_of};
 ghost use Rattle.sm_rule.specs.Views.{list_held, list_with};
 
@@ -36,7 +37,7 @@ impl<S: Service> Board<S> {
         ensures { result ≡ fault_for self.now.limits.ceiling state.now server mode }
     {
         match server {
-            Some(server) => state.admit_fault(server, mode, self.limits.ceiling),
+            Some(server) => state.admit_fault(server, mode, self.ceiling),
             None => match state.stand {
                 Stand::Vacant => Some(AdmitFault::Vacant),
                 Stand::Paused(_) => Some(AdmitFault::Paused),
@@ -46,8 +47,8 @@ impl<S: Service> Board<S> {
     }
 
     /// Admits the pass to the shard, for a request that came to its server so, and gives the permit with the shard's body,
-    /// which keeps what was kept for the shard; or answers the first fault that applies to the record read, or that it was
-    /// overtaken. A refusal adds no entry of the pass. That a call adds none of other actors no clause says.
+    /// which has the shard's limit and keeps what was kept for the shard; or answers the first fault that applies to the record
+    /// read, or that it was overtaken. A refusal adds no entry of the pass. That a call adds none of other actors no clause says.
     #[inline(always)]
     pub fn admit(
         &self,
@@ -62,6 +63,7 @@ impl<S: Service> Board<S> {
         ensures permit { IfOk result (λ permit. (permit.shard ≡ k) × HoldsPermit pass.new permit) }
         ensures body { IfOk result (λ permit. S.requests permit.body ≡ kept pass.new.seen k) }
         ensures held { IfOk result (λ permit. S.requests permit.body ≡ list_held pass.new.held) }
+        ensures limit { IfOk result (λ permit. S.limit permit.body ≡ limit_at self.now.limits permit.shard) }
         ensures refused { IfErr result (λ refusal. PassLooks pass.old pass.new × RefusedBy pass.old pass.new k mode refusal) }
     {
         self.admit_as::<Brand>(pass, k, mode)
@@ -83,6 +85,7 @@ impl<S: Service> Board<S> {
         ensures permit { IfOk result (λ permit. (permit.shard ≡ k) × HoldsPermit pass.new permit) }
         ensures body { IfOk result (λ permit. S.requests permit.body ≡ kept pass.new.seen k) }
         ensures held { IfOk result (λ permit. S.requests permit.body ≡ list_held pass.new.held) }
+        ensures limit { IfOk result (λ permit. S.limit permit.body ≡ limit_at self.now.limits permit.shard) }
         ensures refused { IfErr result (λ refusal. PassLooks pass.old pass.new × RefusedBy pass.old pass.new k mode refusal) }
     {
         let (word, read) = self.load(&mut pass.seat, k, pass.server);
@@ -125,11 +128,12 @@ impl<S: Service> Board<S> {
     }
 
     /// Ends the admission of the permit, and gives its body back. The entry keeps the request that the body has gained
-    /// since the admission, or none; the body may have gained one at most. It can't be refused.
+    /// since the admission, or none; the body may have gained one at most, and has the limit of its shard. It can't be refused.
     pub fn finish(&self, pass: &mut Pass<S>, permit: Permit<S>) -> Front
         requires board { pass.old.board ≡ self.now }
         requires permit { HoldsPermit pass.old permit }
         requires body { (request : Option S.Request) × (S.requests permit.body ≡ list_with (list_held pass.old.held) request) }
+        requires limit { S.limit permit.body ≡ limit_at self.now.limits permit.shard }
         ensures done { (request : Option S.Request) → S.requests permit.body ≡ list_with (list_held pass.old.held) request
             → PassAdds pass.old permit.shard (Done request) pass.new }
         ensures kept { kept pass.new.seen permit.shard ≡ S.requests permit.body }
@@ -145,6 +149,7 @@ impl<S: Service> Board<S> {
         requires board { pass.old.board ≡ self.now }
         requires permit { HoldsPermit pass.old permit }
         requires body { (request : Option S.Request) × (S.requests permit.body ≡ list_with (list_held pass.old.held) request) }
+        requires limit { S.limit permit.body ≡ limit_at self.now.limits permit.shard }
         requires kind { B.kind ≡ Done (beyond (list_held pass.old.held) (S.requests permit.body)) }
         ensures done { PassAdds pass.old permit.shard (Done (beyond (list_held pass.old.held) (S.requests permit.body))) pass.new }
         ensures kept { kept pass.new.seen permit.shard ≡ S.requests permit.body }

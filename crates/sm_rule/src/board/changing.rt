@@ -71,7 +71,7 @@ impl<S: Service> Board<S> {
         ensures next { IfOk result (λ next. next ≡ after_change read.now change) }
         ensures refused { IfErr result (λ refusal. Forbids self.now.limits.ceiling read.now refusal) }
     {
-        if read.generation >= self.limits.ceiling {
+        if read.generation >= self.ceiling {
             return Err(ChangeRefusal::Spent(*read));
         }
         if read.admitted {

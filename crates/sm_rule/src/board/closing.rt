@@ -12,13 +12,18 @@ use sm_word::word::record_of_word;
 use std::alloc::Global;
 
 impl<S: Service> Board<S> {
-    /// Ends the board: each shard's record, and the body of each idle one with what was kept for it, after one legal history that
-    /// extends what the chair had seen by entries of passes. The body of a shard whose permit was never spent isn't there.
+    /// Ends the board: each shard's record, and the body of each idle one, of its limit and with what was kept for it, after one
+    /// legal history that extends what the chair had seen by entries of passes. The body of a shard whose permit was never
+    /// spent isn't there.
     pub fn close(self, chair: Chair<S>) -> Vec<(Record, Option<S>)>
         requires board { chair.board ≡ self }
-        ensures { WasClosed S.requests chair result.items }
+        ensures { WasClosed S.requests S.limit chair result.items }
     {
-        let Board { table, limits: _ } = self;
+        let Board {
+            table,
+            count: _,
+            ceiling: _,
+        } = self;
         let Chair {
             seat,
             stands: _,

@@ -3,6 +3,7 @@ ghost use Rattle.std.specs.Prelude.{◌≡◌, ◌<◌, ◌≤◌, ◌++◌, ◌
 ghost use Rattle.sm_ownership.specs.declared.entry.Kind.TheVariants.{Done};
 ghost use Rattle.sm_ownership.specs.History.{kept};
 ghost use Rattle.sm_rule.specs.Admissions.{HoldsPermit};
+ghost use Rattle.sm_rule.specs.Boards.{limit_at};
 ghost use Rattle.sm_rule.specs.Passes.{PassAdds, record_of};
 ghost use Rattle.sm_rule.specs.Views.{list_held};
 
@@ -24,6 +25,7 @@ impl<S: Service> Board<S> {
         requires board { pass.old.board ≡ self.now }
         requires permit { HoldsPermit pass.old permit }
         requires body { S.requests permit.body ≡ list_held pass.old.held }
+        requires limit { S.limit permit.body ≡ limit_at self.now.limits permit.shard }
 
         // An applied request is the last one kept for the shard, and its reply is that of the state after those before it.
         ensures applied { OnOk result.0 (PassAdds pass.old permit.shard (Done (Some request)) pass.new) }

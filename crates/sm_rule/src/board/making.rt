@@ -4,19 +4,20 @@ ghost use Rattle.sm_rule.specs.Boards.{make_fault};
 
 use super::Board;
 use crate::chair::Chair;
-use crate::limits::Limits;
 use crate::make_fault::MakeFault;
+use crate::origin::Origin;
 use atomic_table::Table;
 use sm_body::service::Service;
 use sm_ownership::record::MAX_GENERATION;
 use sm_ranges::limits::MAX_SHARDS;
 use sm_ranges::stand::Stand;
 use std::alloc::{AllocError, Global};
+use std::snapshot::Snapshot;
 
 impl<S: Service> Board<S> {
     /// A board of as many vacant shards as bodies (1 to 4,096), which keep nothing yet, whose generations stay at or below the
-    /// ceiling (3 to 2^36 - 1), and its chair; or the first fault that applies, `NoMemory` only where no other does. The
-    /// bodies are dropped then.
+    /// ceiling (3 to 2^36 - 1), and its chair; or the first fault that applies, `NoMemory` only where no other does, and
+    /// the bodies are dropped. Each shard has the limit of the body at its place in the list.
     pub fn make(
         alloc: Global,
         bodies: Vec<S>,
@@ -25,6 +26,7 @@ impl<S: Service> Board<S> {
         requires empty { All (λ body. S.requests body ≡ []) bodies.items }
         ensures count { IfOk result (λ made. made.0.limits.count ≡ length bodies.items) }
         ensures ceiling { IfOk result (λ made. made.0.limits.ceiling ≡ ceiling) }
+        ensures bodies { IfOk result (λ made. made.0.limits.bodies ≡ map S.limit bodies.items) }
         ensures chair { IfOk result (λ made. made.1 ≡ record { board = made.0; seen = [] }) }
         ensures fault { IfSome (make_fault (length bodies.items) ceiling) (λ fault. result ≡ Err fault) }
         ensures no_fault { IfNone (make_fault (length bodies.items) ceiling) (IsOkUnless result MakeFault.NoMemory) }
@@ -45,21 +47,29 @@ impl<S: Service> Board<S> {
         requires ceiling { ceiling < 2 ^ 36 }
         ensures count { IfOk result (λ made. made.0.limits.count ≡ length bodies.items) }
         ensures ceiling { IfOk result (λ made. made.0.limits.ceiling ≡ ceiling) }
+        ensures bodies { IfOk result (λ made. made.0.limits.bodies ≡ map S.limit bodies.items) }
         ensures chair { IfOk result (λ made. made.1 ≡ record { board = made.0; seen = [] }) }
     {
         let count = bodies.len();
-        let limits = Limits {
-            count: count as u64,
+        let shards = count as u64;
+        let origin = Origin {
+            count: shards,
             ceiling,
+            bodies: Snapshot::of(&bodies),
         };
         let stands = vec![in alloc; Stand::Vacant; count]?;
         let room = Vec::with_capacity(alloc, count)?;
         let words = zeros(alloc, count)?;
         let slots = homes(alloc, bodies)?;
-        let Ok((table, seat)) = Table::new(alloc, words.as_slice(), slots, &limits) else {
+        let Ok((table, seat)) = Table::new(alloc, words.as_slice(), slots, &origin) else {
             return Err(AllocError);
         };
-        Ok((Board { table, limits }, Chair { seat, stands, room }))
+        let board = Board {
+            table,
+            count: shards,
+            ceiling,
+        };
+        Ok((board, Chair { seat, stands, room }))
     }
 }
 

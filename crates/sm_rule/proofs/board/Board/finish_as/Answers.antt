@@ -6,10 +6,11 @@ use Rattle.sm_ownership.specs.declared.entry.Kind.TheVariants.{Done}
 use Rattle.sm_ownership.specs.History.{after_done, kept, kept_of}
 use Rattle.sm_word.specs.Word.{word_of}
 use Rattle.sm_rule.specs.Admissions.{beyond}
+use Rattle.sm_rule.specs.Boards.{limit_at, limits_of}
 use Rattle.sm_rule.specs.Rule.{Rule}
 use Rattle.sm_rule.specs.Steps.{Stored}
 use Rattle.sm_rule.specs.Views.{list_held, list_with}
-use Rattle.sm_rule.proofs.Keeping.{beyond_with_gained, carries_body, held_within, list_is, low_key, slot_held, store_allowed}
+use Rattle.sm_rule.proofs.Keeping.{beyond_with_gained, carries_body, held_within, list_is, low_ceiling, slot_held, store_allowed}
 use Rattle.sm_rule.proofs.board.Board.finish_as.Goals as goal
 
 pub store-requires : goal.store-requires
@@ -23,20 +24,24 @@ store-requires g c =
     let body = ap (λ p. p.body) c.permit.view_is in
     let within = held_within id view c.args.pass.now c.args.permit of_pass c.requires.permit c.pass.invariant.0.3 in
     let at = c.index-at.ensures.value in
-    let words = c.self.invariant.1 in
+    let words = c.self.invariant.2 in
     let same = ap (λ p. p.board.limits.count) of_pass ∙ ap (λ b. b.limits.count) board in
     let slots = c.pass.invariant.1 ∙ slot_held id view c.args.pass.now c.args.permit of_pass c.requires.permit in
     let out = c.exchange.ensures in
     let carries = carries_body c.exchange.new.seat.me view _ c.index-at.result _ c.permit.inside.body out.3 slots in
-    let key = c.self.inside.table.shared.key in
+    let origin = c.self.inside.table.shared.key in
+    let key = limits_of g.S.Service.limit origin.count origin.ceiling origin.bodies.value.items in
+    let at_key = (λ i. limits_of g.S.Service.limit (c.self.invariant.0 i) (c.self.invariant.1 i) origin.bodies.value.items) ∙ ap (λ b. b.limits) c.self.view_is in
+    let same_limit : g.S.Service.limit c.permit.inside.body ≡ limit_at key c.index-at.result =
+    ap g.S.Service.limit body ∙ (c.requires.limit ∙ λ i. limit_at (sym at_key i) ((sym shard ∙ sym at) i)) in
     let gains : (request : Option g.row.S-Request.Denot) × (g.S.Service.requests c.permit.inside.body ≡ list_with (list_held c.args.pass.now.held) request) = (c.requires.body.0, ap g.S.Service.requests body ∙ c.requires.body.1) in
-    let allowed = store_allowed id view c.args.pass.now c.args.permit of_pass c.requires.permit g.S.Service.requests key c.self.inside.table.shared.table_id.slots c.exchange.new.seat.id c.index-at.result c.done_word-word.result c.permit.inside.body c.exchange.new.seat.me
-    carries (low_key key c.self.inside.limits c.self.invariant.0 c.self.invariant.5) c.pass.invariant.0.0 (sym shard ∙ sym at)
-    (c.done_word-word.ensures c.permit.inside.state c.permit.invariant.2 (sym c.permit.invariant.3) ∙ ap (λ one. word_of (after_done one)) state) gains in
+    let allowed = store_allowed id view c.args.pass.now c.args.permit of_pass c.requires.permit g.S.Service.requests g.S.Service.limit key c.self.inside.table.shared.table_id.slots c.exchange.new.seat.id c.index-at.result c.done_word-word.result c.permit.inside.body c.exchange.new.seat.me
+    carries (low_ceiling c.self.inside.table.shared.key.ceiling c.self.inside.ceiling c.self.invariant.1 c.self.invariant.6) c.pass.invariant.0.0 (sym shard ∙ sym at)
+    (c.done_word-word.ensures c.permit.inside.state c.permit.invariant.2 (sym c.permit.invariant.3) ∙ ap (λ one. word_of (after_done one)) state) gains same_limit in
     let kind = c.requires.kind ∙ ap (λ one. Done (beyond (list_held c.args.pass.now.held) (g.S.Service.requests one))) (sym body) in (
       out.0 ∙ (ap (λ p. p.board.id) of_pass ∙ ap (λ b. b.id) board),
       omega arith,
-      subst (λ one. Allows (Rule g.S.Service.requests key) c.self.inside.table.shared.table_id.slots c.exchange.new.seat.id c.exchange.new.seat.me c.index-at.result (λ _. c.done_word-word.result) (λ _. Stored one (step c.self.inside.table.shared.table_id.slots c.index-at.result c.done_word-word.result 0 none) c.exchange.new.seat.me c.done_word-word.result)) (sym kind) allowed,
+      subst (λ one. Allows (Rule g.S.Service.requests g.S.Service.limit key) c.self.inside.table.shared.table_id.slots c.exchange.new.seat.id c.exchange.new.seat.me c.index-at.result (λ _. c.done_word-word.result) (λ _. Stored one (step c.self.inside.table.shared.table_id.slots c.index-at.result c.done_word-word.result 0 none) c.exchange.new.seat.me c.done_word-word.result)) (sym kind) allowed,
     )
 
 pub returns-clause-kept : goal.returns-clause-kept

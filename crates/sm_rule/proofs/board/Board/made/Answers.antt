@@ -1,4 +1,6 @@
-use Rattle.std.proofs.Common.{◌≡◌, length, ◌∙◌, arith}
+use Rattle.std.proofs.Common.{◌≡◌, ap, length, ◌∙◌, arith}
+use Rattle.std.specs.Prelude.{map}
+use Rattle.sm_rule.specs.Boards.{limits_of}
 use Rattle.sm_rule.proofs.Keeping.{begins}
 use Rattle.sm_rule.proofs.board.Board.made.Goals as goal
 
@@ -7,5 +9,5 @@ new-requires g c =
     let bodies = c.args.bodies.ok.0 in
     let len = c.len-count.ensures in
     let many : c.len-count.result ≡ length c.args.bodies.items = omega arith in
-    begins g.S.Service.requests (record { count = c.len-count.result; ceiling = c.args.ceiling }) c.as_slice.result.now c.args.bodies.items c.in_ok-slots.slots.items
-    (c.as_slice.ensures.value ∙ c.in_ok-words.ensures) many c.in_ok-slots.ensures c.requires.empty
+    begins g.S.Service.requests g.S.Service.limit (limits_of g.S.Service.limit c.len-count.result c.args.ceiling c.of.result.value.items) c.as_slice.result.now c.args.bodies.items c.in_ok-slots.slots.items
+    (c.as_slice.ensures.value ∙ c.in_ok-words.ensures) many (ap (λ bodies. map g.S.Service.limit bodies.items) c.of.ensures) c.in_ok-slots.ensures c.requires.empty
