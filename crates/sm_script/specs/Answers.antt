@@ -1,11 +1,13 @@
 -- The text of a script's answers, each without its line feed.
-use Rattle.std.specs.Prelude.{ℕ, Bool, if◌then◌else◌, List, [], ◌∷◌, ◌++◌, length, codes, decimal, Option, unwrap_or}
+use Rattle.std.specs.Prelude.{ℕ, Bool, if◌then◌else◌, List, [], ◌∷◌, ◌++◌, length, codes, decimal, flat_map, Option, unwrap_or}
 use Rattle.std.specs.List.{join_with_byte}
 use Rattle.std.specs.Fmt.{signed_decimal}
 use Rattle.sm_desk.specs.declared.command.CommandFault.{CommandFault}
 use Rattle.sm_desk.specs.declared.command.CommandFault.TheVariants as command
 use Rattle.sm_envelope.specs.declared.refusal.Refusal.{Refusal}
 use Rattle.sm_envelope.specs.declared.refusal.Refusal.TheVariants as request
+use Rattle.sm_map.specs.KeyMap.{Held, Pair}
+use Rattle.sm_map.specs.KeyMap.{Text as HeldText, Count as HeldCount}
 use Rattle.sm_ownership.specs.declared.admit_fault.AdmitFault.{AdmitFault}
 use Rattle.sm_ownership.specs.declared.admit_fault.AdmitFault.TheVariants as admit
 use Rattle.sm_ownership.specs.declared.record.Record.{Record}
@@ -19,7 +21,7 @@ use Rattle.sm_script.specs.declared.fault.LineFault.TheVariants.{LineTooLong, Un
 use Rattle.sm_script.specs.declared.refused.Refused.{Refused}
 use Rattle.sm_script.specs.declared.refused.Refused.TheVariants as refused
 use Rattle.sm_service.specs.declared.reply.Reply.{Reply}
-use Rattle.sm_service.specs.declared.reply.Reply.TheVariants.{Nothing, Done, Text, Count, WrongKind, Overflow, TooLong}
+use Rattle.sm_service.specs.declared.reply.Reply.TheVariants.{Nothing, Done, Text, Count, Pairs, WrongKind, Overflow, TooLong}
 
 -- the name of a line's fault
 abbrev pub line_fault_name : LineFault → List ℕ
@@ -89,12 +91,26 @@ record_text state =
     admission_name state.admitted ∷ decimal state.generation ∷ []
     )
 
+-- bytes, and before them how many they are
+abbrev pub counted : List ℕ → List ℕ
+counted bytes = decimal (length bytes) ++ codes ":" ++ bytes
+
+-- what a key holds, in a scan
+abbrev pub held_text : Held → List ℕ
+held_text (HeldText text) = codes " t" ++ counted text
+held_text (HeldCount count) = codes " c" ++ signed_decimal count
+
+-- a pair of a scan
+abbrev pub pair_text : Pair → List ℕ
+pair_text pair = codes " " ++ counted pair.key ++ held_text pair.value
+
 -- a reply of the service
 abbrev pub reply_text : Reply → List ℕ
 reply_text Nothing = codes "nothing"
 reply_text Done = codes "done"
-reply_text (Text text) = codes "text " ++ decimal (length text) ++ codes ":" ++ text
+reply_text (Text text) = codes "text " ++ counted text
 reply_text (Count count) = codes "count " ++ signed_decimal count
+reply_text (Pairs pairs) = codes "pairs " ++ decimal (length pairs) ++ flat_map pair_text pairs
 reply_text WrongKind = codes "reply WrongKind"
 reply_text Overflow = codes "reply Overflow"
 reply_text TooLong = codes "reply TooLong"

@@ -19,9 +19,10 @@ use Rattle.sm_script.specs.declared.fault.ParseFault.TheVariants.{Line, NoMemory
 use Rattle.sm_script.specs.declared.line.TheConstants.{MAX_LINE}
 use Rattle.sm_script.specs.declared.shape.Shape.TheVariants.{Server}
 use Rattle.sm_script.specs.declared.word.Word.{Word}
-use Rattle.sm_script.specs.declared.word.Word.TheVariants.{Assign, PrepareAdd, PrepareDrop, Add, Drop, Cancel, Pause, Resume, Reassign, Hold, Free, Look, Get, Put, Inc}
+use Rattle.sm_script.specs.declared.word.Word.TheVariants.{Assign, PrepareAdd, PrepareDrop, Add, Drop, Cancel, Pause, Resume, Reassign, Hold, Free, Look, Get, Put, Append, Inc, Del, Scan}
 use Rattle.sm_service.specs.declared.request.Request.{Request}
-use Rattle.sm_service.specs.declared.request.Request.TheVariants.{Get as GetRequest, Put as PutRequest, Inc as IncRequest}
+use Rattle.sm_service.specs.declared.request.Request.TheVariants.{Get as GetRequest, Put as PutRequest, Append as AppendRequest}
+use Rattle.sm_service.specs.declared.request.Request.TheVariants.{Inc as IncRequest, Del as DelRequest, Scan as ScanRequest}
 
 -- an addition to a count, where the number is one
 abbrev pub inc_request : List ℕ → Option ℤ → Result Request LineFault
@@ -32,7 +33,10 @@ inc_request key None = Err BadNumber
 abbrev pub request_with : Word → List (List ℕ) → Result Request LineFault
 request_with Get (key ∷ []) = Ok (GetRequest key)
 request_with Put (key ∷ text) = Ok (PutRequest key (join_with_byte 32 text))
+request_with Append (key ∷ tail) = Ok (AppendRequest key (join_with_byte 32 tail))
 request_with Inc (key ∷ amount ∷ []) = inc_request key (increment_of amount)
+request_with Del (key ∷ []) = Ok (DelRequest key)
+request_with Scan (low ∷ high ∷ most ∷ []) = Ok (ScanRequest low high (number most))
 request_with _ _ = Err NotHere
 
 -- a change of the shard

@@ -1,11 +1,12 @@
 ghost use Rattle.std.specs.Prelude.{◌≡◌, IfOk, IfErr};
 ghost use Rattle.sm_script.specs.Grammar.{arguments_fault, shapes_of};
 ghost use Rattle.sm_script.specs.Lines.{request_with, IsRequestFault};
-ghost use Rattle.sm_script.specs.declared.word.Word.TheVariants.{Get, Put, Inc};
+ghost use Rattle.sm_script.specs.declared.word.Word.TheVariants.{Get, Put, Append, Inc, Del, Scan};
 
 use crate::argument::key;
 use crate::fault::{LineFault, ParseFault};
-use crate::number::increment;
+use crate::number::{increment, number_between};
+use crate::shape::MAX_PAIRS;
 use crate::word::Word;
 use crate::words::Words;
 use sm_service::bytes::Bytes;
@@ -31,6 +32,16 @@ fn put(alloc: Global, mut words: Words) -> Result<Request, AllocError>
     Ok(Request::Put(key, text))
 }
 
+// `append KEY TEXT`.
+fn append(alloc: Global, mut words: Words) -> Result<Request, AllocError>
+    requires { arguments_fault (shapes_of Append) words ≡ None }
+    ensures { IfOk result (λ request. request_with Append words.entry ≡ Ok request) }
+{
+    let key = key(alloc, words.next().unwrap())?;
+    let tail = Bytes::new(alloc, words.text())?;
+    Ok(Request::Append(key, tail))
+}
+
 // `inc KEY N`.
 fn inc(alloc: Global, mut words: Words) -> Result<Request, AllocError>
     requires { arguments_fault (shapes_of Inc) words ≡ None }
@@ -39,6 +50,26 @@ fn inc(alloc: Global, mut words: Words) -> Result<Request, AllocError>
     let key = key(alloc, words.next().unwrap())?;
     let amount = increment(words.next().unwrap()).unwrap();
     Ok(Request::Inc(key, amount))
+}
+
+// `del KEY`.
+fn del(alloc: Global, mut words: Words) -> Result<Request, AllocError>
+    requires { arguments_fault (shapes_of Del) words ≡ None }
+    ensures { IfOk result (λ request. request_with Del words.entry ≡ Ok request) }
+{
+    let key = key(alloc, words.next().unwrap())?;
+    Ok(Request::Del(key))
+}
+
+// `scan LOW HIGH MAX`.
+fn scan(alloc: Global, mut words: Words) -> Result<Request, AllocError>
+    requires { arguments_fault (shapes_of Scan) words ≡ None }
+    ensures { IfOk result (λ request. request_with Scan words.entry ≡ Ok request) }
+{
+    let low = key(alloc, words.next().unwrap())?;
+    let high = key(alloc, words.next().unwrap())?;
+    let most = number_between(words.next().unwrap(), 0, MAX_PAIRS).unwrap();
+    Ok(Request::Scan(low, high, most as u32))
 }
 
 /// The request of a word and the words after it, which are right.
@@ -50,7 +81,10 @@ pub(crate) fn request_with(alloc: Global, word: Word, words: Words) -> Result<Re
     match word {
         Word::Get => Ok(get(alloc, words)?),
         Word::Put => Ok(put(alloc, words)?),
+        Word::Append => Ok(append(alloc, words)?),
         Word::Inc => Ok(inc(alloc, words)?),
+        Word::Del => Ok(del(alloc, words)?),
+        Word::Scan => Ok(scan(alloc, words)?),
         _ => Err(ParseFault::Line(LineFault::NotHere)),
     }
 }

@@ -1,12 +1,12 @@
 -- What each request of the sample service replies on a key map, and changes there.
-use Rattle.std.specs.Prelude.{ℕ, ◌-◌, ◌^◌, ℤ, pos, neg_ℤ, ◌+ℤ◌, int_le, Bool, ◌&&◌, List, Option, Some, None, length, nat_le, if◌then◌else◌}
-use Rattle.sm_map.specs.KeyMap.{Held, Pair, Text, Count, held_at, holding}
-use Rattle.sm_service.specs.declared.counter_text.TheConstants.{MAX_TEXT}
+use Rattle.std.specs.Prelude.{ℕ, ◌-◌, ◌^◌, ℤ, pos, neg_ℤ, ◌+ℤ◌, int_le, Bool, ◌&&◌, List, ◌++◌, Option, Some, None, length, min, take, nat_le, if◌then◌else◌}
+use Rattle.sm_map.specs.KeyMap.{Held, Pair, Text, Count, held_at, text_at, holding, without, within}
+use Rattle.sm_service.specs.declared.counter_text.TheConstants.{MAX_SCANNED, MAX_TEXT}
 use Rattle.sm_service.specs.declared.reply.Reply.{Reply}
-use Rattle.sm_service.specs.declared.reply.Reply.TheVariants.{Nothing, Done, WrongKind, Overflow, TooLong}
+use Rattle.sm_service.specs.declared.reply.Reply.TheVariants.{Nothing, Done, Pairs, WrongKind, Overflow, TooLong}
 use Rattle.sm_service.specs.declared.reply.Reply.TheVariants.{Text as ReplyText, Count as ReplyCount}
 use Rattle.sm_service.specs.declared.request.Request.{Request}
-use Rattle.sm_service.specs.declared.request.Request.TheVariants.{Get, Put, Inc}
+use Rattle.sm_service.specs.declared.request.Request.TheVariants.{Get, Put, Inc, Append, Del, Scan}
 
 -- the reply to a Get, by what the key holds
 abbrev pub get_reply : Option Held → Reply
@@ -49,14 +49,33 @@ abbrev pub inc_after : List Pair → List ℕ → Reply → List Pair
 inc_after m key (ReplyCount sum) = holding m key (Count sum)
 inc_after m key _ = m
 
+-- the text that an Append makes of the one that the key holds; a key without one counts as the empty text
+abbrev pub longer_text : List Pair → List ℕ → List ℕ → List ℕ
+longer_text m key tail = text_at m key ++ tail
+
+-- the reply to a Del, by what the key holds
+abbrev pub del_reply : Option Held → Reply
+del_reply None = Nothing
+del_reply (Some held) = Done
+
+-- the first pairs with keys from low on and below high, as many as are asked for and a scan gives
+abbrev pub scanned : List Pair → List ℕ → List ℕ → ℕ → List Pair
+scanned m low high most = take (min most MAX_SCANNED) (within m low high)
+
 -- the reply to a request on the map m
 abbrev pub reply : List Pair → Request → Reply
 reply m (Get key) = get_reply (held_at m key)
 reply m (Put key text) = text_reply (held_at m key) text
 reply m (Inc key amount) = inc_reply (held_at m key) amount
+reply m (Append key tail) = text_reply (held_at m key) (longer_text m key tail)
+reply m (Del key) = del_reply (held_at m key)
+reply m (Scan low high most) = Pairs (scanned m low high most)
 
 -- the map after a request on the map m
 abbrev pub after : List Pair → Request → List Pair
 after m (Get key) = m
 after m (Put key text) = text_after m key text (reply m (Put key text))
 after m (Inc key amount) = inc_after m key (reply m (Inc key amount))
+after m (Append key tail) = text_after m key (longer_text m key tail) (reply m (Append key tail))
+after m (Del key) = without m key
+after m (Scan low high most) = m

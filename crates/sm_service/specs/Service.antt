@@ -4,7 +4,7 @@ use Rattle.sm_body.specs.Service.{Log}
 use Rattle.sm_map.specs.KeyMap.{Pair}
 use Rattle.sm_service.specs.declared.reply.Reply.{Reply}
 use Rattle.sm_service.specs.declared.request.Request.{Request}
-use Rattle.sm_service.specs.declared.request.Request.TheVariants.{Get, Put, Inc}
+use Rattle.sm_service.specs.declared.request.Request.TheVariants.{Get, Put, Inc, Append, Del, Scan}
 use Rattle.sm_service.specs.Replies.{reply, after}
 
 -- the key map that the requests make, from the empty one
@@ -20,6 +20,9 @@ abbrev pub key_of_request : Request → List ℕ
 key_of_request (Get key) = key
 key_of_request (Put key text) = key
 key_of_request (Inc key amount) = key
+key_of_request (Append key tail) = key
+key_of_request (Del key) = key
+key_of_request (Scan low high most) = low
 
 -- what a body of the sample service keeps
 abbrev pub TextLog : Type 0

@@ -3,6 +3,7 @@ ghost use Rattle.sm_service.specs.Replies.{reply, after, sum_of};
 ghost use Rattle.sm_service.specs.Service.{key_of_request};
 
 use crate::bytes::Bytes;
+use crate::pair_list::PairList;
 use crate::reply::Reply;
 use crate::request::Request;
 use sm_body::logged::Logged;
@@ -16,8 +17,11 @@ use std::marker::Model;
 /// The longest text that a key holds, in bytes.
 pub const MAX_TEXT: usize = 65_535;
 
-/// Where more bytes than this are dead, and more than live, a `put` first moves the map into fresh memory, unless that is
-/// refused. No clause says so.
+/// The most pairs that a scan gives.
+pub const MAX_SCANNED: usize = 100;
+
+/// Where more bytes than this are dead, and more than live, a request that may place bytes (`put`, `append`, `inc`) first moves
+/// the map into fresh memory, unless that is refused. No clause says so.
 pub const MAX_DEAD: u128 = 65_536;
 
 /// The sample service: texts and counts by key.
@@ -61,7 +65,12 @@ impl Machine for KeyMachine {
 
     fn key(request: &Request) -> &[u8] {
         match request {
-            Request::Get(key) | Request::Put(key, _) | Request::Inc(key, _) => key.as_bytes(),
+            Request::Get(key)
+            | Request::Put(key, _)
+            | Request::Inc(key, _)
+            | Request::Append(key, _)
+            | Request::Del(key)
+            | Request::Scan(key, _, _) => key.as_bytes(),
         }
     }
 
@@ -69,12 +78,19 @@ impl Machine for KeyMachine {
         match request {
             Request::Get(key) => get(alloc, &self.map, key),
             Request::Put(key, text) => {
-                if self.dead() > MAX_DEAD && self.dead() > self.map.bytes() {
-                    let _ = self.rebuild(alloc);
-                }
+                self.drop_the_dead(alloc);
                 put(&mut self.map, key, text)
             }
-            Request::Inc(key, amount) => inc(&mut self.map, key, *amount),
+            Request::Append(key, tail) => {
+                self.drop_the_dead(alloc);
+                append(&mut self.map, key, tail)
+            }
+            Request::Inc(key, amount) => {
+                self.drop_the_dead(alloc);
+                inc(&mut self.map, key, *amount)
+            }
+            Request::Del(key) => Ok(del(&mut self.map, key)),
+            Request::Scan(low, high, most) => scan(alloc, &self.map, low, high, *most),
         }
     }
 
@@ -88,6 +104,15 @@ impl KeyMachine {
     /// How many bytes of the map are dead, as `ArenaMap::dead` counts them. It has no clause of its own.
     pub fn dead(&self) -> u128 {
         self.map.dead()
+    }
+
+    // Moves the map into fresh memory where much of the old is dead; where that is refused, it stays.
+    fn drop_the_dead(&mut self, alloc: Global)
+        ensures { self.new ≡ self.old }
+    {
+        if self.dead() > MAX_DEAD && self.dead() > self.map.bytes() {
+            let _ = self.rebuild(alloc);
+        }
     }
 }
 
@@ -131,6 +156,48 @@ fn inc(map: &mut ArenaMap, key: &Key, amount: i64) -> Result<Reply, AllocError>
     };
     map.put(key.as_bytes(), Val::Count(sum))?;
     Ok(Reply::Count(sum))
+}
+
+fn append(map: &mut ArenaMap, key: &Key, tail: &Bytes) -> Result<Reply, AllocError>
+    ensures reply { IfOk result (λ made. made ≡ reply map.old.pairs (Request.Append key.now tail.now)) }
+    ensures after { OnOk result (map.new.pairs ≡ after map.old.pairs (Request.Append key.now tail.now)) }
+    ensures err { OnErr result (map.new ≡ map.old) }
+{
+    let length = match map.get(key.as_bytes()) {
+        None => return put(map, key, tail),
+        Some(Val::Count(_)) => return Ok(Reply::WrongKind),
+        Some(Val::Text(text)) => text.len(),
+    };
+    if length + tail.as_bytes().len() > MAX_TEXT {
+        return Ok(Reply::TooLong);
+    }
+    map.append(key.as_bytes(), tail.as_bytes())?;
+    Ok(Reply::Done)
+}
+
+fn del(map: &mut ArenaMap, key: &Key) -> Reply
+    ensures reply { result ≡ reply map.old.pairs (Request.Del key.now) }
+    ensures after { map.new.pairs ≡ after map.old.pairs (Request.Del key.now) }
+{
+    if map.remove(key.as_bytes()) {
+        Reply::Done
+    } else {
+        Reply::Nothing
+    }
+}
+
+fn scan(
+    alloc: Global,
+    map: &ArenaMap,
+    low: &Key,
+    high: &Key,
+    most: u32,
+) -> Result<Reply, AllocError>
+    ensures { IfOk result (λ made. made ≡ reply map.now.pairs (Request.Scan low.now high.now most)) }
+{
+    let count = (most as usize).min(MAX_SCANNED);
+    let rows = map.scan(low.as_bytes(), high.as_bytes(), count)?;
+    Ok(Reply::Pairs(PairList::new(alloc, &rows)?))
 }
 
 // The sum, where it has 64 bits.

@@ -11,12 +11,18 @@
 #![tactic(auto)]
 
 pub mod counter_text;
+mod held;
+pub mod pair;
+pub mod pair_list;
 pub mod reply;
 pub mod request;
 
 pub use bytes::Bytes;
 pub use counter_text::{CounterText, KeyMachine};
+pub use pair::Pair;
+pub use pair_list::PairList;
 pub use reply::Reply;
 pub use request::Request;
 pub use service::{ApplyFault, Service};
 pub use sm_body::{bytes, service};
+pub use sm_map::val::Val;

@@ -1,16 +1,19 @@
 use crate::bytes::Bytes;
+use crate::pair_list::PairList;
 
 /// What the sample service replies.
 #[derive(Debug, Drop)]
 pub enum Reply {
     /// The key holds nothing.
     Nothing,
-    /// The key holds the new text.
+    /// The key holds the new text, or nothing where it was to hold nothing.
     Done,
     /// The text that the key holds.
     Text(Bytes),
     /// The count that the key holds, after an addition the new one.
     Count(i64),
+    /// The pairs that a scan found, in the order of their keys.
+    Pairs(PairList),
     /// The key holds a count where the request is for a text, or a text where it is for a count, and
     /// nothing has changed.
     WrongKind,

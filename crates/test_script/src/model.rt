@@ -81,6 +81,18 @@ fn takes_all_bytes_but_a_line_feed(rt: HostRuntime) -> Result<(), Fail> {
     check(&rt, rt.alloc(), &input, output)
 }
 
+// A scan gives texts and counts of its own shard alone, from its low key on and below its high one.
+#[test]
+fn scans_a_shard(rt: HostRuntime) -> Result<(), Fail> {
+    let input = script_of(
+        rt.alloc(),
+        b"assign 0 1\nassign 1 2\nput c \xff:\nappend c  d\ninc b -7\nput m x\nput d\nscan b d 9\nscan c z 9\n",
+    )?;
+    let output =
+        b"ok\nok\ndone @1#0\ndone @1#1\ncount -7 @1#2\ndone @2#0\ndone @1#3\npairs 2 1:b c-7 1:c t4:\xff: d @1#4\npairs 2 1:c t4:\xff: d 1:d t0: @1#5\n";
+    check(&rt, rt.alloc(), &input, output)
+}
+
 fn line_feeds(bytes: &[u8]) -> usize {
     bytes.iter().filter(|byte| **byte == b'\n').count()
 }

@@ -57,11 +57,11 @@ fn first_fault_of_a_line(rt: HostRuntime) -> Result<(), Fail> {
         ("inc a +1", "BadNumber"),
         ("inc a", "BadLine"),
         ("inc  x", "BadKey"),
-        ("append a x", "NotHere"),
-        ("del a", "NotHere"),
+        ("append  x", "BadKey"),
+        ("del a b", "BadLine"),
         ("assign 00 1", "BadNumber"),
         ("scan a z 4294967296", "BadNumber"),
-        ("scan a z 4294967295", "NotHere"),
+        ("scan a z 4294967295", ""),
         ("scan  z x", "BadKey"),
         ("at x get a", "BadNumber"),
         ("at 1", "BadLine"),
@@ -73,7 +73,7 @@ fn first_fault_of_a_line(rt: HostRuntime) -> Result<(), Fail> {
         ("at x get ", "BadNumber"),
         ("at 1 inc  -0", "BadKey"),
         ("at 1 inc a -0", "BadNumber"),
-        ("at 1 del a", "NotHere"),
+        ("at 1 del a", ""),
         ("at x del a", "BadNumber"),
         ("client", "BadLine"),
         ("client look 0", "UnknownWord"),
@@ -109,6 +109,13 @@ fn shown_request(alloc: Global, request: &Request) -> Result<String, AllocError>
             format!(in alloc; "put {:?} {:?}", key.as_bytes(), text.as_bytes())
         }
         Request::Inc(key, amount) => format!(in alloc; "inc {:?} {}", key.as_bytes(), *amount),
+        Request::Append(key, tail) => {
+            format!(in alloc; "append {:?} {:?}", key.as_bytes(), tail.as_bytes())
+        }
+        Request::Del(key) => format!(in alloc; "del {:?}", key.as_bytes()),
+        Request::Scan(low, high, most) => {
+            format!(in alloc; "scan {:?} {:?} {}", low.as_bytes(), high.as_bytes(), *most)
+        }
     }
 }
 
@@ -181,6 +188,14 @@ fn calls_of_lines(rt: HostRuntime) -> Result<(), Fail> {
         (b"at 4095 get m", "at 4095 get [109]"),
         (b"at 1 put m  a", "at 1 put [109] [32, 97]"),
         (b"at 2 inc m 12", "at 2 inc [109] 12"),
+        (b"append m  a ", "append [109] [32, 97, 32]"),
+        (b"append m", "append [109] []"),
+        (b"del m", "del [109]"),
+        (b"scan a m 0", "scan [97] [109] 0"),
+        (
+            b"at 3 scan m a 4294967295",
+            "at 3 scan [109] [97] 4294967295",
+        ),
     ];
     for (line, text) in lines {
         let call = parse(rt.alloc(), line)?.ok_or("no call")?;

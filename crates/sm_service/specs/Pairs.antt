@@ -1,0 +1,9 @@
+-- What a pair in memory of its own holds.
+use Rattle.sm_map.specs.KeyMap.{Held as MapHeld}
+use Rattle.sm_map.specs.KeyMap.{Text as HeldText, Count as HeldCount}
+use Rattle.sm_service.specs.declared.held.Held.{Held}
+use Rattle.sm_service.specs.declared.held.Held.TheVariants.{Text, Count}
+
+abbrev pub held_in : Held → MapHeld
+held_in (Text text) = HeldText text
+held_in (Count count) = HeldCount count

@@ -1,0 +1,50 @@
+ghost use Rattle.std.specs.Prelude.{◌≡◌, IfOk};
+ghost use Rattle.sm_map.specs.Val.{held_of, row_of};
+
+use crate::bytes::Bytes;
+use crate::held::Held;
+use sm_map::val::Val;
+use std::alloc::{AllocError, Global};
+use std::marker::Model;
+
+/// A key and what it held when a scan found it.
+#[derive(Debug, Drop)]
+pub struct Pair {
+    key: Bytes,
+    held: Held,
+}
+
+impl Model for Pair {
+    ghost use Rattle.sm_map.specs.KeyMap.{Pair as MapPair};
+    ghost use Rattle.sm_service.specs.Pairs.{held_in};
+
+    ghost Value = { MapPair };
+
+    ghost view = { λ pair. record { key = pair.key; value = held_in pair.held } };
+}
+
+impl Pair {
+    // A copy of a map's row.
+    pub(crate) fn new(alloc: Global, row: &(&[u8], Val<'_>)) -> Result<Pair, AllocError>
+        ensures { IfOk result (λ pair. pair ≡ row_of row.now) }
+    {
+        Ok(Pair {
+            key: Bytes::new(alloc, row.0)?,
+            held: Held::new(alloc, row.1)?,
+        })
+    }
+
+    /// The bytes of the key.
+    pub fn key(&self) -> &[u8]
+        ensures { result.now ≡ self.now.key }
+    {
+        self.key.as_bytes()
+    }
+
+    /// What the key held.
+    pub fn value(&self) -> Val<'_>
+        ensures { held_of result ≡ self.now.value }
+    {
+        self.held.as_val()
+    }
+}
