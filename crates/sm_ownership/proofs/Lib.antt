@@ -1,3 +1,4 @@
+pub mod Applied
 pub mod Calls
 pub mod Generations
 pub mod Reaching
