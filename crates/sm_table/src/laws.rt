@@ -13,8 +13,8 @@ ghost use Rattle.sm_table.specs.World.{Frame, Mark, answer, world_of};
 pub use sm_ownership::laws::{
     accepted_is_admitted, admission_extends_history, admission_refused_exactly,
     change_extends_history, change_refused_exactly, end_extends_history, executor_admitted,
-    generation_counts_entries, generation_within_ceiling, kept_grows, legal_prefix, no_phase_refuses,
-    one_admission, same_generation_same_record, two_servers,
+    generation_counts_entries, generation_within_ceiling, kept_grows, legal_prefix,
+    no_phase_refuses, one_admission, same_generation_same_record, two_servers,
 };
 
 /// Whatever the steps, the history that they make is legal.
