@@ -22,8 +22,11 @@ use Rattle.sm_ownership.specs.History.{vacant, after_change}
 use Rattle.sm_ownership.specs.Tables.{TableView, record_fault, apply_fault, table_changed}
 use Rattle.sm_body.specs.Service.{Service}
 use Rattle.sm_table.specs.World.{WorldState, Plain, count_of, desk_of, world_table, world_record, table_fault, with_entry, outcome}
-use Rattle.sm_table.specs.Standing.{IsSound, WorldView, StandsFor, Follows}
+use Rattle.sm_table.specs.Standing.{IsSound, WorldView, view_of, StandsFor, Follows}
 use Rattle.sm_ownership.specs.lemmas.Growth.{fits-push, length-table_of, table_of-push, kept-push_none}
+use Rattle.sm_table.specs.Bodies.{BodiesView}
+use Rattle.sm_table.specs.declared.world.Flight.{Flight}
+use Rattle.sm_table.specs.declared.hands.InHand.{InHand}
 use Rattle.sm_table.proofs.Parts.{parts_of, parts-from_StandsFor, Follows-unchanged, Follows-changed}
 
 module _ {Q R : Type 0} (service : Service Q R) (w : WorldState Q) (sound : IsSound w) (shard : ℕ) (change : Change) (none : None ≡ desk_change_fault (desk_of w) shard change) where
@@ -65,7 +68,10 @@ module _ {Q R : Type 0} (service : Service Q R) (w : WorldState Q) (sound : IsSo
       ap (λ stands. record (parts_of w lists) { desk = record { servers = w.frame.servers; stands = stands }; records = slice_set (world_table w) shard (after_change (world_record w shard) change) }) shown
       ∙ ap (λ records. record (parts_of w lists) { desk = desk_of changed_world; records = records }) (sym grown)
 
-module _ {Q R : Type 0} (service : Service Q R) (v now : WorldView Q) (same : v ≡ now) (w : WorldState Q) (given : StandsFor now w) (shard : ℕ) (change : Change) where
+module _ {Q R : Type 0} (service : Service Q R) {bounds : List (List ℕ)} {desk_was : DeskView} {table_was : TableView} {bodies_was : BodiesView Q} {flights_was : List (Flight Q)} {hands_was : List (Option (InHand Q))} (now : WorldView Q) (same : view_of bounds desk_was table_was bodies_was flights_was hands_was ≡ now) (w : WorldState Q) (given : StandsFor now w) (shard : ℕ) (change : Change) where
+  abbrev v : WorldView Q
+  v = view_of bounds desk_was table_was bodies_was flights_was hands_was
+
   stands : StandsFor v w
   stands = subst (λ u. StandsFor u w) (sym same) given
 

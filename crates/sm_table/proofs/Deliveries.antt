@@ -17,27 +17,42 @@ use Rattle.sm_table.specs.declared.world_fault.WorldFault.TheVariants.{NoEnvelop
 use Rattle.sm_envelope.specs.Envelope.{EnvelopeView, forwarded, sent_on}
 use Rattle.sm_body.specs.Service.{Service}
 use Rattle.sm_table.specs.World.{WorldState, Plain, world_record, hand_of, reached, after_hop, without_flight, mark_of, outcome}
-use Rattle.sm_table.specs.Standing.{WorldView, StandsFor, Follows, with_admission}
+use Rattle.sm_table.specs.Standing.{WorldView, view_of, StandsFor, Follows, with_admission}
 use Rattle.sm_table.proofs.Admissions.{entered, entered_parts, entered_keeps}
+use Rattle.sm_desk.specs.Desk.{DeskView}
+use Rattle.sm_ownership.specs.Tables.{TableView}
+use Rattle.sm_table.specs.Bodies.{BodiesView}
 use Rattle.sm_table.proofs.Parts.{parts_of, parts-from_StandsFor, Follows-unchanged, Follows-changed}
 
 none_of : {X : Type 0} (option : Option X) → is_some option ≡ false → option ≡ None
 none_of None is = refl
 none_of (Some x) is = absurd cc
 
--- there is no envelope at the place
-pub not_there : {Q R : Type 0} (service : Service Q R) (v now : WorldView Q) → v ≡ now → (w : WorldState Q) → StandsFor now w → (place : ℕ) → length v.in_flight ≤ place → Follows {R = R} now (Err NoEnvelope) (outcome service w Plain (Deliver place))
-not_there service v now same w given place past =
-    let stands = subst (λ u. StandsFor u w) (sym same) given in
-    let none : slice_get w.in_flight place ≡ None = slice_get_past w.in_flight place (subst (λ (flights : List (Flight _)). length flights ≤ place) stands.in_flight past) in
-    Follows-unchanged service w Plain (Deliver place) now now (Err NoEnvelope) given (rw none refl) refl
+-- what a server has in hand that has begun this request
+abbrev begun : {Q : Type 0} → ℕ → ℕ → Q → InHand Q
+begun server number request = record { server = server; work = Some (record { number = number; request = request }) }
+
+-- the bounds stay when a server has begun a request
+pub bounds_begun : {Q : Type 0} {bounds : List (List ℕ)} {desk_was : DeskView} {table_was : TableView} {bodies_was : BodiesView Q} {flights_was : List (Flight Q)} {hands_was : List (Option (InHand Q))} (now : WorldView Q) → view_of bounds desk_was table_was bodies_was flights_was hands_was ≡ now → (in_flight : List (Flight Q)) (shard server number : ℕ) (request : Q) (after : WorldView Q) → after ≡ with_admission (view_of bounds desk_was table_was bodies_was in_flight hands_was) shard (begun server number request) → after.bounds ≡ now.bounds
+bounds_begun {Q = Q} now same in_flight shard server number request after admitted = ap (λ (v : WorldView Q). v.bounds) admitted ∙ ap (λ (v : WorldView Q). v.bounds) same
+
+module _ {Q R : Type 0} (service : Service Q R) {bounds : List (List ℕ)} {desk_was : DeskView} {table_was : TableView} {bodies_was : BodiesView Q} {flights_was : List (Flight Q)} {hands_was : List (Option (InHand Q))} (now : WorldView Q) (same : view_of bounds desk_was table_was bodies_was flights_was hands_was ≡ now) (w : WorldState Q) (given : StandsFor now w) where
+  -- there is no envelope at the place
+  pub not_there : (place : ℕ) → length flights_was ≤ place → Follows {R = R} now (Err NoEnvelope) (outcome service w Plain (Deliver place))
+  not_there place past =
+      let stands : StandsFor (view_of bounds desk_was table_was bodies_was flights_was hands_was) w = subst (λ u. StandsFor u w) (sym same) given in
+      let none : slice_get w.in_flight place ≡ None = slice_get_past w.in_flight place (subst (λ (flights : List (Flight Q)). length flights ≤ place) stands.in_flight past) in
+      Follows-unchanged service w Plain (Deliver place) now now (Err NoEnvelope) given (rw none refl) refl
 
 -- a hop is a plain step
 plain_hop : {Q : Type 0} (R : Type 0) (in_flight : List (Flight Q)) (sent : Result (ℕ × EnvelopeView Q) (EnvelopeView Q)) → mark_of (Ok (after_hop {R = R} in_flight sent).0) ≡ Plain
 plain_hop R in_flight (Ok hop) = refl
 plain_hop R in_flight (Err envelope) = refl
 
-module _ {Q R : Type 0} (service : Service Q R) (v now : WorldView Q) (same : v ≡ now) (w : WorldState Q) (given : StandsFor now w) (place : ℕ) (flight : Flight Q) (there : slice_get v.in_flight place ≡ Some flight) (in_flight : List (Flight Q)) (gone : in_flight ≡ remove v.in_flight place) (shard : ℕ) (shard_is : shard ≡ flight.envelope.shard) (state : Record) (state_is : state ≡ record_at v.records shard) where
+module _ {Q R : Type 0} (service : Service Q R) {bounds : List (List ℕ)} {desk_was : DeskView} {table_was : TableView} {bodies_was : BodiesView Q} {flights_was : List (Flight Q)} {hands_was : List (Option (InHand Q))} (now : WorldView Q) (same : view_of bounds desk_was table_was bodies_was flights_was hands_was ≡ now) (w : WorldState Q) (given : StandsFor now w) (place : ℕ) (flight : Flight Q) (there : slice_get flights_was place ≡ Some flight) (in_flight : List (Flight Q)) (gone : in_flight ≡ remove flights_was place) (shard : ℕ) (shard_is : shard ≡ flight.envelope.shard) (state : Record) (state_is : state ≡ record_at table_was.records shard) where
+  abbrev v : WorldView Q
+  v = view_of bounds desk_was table_was bodies_was flights_was hands_was
+
   stands : StandsFor v w
   stands = subst (λ u. StandsFor u w) (sym same) given
 
@@ -98,10 +113,11 @@ module _ {Q R : Type 0} (service : Service Q R) (v now : WorldView Q) (same : v 
         (λ _. record { bodies = stands.bodies; each = stands.kept })
 
     -- the server is admitted
-    pub began : (hand : InHand Q) (after : WorldView Q) → None ≡ admit_fault v.ceiling (record_at v.records shard) flight.to mode → hand ≡ hand_of flight.to flight.envelope → after ≡ with_admission (record v { in_flight = in_flight }) shard hand → Follows after (Ok (Began flight.to)) (outcome service w Plain (Deliver place))
-    began hand after is hand_is admitted =
+    pub began : (number : ℕ) (request : Q) (after : WorldView Q) → None ≡ admit_fault v.ceiling (record_at v.records shard) flight.to mode → number ≡ flight.envelope.number → request ≡ flight.envelope.request → after ≡ with_admission (record v { in_flight = in_flight }) shard (begun flight.to number request) → Follows after (Ok (Began flight.to)) (outcome service w Plain (Deliver place))
+    began number request after is number_is request_is admitted =
         let left = without_flight w place in
         let work = hand_of flight.to flight.envelope in
+        let hand_is : begun flight.to number request ≡ work = ap (λ n. begun flight.to n request) number_is ∙ ap (λ q. begun flight.to flight.envelope.number q) request_is in
         Follows-changed service w Plain (Deliver place) after (Ok (Began flight.to)) (entered left flight.to flight.envelope.shard flight.envelope.mode work v.kept) v.kept stands.sound (reached_so None is)
         (λ sound. admitted
         ∙ ap (λ h. with_admission taken shard h) hand_is

@@ -19,10 +19,12 @@ use Rattle.sm_table.specs.Bodies.{BodiesView}
 use Rattle.sm_ownership.specs.Tables.{TableView, table_done}
 use Rattle.sm_body.specs.Service.{Service}
 use Rattle.sm_table.specs.World.{WorldState, Mark, Plain, Unserved, count_of, desk_of, ended, worked, served, outcome}
-use Rattle.sm_table.specs.Standing.{IsSound, WorldView, StandsFor, Follows}
+use Rattle.sm_table.specs.Standing.{IsSound, WorldView, view_of, StandsFor, Follows}
 use Rattle.sm_ownership.specs.lemmas.Growth.{fits-push, table_of-push, kept-push_none, kept-push_other, kept-push_some}
 use Rattle.sm_table.proofs.Parts.{parts_of, Keeps, parts-from_StandsFor, Follows-unchanged, Follows-changed}
 use Rattle.sm_table.proofs.Admissions.{stands-push}
+use Rattle.sm_desk.specs.Desk.{DeskView}
+use Rattle.sm_table.specs.declared.world.Flight.{Flight}
 use Rattle.sm_table.specs.lemmas.Entries.{hand_within}
 
 -- what is in hand, by its parts
@@ -66,14 +68,19 @@ served-none : {Q R : Type 0} (service : Service Q R) (w : WorldState Q) (mark : 
 served-none service w mark shard None none = refl
 served-none service w mark shard (Some hand) none = worked-none service w mark shard hand.server hand.work none
 
--- no server has begun a request on the shard
-pub not_begun : {Q R : Type 0} (service : Service Q R) (v now : WorldView Q) → v ≡ now → (w : WorldState Q) → StandsFor now w → (shard : ℕ) (hands : List (Option (InHand Q))) → None ≡ work_of (slice_index_or v.in_hand shard None) → hands ≡ v.in_hand → Follows (record v { in_hand = hands }) (Err NotHeld) (outcome service w Plain (Finish shard))
-not_begun service v now same w given shard hands none stays =
-    let stands = subst (λ u. StandsFor u w) (sym same) given in
-    let nothing : None ≡ work_of (slice_index_or w.in_hand shard None) = none ∙ ap (λ all. work_of (slice_index_or all shard None)) stands.in_hand in
-    Follows-unchanged service w Plain (Finish shard) (record v { in_hand = hands }) v (Err NotHeld) stands (served-none service w Plain shard (slice_index_or w.in_hand shard None) nothing) (ap (λ all. record v { in_hand = all }) stays)
+module _ {Q R : Type 0} (service : Service Q R) {bounds : List (List ℕ)} {desk_was : DeskView} {table_was : TableView} {bodies_was : BodiesView Q} {flights_was : List (Flight Q)} {hands_was : List (Option (InHand Q))} (now : WorldView Q) (same : view_of bounds desk_was table_was bodies_was flights_was hands_was ≡ now) (w : WorldState Q) (given : StandsFor now w) (shard : ℕ) where
+  -- no server has begun a request on the shard
+  pub not_begun : (hands : List (Option (InHand Q))) → None ≡ work_of (slice_index_or hands_was shard None) → hands ≡ hands_was → Follows {R = R} (view_of bounds desk_was table_was bodies_was flights_was hands) (Err NotHeld) (outcome service w Plain (Finish shard))
+  not_begun hands none stays =
+      let before = view_of bounds desk_was table_was bodies_was flights_was in
+      let stands : StandsFor (before hands_was) w = subst (λ u. StandsFor u w) (sym same) given in
+      let nothing : None ≡ work_of (slice_index_or w.in_hand shard None) = none ∙ ap (λ all. work_of (slice_index_or all shard None)) stands.in_hand in
+      Follows-unchanged service w Plain (Finish shard) (before hands) (before hands_was) (Err NotHeld) stands (served-none service w Plain shard (slice_index_or w.in_hand shard None) nothing) (ap (λ all. before all) stays)
 
-module _ {Q R : Type 0} (service : Service Q R) (v now : WorldView Q) (same : v ≡ now) (w : WorldState Q) (given : StandsFor now w) (shard : ℕ) (server : ℕ) (work : Work Q) (held : slice_index_or v.in_hand shard None ≡ in_hand server (Some work)) where
+module _ {Q R : Type 0} (service : Service Q R) {bounds : List (List ℕ)} {desk_was : DeskView} {table_was : TableView} {bodies_was : BodiesView Q} {flights_was : List (Flight Q)} {hands_was : List (Option (InHand Q))} (now : WorldView Q) (same : view_of bounds desk_was table_was bodies_was flights_was hands_was ≡ now) (w : WorldState Q) (given : StandsFor now w) (shard : ℕ) (server : ℕ) (work : Work Q) (held : slice_index_or hands_was shard None ≡ in_hand server (Some work)) where
+  abbrev v : WorldView Q
+  v = view_of bounds desk_was table_was bodies_was flights_was hands_was
+
   stands : StandsFor v w
   stands = subst (λ u. StandsFor u w) (sym same) given
 

@@ -5,75 +5,108 @@ use Rattle.std.proofs.lemmas.Bool.{cases_eq, cond_both}
 use Rattle.std.proofs.lemmas.List.{get_or-set_same, get_or-set_other, length-set}
 use Rattle.std.proofs.lemmas.List.Elements.{All-append, All-push, All-take, All-drop}
 use Rattle.sm_ownership.specs.declared.change.Change.{Change}
+use Rattle.sm_ownership.specs.declared.mode.Mode.TheVariants.{Direct}
 use Rattle.sm_ownership.specs.declared.record.Record.{Record}
 use Rattle.sm_table.specs.declared.world.Flight.{Flight}
 use Rattle.sm_table.specs.declared.hands.InHand.{InHand}
 use Rattle.sm_ownership.specs.History.{vacant, record_at, after_admit, after_change, after_done}
-use Rattle.sm_table.specs.Standing.{WorldView, IsTogether}
-use Rattle.sm_envelope.specs.Envelope.{EnvelopeView, one_hop_more, sent_on}
+use Rattle.sm_ownership.specs.Tables.{TableView, table_admitted, table_changed, table_done}
+use Rattle.sm_desk.specs.Desk.{DeskView}
+use Rattle.sm_table.specs.Bodies.{BodiesView}
+use Rattle.sm_table.specs.Standing.{IsTogether, view_of}
+use Rattle.sm_envelope.specs.Envelope.{EnvelopeView, forwarded, one_hop_more, sent_on}
+use Rattle.sm_ownership.specs.Rules.{forward_to}
+use Rattle.sm_table.specs.declared.world_answer.WorldAnswer.{WorldAnswer}
 use Rattle.sm_envelope.specs.declared.envelope.TheConstants.{MOST_HOPS}
 use Rattle.sm_table.specs.World.{after_hop, flight_to}
 
-module _ {Q : Type 0} (v : WorldView Q) (whole : IsTogether v) where
+-- a direct envelope that wasn't forwarded
+abbrev pub direct : {Q : Type 0} → ℕ → ℕ → Q → EnvelopeView Q
+direct number shard request = record { number = number; shard = shard; mode = Direct; hops = 0; request = request }
+
+module _ {Q : Type 0} {bounds : List (List ℕ)} {desk : DeskView} {table : TableView} {bodies : BodiesView Q} {in_flight : List (Flight Q)} {in_hand : List (Option (InHand Q))} (whole : IsTogether (view_of bounds desk table bodies in_flight in_hand)) where
   abbrev IsShardThere : Flight Q → Type 0
-  IsShardThere flight = flight.envelope.shard < length v.in_hand
+  IsShardThere flight = flight.envelope.shard < length in_hand
 
   -- another record of a shard, and another hand, which it admits
-  with_shard : (shard : ℕ) (state : Record) (hands : List (Option (InHand Q))) (now : WorldView Q) → now.bounds ≡ v.bounds → now.records ≡ slice_set v.records shard state → length now.kept ≡ length v.kept → All IsShardThere now.in_flight → now.in_hand ≡ hands → length hands ≡ length v.in_hand → ((other : ℕ) → (other ≡ shard → ⊥) → slice_index_or hands other None ≡ slice_index_or v.in_hand other None) → ((hand : InHand Q) → slice_index_or hands shard None ≡ Some hand → (record_at (slice_set v.records shard state) shard).admitted ≡ true) → IsTogether now
-  with_shard shard state hands now bounds records kept in_flight in_hand long others here =
-      let same_length : length now.in_hand ≡ length v.in_hand = ap length in_hand ∙ long in
-      record {
-        layout = ap length bounds ∙ whole.layout ∙ sym same_length;
-        table = ap length records ∙ length-set v.records shard state ∙ whole.table ∙ sym same_length;
-        bodies = kept ∙ whole.bodies ∙ sym same_length;
-        flights = subst (λ count. All (λ (flight : Flight Q). flight.envelope.shard < count) now.in_flight) (sym same_length) in_flight;
-        admitted = λ other hand is. admitted other hand (ap (λ all. slice_index_or all other None) (sym in_hand) ∙ is);
-      }
+  with_shard : (shard : ℕ) (state : Record) (desk_now : DeskView) (table_now : TableView) (bodies_now : BodiesView Q) (hands : List (Option (InHand Q))) → table_now.records ≡ slice_set table.records shard state → length bodies_now.kept ≡ length bodies.kept → length hands ≡ length in_hand → ((other : ℕ) → (other ≡ shard → ⊥) → slice_index_or hands other None ≡ slice_index_or in_hand other None) → ((hand : InHand Q) → slice_index_or hands shard None ≡ Some hand → (record_at (slice_set table.records shard state) shard).admitted ≡ true) → IsTogether (view_of bounds desk_now table_now bodies_now in_flight hands)
+  with_shard shard state desk_now table_now bodies_now hands records kept long others here = record {
+    layout = whole.layout ∙ sym long;
+    table = ap length records ∙ length-set table.records shard state ∙ whole.table ∙ sym long;
+    bodies = kept ∙ whole.bodies ∙ sym long;
+    flights = subst (λ count. All (λ (flight : Flight Q). flight.envelope.shard < count) in_flight) (sym long) whole.flights;
+    admitted = λ other hand is. admitted other hand is;
+  }
     where
-      admitted : (other : ℕ) (hand : InHand Q) → slice_index_or hands other None ≡ Some hand → (record_at now.records other).admitted ≡ true
+      admitted : (other : ℕ) (hand : InHand Q) → slice_index_or hands other None ≡ Some hand → (record_at table_now.records other).admitted ≡ true
       admitted other hand is = ap (λ all. (record_at all other).admitted) records ∙ ⊎_elim
-          (λ (at : other ≡ shard). ap (λ i. (record_at (slice_set v.records shard state) i).admitted) at ∙ here hand (ap (λ i. slice_index_or hands i None) (sym at) ∙ is))
-          (λ (apart : other ≡ shard → ⊥). ap (λ (r : Record). r.admitted) (get_or-set_other v.records shard other state vacant apart) ∙ whole.admitted other hand (sym (others other apart) ∙ is))
+          (λ (at : other ≡ shard). ap (λ i. (record_at (slice_set table.records shard state) i).admitted) at ∙ here hand (ap (λ i. slice_index_or hands i None) (sym at) ∙ is))
+          (λ (apart : other ≡ shard → ⊥). ap (λ (r : Record). r.admitted) (get_or-set_other table.records shard other state vacant apart) ∙ whole.admitted other hand (sym (others other apart) ∙ is))
           (cases_eq other shard)
 
   -- after a change of a shard's stand
-  pub IsTogether-changed : (shard : ℕ) (change : Change) (now : WorldView Q) → shard < length v.records → now.bounds ≡ v.bounds → now.records ≡ slice_set v.records shard (after_change (record_at v.records shard) change) → now.kept ≡ v.kept → now.in_flight ≡ v.in_flight → now.in_hand ≡ v.in_hand → IsTogether now
-  IsTogether-changed shard change now within bounds records kept in_flight in_hand =
-      with_shard shard (after_change (record_at v.records shard) change) v.in_hand now bounds records (ap length kept) (subst (All IsShardThere) (sym in_flight) whole.flights) in_hand refl (λ _ _. refl)
-      (λ hand is. ap (λ (r : Record). r.admitted) (get_or-set_same v.records shard (after_change (record_at v.records shard) change) vacant within) ∙ whole.admitted shard hand is)
+  pub IsTogether-changed : (shard : ℕ) (change : Change) (desk_now : DeskView) (table_now : TableView) → shard < length table.records → table_now ≡ table_changed table shard change → IsTogether (view_of bounds desk_now table_now bodies in_flight in_hand)
+  IsTogether-changed shard change desk_now table_now within changed =
+      with_shard shard (after_change (record_at table.records shard) change) desk_now table_now bodies in_hand (ap (λ (t : TableView). t.records) changed) refl refl (λ _ _. refl)
+      (λ hand is. ap (λ (r : Record). r.admitted) (get_or-set_same table.records shard (after_change (record_at table.records shard) change) vacant within) ∙ whole.admitted shard hand is)
 
   -- after the end of an admission
-  pub IsTogether-done : (shard : ℕ) (now : WorldView Q) → shard < length v.in_hand → now.bounds ≡ v.bounds → now.records ≡ slice_set v.records shard (after_done (record_at v.records shard)) → length now.kept ≡ length v.kept → now.in_flight ≡ v.in_flight → now.in_hand ≡ slice_set v.in_hand shard None → IsTogether now
-  IsTogether-done shard now within bounds records kept in_flight in_hand =
-      with_shard shard (after_done (record_at v.records shard)) (slice_set v.in_hand shard None) now bounds records kept (subst (All IsShardThere) (sym in_flight) whole.flights) in_hand (length-set v.in_hand shard None) (λ other apart. get_or-set_other v.in_hand shard other None None apart)
-      (λ hand is. let none = get_or-set_same v.in_hand shard None None within in absurd cc)
+  ended : (shard : ℕ) (table_now : TableView) (bodies_now : BodiesView Q) (hands : List (Option (InHand Q))) → shard < length in_hand → table_now ≡ table_done table shard → hands ≡ slice_set in_hand shard None → length bodies_now.kept ≡ length bodies.kept → IsTogether (view_of bounds desk table_now bodies_now in_flight hands)
+  ended shard table_now bodies_now hands within done is kept =
+      rw is (with_shard shard (after_done (record_at table.records shard)) desk table_now bodies_now (slice_set in_hand shard None) (ap (λ (t : TableView). t.records) done) kept (length-set in_hand shard None) (λ other apart. get_or-set_other in_hand shard other None None apart)
+      (λ hand held. let none = get_or-set_same in_hand shard None None within in absurd cc))
+
+  -- the shard keeps what it kept
+  pub IsTogether-done : (shard : ℕ) (table_now : TableView) (bodies_now : BodiesView Q) (hands : List (Option (InHand Q))) → shard < length in_hand → table_now ≡ table_done table shard → hands ≡ slice_set in_hand shard None → bodies_now.kept ≡ bodies.kept → IsTogether (view_of bounds desk table_now bodies_now in_flight hands)
+  IsTogether-done shard table_now bodies_now hands within done is kept = ended shard table_now bodies_now hands within done is (ap length kept)
+
+  -- or a request more
+  pub IsTogether-kept : (shard : ℕ) (table_now : TableView) (bodies_now : BodiesView Q) (hands : List (Option (InHand Q))) (request : Q) → shard < length in_hand → table_now ≡ table_done table shard → hands ≡ slice_set in_hand shard None → bodies_now.kept ≡ slice_set bodies.kept shard (slice_index_or bodies.kept shard [] ++ request ∷ []) → IsTogether (view_of bounds desk table_now bodies_now in_flight hands)
+  IsTogether-kept shard table_now bodies_now hands request within done is kept =
+      ended shard table_now bodies_now hands within done is (ap length kept ∙ length-set bodies.kept shard (slice_index_or bodies.kept shard [] ++ request ∷ []))
 
   -- after an admission
-  pub IsTogether-admitted : (shard : ℕ) (hand : InHand Q) (now : WorldView Q) → shard < length v.records → now.bounds ≡ v.bounds → now.records ≡ slice_set v.records shard (after_admit (record_at v.records shard)) → now.kept ≡ v.kept → now.in_flight ≡ v.in_flight → now.in_hand ≡ slice_set v.in_hand shard (Some hand) → IsTogether now
-  IsTogether-admitted shard hand now within bounds records kept in_flight in_hand =
-      with_shard shard (after_admit (record_at v.records shard)) (slice_set v.in_hand shard (Some hand)) now bounds records (ap length kept) (subst (All IsShardThere) (sym in_flight) whole.flights) in_hand (length-set v.in_hand shard (Some hand)) (λ other apart. get_or-set_other v.in_hand shard other (Some hand) None apart)
-      (λ _ _. ap (λ (r : Record). r.admitted) (get_or-set_same v.records shard (after_admit (record_at v.records shard)) vacant within))
+  pub IsTogether-admitted : (shard : ℕ) (hand : InHand Q) (table_now : TableView) (hands : List (Option (InHand Q))) → shard < length table.records → table_now ≡ table_admitted table shard → hands ≡ slice_set in_hand shard (Some hand) → IsTogether (view_of bounds desk table_now bodies in_flight hands)
+  IsTogether-admitted shard hand table_now hands within admitted is =
+      rw is (with_shard shard (after_admit (record_at table.records shard)) desk table_now bodies (slice_set in_hand shard (Some hand)) (ap (λ (t : TableView). t.records) admitted) refl (length-set in_hand shard (Some hand)) (λ other apart. get_or-set_other in_hand shard other (Some hand) None apart)
+      (λ _ _. ap (λ (r : Record). r.admitted) (get_or-set_same table.records shard (after_admit (record_at table.records shard)) vacant within)))
 
   -- with other envelopes in flight, for shards that are there
-  pub IsTogether-in_flight : (in_flight : List (Flight Q)) → All IsShardThere in_flight → IsTogether (record v { in_flight = in_flight })
-  IsTogether-in_flight in_flight all = record { layout = whole.layout; table = whole.table; bodies = whole.bodies; flights = all; admitted = whole.admitted }
+  IsTogether-in_flight : (flights : List (Flight Q)) → All IsShardThere flights → IsTogether (view_of bounds desk table bodies flights in_hand)
+  IsTogether-in_flight flights all = record { layout = whole.layout; table = whole.table; bodies = whole.bodies; flights = all; admitted = whole.admitted }
 
-  pub flights-push : (flight : Flight Q) → IsShardThere flight → All IsShardThere (v.in_flight ++ flight ∷ [])
-  flights-push flight there = All-push IsShardThere v.in_flight flight whole.flights there
+  -- with one more, for a shard that is there
+  pub IsTogether-sent : (shard to number : ℕ) (request : Q) (envelope : EnvelopeView Q) (flights : List (Flight Q)) → shard < length bounds → envelope ≡ direct number shard request → flights ≡ in_flight ++ flight_to to envelope ∷ [] → IsTogether (view_of bounds desk table bodies flights in_hand)
+  IsTogether-sent shard to number request envelope flights within is flights_are =
+      let its_shard : envelope.shard ≡ shard = ap (λ (e : EnvelopeView Q). e.shard) is in
+      let there : envelope.shard < length in_hand = omega (arith, whole.layout) in
+      IsTogether-in_flight flights (subst (All IsShardThere) (sym flights_are) (All-push IsShardThere in_flight (flight_to to envelope) whole.flights there))
 
-  pub flights-remove : (place : ℕ) → All IsShardThere (remove v.in_flight place)
-  flights-remove place = All-append IsShardThere _ _ (All-take IsShardThere place v.in_flight whole.flights) (All-drop IsShardThere (suc place) v.in_flight whole.flights)
+  flights-remove : (place : ℕ) → All IsShardThere (remove in_flight place)
+  flights-remove place = All-append IsShardThere _ _ (All-take IsShardThere place in_flight whole.flights) (All-drop IsShardThere (suc place) in_flight whole.flights)
 
   -- an envelope that is forwarded stays with its shard
-  pub flights-hop : (R : Type 0) (in_flight : List (Flight Q)) (envelope : EnvelopeView Q) (from : ℕ) (to : Option ℕ) → All IsShardThere in_flight → envelope.shard < length v.in_hand → All IsShardThere (after_hop {R = R} in_flight (sent_on envelope from to)).1
-  flights-hop R in_flight envelope from None all there = all
-  flights-hop R in_flight envelope from (Some to) all there =
-      cond_both (nat_lt envelope.hops MOST_HOPS) _ _ (λ (sent : Result (ℕ × EnvelopeView Q) (EnvelopeView Q)). All IsShardThere (after_hop {R = R} in_flight sent).1)
-      (λ _. All-push IsShardThere in_flight (flight_to to (one_hop_more envelope from)) all there)
+  flights-hop : (R : Type 0) (flights : List (Flight Q)) (envelope : EnvelopeView Q) (from : ℕ) (to : Option ℕ) → All IsShardThere flights → envelope.shard < length in_hand → All IsShardThere (after_hop {R = R} flights (sent_on envelope from to)).1
+  flights-hop R flights envelope from None all there = all
+  flights-hop R flights envelope from (Some to) all there =
+      cond_both (nat_lt envelope.hops MOST_HOPS) _ _ (λ (sent : Result (ℕ × EnvelopeView Q) (EnvelopeView Q)). All IsShardThere (after_hop {R = R} flights sent).1)
+      (λ _. All-push IsShardThere flights (flight_to to (one_hop_more envelope from)) all there)
       (λ _. all)
 
+  -- an envelope that came off the flights is forwarded, or refused
+  pub IsTogether-hop : {R : Type 0} (place : ℕ) (envelope : EnvelopeView Q) (state : Record) (from : ℕ) (left flights : List (Flight Q)) (answer : WorldAnswer R) → left ≡ remove in_flight place → envelope.shard < length table.records → (answer, flights) ≡ after_hop left (forwarded envelope state from) → IsTogether (view_of bounds desk table bodies flights in_hand)
+  IsTogether-hop {R = R} place envelope state from left flights answer left_is there hop =
+      let all : All IsShardThere left = subst (All IsShardThere) (sym left_is) (flights-remove place) in
+      let onward = flights-hop R left envelope from (forward_to state from) all (omega (arith, there, whole.table)) in
+      let as_hopped : flights ≡ (after_hop {R = R} left (forwarded envelope state from)).1 = ap (λ (pair : WorldAnswer R × List (Flight Q)). pair.1) hop in
+      IsTogether-in_flight flights (subst (All IsShardThere) (sym as_hopped) onward)
+
+  -- or not in flight any more
+  pub IsTogether-remove : (place : ℕ) (left : List (Flight Q)) → left ≡ remove in_flight place → IsTogether (view_of bounds desk table bodies left in_hand)
+  IsTogether-remove place left left_is = IsTogether-in_flight left (subst (All IsShardThere) (sym left_is) (flights-remove place))
+
   -- the shard of an envelope in flight has a record
-  pub flight_there : (place : ℕ) (flight : Flight Q) → place < length v.in_flight → flight ≡ slice_index_or v.in_flight place flight → flight.envelope.shard < length v.records
+  pub flight_there : (place : ℕ) (flight : Flight Q) → place < length in_flight → flight ≡ slice_index_or in_flight place flight → flight.envelope.shard < length table.records
   flight_there place flight within is =
       let there : IsShardThere flight = subst IsShardThere (sym is) (whole.flights place flight within) in
       omega (arith, whole.table)

@@ -13,13 +13,15 @@ use Rattle.sm_table.specs.declared.hands.Work.{Work}
 use Rattle.sm_table.specs.declared.step.Step.TheVariants.{Hold, Free}
 use Rattle.sm_table.specs.declared.world_answer.WorldAnswer.TheVariants.{Made}
 use Rattle.sm_table.specs.declared.world_fault.WorldFault.TheVariants.{NotHeld}
-use Rattle.sm_desk.specs.Desk.{is_known}
+use Rattle.sm_desk.specs.Desk.{is_known, DeskView}
 use Rattle.sm_table.specs.Hands.{is_alone}
 use Rattle.sm_body.specs.Service.{Service}
 use Rattle.sm_table.specs.World.{WorldState, Plain, count_of, world_record, ended, let_go, freed, outcome}
-use Rattle.sm_table.specs.Standing.{WorldView, StandsFor, Follows, with_admission}
+use Rattle.sm_table.specs.Standing.{WorldView, view_of, StandsFor, Follows, with_admission}
 use Rattle.sm_table.proofs.Admissions.{entered, entered_parts, entered_keeps}
 use Rattle.sm_table.proofs.Endings.{in_hand, done_parts, done_parts_of}
+use Rattle.sm_table.specs.Bodies.{BodiesView}
+use Rattle.sm_table.specs.declared.world.Flight.{Flight}
 use Rattle.sm_table.proofs.Parts.{parts-from_StandsFor, Follows-unchanged, Follows-changed}
 
 in_hand-alone : {Q : Type 0} (own : ℕ) (some : Option (Work Q)) → true ≡ is_none some → in_hand own some ≡ in_hand own None
@@ -39,7 +41,10 @@ freed-not_alone : {Q R : Type 0} (w : WorldState Q) (shard : ℕ) (hand : Option
 freed-not_alone w shard None alone = refl
 freed-not_alone w shard (Some hand) alone = let_go-some w shard hand.server hand.work alone
 
-module _ {Q R : Type 0} (service : Service Q R) (v now : WorldView Q) (same : v ≡ now) (w : WorldState Q) (given : StandsFor now w) (shard : ℕ) (within : shard < length v.records) where
+module _ {Q R : Type 0} (service : Service Q R) {bounds : List (List ℕ)} {desk_was : DeskView} {table_was : TableView} {bodies_was : BodiesView Q} {flights_was : List (Flight Q)} {hands_was : List (Option (InHand Q))} (now : WorldView Q) (same : view_of bounds desk_was table_was bodies_was flights_was hands_was ≡ now) (w : WorldState Q) (given : StandsFor now w) (shard : ℕ) (within : shard < length table_was.records) where
+  abbrev v : WorldView Q
+  v = view_of bounds desk_was table_was bodies_was flights_was hands_was
+
   stands : StandsFor v w
   stands = subst (λ u. StandsFor u w) (sym same) given
 

@@ -1,16 +1,23 @@
 -- An envelope in flight that is lost, in the parts and in the world that they stand for.
 use Rattle.std.proofs.Common.{◌≡◌, ℕ, ◌<◌, true, List, length, refl, sym, ap, subst, ◌∙◌}
-use Rattle.std.specs.Prelude.{Ok, nat_lt, remove}
+use Rattle.std.specs.Prelude.{Ok, nat_lt, remove, Option}
 use Rattle.std.proofs.lemmas.Bool.{lt-ltb}
 use Rattle.sm_table.specs.declared.world.Flight.{Flight}
 use Rattle.sm_table.specs.declared.step.Step.TheVariants.{Lose}
 use Rattle.sm_table.specs.declared.world_answer.WorldAnswer.TheVariants.{Made}
 use Rattle.sm_body.specs.Service.{Service}
 use Rattle.sm_table.specs.World.{WorldState, Plain, without_flight, outcome}
-use Rattle.sm_table.specs.Standing.{WorldView, StandsFor, Follows}
+use Rattle.sm_table.specs.Standing.{WorldView, view_of, StandsFor, Follows}
+use Rattle.sm_desk.specs.Desk.{DeskView}
+use Rattle.sm_ownership.specs.Tables.{TableView}
+use Rattle.sm_table.specs.Bodies.{BodiesView}
+use Rattle.sm_table.specs.declared.hands.InHand.{InHand}
 use Rattle.sm_table.proofs.Parts.{parts-from_StandsFor, Follows-changed}
 
-module _ {Q R : Type 0} (service : Service Q R) (v now : WorldView Q) (same : v ≡ now) (w : WorldState Q) (given : StandsFor now w) (place : ℕ) (there : place < length v.in_flight) where
+module _ {Q R : Type 0} (service : Service Q R) {bounds : List (List ℕ)} {desk_was : DeskView} {table_was : TableView} {bodies_was : BodiesView Q} {flights_was : List (Flight Q)} {hands_was : List (Option (InHand Q))} (now : WorldView Q) (same : view_of bounds desk_was table_was bodies_was flights_was hands_was ≡ now) (w : WorldState Q) (given : StandsFor now w) (place : ℕ) (there : place < length flights_was) where
+  abbrev v : WorldView Q
+  v = view_of bounds desk_was table_was bodies_was flights_was hands_was
+
   stands : StandsFor v w
   stands = subst (λ u. StandsFor u w) (sym same) given
 

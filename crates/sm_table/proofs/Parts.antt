@@ -9,9 +9,11 @@ use Rattle.sm_table.specs.declared.world_answer.WorldAnswer.{WorldAnswer}
 use Rattle.sm_table.specs.declared.world_fault.WorldFault.{WorldFault}
 use Rattle.sm_desk.specs.Desk.{DeskView}
 use Rattle.sm_ownership.specs.History.{kept}
+use Rattle.sm_ownership.specs.Tables.{TableView}
+use Rattle.sm_table.specs.Bodies.{BodiesView}
 use Rattle.sm_body.specs.Service.{Service}
 use Rattle.sm_table.specs.World.{WorldState, Mark, Outcome, count_of, desk_of, world_table, outcome}
-use Rattle.sm_table.specs.Standing.{IsSound, WorldView, StandsFor, Follows}
+use Rattle.sm_table.specs.Standing.{IsSound, WorldView, view_of, StandsFor, Follows}
 use Rattle.sm_table.specs.lemmas.Soundness.{sound_next}
 
 -- the parts of a world, where the bodies keep these lists
@@ -22,6 +24,14 @@ parts_of w lists = record { bounds = w.frame.bounds; desk = desk_of w; records =
 pub record Keeps {Q : Type 0} (w : WorldState Q) (lists : List (List Q)) : Type 0 where
   pub bodies : length lists ≡ count_of w
   pub each : (shard : ℕ) → shard < count_of w → slice_index_or lists shard [] ≡ kept w.history shard
+
+-- the bounds that the parts show
+pub bounds_shown : {Q : Type 0} {bounds : List (List ℕ)} {desk : DeskView} {table : TableView} {bodies : BodiesView Q} {in_flight : List (Flight Q)} {in_hand : List (Option (InHand Q))} (now : WorldView Q) → view_of bounds desk table bodies in_flight in_hand ≡ now → bounds ≡ now.bounds
+bounds_shown {Q = Q} now same = ap (λ (v : WorldView Q). v.bounds) same
+
+-- a shard that is there is one of the layout
+pub within_inside : {Q : Type 0} {bounds : List (List ℕ)} {desk : DeskView} {table : TableView} {bodies : BodiesView Q} {in_flight : List (Flight Q)} {in_hand : List (Option (InHand Q))} (now : WorldView Q) → view_of bounds desk table bodies in_flight in_hand ≡ now → (shard : ℕ) → shard < length now.bounds → shard < length bounds
+within_inside {Q = Q} now same shard within = subst (λ (v : WorldView Q). shard < length v.bounds) (sym same) within
 
 -- the parts of a sound world stand for it
 pub StandsFor-parts_of : {Q : Type 0} (w : WorldState Q) (lists : List (List Q)) → Keeps w lists → IsSound w → StandsFor (parts_of w lists) w

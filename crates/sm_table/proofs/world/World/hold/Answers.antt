@@ -10,4 +10,4 @@ returns-clause-stands g c = λ w stands.
     let inside : c.args.k < length c.self.inside.table.records = omega arith in
     let within = subst (λ (v : WorldView g.row.S-Request.Denot). c.args.k < length v.records) c.self.view_is inside in
     let knows = ap (λ (v : WorldView g.row.S-Request.Denot). is_known v.desk.servers c.args.server) (sym c.self.view_is) in
-    held_by (meaning_of g.S.Service.initial g.S.Service.next g.S.Service.answer g.S.Service.key_of) c.args.self.now c.args.self.now refl w stands c.args.k within c.args.server c.admit.new.self (rw (sym c.if-not-knows.ensures) at knows) c.in_default.ensures.fault c.in_default.ensures.admitted
+    held_by (meaning_of g.S.Service.initial g.S.Service.next g.S.Service.answer g.S.Service.key_of) c.args.self.now refl w stands c.args.k within c.args.server c.admit.new.self (rw (sym c.if-not-knows.ensures) at knows) c.in_default.ensures.fault c.in_default.ensures.admitted

@@ -11,7 +11,7 @@ use Rattle.sm_table.proofs.world.World.new.Goals as goal
 pub invariant_of-result : goal.invariant_of-result
 invariant_of-result g c =
     let bodies : length c.args.bodies.items ≡ length c.args.setup.layout = omega (arith, c.args.bodies.ok.0, c.requires.bodies) in
-    IsTogether-empty _ (length c.args.setup.layout) refl
+    IsTogether-empty (length c.args.setup.layout) refl
     (c.in_ok-new.ensures.records ∙ ap (λ count. replicate count vacant) c.count-count.ensures.value)
     (ap length c.new-2.ensures.kept ∙ length-map c.args.bodies.items g.S.Service.requests ∙ bodies)
     c.new-3.ensures.items
@@ -20,7 +20,7 @@ invariant_of-result g c =
 pub returns : goal.returns
 returns g c =
     let bodies : length c.args.bodies.items ≡ length c.args.setup.layout = omega (arith, c.args.bodies.ok.0, c.requires.bodies) in
-    StandsFor-empty (setup_frame c.args.setup (map g.S.Service.limit c.args.bodies.items)) _
+    StandsFor-empty (setup_frame c.args.setup (map g.S.Service.limit c.args.bodies.items))
     (record { layout = c.count-count.ensures.is_layout; servers = subst (λ desk. All IsServer desk.servers) c.desk.view_is c.desk.invariant })
     refl refl c.requires.vacant
     (c.in_ok-new.ensures.records ∙ ap (λ count. replicate count vacant) c.count-count.ensures.value)
