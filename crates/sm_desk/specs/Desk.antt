@@ -5,12 +5,11 @@ use Rattle.std.specs.Option.{option_map}
 use Rattle.sm_ranges.specs.declared.stand.Stand.{Stand}
 use Rattle.sm_ranges.specs.declared.stand.Stand.TheVariants.{Vacant}
 use Rattle.sm_ownership.specs.declared.change.Change.{Change as AnyChange}
-use Rattle.sm_ownership.specs.declared.change_fault.ChangeFault.{ChangeFault}
-use Rattle.sm_ownership.specs.declared.change_fault.ChangeFault.TheVariants.{UnknownShard as NoShard, WrongPhase as NotItsTurn, SameServer as NotAnother, Spent as HasSpent, Busy as IsBusy}
+use Rattle.sm_ownership.specs.declared.change_fault.ChangeFault.TheVariants.{UnknownShard}
 use Rattle.sm_desk.specs.declared.command.Command.{Command}
 use Rattle.sm_desk.specs.declared.command.Command.TheVariants.{Change}
 use Rattle.sm_desk.specs.declared.command.CommandFault.{CommandFault}
-use Rattle.sm_desk.specs.declared.command.CommandFault.TheVariants.{UnknownShard, UnknownServer, WrongPhase, SameServer, Spent, Busy}
+use Rattle.sm_desk.specs.declared.command.CommandFault.TheVariants.{UnknownServer, Change as ChangeRefused}
 use Rattle.sm_ownership.specs.Rules.{stand_after, phase_fault, newly_named}
 use Rattle.sm_ownership.specs.Tables.{change_fault_of}
 
@@ -29,20 +28,12 @@ is_unknown servers (Some server) = not (is_known servers server)
 abbrev pub stand_at : List Stand → ℕ → Stand
 stand_at stands shard = slice_index_or stands shard Vacant
 
--- a refusal of the table, as one of a command
-abbrev pub command_fault_from : ChangeFault → CommandFault
-command_fault_from NoShard = UnknownShard
-command_fault_from NotItsTurn = WrongPhase
-command_fault_from NotAnother = SameServer
-command_fault_from (HasSpent state) = Spent state
-command_fault_from (IsBusy state) = Busy state
-
 -- the first reason for which the desk refuses a change of a shard
 abbrev pub desk_change_fault : DeskView → ℕ → AnyChange → Option CommandFault
 desk_change_fault desk shard change =
-    if not (nat_lt shard (length desk.stands)) then Some UnknownShard
+    if not (nat_lt shard (length desk.stands)) then Some (ChangeRefused UnknownShard)
     else if is_unknown desk.servers (newly_named change) then Some UnknownServer
-    else option_map (λ fault. command_fault_from (change_fault_of fault)) (phase_fault (stand_at desk.stands shard) change)
+    else option_map (λ fault. ChangeRefused (change_fault_of fault)) (phase_fault (stand_at desk.stands shard) change)
 
 -- the first reason for which the desk refuses a command
 abbrev pub desk_fault : DeskView → Command → Option CommandFault

@@ -70,7 +70,7 @@ impl Desk {
         ensures { result_err result ≡ desk_change_fault self.now k change.now }
     {
         if k.index() >= self.stands.len() {
-            return Err(CommandFault::UnknownShard);
+            return Err(ChangeFault::UnknownShard.into());
         }
         if let Some(server) = change.newly_named() {
             if !self.knows(server) {

@@ -10,6 +10,7 @@ use Rattle.sm_map.specs.KeyMap.{Held, Pair}
 use Rattle.sm_map.specs.KeyMap.{Text as HeldText, Count as HeldCount}
 use Rattle.sm_ownership.specs.declared.admit_fault.AdmitFault.{AdmitFault}
 use Rattle.sm_ownership.specs.declared.admit_fault.AdmitFault.TheVariants as admit
+use Rattle.sm_ownership.specs.declared.change_fault.ChangeFault.TheVariants as change
 use Rattle.sm_ownership.specs.declared.record.Record.{Record}
 use Rattle.sm_ranges.specs.Stand.{other_of, owner_of}
 use Rattle.sm_ranges.specs.declared.stand.Stand.{Stand}
@@ -34,12 +35,12 @@ line_fault_name NotHere = codes "NotHere"
 
 -- the name of a command's refusal
 abbrev pub command_fault_name : CommandFault → List ℕ
-command_fault_name command.UnknownShard = codes "UnknownShard"
 command_fault_name command.UnknownServer = codes "UnknownServer"
-command_fault_name command.WrongPhase = codes "WrongPhase"
-command_fault_name command.SameServer = codes "SameServer"
-command_fault_name (command.Spent state) = codes "Spent"
-command_fault_name (command.Busy state) = codes "Busy"
+command_fault_name (command.Change change.UnknownShard) = codes "UnknownShard"
+command_fault_name (command.Change change.WrongPhase) = codes "WrongPhase"
+command_fault_name (command.Change change.SameServer) = codes "SameServer"
+command_fault_name (command.Change (change.Spent state)) = codes "Spent"
+command_fault_name (command.Change (change.Busy state)) = codes "Busy"
 
 -- the name of an admission's refusal
 abbrev pub admit_fault_name : AdmitFault → List ℕ

@@ -4,6 +4,7 @@ ghost use Rattle.sm_script.specs.Answers.{command_fault_name, admit_fault_name, 
 use sm_desk::command::CommandFault;
 use sm_envelope::refusal::Refusal;
 use sm_ownership::admit_fault::AdmitFault;
+use sm_ownership::change_fault::ChangeFault;
 
 /// Why a call of a script was refused.
 #[derive(Clone, Copy, Debug, PartialEq, Eq, Drop)]
@@ -45,12 +46,12 @@ fn command_fault_name(fault: CommandFault) -> &'static str
     ensures { result.now ≡ command_fault_name fault }
 {
     match fault {
-        CommandFault::UnknownShard => "UnknownShard",
         CommandFault::UnknownServer => "UnknownServer",
-        CommandFault::WrongPhase => "WrongPhase",
-        CommandFault::SameServer => "SameServer",
-        CommandFault::Spent(_) => "Spent",
-        CommandFault::Busy(_) => "Busy",
+        CommandFault::Change(ChangeFault::UnknownShard) => "UnknownShard",
+        CommandFault::Change(ChangeFault::WrongPhase) => "WrongPhase",
+        CommandFault::Change(ChangeFault::SameServer) => "SameServer",
+        CommandFault::Change(ChangeFault::Spent(_)) => "Spent",
+        CommandFault::Change(ChangeFault::Busy(_)) => "Busy",
     }
 }
 

@@ -9,6 +9,7 @@ use Rattle.sm_ownership.specs.declared.change.Change.{Change}
 use Rattle.sm_ownership.specs.declared.change_fault.ChangeFault.{ChangeFault}
 use Rattle.sm_desk.specs.declared.command.Command.TheVariants.{Change as ChangeOf}
 use Rattle.sm_desk.specs.declared.command.CommandFault.{CommandFault}
+use Rattle.sm_desk.specs.declared.command.CommandFault.TheVariants.{Change as ChangeRefused}
 use Rattle.sm_ownership.specs.declared.entry.Entry.{Entry}
 use Rattle.sm_ownership.specs.declared.entry.Kind.TheVariants.{Change as Changed}
 use Rattle.sm_ownership.specs.declared.record.Record.{Record}
@@ -16,7 +17,7 @@ use Rattle.sm_table.specs.declared.step.Step.TheVariants.{Control}
 use Rattle.sm_table.specs.declared.world_answer.WorldAnswer.TheVariants.{Made}
 use Rattle.sm_table.specs.declared.world_fault.WorldFault.TheVariants.{Command as CommandRefused}
 use Rattle.sm_ownership.specs.Rules.{stand_after, phase_fault}
-use Rattle.sm_desk.specs.Desk.{DeskView, stand_at, desk_change_fault, command_fault_from, desk_after}
+use Rattle.sm_desk.specs.Desk.{DeskView, stand_at, desk_change_fault, desk_after}
 use Rattle.sm_desk.specs.lemmas.Changes.{let_through}
 use Rattle.sm_ownership.specs.History.{vacant, after_change}
 use Rattle.sm_ownership.specs.Tables.{TableView, record_fault, apply_fault, table_changed}
@@ -43,11 +44,11 @@ module _ {Q R : Type 0} (service : Service Q R) (w : WorldState Q) (sound : IsSo
   phase = ap (λ stand. phase_fault stand change) (sym same_stand) ∙ (let_through (desk_of w) shard change (sym none)).phase
 
   -- where the desk lets a change through, the table refuses it by its record alone
-  refusal : (fault : Option ChangeFault) → fault ≡ apply_fault (record { records = world_table w; ceiling = w.frame.ceiling }) shard change → table_fault w.frame.ceiling (world_record w shard) ≡ option_map command_fault_from fault
+  refusal : (fault : Option ChangeFault) → fault ≡ apply_fault (record { records = world_table w; ceiling = w.frame.ceiling }) shard change → table_fault w.frame.ceiling (world_record w shard) ≡ option_map (λ one. ChangeRefused one) fault
   refusal fault is =
       let inside : nat_lt shard (length (world_table w)) ≡ true = lt-ltb _ _ change_within in
       let by_record : fault ≡ record_fault w.frame.ceiling (world_record w shard) = is ∙ rw (inside, phase) refl in
-      ap (option_map command_fault_from) (sym by_record)
+      ap (option_map (λ one. ChangeRefused one)) (sym by_record)
 
   abbrev changed_world : WorldState Q
   changed_world = with_entry w 0 shard (Changed change)
@@ -89,11 +90,11 @@ module _ {Q R : Type 0} (service : Service Q R) {bounds : List (List ℕ)} {desk
     as_of_world fault is = is ∙ ap (λ records. apply_fault (record { records = records; ceiling = v.ceiling }) shard change) stands.records ∙ ap (λ ceiling. apply_fault (record { records = world_table w; ceiling = ceiling }) shard change) stands.ceiling
 
     -- the table refuses it
-    pub refused_by_table : (fault : ChangeFault) (table : TableView) → Some fault ≡ apply_fault (record { records = v.records; ceiling = v.ceiling }) shard change → table ≡ record { records = v.records; ceiling = v.ceiling } → Follows (record v { records = table.records; ceiling = table.ceiling }) (Err (CommandRefused (command_fault_from fault))) (outcome service w Plain (Control (ChangeOf shard change)))
+    pub refused_by_table : (fault : ChangeFault) (table : TableView) → Some fault ≡ apply_fault (record { records = v.records; ceiling = v.ceiling }) shard change → table ≡ record { records = v.records; ceiling = v.ceiling } → Follows (record v { records = table.records; ceiling = table.ceiling }) (Err (CommandRefused (ChangeRefused fault))) (outcome service w Plain (Control (ChangeOf shard change)))
     refused_by_table fault table is unchanged =
-        let refused : table_fault w.frame.ceiling (world_record w shard) ≡ Some (command_fault_from fault) = refusal service w stands.sound shard change allowed (Some fault) (as_of_world (Some fault) is) in
+        let refused : table_fault w.frame.ceiling (world_record w shard) ≡ Some (ChangeRefused fault) = refusal service w stands.sound shard change allowed (Some fault) (as_of_world (Some fault) is) in
         let through : desk_change_fault (desk_of w) shard change ≡ None = sym allowed in
-        Follows-unchanged service w Plain (Control (ChangeOf shard change)) (record v { records = table.records; ceiling = table.ceiling }) v (Err (CommandRefused (command_fault_from fault))) stands (rw (through, refused) refl) (ap (λ (t : TableView). record v { records = t.records; ceiling = t.ceiling }) unchanged)
+        Follows-unchanged service w Plain (Control (ChangeOf shard change)) (record v { records = table.records; ceiling = table.ceiling }) v (Err (CommandRefused (ChangeRefused fault))) stands (rw (through, refused) refl) (ap (λ (t : TableView). record v { records = t.records; ceiling = t.ceiling }) unchanged)
 
     -- neither does
     pub made : (table : TableView) (desk : DeskView) → None ≡ apply_fault (record { records = v.records; ceiling = v.ceiling }) shard change → table ≡ table_changed (record { records = v.records; ceiling = v.ceiling }) shard change → desk ≡ desk_after v.desk (ChangeOf shard change) → Follows (record v { desk = desk; records = table.records; ceiling = table.ceiling }) (Ok Made) (outcome service w Plain (Control (ChangeOf shard change)))

@@ -8,6 +8,7 @@ use Rattle.sm_ownership.specs.declared.change.Change.{Change}
 use Rattle.sm_desk.specs.declared.command.Command.{Command}
 use Rattle.sm_desk.specs.declared.command.Command.TheVariants.{Change as ChangeOf}
 use Rattle.sm_desk.specs.declared.command.CommandFault.{CommandFault}
+use Rattle.sm_desk.specs.declared.command.CommandFault.TheVariants.{Change as ChangeRefused}
 use Rattle.sm_ownership.specs.declared.entry.Entry.{Entry}
 use Rattle.sm_ownership.specs.declared.entry.Kind.{Kind}
 use Rattle.sm_ownership.specs.declared.entry.Kind.TheVariants.{Change as Changed, Admit, Done}
@@ -23,7 +24,7 @@ use Rattle.sm_table.specs.declared.world_answer.WorldAnswer.{WorldAnswer}
 use Rattle.sm_table.specs.declared.world_answer.WorldAnswer.TheVariants.{Made, Seen, Sent, Began, Forwarded, Refused, Replied}
 use Rattle.sm_table.specs.declared.world_fault.WorldFault.{WorldFault}
 use Rattle.sm_table.specs.declared.world_fault.WorldFault.TheVariants.{Command as CommandRefused, Admit as AdmitRefused, UnknownShard, UnknownServer, NoEnvelope, NotHeld, NoMemory}
-use Rattle.sm_desk.specs.Desk.{DeskView, is_known, desk_fault, command_fault_from}
+use Rattle.sm_desk.specs.Desk.{DeskView, is_known, desk_fault}
 use Rattle.sm_envelope.specs.Envelope.{EnvelopeView, sent_on}
 use Rattle.sm_ownership.specs.History.{record_at, table_of, kept}
 use Rattle.sm_ownership.specs.Rules.{admit_fault, forward_to}
@@ -81,7 +82,7 @@ desk_of w = record { servers = w.frame.servers; stands = map (λ state. state.st
 
 -- what the table refuses of a change that the desk lets through
 abbrev pub table_fault : ℕ → Record → Option CommandFault
-table_fault ceiling state = option_map command_fault_from (record_fault ceiling state)
+table_fault ceiling state = option_map (λ fault. ChangeRefused fault) (record_fault ceiling state)
 
 abbrev pub controlled : {Q R : Type 0} → WorldState Q → ℕ → Change → Option CommandFault → Outcome Q R
 controlled w shard change (Some fault) = (Err (CommandRefused fault), w)

@@ -4,6 +4,7 @@ use sm_desk::{Command, CommandFault};
 use sm_envelope::Refusal;
 use sm_ownership::admit_fault::AdmitFault;
 use sm_ownership::change::Change;
+use sm_ownership::change_fault::ChangeFault;
 use sm_ownership::record::Record;
 use sm_ranges::server_id::ServerId;
 use sm_ranges::shard_id::ShardId;
@@ -263,7 +264,7 @@ fn texts_of_answers(rt: HostRuntime) -> Result<(), Fail> {
             "refused Spent",
         ),
         (
-            Answer::Refused(Refused::Command(CommandFault::WrongPhase)),
+            Answer::Refused(Refused::Command(CommandFault::Change(ChangeFault::WrongPhase))),
             "refused WrongPhase",
         ),
         (Answer::Refused(Refused::NotHeld), "refused NotHeld"),

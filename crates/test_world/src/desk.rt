@@ -1,6 +1,7 @@
 use crate::common::shard;
 use sm_desk::{Command, CommandFault, Desk};
 use sm_ownership::change::Change;
+use sm_ownership::change_fault::ChangeFault;
 use sm_ranges::server_id::ServerId;
 use std::test::Fail;
 
@@ -12,7 +13,7 @@ fn commits_a_command(rt: HostRuntime) -> Result<(), Fail> {
     let assign = Command::Change(k, Change::Assign(one));
     desk.check(&assign)?;
     desk.commit(assign);
-    assert_eq!(rt; desk.check(&assign), Err(CommandFault::WrongPhase));
+    assert_eq!(rt; desk.check(&assign), Err(CommandFault::Change(ChangeFault::WrongPhase)));
     Ok(())
 }
 
@@ -26,7 +27,7 @@ fn checks_commands(rt: HostRuntime) -> Result<(), Fail> {
         ),
         (
             Command::Change(k, Change::PrepareAddShard(one)),
-            CommandFault::SameServer,
+            CommandFault::Change(ChangeFault::SameServer),
         ),
     ];
     let mut desk = Desk::plain(rt.alloc(), 2, &[one])?;

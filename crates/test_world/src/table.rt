@@ -3,6 +3,7 @@ use sm_desk::{Command, CommandFault, Desk};
 use sm_envelope::Refusal;
 use sm_ownership::admit_fault::AdmitFault;
 use sm_ownership::change::Change;
+use sm_ownership::change_fault::ChangeFault;
 use sm_ownership::record::Record;
 use sm_ranges::key::Key;
 use sm_ranges::layout::Layout;
@@ -101,8 +102,8 @@ fn admitted(owner: ServerId, generation: u64) -> Record {
     }
 }
 
-fn not_changed(fault: CommandFault) -> Told {
-    Told::Fault(WorldFault::Command(fault))
+fn not_changed(fault: ChangeFault) -> Told {
+    Told::Fault(WorldFault::Command(CommandFault::Change(fault)))
 }
 
 fn told_of(answer: &WorldAnswer<Reply>) -> Told {
@@ -239,15 +240,15 @@ fn names_the_first_fault(rt: HostRuntime) -> Result<(), Fail> {
         (Act::Lose(0), Told::Fault(WorldFault::NoEnvelope)),
         (
             Act::Change(unknown, Change::Assign(five)),
-            not_changed(CommandFault::UnknownShard),
+            not_changed(ChangeFault::UnknownShard),
         ),
         (
             Act::Change(k, Change::Reassign(five)),
-            not_changed(CommandFault::UnknownServer),
+            Told::Fault(WorldFault::Command(CommandFault::UnknownServer)),
         ),
         (
             Act::Change(k, Change::Pause),
-            not_changed(CommandFault::WrongPhase),
+            not_changed(ChangeFault::WrongPhase),
         ),
     ];
     let mut world = new_world(rt.alloc())?;

@@ -5,7 +5,8 @@ use Rattle.std.proofs.lemmas.Bool.{ltb-true}
 use Rattle.sm_ownership.specs.declared.change.Change.{Change}
 use Rattle.sm_ownership.specs.Rules.{phase_fault, newly_named}
 use Rattle.sm_ownership.specs.Tables.{change_fault_of}
-use Rattle.sm_desk.specs.Desk.{DeskView, desk_change_fault, command_fault_from, is_unknown, stand_at}
+use Rattle.sm_desk.specs.declared.command.CommandFault.TheVariants.{Change as ChangeRefused}
+use Rattle.sm_desk.specs.Desk.{DeskView, desk_change_fault, is_unknown, stand_at}
 
 -- the shard is there, the server that the change newly names exists, and the change begins from the shard's stand
 pub record IsLetThrough (desk : DeskView) (shard : ℕ) (change : Change) : Type 0 where
@@ -22,5 +23,5 @@ no_fault false unknown x y fault of none = absurd cc
 
 pub let_through : (desk : DeskView) (shard : ℕ) (change : Change) → desk_change_fault desk shard change ≡ None → IsLetThrough desk shard change
 let_through desk shard change none =
-    let all = no_fault (nat_lt shard (length desk.stands)) (is_unknown desk.servers (newly_named change)) _ _ (phase_fault (stand_at desk.stands shard) change) (λ fault. command_fault_from (change_fault_of fault)) none in
+    let all = no_fault (nat_lt shard (length desk.stands)) (is_unknown desk.servers (newly_named change)) _ _ (phase_fault (stand_at desk.stands shard) change) (λ fault. ChangeRefused (change_fault_of fault)) none in
     record { within = ltb-true _ _ all.0; known = all.1; phase = all.2 }

@@ -18,7 +18,8 @@ use Rattle.sm_ownership.specs.declared.mode.Mode.{Mode}
 use Rattle.sm_ownership.specs.declared.record.Record.{Record}
 use Rattle.sm_table.specs.declared.hands.InHand.{InHand}
 use Rattle.sm_ownership.specs.Rules.{phase_fault, admit_fault}
-use Rattle.sm_desk.specs.Desk.{stand_at, desk_change_fault, command_fault_from}
+use Rattle.sm_desk.specs.declared.command.CommandFault.TheVariants.{Change as ChangeRefused}
+use Rattle.sm_desk.specs.Desk.{stand_at, desk_change_fault}
 use Rattle.sm_desk.specs.lemmas.Changes.{let_through}
 use Rattle.sm_ownership.specs.History.{vacant, after_kind, admits_only, acts_as, fits}
 use Rattle.sm_table.specs.World.{WorldState, count_of, world_table, world_record, with_entry, with_hand, desk_of, table_fault, ended}
@@ -153,7 +154,7 @@ module _ {Q : Type 0} (w : WorldState Q) (sound : IsSound w) where
       let within : shard < count_of w = omega arith in
       let stand : stand_at stands shard ≡ state.stand = get_or-map (λ (one : Record). one.stand) (world_table w) shard vacant Vacant inside in
       let phase : phase_fault state.stand change ≡ None = ap (λ at. phase_fault at change) (sym stand) ∙ allowed.phase in
-      let free : record_fault w.frame.ceiling state ≡ None = not_mapped command_fault_from (record_fault w.frame.ceiling state) table in
+      let free : record_fault w.frame.ceiling state ≡ None = not_mapped (λ fault. ChangeRefused fault) (record_fault w.frame.ceiling state) table in
       let idle : state.admitted ≡ false = not_busy (nat_lt state.generation w.frame.ceiling) state.admitted _ _ free in
       let entry : Entry Q = record { actor = 0; shard = shard; kind = Changed change } in
       grown_sound w entry w.in_hand sound (record {

@@ -42,7 +42,7 @@ fn envelope_goes_round(rt: HostRuntime) -> Result<(), Fail> {
 #[test]
 fn holds_and_frees(rt: HostRuntime) -> Result<(), Fail> {
     let (one, two, k) = (ServerId::of(1), ServerId::of(2), shard(0)?);
-    let busy = not_changed(CommandFault::Busy(admitted(one, 2)));
+    let busy = not_changed(ChangeFault::Busy(admitted(one, 2)));
     let prepared = Stand::Prepared {
         owner: one,
         next: two,
@@ -89,8 +89,8 @@ fn pauses_and_reassigns(rt: HostRuntime) -> Result<(), Fail> {
         owner: one,
         next: two,
     };
-    let prepared_for_itself = not_changed(CommandFault::SameServer);
-    let reassigned_to_itself = not_changed(CommandFault::SameServer);
+    let prepared_for_itself = not_changed(ChangeFault::SameServer);
+    let reassigned_to_itself = not_changed(ChangeFault::SameServer);
     // Each change, what it is answered, and the stand and the generation after it.
     let cases = [
         (Change::Assign(one), Told::Made, Stand::Serving(one), 1),
@@ -130,7 +130,7 @@ fn refusals_leave_the_generation(rt: HostRuntime) -> Result<(), Fail> {
     let cases = [
         (
             Act::Change(k, Change::Pause),
-            not_changed(CommandFault::WrongPhase),
+            not_changed(ChangeFault::WrongPhase),
         ),
         (Act::Look(k), seen(Stand::Vacant, 0)),
         (
@@ -141,7 +141,7 @@ fn refusals_leave_the_generation(rt: HostRuntime) -> Result<(), Fail> {
         (Act::Change(k, Change::Assign(four)), Told::Made),
         (
             Act::Change(k, Change::PrepareAddShard(four)),
-            not_changed(CommandFault::SameServer),
+            not_changed(ChangeFault::SameServer),
         ),
         (Act::Look(k), seen(Stand::Serving(four), 1)),
         (Act::Send(three, 9, b'x'), Told::Sent),
@@ -170,7 +170,7 @@ fn refusals_leave_the_generation_of_an_admission(rt: HostRuntime) -> Result<(), 
         (Act::Deliver(0), Told::Began(four)),
         (
             Act::Change(k, Change::Pause),
-            not_changed(CommandFault::Busy(admitted(four, 2))),
+            not_changed(ChangeFault::Busy(admitted(four, 2))),
         ),
         (Act::Look(k), Told::Seen(admitted(four, 2))),
         (
