@@ -13,7 +13,10 @@ fn commits_a_command(rt: HostRuntime) -> Result<(), Fail> {
     let assign = Command::Change(k, Change::Assign(one));
     desk.check(&assign)?;
     desk.commit(assign);
-    assert_eq!(rt; desk.check(&assign), Err(CommandFault::Change(ChangeFault::WrongPhase)));
+    assert_eq!(rt;
+        desk.check(&assign),
+        Err(CommandFault::Change(ChangeFault::WrongPhase))
+    );
     Ok(())
 }
 
