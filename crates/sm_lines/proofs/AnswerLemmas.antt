@@ -1,25 +1,20 @@
 -- Lemmas on answers that are collected line by line.
-use Rattle.std.proofs.Common.{Option, None, Some, Bool, true, false, All, ◌≡◌, ◌≢◌, ℕ, List, [], ◌∷◌, ◌++◌, refl, ap, sym, ◌∙◌, append_assoc, append-nil, subst, length, ◌+◌, arith, inl, inr, ◌⊎◌}
+use Rattle.std.proofs.Common.{Result, Ok, Err, Contains, ◌≤◌, Option, None, Some, Bool, true, false, All, ◌≡◌, ◌≢◌, ℕ, List, [], ◌∷◌, ◌++◌, refl, ap, sym, ◌∙◌, append_assoc, append-nil, subst, length, ◌+◌, arith, inl, inr, ◌⊎◌}
 use Rattle.std.proofs.lemmas.List.{length_push}
 use Rattle.std.proofs.lemmas.List.Elements.{All-nil, All-head, All-tail, All-push}
 use Rattle.std.proofs.lemmas.Bool.{false≢true}
 use Rattle.std.proofs.KnownBytes.{Appends-trans, Appends-nil, Consumes-nil, Consumes-trans}
-use Rattle.std.specs.Io.KnownBytes.{Consumes, IsAtEnd}
-use Rattle.sm_lines.specs.Lines.{lines_of, with_feeds, LosesLine, TookLines}
+use Rattle.std.specs.Io.KnownBytes.{Appends, Consumes, IsAtEnd}
+use Rattle.sm_lines.specs.Lines.{lines_of, with_feeds, LosesLine, TookLines, TookPart}
 use Rattle.sm_lines.specs.Sending.{Sends, WroteFront}
-use Rattle.sm_lines.specs.Answers.{AnswersAll, Answered, AnsweredLine, LosesLines, HasLines, RanShort, ReadingStopped, StopsAfter}
+use Rattle.sm_lines.specs.Answers.{AnswersAll, Answered, AnsweredInput, AnsweredLine, LosesLines, HasLines, RanAll, RanShort, RanTo, ReadingStopped, StopsAfter}
+use Rattle.sm_lines.specs.declared.answer_fault.AnswerFault.{AnswerFault}
+use Rattle.sm_lines.specs.declared.answer_fault.AnswerFault.TheVariants.{Read, Write, NoMemory}
+use Rattle.sm_lines.specs.declared.watch.TheConstants.{COUNT_LIMIT}
 use Rattle.sm_lines.specs.Reading.{Reading}
+use Rattle.sm_lines.specs.lemmas.Answering.{AnswersAll-more, LosesLines-none, stops_after}
 use Rattle.sm_lines.proofs.LineLemmas.{lines_of-line}
 use Rattle.sm_lines.proofs.Writing.{front_more}
-
--- one more line
-AnswersAll-more : {E : Type 0} (answers : E → List ℕ → List ℕ → E → Type 0) (e mid f : E) (done : List (List ℕ)) (line text more : List ℕ)
-    → AnswersAll answers e done text mid → answers mid line more f → AnswersAll answers e (done ++ line ∷ []) (text ++ more) f
-AnswersAll-more {E} answers e mid f [] line text more all one =
-    let P : E → Type 0 = λ x. answers x line more f in
-    (more, [], f, ap (λ t. t ++ more) all.0 ∙ sym (append-nil more), subst P all.1 one, (refl, refl))
-AnswersAll-more answers e mid f (l ∷ done) line text more all one =
-    (all.0, all.1 ++ more, all.2, ap (λ t. t ++ more) all.3 ∙ append_assoc all.0 all.1 more, all.4, AnswersAll-more answers all.2 mid f done line all.1 more all.5 one)
 
 -- one more line was taken off
 pub LosesLines-more : (first now next : Option (List ℕ)) (done : List (List ℕ)) (line : List ℕ) → LosesLines first now done → LosesLine now next line → LosesLines first next (done ++ line ∷ [])
@@ -43,42 +38,11 @@ TookLines-more first now next done line took one =
       lost = subst P (sym (with_feeds-more done line)) (Consumes-trans first now next (with_feeds done) (line ++ 10 ∷ []) took.lost one.lost);
     }
 
--- lines that were taken off with their line feeds were lost
-lines_of-taken : (done : List (List ℕ)) (left : List ℕ) → All (λ line. All (λ b. b ≢ 10) line) done → lines_of (with_feeds done ++ left) ≡ done ++ lines_of left
-lines_of-taken [] left plain = refl
-lines_of-taken (line ∷ done) left plain =
-    let P : List ℕ → Type 0 = λ l. All (λ b. b ≢ 10) l in
-    ap lines_of (append_assoc line (10 ∷ with_feeds done) left)
-    ∙ lines_of-line line (with_feeds done ++ left) (All-head P line done plain)
-    ∙ ap (λ (rest : List (List ℕ)). line ∷ rest) (lines_of-taken done left (All-tail P line done plain))
-
-pub loses_taken : (first left : Option (List ℕ)) (done : List (List ℕ)) → TookLines first left done → LosesLines first left done
-loses_taken None left done took = tt
-loses_taken (Some xs) None done took = took.lost
-loses_taken (Some xs) (Some ys) done took = ap lines_of took.lost ∙ lines_of-taken done ys took.plain
-
--- no line was taken off
-pub LosesLines-none : (first : Option (List ℕ)) → LosesLines first first []
-LosesLines-none None = tt
-LosesLines-none (Some xs) = refl
-
 -- nothing is left
 pub has_lines : (first now : Option (List ℕ)) (done : List (List ℕ)) → LosesLines first now done → IsAtEnd now → HasLines first done
 has_lines None now done h end = tt
 has_lines (Some xs) None done h end = absurd h
 has_lines (Some xs) (Some ys) done h end = h ∙ ap (λ r. done ++ lines_of r) end ∙ append-nil done
-
--- nothing of the next line was taken off
-pub stops_after : (input left : Option (List ℕ)) (done : List (List ℕ)) → LosesLines input left done → StopsAfter input left done
-stops_after input left done lost =
-    record { next = left; lost = lost; touched = inl (record { part = []; plain = λ k d h. absurd (omega (arith, h)); lost = Consumes-nil left }) }
-
--- where reading stopped, the lines before were taken off
-pub stopped_reading : (before after : Reading) (failed : Bool) (calls : ℕ) (input left : Option (List ℕ)) (done : List (List ℕ))
-    → ReadingStopped before after failed calls input left done → StopsAfter input left done
-stopped_reading before after failed calls input left done (inl stop) =
-    record { next = stop.all_read.next; lost = loses_taken input stop.all_read.next done stop.all_read.took; touched = inl stop.all_read.part }
-stopped_reading before after failed calls input left done (inr counted) = stops_after input left done counted.lost
 
 -- nothing was answered yet
 pub answered_none : {E : Type 0} (answers : E → List ℕ → List ℕ → E → Type 0) (old : Option (List ℕ)) (e : E) (waiting : List ℕ) → waiting ≡ [] → Answered answers old old waiting e e []
@@ -109,7 +73,7 @@ answered_sent {E} {answers} {old} {now} {new} {waiting} {left} {e} {f} {done} a 
 
 -- only a front of what waits was written
 pub answered_short : {E : Type 0} {answers : E → List ℕ → List ℕ → E → Type 0} {old now new : Option (List ℕ)} {waiting : List ℕ} {e f : E} {done : List (List ℕ)} {input left : Option (List ℕ)}
-    → Answered answers old now waiting e f done → HasLines input done ⊎ StopsAfter input left done → WroteFront now new waiting → RanShort answers input left old new e
+    → Answered answers old now waiting e f done → StopsAfter input left done → WroteFront now new waiting → RanShort answers input left old new e
 answered_short {E} {answers} {old} {now} {new} {waiting} {e} {f} {done} a stops front =
     record { done = done; text = a.sent ++ waiting; after = f; stops = stops; answered = a.answered; wrote = front_more a.sent a.wrote front }
 
@@ -123,7 +87,7 @@ answered_short_more {E} {answers} {old} {now} {new} {waiting} {e} {f} {h} {done}
       done = done ++ line ∷ [];
       text = a.sent ++ (waiting ++ text);
       after = h;
-      stops = inr (stops_after input left (done ++ line ∷ []) lost);
+      stops = stops_after input left (done ++ line ∷ []) lost;
       answered = subst P (append_assoc a.sent waiting text) (AnswersAll-more answers e f h done line (a.sent ++ waiting) text a.answered one);
       wrote = front_more a.sent a.wrote front;
     }
@@ -167,10 +131,103 @@ so_far_line {E} {answers} {input} {now} {next} {old} {mid} {new} {was} {ended} {
   counted = length_push s.done line.line ∙ ap (λ n. n + 1) s.counted;
 }
 
+-- ---- how answering ended
+
+-- by a fault
+ended_at : {T E : Type 0} {answers : E → List ℕ → List ℕ → E → Type 0} {result : Result T AnswerFault} {before after : Reading} {failed : Bool} {calls : ℕ} {input left old new : Option (List ℕ)} {e f : E}
+    → (fault : AnswerFault) → result ≡ Err fault
+    → (fault ≡ Read → (done : List (List ℕ)) × RanTo answers old new e f done × ReadingStopped before after failed calls input left done)
+    → (fault ≡ NoMemory → (done : List (List ℕ)) × (last : E) × StopsAfter input left done × RanTo answers old new e last done)
+    → (fault ≡ Write → RanShort answers input left old new e)
+    → AnsweredInput answers result before after failed calls input left old new e f
+ended_at {T} {E} {answers} {result} {before} {after} {failed} {calls} {input} {left} {old} {new} {e} {f} fault is read memory write =
+    let P : Result T AnswerFault → Type 0 = λ r. AnsweredInput answers r before after failed calls input left old new e f in
+    subst P (sym is) (record { ran = tt; read = λ h. read cc; no_memory = λ h. memory cc; write = λ h. write cc })
+
+-- only a front of the answers was written
+pub ended_short : {T E : Type 0} {answers : E → List ℕ → List ℕ → E → Type 0} {result : Result T AnswerFault} {before after : Reading} {failed : Bool} {calls : ℕ} {input left old new : Option (List ℕ)} {e f : E}
+    → result ≡ Err Write → RanShort answers input left old new e → AnsweredInput answers result before after failed calls input left old new e f
+ended_short is short = ended_at Write is (λ h. cc) (λ h. cc) (λ _. short)
+
+-- no memory was left
+pub ended_memory : {T E : Type 0} {answers : E → List ℕ → List ℕ → E → Type 0} {result : Result T AnswerFault} {before after : Reading} {failed : Bool} {calls : ℕ} {input left old new : Option (List ℕ)} {e f : E}
+    → result ≡ Err NoMemory → (done : List (List ℕ)) (last : E) → StopsAfter input left done → RanTo answers old new e last done → AnsweredInput answers result before after failed calls input left old new e f
+ended_memory is done last stops ran = ended_at NoMemory is (λ h. cc) (λ _. (done, last, stops, ran)) (λ h. cc)
+
+-- reading stopped
+pub ended_reading : {T E : Type 0} {answers : E → List ℕ → List ℕ → E → Type 0} {result : Result T AnswerFault} {before after : Reading} {failed : Bool} {calls : ℕ} {input left old new : Option (List ℕ)} {e f : E}
+    → result ≡ Err Read → (done : List (List ℕ)) → RanTo answers old new e f done → ReadingStopped before after failed calls input left done → AnsweredInput answers result before after failed calls input left old new e f
+ended_reading is done ran stopped = ended_at Read is (λ _. (done, ran, stopped)) (λ h. cc) (λ h. cc)
+
+-- all lines were answered
+pub ended_well : {E : Type 0} {answers : E → List ℕ → List ℕ → E → Type 0} {before after : Reading} {failed : Bool} {calls : ℕ} {input left old new : Option (List ℕ)} {e f : E}
+    → RanAll answers input old new e f → AnsweredInput answers (Ok (tt {0})) before after failed calls input left old new e f
+ended_well ran = record { ran = ran; read = λ h. cc; no_memory = λ h. cc; write = λ h. cc }
+
+-- where no line is held nothing waits
+pub none_waits : (held waiting : List ℕ) → Contains held 10 ⊎ (waiting ≡ []) → (Contains held 10 → ⊥) → waiting ≡ []
+none_waits held waiting (inl holds) not_held = absurd (not_held holds)
+none_waits held waiting (inr none) not_held = none
+
+-- nothing waits: all answers were written
+answered_to : {E : Type 0} {answers : E → List ℕ → List ℕ → E → Type 0} {old new : Option (List ℕ)} {waiting : List ℕ} {e f : E} {done : List (List ℕ)}
+    → Answered answers old new waiting e f done → waiting ≡ [] → RanTo answers old new e f done
+answered_to {E} {answers} {old} {new} {waiting} {e} {f} {done} a none =
+    let P : List ℕ → Type 0 = λ r. AnswersAll answers e done r f in
+    record { text = a.sent; answered = subst P (ap (λ w. a.sent ++ w) none ∙ append-nil a.sent) a.answered; wrote = a.wrote }
+
+-- what waited was written
+answered_flushed : {E : Type 0} {answers : E → List ℕ → List ℕ → E → Type 0} {old now new : Option (List ℕ)} {waiting : List ℕ} {e f : E} {done : List (List ℕ)}
+    → Answered answers old now waiting e f done → Appends now new waiting → RanTo answers old new e f done
+answered_flushed {E} {answers} {old} {now} {new} {waiting} a flushed =
+    record { text = a.sent ++ waiting; answered = a.answered; wrote = Appends-trans old now new a.sent waiting a.wrote flushed }
+
+-- the input was at its end
+pub so_far_ran : {E : Type 0} {answers : E → List ℕ → List ℕ → E → Type 0} {input now old new : Option (List ℕ)} {ended : Bool} {waiting : List ℕ} {e f : E} {count : ℕ}
+    → SoFar answers input now old new ended waiting e f count → waiting ≡ [] → IsAtEnd now → RanAll answers input old new e f
+so_far_ran {E} {answers} {input} {now} s none end =
+    let ran = answered_to s.answered none in
+    record { lines = s.done; text = ran.text; are = has_lines input now s.done s.lost end; answered = ran.answered; wrote = ran.wrote }
+
+-- the reader stopped in a line
+pub so_far_read : {T E : Type 0} {answers : E → List ℕ → List ℕ → E → Type 0} {result : Result T AnswerFault} {was after : Reading} {failed ended : Bool} {calls : ℕ} {input now left old new : Option (List ℕ)} {waiting : List ℕ} {e f : E} {count : ℕ}
+    → result ≡ Err Read → SoFar answers input now old new ended waiting e f count → waiting ≡ [] → (was.ended ≡ true → ended ≡ true)
+    → TookPart now left → after.held ≡ [] → ended ≡ false → (failed ≡ true) ⊎ (COUNT_LIMIT ≤ calls)
+    → AnsweredInput answers result was after failed calls input left old new e f
+so_far_read {T} {E} {answers} {result} {was} {after} {failed} {ended} {calls} {input} {now} {left} is s none stays part none_held unseen why =
+    ended_reading is s.done (answered_to s.answered none)
+    (inl (record { unseen = was_unseen was.ended ended stays unseen; none_held = none_held; all_read = record { next = now; took = s.took unseen; part = part }; why = why }))
+
+-- too many lines were answered
+pub so_far_counted : {T E : Type 0} {answers : E → List ℕ → List ℕ → E → Type 0} {result : Result T AnswerFault} {was lines : Reading} {failed ended : Bool} {calls : ℕ} {input now old mid new : Option (List ℕ)} {waiting : List ℕ} {e f : E} {count : ℕ}
+    → result ≡ Err Read → SoFar answers input now old mid ended waiting e f count → COUNT_LIMIT ≤ count → Appends mid new waiting
+    → AnsweredInput answers result was lines failed calls input now old new e f
+so_far_counted is s many flushed =
+    ended_reading is s.done (answered_flushed s.answered flushed) (inr (record { lost = s.lost; many = let count = s.counted in omega (arith, many, count) }))
+
+-- memory was refused at a line, and what waited was written
+pub so_far_memory : {T E : Type 0} {answers : E → List ℕ → List ℕ → E → Type 0} {result : Result T AnswerFault} {was lines : Reading} {failed ended : Bool} {calls : ℕ} {input now left old mid new : Option (List ℕ)} {waiting : List ℕ} {e f h : E} {count : ℕ}
+    → result ≡ Err NoMemory → SoFar answers input now old mid ended waiting e f count → TookPart now left ⊎ ((line : List ℕ) × LosesLine now left line) → Appends mid new waiting
+    → AnsweredInput answers result was lines failed calls input left old new e h
+so_far_memory {T} {E} {answers} {result} {was} {lines} {failed} {ended} {calls} {input} {now} {left} {old} {mid} {new} {waiting} {e} {f} is s touched flushed =
+    ended_memory is s.done f (record { next = now; lost = s.lost; touched = touched }) (answered_flushed s.answered flushed)
+
+-- only a front of what waits was written, where memory was refused
+pub so_far_short_memory : {E : Type 0} {answers : E → List ℕ → List ℕ → E → Type 0} {input now left old mid new : Option (List ℕ)} {ended : Bool} {waiting : List ℕ} {e f : E} {count : ℕ}
+    → SoFar answers input now old mid ended waiting e f count → TookPart now left ⊎ ((line : List ℕ) × LosesLine now left line) → WroteFront mid new waiting
+    → RanShort answers input left old new e
+so_far_short_memory {E} {answers} {input} {now} s touched front = answered_short s.answered (record { next = now; lost = s.lost; touched = touched }) front
+
+-- no line was read yet
+pub so_far_unread : {T E : Type 0} {answers : E → List ℕ → List ℕ → E → Type 0} {result : Result T AnswerFault} {was lines : Reading} {failed : Bool} {calls : ℕ} {input old : Option (List ℕ)} {e f : E}
+    → result ≡ Err NoMemory → AnsweredInput answers result was lines failed calls input input old old e f
+so_far_unread {T} {E} {answers} {result} {was} {lines} {failed} {calls} {input} {old} {e} is =
+    ended_memory is [] e (stops_after input input [] (LosesLines-none input)) (record { text = []; answered = (refl, refl); wrote = Appends-nil old })
+
 -- only a front of what waits was written
 pub so_far_short : {E : Type 0} {answers : E → List ℕ → List ℕ → E → Type 0} {input now old mid new : Option (List ℕ)} {ended : Bool} {waiting : List ℕ} {e f : E} {count : ℕ}
     → SoFar answers input now old mid ended waiting e f count → WroteFront mid new waiting → RanShort answers input now old new e
-so_far_short {E} {answers} {input} {now} s front = answered_short s.answered (inr (stops_after input now s.done s.lost)) front
+so_far_short {E} {answers} {input} {now} s front = answered_short s.answered (stops_after input now s.done s.lost) front
 
 -- only a front of what waits and the answer to one more line was written
 pub so_far_short_line : {E : Type 0} {answers : E → List ℕ → List ℕ → E → Type 0} {input now next old mid new : Option (List ℕ)} {was ended : Bool} {waiting text : List ℕ} {e f h : E} {count : ℕ}

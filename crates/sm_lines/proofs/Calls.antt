@@ -1,13 +1,14 @@
 -- Lemmas on how many calls of the reader were made.
-use Rattle.std.proofs.Common.{◌≡◌, ◌≢◌, ◌∙◌, ap, ◌⊎◌, inl, inr, ℕ, ◌+◌, ◌-◌, ◌*◌, ◌<◌, ◌≤◌, List, [], ◌++◌, length, take, drop, Bool, true, false, Option, None, Some, refl, subst, arith}
+use Rattle.std.proofs.Common.{◌≡◌, ◌≢◌, ◌∙◌, ap, ◌⊎◌, inl, inr, ℕ, ◌+◌, ◌-◌, ◌*◌, ◌<◌, ◌≤◌, List, [], ◌++◌, length, take, drop, Bool, true, false, Option, None, Some, Result, Err, refl, subst, sym, arith}
 use Rattle.std.proofs.lemmas.Grind.{common_steps}
 use Rattle.std.proofs.lemmas.Bool.{cases_lt}
 use Rattle.std.proofs.lemmas.List.{length-drop}
-use Rattle.sm_lines.specs.declared.respond.AnswerFault.{AnswerFault}
-use Rattle.sm_lines.specs.declared.respond.AnswerFault.TheVariants.{Read, Write, NoMemory}
-use Rattle.sm_lines.specs.Reading.{CallsFit, HeldGiven, LinesGiven, Reading}
+use Rattle.sm_lines.specs.declared.answer_fault.AnswerFault.{AnswerFault}
+use Rattle.sm_lines.specs.declared.answer_fault.AnswerFault.TheVariants.{Read}
+use Rattle.sm_lines.specs.Reading.{CallsFit, LinesGiven, Reading}
+use Rattle.sm_lines.specs.Watching.{KeepsReading}
+use Rattle.sm_lines.specs.declared.watch.Watched.{Watched}
 use Rattle.sm_lines.specs.declared.TheConstants.{PIECE}
-use Rattle.sm_lines.specs.declared.watch.TheConstants.{COUNT_LIMIT}
 
 -- no call
 pub took_same : (ended : Bool) (left : Option (List ℕ)) (calls : ℕ) → CallsFit ended ended left left calls calls
@@ -29,18 +30,26 @@ took_more was now ended (Some bytes) None new before between after one two = abs
 took_more was now ended (Some bytes) (Some more) None before between after one two = two
 took_more was now ended (Some bytes) (Some more) (Some left) before between after one two = omega (arith, one, two)
 
--- calls, and then those of a line at which answering stopped
-pub took_stopped : (fault : AnswerFault) (was now ended : Bool) (old mid new : Option (List ℕ)) (before between after : ℕ) → CallsFit was now old mid before between
-    → (fault ≢ Read → CallsFit now ended mid new between after) → (fault ≡ Read → (now ≡ false) × CallsFit false true mid new between after)
-    → CallsFit was true old new before after
-took_stopped Read was now ended old mid new before between after one other last =
-    let two = last refl in
-    let P : Bool → Type 0 = λ e. CallsFit was e old mid before between in
-    took_more was false true old mid new before between after (subst P two.0 one) two.1
-took_stopped Write was now ended old mid new before between after one other last =
-    took_seen was ended old new before after (took_more was now ended old mid new before between after one (other (λ e. cc)))
-took_stopped NoMemory was now ended old mid new before between after one other last =
-    took_seen was ended old new before after (took_more was now ended old mid new before between after one (other (λ e. cc)))
+-- calls, and then those of a line at which something other than reading stopped
+pub keeps_stopped : {T R : Type 0} (remaining : R → Option (List ℕ)) (result : Result T AnswerFault) (fault : AnswerFault) (was mid lines : Reading) (reader between left : Watched R)
+    → result ≡ Err fault → fault ≢ Read
+    → CallsFit was.ended mid.ended (remaining reader.inner) (remaining between.inner) reader.calls between.calls → CallsFit mid.ended lines.ended (remaining between.inner) (remaining left.inner) between.calls left.calls
+    → between.failed ≡ reader.failed → left.failed ≡ between.failed
+    → (reader.ended ≡ was.ended → between.ended ≡ mid.ended) → (between.ended ≡ mid.ended → left.ended ≡ lines.ended)
+    → (reader.ended ≡ was.ended → between.read_past_end ≡ reader.read_past_end) → (between.ended ≡ mid.ended → left.read_past_end ≡ between.read_past_end)
+    → length lines.held ≤ PIECE → KeepsReading remaining result was lines reader left
+keeps_stopped {T} remaining result fault was mid lines reader between left is other calls_one calls_two unfailed_one unfailed_two end_one end_two past_one past_two few =
+    let P : Result T AnswerFault → Type 0 = λ r. KeepsReading remaining r was lines reader left in
+    subst P (sym is) (record {
+      read_all = tt;
+      unfailed = λ _. unfailed_two ∙ unfailed_one;
+      calls = took_seen was.ended lines.ended (remaining reader.inner) (remaining left.inner) reader.calls left.calls
+          (took_more was.ended mid.ended lines.ended (remaining reader.inner) (remaining between.inner) (remaining left.inner) reader.calls between.calls left.calls calls_one calls_two);
+      same_end = λ same. end_two (end_one same);
+      not_past_end = λ same. past_two (end_one same) ∙ past_one same;
+      read_calls = λ e. (let read : fault ≡ Read = cc in absurd (other read));
+      piece = λ _. few;
+    })
 
 -- lines, and then more
 pub given_more : (more count : ℕ) (was mid lines : Reading) (before between after : ℕ) → LinesGiven count was mid before between → LinesGiven more mid lines between after
@@ -86,12 +95,3 @@ given_part was now took lines limit before between after is_long longer one line
       | inl has ↦ given_piece 1 was now took lines before between after (line (inr has)) none two
       | inr has_none ↦ let left : length took.held ≡ 0 = ap length none in omega (arith, one, two, left, any, has_none)
     ]
-
--- so many calls could give as many bytes as they are
-pub calls_many : (failed : Bool) (calls : ℕ) → (failed ≡ true) ⊎ (COUNT_LIMIT ≤ calls) → (failed ≡ true) ⊎ (COUNT_LIMIT ≤ PIECE * calls)
-calls_many failed calls (inl is) = inl is
-calls_many failed calls (inr many) = inr (omega (arith, many))
-
--- so many lines came from calls that could give as many bytes
-pub lines_many : (count : ℕ) (was lines : Reading) (before after : ℕ) → LinesGiven count was lines before after → COUNT_LIMIT ≤ count → HeldGiven was before → COUNT_LIMIT ≤ PIECE * after
-lines_many count was lines before after given many held = omega (arith, given, many, held)

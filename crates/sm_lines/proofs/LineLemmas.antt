@@ -1,8 +1,8 @@
 -- Lemmas on lines that are read part by part.
-use Rattle.std.proofs.Common.{Option, None, Some, Bool, true, false, ◌⊎◌, ◌≡◌, ◌≢◌, ℕ, List, [], ◌∷◌, ◌++◌, All, refl, ap, subst, sym, ◌∙◌, arith, length, ◌+◌, ◌<◌, ◌≤◌, take, drop, slice_index, drop-cons, append_assoc, append-nil}
+use Rattle.std.proofs.Common.{Contains, Option, None, Some, Bool, true, false, ◌⊎◌, ◌≡◌, ◌≢◌, ℕ, List, [], ◌∷◌, ◌++◌, All, refl, ap, subst, sym, ◌∙◌, arith, length, ◌+◌, ◌<◌, ◌≤◌, take, drop, slice_index, drop-cons, append_assoc, append-nil}
 use Rattle.std.proofs.lemmas.Grind.{common_steps}
 use Rattle.std.proofs.lemmas.List.{take-append-drop, take_all, drop_all}
-use Rattle.std.proofs.lemmas.List.Elements.{All-nil, All-cons, All-head, All-tail, All-append}
+use Rattle.std.proofs.lemmas.List.Elements.{All-contains, All-nil, All-cons, All-head, All-tail, All-append}
 use Rattle.std.proofs.lemmas.Bool.{ne_eqb, false≢true}
 use Rattle.std.proofs.KnownBytes.{Consumes-trans}
 use Rattle.std.specs.Io.KnownBytes.{prepend_known, Consumes, IsAtEnd}
@@ -36,6 +36,12 @@ lines_of-last (b ∷ []) plain some = lines_of-plain b [] (All-head (λ b. b ≢
 lines_of-last (b ∷ c ∷ line) plain some =
     lines_of-plain b (c ∷ line) (All-head (λ b. b ≢ 10) b (c ∷ line) plain)
     ∙ ap (onto_first b) (lines_of-last (c ∷ line) (All-tail (λ b. b ≢ 10) b (c ∷ line) plain) (omega arith))
+
+-- no line feed is held where it was in what is now held, all of which are others
+pub no_feed : {first held : List ℕ} → Contains first 10 → held ≡ first → All (λ b. b ≢ 10) held → ⊥
+no_feed {first} has same plain =
+    let P : List ℕ → Type 0 = λ r. All (λ b. b ≢ 10) r in
+    All-contains (λ b. b ≢ 10) first 10 (subst P same plain) has refl
 
 -- a front of what is held is taken off
 pub Consumes-held : (held : List ℕ) (n : ℕ) (rest : Option (List ℕ)) → Consumes (prepend_known held rest) (prepend_known (drop n held) rest) (take n held)

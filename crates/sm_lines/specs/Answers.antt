@@ -1,8 +1,10 @@
 -- What is written in answer to lines.
-use Rattle.std.specs.Prelude.{◌≡◌, ◌⊎◌, Bool, true, false, ℕ, ◌≤◌, ◌<◌, List, [], ◌∷◌, ◌++◌, length, take, ⊤, Option, None, Some}
+use Rattle.std.specs.Prelude.{◌≡◌, ◌⊎◌, Bool, true, false, ℕ, ◌≤◌, ◌<◌, List, [], ◌∷◌, ◌++◌, length, take, ⊤, Option, None, Some, Result, Err, OnOk}
 use Rattle.std.specs.Io.KnownBytes.{Appends}
 use Rattle.sm_lines.specs.Lines.{lines_of, HadFeed, LosesLine, TookLines, TookPart}
 use Rattle.sm_lines.specs.Reading.{Reading}
+use Rattle.sm_lines.specs.declared.answer_fault.AnswerFault.{AnswerFault}
+use Rattle.sm_lines.specs.declared.answer_fault.AnswerFault.TheVariants.{Read, Write, NoMemory}
 use Rattle.sm_lines.specs.declared.watch.TheConstants.{COUNT_LIMIT}
 use Rattle.sm_lines.specs.Sending.{WroteFront}
 
@@ -58,13 +60,13 @@ pub record StopsAfter (input left : Option (List ℕ)) (done : List (List ℕ)) 
   pub lost : LosesLines input next done
   pub touched : TookPart next left ⊎ ((line : List ℕ) × LosesLine next left line)
 
--- a front of the answers was written: of those to all lines, or to all that were read but perhaps the last
+-- a front of the answers to the lines in `done` was written: to all that were read but perhaps the last
 pub record RanShort {E : Type 0} (answers : E → List ℕ → List ℕ → E → Type 0)
     (input left old new : Option (List ℕ)) (before : E) : Type 0 where
   pub done : List (List ℕ)
   pub text : List ℕ
   pub after : E
-  pub stops : HasLines input done ⊎ StopsAfter input left done
+  pub stops : StopsAfter input left done
   pub answered : AnswersAll answers before done text after
   pub wrote : WroteFront old new text
 
@@ -85,6 +87,16 @@ pub record LinesCounted (input left : Option (List ℕ)) (done : List (List ℕ)
 abbrev pub ReadingStopped : Reading → Reading → Bool → ℕ → Option (List ℕ) → Option (List ℕ) → List (List ℕ) → Type 0
 ReadingStopped before after failed calls input left done =
     ReaderStopped before after failed calls input left done ⊎ LinesCounted input left done
+
+-- how answering the input ended. Without a fault, all lines were answered; where reading stopped, all that were read whole;
+-- where memory was refused, all before the one at which it was; and exactly these answers were written. Where writing
+-- failed, a front of the answers to the lines that were read was written
+pub record AnsweredInput {T E : Type 0} (answers : E → List ℕ → List ℕ → E → Type 0) (result : Result T AnswerFault)
+    (before after : Reading) (failed : Bool) (calls : ℕ) (input left old new : Option (List ℕ)) (begun now : E) : Type 0 where
+  pub ran : OnOk result (RanAll answers input old new begun now)
+  pub read : result ≡ Err Read → (done : List (List ℕ)) × RanTo answers old new begun now done × ReadingStopped before after failed calls input left done
+  pub no_memory : result ≡ Err NoMemory → (done : List (List ℕ)) × (last : E) × StopsAfter input left done × RanTo answers old new begun last done
+  pub write : result ≡ Err Write → RanShort answers input left old new begun
 
 -- the first line of the input was taken off and answered
 pub record AnsweredLine {E : Type 0} (answers : E → List ℕ → List ℕ → E → Type 0)

@@ -2,3 +2,5 @@ pub mod Lines
 pub mod Reading
 pub mod Sending
 pub mod Answers
+pub mod Watching
+pub mod lemmas

@@ -11,14 +11,16 @@
 //! ```
 #![tactic(auto)]
 
+mod answer_fault;
 mod line_reader;
 mod piece_writer;
 mod respond;
 mod watch;
 
+pub use answer_fault::AnswerFault;
 pub use line_reader::{LineReader, Next, ReadFault};
 pub use piece_writer::{PieceWriter, WriteFault, write_whole};
-pub use respond::{AnswerFault, Responder, answer_lines};
+pub use respond::{Responder, answer_lines};
 pub use watch::{COUNT_LIMIT, Watched};
 
 /// How many bytes are read at a time, and how many wait to be written, at most.

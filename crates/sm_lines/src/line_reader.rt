@@ -250,8 +250,8 @@ impl LineReader {
 
     /// Reads the next line, whose bytes [`LineReader::line`] then lends.
     ///
-    /// Nothing is read once the end of the text was seen. Nothing is read either where the line's end is already held, but no
-    /// clause says so. After a fault the line in front may have lost some of its bytes.
+    /// Nothing is read once the end of the text was seen, nor where the line's end is already held. After a fault the line in
+    /// front may have lost some of its bytes.
     pub fn next_line<R: Read>(
         &mut self,
         reader: &mut Watched<R>,
@@ -291,6 +291,9 @@ impl LineReader {
             (R.remaining reader.old.inner) (R.remaining reader.new.inner)
             reader.old.calls reader.new.calls }
         ensures not_read_again { self.old.ended ≡ true → reader.new ≡ reader.old }
+        // Where the line's end is held nothing is read, so that no end is seen and no reading fails.
+        ensures held { Contains self.old.held 10 → (reader.new ≡ reader.old)
+            × (result ≢ Ok Next.End) × (result ≢ Err ReadFault.Read) }
         // Where the end was seen here if the reader had come to it, nothing is read past it.
         ensures same_end { reader.old.ended ≡ self.old.ended → reader.new.ended ≡ self.new.ended }
         ensures not_past_end { reader.old.ended ≡ self.old.ended

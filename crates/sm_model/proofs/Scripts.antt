@@ -1,8 +1,8 @@
 -- What a session of the model writes is the script of what it reads.
 use Rattle.std.proofs.Common.{◌≡◌, ◌≤◌, ◌<◌, ◌++◌, ◌∷◌, [], ℕ, List, length, take, drop, ap, sym, ◌∙◌, subst, arith, lit<, inl, inr, Option, Some, None, Result, Ok, Err, OnOk, refl}
-use Rattle.sm_run.specs.declared.outcome.RunFault.{RunFault}
-use Rattle.sm_run.specs.declared.outcome.Status.{Status}
-use Rattle.sm_run.specs.declared.outcome.Status.TheVariants.{Ran, BadSettings}
+use Rattle.sm_lines.specs.declared.answer_fault.AnswerFault.{AnswerFault}
+use Rattle.sm_run.specs.declared.status.Status.{Status}
+use Rattle.sm_run.specs.declared.status.Status.TheVariants.{Ran, BadSettings}
 use Rattle.std.proofs.lemmas.Bool.{cases_lt}
 use Rattle.std.proofs.lemmas.List.{length-take-le, take-append-drop}
 use Rattle.std.specs.Io.KnownBytes.{Appends}
@@ -88,7 +88,7 @@ refused_script (Some bytes) old new run =
     subst (λ (t : List ℕ). Appends old new t) (sym (ap (λ read. script_with read (drop 1 (lines_of bytes))) run.refused)) run.wrote
 
 -- so does every run that ends
-pub wrote_script : (input old new : Option (List ℕ)) (result : Result Status RunFault)
+pub wrote_script : (input old new : Option (List ℕ)) (result : Result Status AnswerFault)
     → (result ≡ Ok Ran → RanScript IsNew Gives input old new) → (result ≡ Ok BadSettings → RefusedScript input old new) → OnOk result (WroteScript input old new)
 wrote_script input old new (Ok Ran) ran bad = ran_script input old new (ran refl)
 wrote_script input old new (Ok BadSettings) ran bad = refused_script input old new (bad refl)

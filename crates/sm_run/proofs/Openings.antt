@@ -2,9 +2,10 @@
 use Rattle.std.proofs.Common.{◌≡◌, Bool, ℕ, List, [], ◌++◌, ap, sym, ◌∙◌, refl, inl, inr, arith, Option, Some, None, Err}
 use Rattle.std.proofs.KnownBytes.{Consumes-nil}
 use Rattle.std.specs.Io.KnownBytes.{Consumes, IsAtEnd, prepend_known}
-use Rattle.sm_lines.specs.Answers.{LosesLines, StopsAfter}
+use Rattle.sm_lines.specs.Answers.{StopsAfter}
 use Rattle.sm_lines.specs.Lines.{LosesLine, TookLongLine, TookPart, lines_of}
 use Rattle.sm_lines.specs.Reading.{CallsFit}
+use Rattle.sm_lines.specs.lemmas.Answering.{LosesLines-none, stops_after}
 use Rattle.sm_settings.specs.declared.settings_fault.SettingsFault.TheVariants.{TooLong}
 use Rattle.sm_settings.specs.lemmas.LongLines.{settings_of_long}
 use Rattle.sm_settings.specs.declared.settings.TheConstants.{MAX_SETTINGS}
@@ -17,25 +18,20 @@ long_opening ended None left shown took = tt
 long_opening ended (Some bytes) None shown took = absurd took.lost
 long_opening ended (Some bytes) (Some after) shown took = ap settings_in took.lost ∙ settings_of_long took.line took.long
 
--- no line was taken off
-no_line_lost : (input : Option (List ℕ)) → LosesLines input input []
-no_line_lost None = tt
-no_line_lost (Some bytes) = refl
-
 -- a part of the first line was taken off
 pub stops_in_line : (input left : Option (List ℕ)) → TookPart input left → StopsAfter input left []
-stops_in_line input left part = record { next = input; lost = no_line_lost input; touched = inl part }
+stops_in_line input left part = record { next = input; lost = LosesLines-none input; touched = inl part }
 
 -- the first line was taken off
 pub stops_at_line : (input left : Option (List ℕ)) (line : List ℕ) → LosesLine input left line → StopsAfter input left []
-stops_at_line input left line lost = record { next = input; lost = no_line_lost input; touched = inr (line, lost) }
+stops_at_line input left line lost = record { next = input; lost = LosesLines-none input; touched = inr (line, lost) }
 
 -- nothing was taken off
 took_nothing : (input left : Option (List ℕ)) → Consumes input left [] → TookPart input left
 took_nothing input left none = record { part = []; plain = λ k d h. absurd (omega (arith, h)); lost = none }
 
 pub stops_unread : (input : Option (List ℕ)) → StopsAfter input input []
-stops_unread input = stops_in_line input input (took_nothing input input (Consumes-nil input))
+stops_unread input = stops_after input input [] (LosesLines-none input)
 
 -- there was no line
 pub stops_at_end : (was ended : Bool) (held after : List ℕ) (old new : Option (List ℕ)) (calls more : ℕ)

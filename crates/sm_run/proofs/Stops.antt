@@ -11,7 +11,9 @@ use Rattle.sm_lines.specs.Lines.{lines_of, with_feeds, HadFeed, LosesLine, TookL
 use Rattle.sm_lines.specs.Reading.{Reading, unread}
 use Rattle.sm_lines.specs.declared.TheConstants.{PIECE}
 use Rattle.sm_lines.specs.declared.watch.TheConstants.{COUNT_LIMIT}
+use Rattle.sm_lines.specs.lemmas.Answering.{AnswersAll-more}
 use Rattle.sm_run.proofs.Openings.{stops_unread}
+use Rattle.sm_run.specs.lemmas.FirstLines.{loses_first, stops_first}
 use Rattle.sm_settings.specs.SettingsLine.{SettingsValues, settings_of, values_of}
 use Rattle.sm_settings.specs.declared.settings.Settings.{Settings}
 use Rattle.sm_run.specs.declared.opening.Opening.{Opening}
@@ -20,9 +22,9 @@ use Rattle.sm_settings.specs.declared.settings_fault.SettingsFault.{SettingsFaul
 use Rattle.sm_run.specs.Openings.{IfKnown, IsOpening, RefusedShort, settings_in}
 use Rattle.sm_run.specs.Runs.{AreFirst, IsSession, RanScript, StoppedAt, StoppedEarly, StoppedReading, StoppedWriting, WritesFor, WroteBefore}
 use Rattle.sm_run.specs.Sessions.{RanSession, SessionShort, SessionTo}
-use Rattle.sm_run.specs.declared.outcome.RunFault.{RunFault}
-use Rattle.sm_run.specs.declared.outcome.RunFault.TheVariants.{Read, Write, NoMemory}
-use Rattle.sm_run.specs.declared.outcome.Status.{Status}
+use Rattle.sm_lines.specs.declared.answer_fault.AnswerFault.{AnswerFault}
+use Rattle.sm_lines.specs.declared.answer_fault.AnswerFault.TheVariants.{Read, Write, NoMemory}
+use Rattle.sm_run.specs.declared.status.Status.{Status}
 
 -- ---- the first lines of the input
 
@@ -30,19 +32,6 @@ first_more : (input mid : Option (List ℕ)) (first : List ℕ) (lines : List (L
 first_more None mid first lines lost are = tt
 first_more (Some bytes) None first lines lost are = absurd lost
 first_more (Some bytes) (Some left) first lines lost (rest, are) = (rest, lost ∙ ap (λ (all : List (List ℕ)). first ∷ all) are)
-
-first_lost : (input left : Option (List ℕ)) (lines : List (List ℕ)) → LosesLines input left lines → AreFirst input lines
-first_lost None left lines lost = tt
-first_lost (Some bytes) None lines lost = absurd lost
-first_lost (Some bytes) (Some left) lines lost = (lines_of left, lost)
-
-first_all : (input : Option (List ℕ)) (lines : List (List ℕ)) → HasLines input lines → AreFirst input lines
-first_all None lines are = tt
-first_all (Some bytes) lines are = ([], are ∙ sym (append-nil lines))
-
-first_short : (input left : Option (List ℕ)) (lines : List (List ℕ)) → HasLines input lines ⊎ StopsAfter input left lines → AreFirst input lines
-first_short input left lines (inl all) = first_all input lines all
-first_short input left lines (inr stops) = first_lost input stops.next lines stops.lost
 
 -- fewer lines
 first_fewer : (input : Option (List ℕ)) (lines rest : List (List ℕ)) → AreFirst input (lines ++ rest) → AreFirst input lines
@@ -93,7 +82,7 @@ stopped_unread writes input old none =
 -- ---- by the fault
 
 -- memory was refused
-pub early_memory : (writes : List (List ℕ) → List ℕ → Type 0) (result : Result Status RunFault) (failed : Bool) (calls : ℕ) (input left old new : Option (List ℕ))
+pub early_memory : (writes : List (List ℕ) → List ℕ → Type 0) (result : Result Status AnswerFault) (failed : Bool) (calls : ℕ) (input left old new : Option (List ℕ))
     → result ≡ Err NoMemory → StoppedAt writes input left old new → StoppedEarly writes result failed calls input left old new
 early_memory writes result failed calls input left old new is at = record {
   read = λ e. (let no : false ≡ true = cc in absurd (false≢true no));
@@ -102,13 +91,13 @@ early_memory writes result failed calls input left old new is at = record {
 }
 
 -- the settings were refused
-pub early_refused : (writes : List (List ℕ) → List ℕ → Type 0) (result : Result Status RunFault) (failed : Bool) (calls : ℕ) (input left old new : Option (List ℕ))
+pub early_refused : (writes : List (List ℕ) → List ℕ → Type 0) (result : Result Status AnswerFault) (failed : Bool) (calls : ℕ) (input left old new : Option (List ℕ))
     → result ≢ Err Read → (result ≡ Err NoMemory → StoppedAt writes input left old new) → (result ≡ Err Write → RefusedShort input old new)
     → StoppedEarly writes result failed calls input left old new
 early_refused writes result failed calls input left old new not_read memory short = record { read = λ is. absurd (not_read is); no_memory = memory; write = λ is. inr (short is) }
 
 -- no settings were read
-pub early_unread : (writes : List (List ℕ) → List ℕ → Type 0) (result : Result Status RunFault) (failed : Bool) (calls : ℕ) (input left old new : Option (List ℕ))
+pub early_unread : (writes : List (List ℕ) → List ℕ → Type 0) (result : Result Status AnswerFault) (failed : Bool) (calls : ℕ) (input left old new : Option (List ℕ))
     → (result ≡ Err Read → StoppedReading writes failed calls input left old new) → (result ≡ Err NoMemory → StoppedAt writes input left old new) → result ≢ Err Write
     → StoppedEarly writes result failed calls input left old new
 early_unread writes result failed calls input left old new reading memory not_written = record { read = reading; no_memory = memory; write = λ is. absurd (not_written is) }
@@ -196,7 +185,7 @@ read_session begins answers settings before after failed calls input mid left ol
     let many = counted.many in
     record {
       before = o.first ∷ done;
-      why = inr (first_more input mid o.first done o.lost (first_lost mid (unread after left) done counted.lost), omega (arith, many));
+      why = inr (first_more input mid o.first done o.lost (loses_first mid (unread after left) done counted.lost), omega (arith, many));
       wrote = session_wrote begins answers settings old new o.first done o.accepted s;
     }
 
@@ -278,15 +267,6 @@ cut_at answers before after (line ∷ lines) text count (first, rest, between, i
   | inr few ↦ inr (cut_first answers before between line lines text first count gives (ap (take count) is ∙ take-append-le count first rest few))
 ]
 
--- one more line
-answers_more : {S : Type 0} (answers : S → List ℕ → List ℕ → S → Type 0) (before mid after : S) (done : List (List ℕ)) (line text more : List ℕ)
-    → AnswersAll answers before done text mid → answers mid line more after → AnswersAll answers before (done ++ line ∷ []) (text ++ more) after
-answers_more {S} answers before mid after [] line text more all one =
-    let P : S → Type 0 = λ x. answers x line more after in
-    (more, [], after, ap (λ t. t ++ more) all.0 ∙ sym (append-nil more), subst P all.1 one, (refl, refl))
-answers_more answers before mid after (l ∷ done) line text more all one =
-    (all.0, all.1 ++ more, all.2, ap (λ t. t ++ more) all.3 ∙ append_assoc all.0 all.1 more, all.4, answers_more answers all.2 mid after done line all.1 more all.5 one)
-
 -- a front of a session's answers was written
 pub write_session : {S : Type 0} (begins : SettingsValues → S → Type 0) (answers : S → List ℕ → List ℕ → S → Type 0) (settings : SettingsValues) (ended : Bool)
     (input mid left old new : Option (List ℕ))
@@ -296,7 +276,7 @@ write_session {S} begins answers settings ended input mid left old new o s =
     at_cut (cut_at answers s.begun s.ran.after s.ran.done s.ran.text s.ran.wrote.count s.ran.answered)
   where
     are : AreFirst input (o.first ∷ s.ran.done)
-    are = first_more input mid o.first s.ran.done o.lost (first_short mid left s.ran.done s.ran.stops)
+    are = first_more input mid o.first s.ran.done o.lost (stops_first mid left s.ran.done s.ran.stops)
 
     session : (lines : List (List ℕ)) (text : List ℕ) (ended : S) → AnswersAll answers s.begun lines text ended → IsSession begins answers o.first lines text
     session lines text ended all = record { settings = settings; begun = s.begun; ended = ended; accepted = o.accepted; began = s.began; answered = all }
@@ -325,7 +305,7 @@ write_session {S} begins answers settings ended input mid left old new o s =
           text = c.sent;
           answer = c.answer;
           whole = session c.done c.sent c.mid c.answered;
-          next = session (c.done ++ c.line ∷ []) (c.sent ++ c.answer) c.after (answers_more answers s.begun c.mid c.after c.done c.line c.sent c.answer c.answered c.next);
+          next = session (c.done ++ c.line ∷ []) (c.sent ++ c.answer) c.after (AnswersAll-more answers s.begun c.mid c.after c.done c.line c.sent c.answer c.answered c.next);
           count = c.left;
           wrote = subst Q c.cut s.ran.wrote.wrote;
         }

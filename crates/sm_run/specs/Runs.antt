@@ -5,12 +5,10 @@ use Rattle.sm_lines.specs.Answers.{AnswersAll, HasLines, IsAllRead, StopsAfter}
 use Rattle.sm_lines.specs.Lines.{lines_of}
 use Rattle.sm_lines.specs.declared.TheConstants.{PIECE}
 use Rattle.sm_lines.specs.declared.watch.TheConstants.{COUNT_LIMIT}
-use Rattle.sm_lines.specs.declared.respond.AnswerFault.{AnswerFault}
-use Rattle.sm_lines.specs.declared.respond.AnswerFault.TheVariants as stopped
 use Rattle.sm_settings.specs.SettingsLine.{SettingsValues, settings_of}
-use Rattle.sm_run.specs.declared.outcome.RunFault.{RunFault}
-use Rattle.sm_run.specs.declared.outcome.Status.{Status}
-use Rattle.sm_run.specs.declared.outcome.RunFault.TheVariants.{Read, Write, NoMemory}
+use Rattle.sm_lines.specs.declared.answer_fault.AnswerFault.{AnswerFault}
+use Rattle.sm_run.specs.declared.status.Status.{Status}
+use Rattle.sm_lines.specs.declared.answer_fault.AnswerFault.TheVariants.{Read, Write, NoMemory}
 use Rattle.sm_run.specs.Openings.{IfKnown, RefusedShort}
 
 -- ---- a run that ended
@@ -86,14 +84,8 @@ pub record StoppedWriting (writes : List (List ℕ) → List ℕ → Type 0) (in
 -- how a run stopped early, where `writes` says what has to be written before it comes to a line: where reading stopped, for
 -- all lines that were read whole; where memory was refused, for all before one; and where writing failed, for all before one,
 -- and then a front of that one's answer
-pub record StoppedEarly (writes : List (List ℕ) → List ℕ → Type 0) (result : Result Status RunFault) (failed : Bool) (calls : ℕ)
+pub record StoppedEarly (writes : List (List ℕ) → List ℕ → Type 0) (result : Result Status AnswerFault) (failed : Bool) (calls : ℕ)
     (input left old new : Option (List ℕ)) : Type 0 where
   pub read : result ≡ Err Read → StoppedReading writes failed calls input left old new
   pub no_memory : result ≡ Err NoMemory → StoppedAt writes input left old new
   pub write : result ≡ Err Write → StoppedWriting writes input old new ⊎ RefusedShort input old new
-
--- the fault of a run whose lines were no longer answered
-abbrev pub run_fault : AnswerFault → RunFault
-run_fault stopped.Read = Read
-run_fault stopped.Write = Write
-run_fault stopped.NoMemory = NoMemory

@@ -4,17 +4,17 @@ use Rattle.sm_lines.specs.Reading.{CallsFit}
 use Rattle.sm_lines.specs.declared.TheConstants.{PIECE}
 use Rattle.sm_lines.specs.declared.watch.TheConstants.{COUNT_LIMIT}
 use Rattle.sm_lines.specs.declared.watch.Watched.{Watched}
-use Rattle.sm_run.specs.declared.outcome.RunFault.{RunFault}
-use Rattle.sm_run.specs.declared.outcome.RunFault.TheVariants.{Read, Write}
-use Rattle.sm_run.specs.declared.outcome.Status.{Status}
+use Rattle.sm_lines.specs.declared.answer_fault.AnswerFault.{AnswerFault}
+use Rattle.sm_lines.specs.declared.answer_fault.AnswerFault.TheVariants.{Read, Write}
+use Rattle.sm_run.specs.declared.status.Status.{Status}
 
 -- the reader before and after the run, and the writer: `remaining` are the bytes that a reader has left
-pub record KeepsWatch {R W : Type 0} (remaining : R → Option (List ℕ)) (result : Result Status RunFault)
+pub record KeepsWatch {R W : Type 0} (remaining : R → Option (List ℕ)) (result : Result Status AnswerFault)
     (reader left : Watched R) (writer wrote : Watched W) : Type 0 where
   -- `Write` comes only where the writer failed
   pub write_failed : result ≡ Err Write → wrote.failed ≡ true
-  -- no failed call is hidden by another fault, but that a failed write may come after a failed read
-  pub reader_unfailed : result ≢ Err Read → result ≢ Err Write → left.failed ≡ reader.failed
+  -- no failed call is hidden by another fault: where a read fails, all answers so far are out
+  pub reader_unfailed : result ≢ Err Read → left.failed ≡ reader.failed
   pub writer_unfailed : result ≢ Err Write → wrote.failed ≡ writer.failed
   -- the reader is called no more often than it gives bytes, but for one call that sees the end or fails
   pub calls : CallsFit false true (remaining reader.inner) (remaining left.inner) reader.calls left.calls

@@ -12,10 +12,13 @@
 
 mod engine;
 mod opening;
-mod outcome;
 mod running;
+mod status;
 
 pub use engine::Engine;
 pub use opening::Opening;
-pub use outcome::{RunFault, Status};
 pub use running::run;
+/// Why a run ended early. The answers to all lines before the one at which it did were written whole; of that line's answer a
+/// front may have been written where writing failed, and nothing otherwise.
+pub use sm_lines::AnswerFault as RunFault;
+pub use status::Status;

@@ -6,7 +6,7 @@ ghost use Rattle.sm_lines.specs.Reading.{unread, CallsFit, EndStands, HeldGiven}
 ghost use Rattle.sm_lines.specs.Sending.{WroteFront};
 ghost use Rattle.sm_run.specs.Openings.{IsOpening, ReadsAs, settings_line};
 
-use crate::outcome::{RunFault, Status};
+use crate::{RunFault, Status};
 use sm_lines::{COUNT_LIMIT, LineReader, Next, PIECE, ReadFault, Watched, write_whole};
 use sm_settings::{MAX_SETTINGS, Settings, SettingsFault};
 use std::alloc::{AllocError, Global};

@@ -1,7 +1,8 @@
-ghost use Rattle.std.specs.Prelude.{◌≡◌, ◌≢◌, ◌⊎◌, ◌*◌, ◌≤◌, ℕ, List, length, IfOk, OnOk, Ok, Err, true};
+ghost use Rattle.std.specs.Prelude.{◌≡◌, ◌≢◌, ◌⊎◌, ℕ, List, IfOk, OnOk, Ok, Err, true};
 ghost use Rattle.std.specs.Io.KnownBytes.{IsAtEnd};
 ghost use Rattle.sm_lines.specs.Answers.{AnswersLine, ReadingStopped, StopsAfter};
-ghost use Rattle.sm_lines.specs.Reading.{unread, CallsFit, EndStands, HeldGiven};
+ghost use Rattle.sm_lines.specs.Reading.{unread, EndStands};
+ghost use Rattle.sm_lines.specs.Watching.{KeepsReading};
 ghost use Rattle.sm_settings.specs.SettingsLine.{values_of};
 ghost use Rattle.sm_settings.specs.SettingsRules.{KeepsRules};
 ghost use Rattle.sm_run.specs.Openings.{RefusedScript};
@@ -11,8 +12,8 @@ ghost use Rattle.sm_run.specs.Watching.{KeepsWatch};
 
 use crate::engine::Engine;
 use crate::opening::{Opening, open, refuse};
-use crate::outcome::{RunFault, Status};
-use sm_lines::{COUNT_LIMIT, LineReader, PIECE, Watched, answer_lines};
+use crate::{RunFault, Status};
+use sm_lines::{LineReader, Watched, answer_lines};
 use sm_settings::Settings;
 use std::alloc::Global;
 use std::io::{Read, Write};
@@ -68,7 +69,6 @@ fn run_session<R: Read, W: Write, E: Engine>(
         (AnswersLine E.Session.gives E.Session.gives_long E.MAX_LINE) (values_of settings)
         (unread lines.old (R.remaining reader.old.inner))
         (W.contents writer.old.inner) (W.contents writer.new.inner)) }
-    ensures read_all { OnOk result (IsAtEnd (R.remaining reader.new.inner)) }
     ensures status { IfOk result (λ status. status ≡ Status.Ran) }
     ensures read { result ≡ Err RunFault.Read → (done : List (List ℕ))
         × SessionTo E.begins (AnswersLine E.Session.gives E.Session.gives_long E.MAX_LINE)
@@ -88,21 +88,13 @@ fn run_session<R: Read, W: Write, E: Engine>(
         (unread lines.old (R.remaining reader.old.inner))
         (unread lines.new (R.remaining reader.new.inner)) (W.contents writer.old.inner)
         (W.contents writer.new.inner) }
-    ensures piece { length lines.old.held ≤ PIECE → length lines.new.held ≤ PIECE }
+    ensures reading { KeepsReading R.remaining result lines.old lines.new reader.old reader.new }
     ensures write_failed { result ≡ Err RunFault.Write → writer.new.failed ≡ true }
-    ensures reader_unfailed { result ≢ Err RunFault.Read → result ≢ Err RunFault.Write
-        → reader.new.failed ≡ reader.old.failed }
-    ensures writer_unfailed { result ≢ Err RunFault.Write → writer.new.failed ≡ writer.old.failed }
-    ensures calls { CallsFit lines.old.ended true (R.remaining reader.old.inner)
-        (R.remaining reader.new.inner) reader.old.calls reader.new.calls }
-    ensures not_past_end { reader.old.ended ≡ lines.old.ended
-        → reader.new.read_past_end ≡ reader.old.read_past_end }
-    ensures read_calls { result ≡ Err RunFault.Read → HeldGiven lines.old reader.old.calls
-        → (reader.new.failed ≡ true) ⊎ (COUNT_LIMIT ≤ PIECE * reader.new.calls) }
+    ensures write_unfailed { result ≢ Err RunFault.Write → writer.new.failed ≡ writer.old.failed }
 {
     let mut session = engine.begin(settings)?;
     match answer_lines(alloc, lines, reader, writer, &mut session, E::MAX_LINE) {
         Ok(()) => Ok(Status::Ran),
-        Err(fault) => Err(RunFault::from(fault)),
+        Err(fault) => Err(fault),
     }
 }

@@ -8,3 +8,4 @@ mod lines;
 mod run;
 #[cfg(test)]
 mod settings;
+pub mod stops;

@@ -3,6 +3,7 @@
 use crate::fakes::{FailingReader, FailingWriter};
 use crate::lines::Echo;
 use crate::settings::PLAIN;
+use crate::stops::{stopped_reading, stopped_writing};
 use sm_lines::Watched;
 use sm_run::{Engine, RunFault, Status, run};
 use sm_settings::{MAX_SETTINGS, Settings};
@@ -41,10 +42,6 @@ fn script_of(alloc: Global, lines: &[u8]) -> Result<Vec<u8>, AllocError> {
     script.push(b'\n')?;
     script.extend_from_slice(lines)?;
     Ok(script)
-}
-
-fn line_feeds(bytes: &[u8]) -> usize {
-    bytes.iter().filter(|byte| **byte == b'\n').count()
 }
 
 fn run_on<R: Read + Drop, W: Write + Drop>(
@@ -100,11 +97,8 @@ fn run_stops_where_the_reader_fails(rt: HostRuntime) -> Result<(), Fail> {
         let mut written = Vec::new(alloc);
         let reader = FailingReader::new(&input, left);
         let ended = run_on(alloc, reader, &mut written);
-        assert_eq!(rt; ended, Err(RunFault::Read), "at {left}");
-        assert!(rt; ANSWERS.starts_with(written.as_slice()), "at {left}");
-        // Each line that was read whole has its answer; the settings have none.
-        let lines = line_feeds(&input[..left]);
-        assert_eq!(rt; line_feeds(&written), lines.saturating_sub(1), "at {left}");
+        let stopped = stopped_reading(ended, &input[..left], &written, ANSWERS);
+        assert!(rt; stopped, "at {left}");
     }
     Ok(())
 }
@@ -119,9 +113,7 @@ fn run_stops_where_the_writer_fails(rt: HostRuntime) -> Result<(), Fail> {
             let mut written = Vec::new(alloc);
             let writer = FailingWriter::new(&mut written, left);
             let ended = run_on(alloc, script, writer);
-            assert_eq!(rt; ended, Err(RunFault::Write), "at {left}");
-            assert!(rt; answers.starts_with(written.as_slice()), "at {left}");
-            assert_eq!(rt; written.len(), 2 * left);
+            assert!(rt; stopped_writing(ended, left, &written, answers), "at {left}");
         }
     }
     Ok(())

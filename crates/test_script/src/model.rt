@@ -8,6 +8,7 @@ use std::io::{Read, Write};
 use std::process::Abort;
 use std::test::Fail;
 use test_lines::fakes::{FailingReader, FailingWriter};
+use test_lines::stops::{stopped_reading, stopped_writing};
 
 /// A line of settings: shard 0 below `m`, shard 1 from `m` on.
 const SETTINGS: &[u8] =
@@ -93,10 +94,6 @@ fn scans_a_shard(rt: HostRuntime) -> Result<(), Fail> {
     check(&rt, rt.alloc(), &input, output)
 }
 
-fn line_feeds(bytes: &[u8]) -> usize {
-    bytes.iter().filter(|byte| **byte == b'\n').count()
-}
-
 #[test]
 fn stops_where_the_reader_fails(rt: HostRuntime) -> Result<(), Fail> {
     let alloc = rt.alloc();
@@ -105,12 +102,8 @@ fn stops_where_the_reader_fails(rt: HostRuntime) -> Result<(), Fail> {
         let mut written = Vec::new(alloc);
         let reader = FailingReader::new(&input, left);
         let ended = run_on(alloc, reader, &mut written);
-        assert_eq!(rt; ended, Err(RunFault::Read), "at {left}");
-        assert!(rt; FIRST_ANSWERS.starts_with(written.as_slice()), "at {left}");
-        assert!(rt; written.is_empty() || written.ends_with(b"\n"), "at {left}");
-        // Each line that was read whole has its answer; the settings have none.
-        let lines = line_feeds(&input[..left]);
-        assert_eq!(rt; line_feeds(&written), lines.saturating_sub(1), "at {left}");
+        let stopped = stopped_reading(ended, &input[..left], &written, FIRST_ANSWERS);
+        assert!(rt; stopped, "at {left}");
     }
     Ok(())
 }
@@ -125,9 +118,7 @@ fn stops_where_the_writer_fails(rt: HostRuntime) -> Result<(), Fail> {
             let mut written = Vec::new(alloc);
             let writer = FailingWriter::new(&mut written, left);
             let ended = run_on(alloc, script, writer);
-            assert_eq!(rt; ended, Err(RunFault::Write), "at {left}");
-            assert!(rt; answers.starts_with(written.as_slice()), "at {left}");
-            assert_eq!(rt; written.len(), 2 * left);
+            assert!(rt; stopped_writing(ended, left, &written, answers), "at {left}");
         }
     }
     Ok(())

@@ -1,8 +1,8 @@
 -- What had to be written, in other words.
 use Rattle.std.proofs.Common.{Bool, ℕ, List, Option, Result, ◌++◌, ◌∷◌, [], inl, inr}
 use Rattle.sm_run.specs.Runs.{StoppedAt, StoppedEarly, StoppedReading, StoppedWriting, WroteBefore}
-use Rattle.sm_run.specs.declared.outcome.RunFault.{RunFault}
-use Rattle.sm_run.specs.declared.outcome.Status.{Status}
+use Rattle.sm_lines.specs.declared.answer_fault.AnswerFault.{AnswerFault}
+use Rattle.sm_run.specs.declared.status.Status.{Status}
 
 -- from one wording of what had to be written to another
 abbrev pub Rewords : (List (List ℕ) → List ℕ → Type 0) → (List (List ℕ) → List ℕ → Type 0) → Type 0
@@ -32,7 +32,7 @@ writing_as writes says input old new reword s = record {
   wrote = s.wrote;
 }
 
-pub early_as : (writes says : List (List ℕ) → List ℕ → Type 0) (result : Result Status RunFault) (failed : Bool) (calls : ℕ) (input left old new : Option (List ℕ))
+pub early_as : (writes says : List (List ℕ) → List ℕ → Type 0) (result : Result Status AnswerFault) (failed : Bool) (calls : ℕ) (input left old new : Option (List ℕ))
     → Rewords writes says → StoppedEarly writes result failed calls input left old new → StoppedEarly says result failed calls input left old new
 early_as writes says result failed calls input left old new reword s = record {
   read = λ is. reading_as writes says failed calls input left old new reword (s.read is);

@@ -17,3 +17,9 @@ returns-in-Ok-End-clause-touched g c = λ _.
 
 pub returns-in-Err-NoMemory-clause-touched : goal.returns-in-Err-NoMemory-clause-touched
 returns-in-Err-NoMemory-clause-touched g c = λ _. stops_in_line _ _ c.in-Err-NoMemory.ensures.err
+
+pub returns-in-Ok-LongLine-clause-unfailed : goal.returns-in-Ok-LongLine-clause-unfailed
+returns-in-Ok-LongLine-clause-unfailed g c = λ _. c.in-Ok-LongLine.ensures.unfailed (λ e. cc)
+
+pub returns-in-Ok-LongLine-clause-calls : goal.returns-in-Ok-LongLine-clause-calls
+returns-in-Ok-LongLine-clause-calls g c = c.in-Ok-LongLine.ensures.calls (λ e. cc)

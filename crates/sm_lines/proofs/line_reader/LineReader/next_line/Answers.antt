@@ -1,6 +1,6 @@
 use Rattle.std.proofs.Common.{◌≡◌, Bool, subst, sym, ◌∙◌, ap}
 use Rattle.std.proofs.lemmas.Bool.{false≢true}
-use Rattle.sm_lines.proofs.LineLemmas.{took_line, took_long_line, so_far_next, took_last_line, took_last_long_line}
+use Rattle.sm_lines.proofs.LineLemmas.{no_feed, took_line, took_long_line, so_far_next, took_last_line, took_last_long_line}
 use Rattle.sm_lines.specs.Reading.{CallsFit}
 use Rattle.sm_lines.proofs.Calls.{fewer_given, given_line, given_part, given_piece, took_more}
 use Rattle.sm_lines.proofs.line_reader.LineReader.next_line.Goals as goal
@@ -60,6 +60,7 @@ pieces-preserved g c =
       same_end = more.3 ∙ sym more.4 ∙ same_end;
       calls = took_more _ _ _ _ _ _ _ _ _ (subst P (ap (λ r. r.ended) (sym took.ok)) c.pieces.invariant.calls) read.calls;
       unfailed = more.2 ∙ c.pieces.invariant.unfailed;
+      held = λ is. absurd (no_feed is (c.pieces.invariant.held is).0 c.in-None.ensures.none);
       not_read = λ is. absurd (false≢true (sym more.4 ∙ same_end ∙ is));
       reader_ended = λ is. read.same_end (c.pieces.invariant.reader_ended is ∙ sym (ap (λ r. r.ended) took.ok));
       given = given_piece 0 c.args.self.now c.pieces.self c.take_held.new.self c.fill.new.self _ _ _ c.pieces.invariant.given (ap (λ r. r.held) took.ok) read.given;
@@ -85,3 +86,12 @@ returns-in-Ok-false-clause-line_given g c = λ some.
     let took = c.in_ok-is_long-in-None.ensures in
     let read = c.in-Ok-false.ensures in
     given_part c.args.self.now c.pieces.self c.take_held.new.self c.fill.new.self _ _ _ _ _ _ c.pieces.invariant.given c.pieces.invariant.line_given took.ok took.long read.given read.line (c.last_line.ensures.some some)
+
+pub returns-in-Some-clause-held : goal.returns-in-Some-clause-held
+returns-in-Some-clause-held g c = λ is. ((c.pieces.invariant.held is).1, (λ e. c.in_ok-end_line-in-Some.ensures.some cc), (λ e. cc))
+
+pub returns-in-Ok-false-clause-held : goal.returns-in-Ok-false-clause-held
+returns-in-Ok-false-clause-held g c = λ is. absurd (no_feed is (c.pieces.invariant.held is).0 c.in-None.ensures.none)
+
+pub returns-in-Err-clause-held : goal.returns-in-Err-clause-held
+returns-in-Err-clause-held g c = λ is. absurd (no_feed is (c.pieces.invariant.held is).0 c.in-None.ensures.none)

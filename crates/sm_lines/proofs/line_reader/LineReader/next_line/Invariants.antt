@@ -1,4 +1,4 @@
-use Rattle.std.proofs.Common.{◌≡◌, ◌-◌, ◌<◌, ◌⊎◌, true, length}
+use Rattle.std.proofs.Common.{◌≡◌, ◌-◌, ◌<◌, ◌⊎◌, true, length, Contains}
 use Rattle.sm_lines.specs.Reading.{unread, CallsFit, EndStands, LinesGiven}
 use Rattle.sm_lines.specs.declared.watch.TheConstants.{COUNT_LIMIT}
 use Rattle.sm_lines.proofs.LineLemmas.{SoFar}
@@ -11,6 +11,7 @@ invariant-pieces g l = record {
   same_end : l.self.ended ≡ l.fn.self.ended;
   unfailed : l.reader.failed ≡ l.fn.reader.failed;
   calls : CallsFit l.fn.self.ended l.self.ended (g.R.Read.remaining l.fn.reader.inner) (g.R.Read.remaining l.reader.inner) l.fn.reader.calls l.reader.calls;
+  held : Contains l.fn.self.held 10 → (l.self.held ≡ l.fn.self.held) × (l.reader ≡ l.fn.reader);
   not_read : l.fn.self.ended ≡ true → l.reader ≡ l.fn.reader;
   reader_ended : l.fn.reader.ended ≡ l.fn.self.ended → l.reader.ended ≡ l.self.ended;
   not_past_end : l.fn.reader.ended ≡ l.fn.self.ended → l.reader.read_past_end ≡ l.fn.reader.read_past_end;

@@ -3,7 +3,7 @@ use Rattle.sm_lines.specs.Reading.{unread, CallsFit, EndStands, LinesGiven}
 use Rattle.sm_lines.specs.Answers.{AnswersLine}
 use Rattle.sm_lines.specs.declared.TheConstants.{PIECE}
 use Rattle.sm_lines.proofs.AnswerLemmas.{SoFar}
-use Rattle.sm_lines.proofs.respond.answer_rest.Given as goal
+use Rattle.sm_lines.proofs.respond.answer_lines.Given as goal
 
 abbrev pub invariant-lines : goal.invariant-lines
 invariant-lines g l = record {
