@@ -2,6 +2,10 @@
 #![tactic(auto)]
 
 #[cfg(test)]
+mod adopting;
+#[cfg(test)]
+mod calls;
+#[cfg(test)]
 mod executing;
 #[cfg(test)]
 mod logged;

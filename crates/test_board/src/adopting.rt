@@ -1,0 +1,134 @@
+use crate::calls::{adopted, changed, migrated};
+use sm_body::logged::Logged;
+use sm_body::machine::Machine;
+use sm_ownership::change::Change;
+use sm_ranges::key::Key;
+use sm_ranges::server_id::ServerId;
+use sm_ranges::shard_id::ShardId;
+use sm_rule::board::Board;
+use sm_service::{Bytes, CounterText, Reply, Request};
+use std::alloc::{AllocError, Global};
+use std::marker::Model;
+use std::test::Fail;
+
+fn put_of(alloc: Global, text: &[u8]) -> Result<Request, Fail> {
+    let text = Bytes::new(alloc, text)?;
+    Ok(Request::Put(Key::new(alloc, b"a")?, text))
+}
+
+fn is_text(reply: &Option<Reply>, want: &[u8]) -> bool {
+    match reply {
+        Some(Reply::Text(text)) => text.as_bytes() == want,
+        _ => false,
+    }
+}
+
+// The next server to execute a shard's requests moves its body into fresh memory, where nothing is dead.
+#[test]
+fn new_server_adopts(rt: HostRuntime) -> Result<(), Fail> {
+    let alloc = rt.alloc();
+    let (k, owner) = (ShardId::new(0).ok_or("shard 0")?, ServerId::of(1));
+    let bodies = vec![in alloc; CounterText::new(alloc, 100)]?;
+    let Ok((board, mut chair)) = Board::make(alloc, bodies, 1_000) else {
+        return Err("a board".into());
+    };
+    assert!(rt; changed(&board, &mut chair, k, Change::Assign(owner)));
+    let mut first = board.pass(Some(owner));
+    for text in [b"x".as_slice(), b"yy".as_slice()] {
+        let put = adopted(&board, &mut first, k, put_of(alloc, text)?);
+        assert!(rt; matches!(put, Some(Reply::Done)));
+    }
+    assert!(rt; migrated(&board, &mut chair, k, ServerId::of(2)));
+    let mut second = board.pass(Some(ServerId::of(2)));
+    let get = Request::Get(Key::new(alloc, b"a")?);
+    let held = adopted(&board, &mut second, k, get);
+    assert!(rt; is_text(&held, b"yy"));
+    let rows = board.close(chair);
+    assert!(rt; rows.len() == 1);
+    let dead = rows[0].1.as_ref().map(|body| body.machine().dead());
+    assert!(rt; dead == Some(0));
+    Ok(())
+}
+
+#[derive(Drop)]
+struct Ask;
+
+// Answers how often it was asked before. It refuses its first move into fresh memory, and counts the others.
+#[derive(Drop)]
+struct Moving {
+    asked: u64,
+    is_refusing: bool,
+    moves: u64,
+}
+
+impl Model for Moving {
+    ghost use Rattle.std.specs.Prelude.{ℕ};
+
+    ghost Value = { ℕ };
+
+    ghost view = { λ machine. machine.asked };
+}
+
+impl Machine for Moving {
+    ghost use Rattle.std.specs.Prelude.{◌+◌, ◌-◌, ◌^◌, min, [], ◌∷◌};
+
+    type Request = Ask;
+
+    type Reply = u64;
+
+    ghost start = { 0 };
+
+    ghost after = { λ asked _. min (asked + 1) (2 ^ 64 - 1) };
+
+    ghost reply = { λ asked _. asked };
+
+    ghost key_of = { λ _. 97 ∷ [] };
+
+    fn new(_: Global) -> Moving {
+        Moving {
+            asked: 0,
+            is_refusing: true,
+            moves: 0,
+        }
+    }
+
+    fn key(_: &Ask) -> &[u8] {
+        b"a"
+    }
+
+    fn answer(&mut self, _: Global, _: &Ask) -> Result<u64, AllocError> {
+        let before = self.asked;
+        self.asked = self.asked.saturating_add(1);
+        Ok(before)
+    }
+
+    fn rebuild(&mut self, _: Global) -> Result<(), AllocError> {
+        if self.is_refusing {
+            self.is_refusing = false;
+            return Err(AllocError);
+        }
+        self.moves = self.moves.saturating_add(1);
+        Ok(())
+    }
+}
+
+// A body whose move is refused answers from its old memory, and is moved at the next settling, but not at the one after that.
+#[test]
+fn adoption_refused(rt: HostRuntime) -> Result<(), Fail> {
+    let alloc = rt.alloc();
+    let (k, owner) = (ShardId::new(0).ok_or("shard 0")?, ServerId::of(1));
+    let body: Logged<Moving> = Logged::new(alloc, 100);
+    let Ok((board, mut chair)) = Board::make(alloc, vec![in alloc; body]?, 1_000) else {
+        return Err("a board".into());
+    };
+    assert!(rt; changed(&board, &mut chair, k, Change::Assign(owner)));
+    let mut pass = board.pass(Some(owner));
+    for asked in 0..3u64 {
+        assert!(rt; adopted(&board, &mut pass, k, Ask) == Some(asked));
+    }
+    let rows = board.close(chair);
+    assert!(rt; rows.len() == 1);
+    let moves = rows[0].1.as_ref().map(|body| body.machine().moves);
+    assert!(rt; moves == Some(1));
+    Ok(())
+}
