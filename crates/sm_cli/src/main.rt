@@ -26,7 +26,10 @@ The script comes on standard input: a line of settings, and then a command a lin
   hold K A, free K  server A is admitted to shard K without a request; its end
   get KEY           what the key holds
   put KEY TEXT      the key holds the text
+  append KEY TEXT   the key holds its text followed by this one
   inc KEY N         adds N to the count that the key holds
+  del KEY           the key holds nothing
+  scan LOW HIGH MAX the first MAX pairs of LOW's shard with keys from LOW on and below HIGH, at most 100
   at A REQUEST      a request to server A, where the others go to the owner
 
 Each command has one answer line. An empty line and a line that begins with # have none.
@@ -60,7 +63,7 @@ fn command_line(rt: &HostRuntime) -> io::Result<Vec<String>> {
 /// The choice that the words name; an error is a refusal, help that was asked for, or want of memory.
 fn choose(alloc: Global, words: &[String]) -> Result<Choice, clap::Error> {
     let model = Command::new(alloc, "model")
-        .about("Runs the script of standard input on the model: the whole manager on one thread")
+        .about("Runs the script of standard input on the model: shards, their changes and requests, on one thread")
         .after_help(SCRIPT_HELP);
     let command = Command::new(alloc, "sm_cli")
         .about("Runs a script of a shard manager")

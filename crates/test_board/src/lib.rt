@@ -6,6 +6,8 @@ mod adopting;
 #[cfg(test)]
 mod calls;
 #[cfg(test)]
+mod checkpoints;
+#[cfg(test)]
 mod executing;
 #[cfg(test)]
 mod logged;

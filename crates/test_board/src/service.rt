@@ -198,6 +198,144 @@ fn increments_no_text(rt: HostRuntime) {
     assert!(rt; has_text(&mut service, alloc, b"a", b"1"));
 }
 
+fn append(service: &mut CounterText, alloc: Global, key: &[u8], tail: &[u8]) -> Option<Reply> {
+    let key = Key::new(alloc, key).ok()?;
+    applied(service, Request::Append(key, Bytes::new(alloc, tail).ok()?)).ok()
+}
+
+fn del(service: &mut CounterText, alloc: Global, key: &[u8]) -> Option<Reply> {
+    applied(service, Request::Del(Key::new(alloc, key).ok()?)).ok()
+}
+
+// How many pairs a scan gives.
+fn scan_count(
+    service: &mut CounterText,
+    alloc: Global,
+    low: &[u8],
+    high: &[u8],
+    most: u32,
+) -> Option<usize> {
+    let (low, high) = (Key::new(alloc, low).ok()?, Key::new(alloc, high).ok()?);
+    match applied(service, Request::Scan(low, high, most)) {
+        Ok(Reply::Pairs(pairs)) => Some(pairs.as_slice().len()),
+        _ => None,
+    }
+}
+
+#[test]
+fn scans_at_most_a_hundred_pairs(rt: HostRuntime) {
+    let alloc = rt.alloc();
+    let mut service = CounterText::new(alloc, 200);
+    for last in 0..102 {
+        assert!(rt; counts(&mut service, alloc, &[b'k', last], 1, 1));
+    }
+    for (most, found) in [(0, 0), (1, 1), (100, 100), (101, 100), (u32::MAX, 100)] {
+        let count = scan_count(&mut service, alloc, b"k", b"l", most);
+        assert!(rt; count == Some(found), "{most}");
+    }
+    assert!(rt; scan_count(&mut service, alloc, b"k\x40", b"l", 101) == Some(38));
+}
+
+#[test]
+fn scans_from_low_on_and_below_high(rt: HostRuntime) {
+    let alloc = rt.alloc();
+    let mut service = CounterText::new(alloc, 20);
+    for key in [b"b", b"c", b"d"] {
+        assert!(rt; puts_text(&mut service, alloc, key, b""));
+    }
+    let ranges: [(&[u8], &[u8], usize); 6] = [
+        (b"a", b"z", 3),
+        (b"b", b"d", 2),
+        (b"b\0", b"d\0", 2),
+        (b"c", b"c", 0),
+        (b"d", b"b", 0),
+        (b"e", b"z", 0),
+    ];
+    for (low, high, found) in ranges {
+        assert!(rt; scan_count(&mut service, alloc, low, high, 9) == Some(found));
+    }
+    assert!(rt; service.kept() == 12);
+}
+
+// A key of 255 bytes, and one that begins like it.
+#[test]
+fn takes_the_longest_keys(rt: HostRuntime) -> Result<(), Fail> {
+    let alloc = rt.alloc();
+    let mut service = CounterText::new(alloc, 20);
+    let longest: Vec<u8> = vec![in alloc; b'k'; 255]?;
+    assert!(rt; puts_text(&mut service, alloc, &longest, b"x"));
+    assert!(rt; counts(&mut service, alloc, &longest[..254], 5, 5));
+    let done = append(&mut service, alloc, &longest, b"y");
+    assert!(rt; matches!(done, Some(Reply::Done)));
+    assert!(rt; has_text(&mut service, alloc, &longest, b"xy"));
+    assert!(rt; scan_count(&mut service, alloc, &longest[..254], &longest, 9) == Some(1));
+    assert!(rt; matches!(del(&mut service, alloc, &longest), Some(Reply::Done)));
+    assert!(rt; scan_count(&mut service, alloc, b"k", b"l", 9) == Some(1));
+    Ok(())
+}
+
+// Up to 65,535 bytes; what is refused changes nothing.
+#[test]
+fn appends_up_to_the_longest(rt: HostRuntime) -> Result<(), Fail> {
+    let alloc = rt.alloc();
+    let mut service = CounterText::new(alloc, 20);
+    let longest: Vec<u8> = vec![in alloc; b'x'; 65_535]?;
+    for (tail, length) in [(0, 0), (65_534, 65_534), (1, 65_535), (0, 65_535)] {
+        let done = append(&mut service, alloc, b"k", &longest[..tail]);
+        assert!(rt; matches!(done, Some(Reply::Done)));
+        assert!(rt; has_text(&mut service, alloc, b"k", &longest[..length]));
+    }
+    let refused = append(&mut service, alloc, b"k", b"x");
+    assert!(rt; matches!(refused, Some(Reply::TooLong)));
+    assert!(rt; has_text(&mut service, alloc, b"k", &longest));
+    Ok(())
+}
+
+#[test]
+fn appends_to_no_count(rt: HostRuntime) -> Result<(), Fail> {
+    let alloc = rt.alloc();
+    let mut service = CounterText::new(alloc, 20);
+    let longer: Vec<u8> = vec![in alloc; b'y'; 65_536]?;
+    assert!(rt; matches!(append(&mut service, alloc, b"a", &longer), Some(Reply::TooLong)));
+    assert!(rt; matches!(del(&mut service, alloc, b"a"), Some(Reply::Nothing)));
+    assert!(rt; counts(&mut service, alloc, b"a", 1, 1));
+    for tail in [b"x".as_slice(), &longer] {
+        let refused = append(&mut service, alloc, b"a", tail);
+        assert!(rt; matches!(refused, Some(Reply::WrongKind)));
+    }
+    assert!(rt; has_count(&mut service, alloc, b"a", 1));
+    Ok(())
+}
+
+// A text that is appended to nothing, and then deleted, leaves itself and its key dead.
+#[test]
+fn appends_in_bounded_memory(rt: HostRuntime) -> Result<(), Fail> {
+    let alloc = rt.alloc();
+    let mut service = CounterText::new(alloc, 20);
+    let long: Vec<u8> = vec![in alloc; b'x'; 40_000]?;
+    for dead in [0, 40_001, 0, 40_001] {
+        let done = append(&mut service, alloc, b"k", &long);
+        assert!(rt; matches!(done, Some(Reply::Done)));
+        assert!(rt; service.machine().dead() == dead);
+        assert!(rt; matches!(del(&mut service, alloc, b"k"), Some(Reply::Done)));
+    }
+    Ok(())
+}
+
+// A count that is deleted leaves its key dead.
+#[test]
+fn counts_in_bounded_memory(rt: HostRuntime) -> Result<(), Fail> {
+    let alloc = rt.alloc();
+    let mut service = CounterText::new(alloc, 1_000);
+    let longest: Vec<u8> = vec![in alloc; b'k'; 255]?;
+    for _ in 0..300 {
+        assert!(rt; counts(&mut service, alloc, &longest, 1, 1));
+        assert!(rt; service.machine().dead() <= 65_536);
+        assert!(rt; matches!(del(&mut service, alloc, &longest), Some(Reply::Done)));
+    }
+    Ok(())
+}
+
 // Applies the request; where memory is refused, sees that nothing has changed and that it came back, and tries again.
 fn applied_in_two(
     rt: &impl Abort,
