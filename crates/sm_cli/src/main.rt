@@ -63,7 +63,9 @@ fn command_line(rt: &HostRuntime) -> io::Result<Vec<String>> {
 /// The choice that the words name; an error is a refusal, help that was asked for, or want of memory.
 fn choose(alloc: Global, words: &[String]) -> Result<Choice, clap::Error> {
     let model = Command::new(alloc, "model")
-        .about("Runs the script of standard input on the model: shards, their changes and requests, on one thread")
+        .about(
+            "Runs the script of standard input on the model: shards, their changes and requests, on one thread",
+        )
         .after_help(SCRIPT_HELP);
     let command = Command::new(alloc, "sm_cli")
         .about("Runs a script of a shard manager")

@@ -5,7 +5,10 @@
 //! let assign = Command::Change(k, Change::Assign(one));
 //! desk.check(&assign)?;
 //! desk.commit(assign);
-//! assert_eq!(rt; desk.check(&assign), Err(CommandFault::Change(ChangeFault::WrongPhase)));
+//! assert_eq!(rt;
+//!     desk.check(&assign),
+//!     Err(CommandFault::Change(ChangeFault::WrongPhase))
+//! );
 //! ```
 #![tactic(auto)]
 

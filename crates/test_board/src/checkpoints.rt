@@ -193,7 +193,13 @@ fn plain_reply(alloc: Global, cells: &mut [Cell], drawn: Drawn) -> Result<String
 }
 
 fn plain_replies(alloc: Global, all: &[Drawn]) -> Result<Vec<String>, Fail> {
-    let mut cells = [Cell::Empty, Cell::Empty, Cell::Empty, Cell::Empty, Cell::Empty];
+    let mut cells = [
+        Cell::Empty,
+        Cell::Empty,
+        Cell::Empty,
+        Cell::Empty,
+        Cell::Empty,
+    ];
     let mut replies = Vec::new(alloc);
     for drawn in all {
         replies.push(plain_reply(alloc, &mut cells, *drawn)?)?;
@@ -263,7 +269,11 @@ fn replies_alike(
             checkpoint(&mut body)?;
         }
         let found = reply_to(alloc, &mut body, *drawn)?;
-        assert_eq!(rt; found.as_str(), reply.as_str(), "{at} after a checkpoint at {cut}");
+        assert_eq!(rt;
+            found.as_str(),
+            reply.as_str(),
+            "{at} after a checkpoint at {cut}"
+        );
     }
     assert!(rt; body.first() == cut as u64);
     Ok(())

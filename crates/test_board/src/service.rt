@@ -296,7 +296,12 @@ fn appends_to_no_count(rt: HostRuntime) -> Result<(), Fail> {
     let alloc = rt.alloc();
     let mut service = CounterText::new(alloc, 20);
     let longer: Vec<u8> = vec![in alloc; b'y'; 65_536]?;
-    assert!(rt; matches!(append(&mut service, alloc, b"a", &longer), Some(Reply::TooLong)));
+    assert!(rt;
+        matches!(
+            append(&mut service, alloc, b"a", &longer),
+            Some(Reply::TooLong)
+        )
+    );
     assert!(rt; matches!(del(&mut service, alloc, b"a"), Some(Reply::Nothing)));
     assert!(rt; counts(&mut service, alloc, b"a", 1, 1));
     for tail in [b"x".as_slice(), &longer] {

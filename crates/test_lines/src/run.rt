@@ -113,7 +113,10 @@ fn run_stops_where_the_writer_fails(rt: HostRuntime) -> Result<(), Fail> {
             let mut written = Vec::new(alloc);
             let writer = FailingWriter::new(&mut written, left);
             let ended = run_on(alloc, script, writer);
-            assert!(rt; stopped_writing(ended, left, &written, answers), "at {left}");
+            assert!(rt;
+                stopped_writing(ended, left, &written, answers),
+                "at {left}"
+            );
         }
     }
     Ok(())
