@@ -1,5 +1,5 @@
 -- What each change of the entries of a map leaves.
-use Rattle.std.proofs.Common.{◌≡◌, ℕ, ◌<◌, ◌+◌, List, ◌++◌, length, get_or, set, Some, refl, sym, ap, ◌∙◌, arith}
+use Rattle.std.proofs.Common.{◌≡◌, ℕ, ◌<◌, ◌+◌, List, ◌++◌, length, get_or, set, Some, refl, sym, ap, subst, ◌∙◌, arith}
 use Rattle.std.specs.List.{HoldsAt, insert, remove}
 use Rattle.std.proofs.lemmas.List.{map-set}
 use Rattle.std.proofs.lemmas.List.Sums.{sum_by-set, sum_by-insert, sum_by-remove}
@@ -9,7 +9,7 @@ use Rattle.sm_arena.specs.Value.{ArenaValue, forgetting}
 use Rattle.sm_ranges.specs.Keyed.{IsKeyGap}
 use Rattle.sm_map.specs.KeyMap.{Held, Pair, key_of, text_of, size_of}
 use Rattle.sm_map.specs.KeyMap.{Text as HeldText}
-use Rattle.sm_map.specs.ArenaMap.{IsRewrite, IsRemoval, IsAddition}
+use Rattle.sm_map.specs.ArenaMap.{MapValue, IsRewrite, IsRemoval, IsAddition}
 use Rattle.sm_map.specs.Stored.{IsTidy, IsStored}
 use Rattle.sm_map.specs.Slot.{held_in, uses_slot, IsForgettable, forgetting_slot}
 use Rattle.sm_map.specs.Entry.{pair_of, pairs_of, uses_entry, uses_all}
@@ -60,8 +60,8 @@ module _ (v : ArenaValue) (es : List Entry) (m : IsMap v es) (at : ℕ) (within 
       tidy = tidy_forgot w (λ s. uses_all es s + uses_slot slot s) (uses_all (set es at new)) e.slot slot_parts tidy_with;
     }
 
-    pub rewritten : (held : Held) → held_in w.placed slot ≡ held → HoldsAt (λ (pair : Pair). IsRewrite (map_of v es) at pair held (map_of (forgetting_slot w e.slot) (set es at new))) (pairs_of v.placed es) at
-    rewritten held is d =
+    pub rewritten : (ls after : List ℕ) (held : Held) → held_in w.placed slot ≡ held → HoldsAt (λ (pair : Pair). IsRewrite (map_of v es ls) at pair held (map_of (forgetting_slot w e.slot) (set es at new) after)) (pairs_of v.placed es) at
+    rewritten ls after held is d =
         let f = forgets w e.slot in
         let same : held_in w.placed e.slot ≡ held_in v.placed e.slot = same_held v.placed w.placed e.slot (λ s lt. keeps_there s (omega arith)) in
         let there : (get_or (pairs_of v.placed es) at d).value ≡ held_in v.placed e.slot = ap (λ (pair : Pair). pair.value) (pair_there es at within e read v.placed d) in
@@ -70,10 +70,10 @@ module _ (v : ArenaValue) (es : List Entry) (m : IsMap v es) (at : ℕ) (within 
           dead = omega (arith, f.dead, ap (λ (h : Held). length (text_of (Some h))) same, ap (λ (h : Held). length (text_of (Some h))) there, dead_stored v (uses_slot slot) w st (uses_all es) m.tidy);
         }
 
-    pub lengthened : (tail : List ℕ) → held_in w.placed slot ≡ HeldText (text_of (Some (held_in v.placed e.slot)) ++ tail) → HoldsAt (λ (pair : Pair). IsRewrite (map_of v es) at pair (HeldText (text_of (Some pair.value) ++ tail)) (map_of (forgetting_slot w e.slot) (set es at new))) (pairs_of v.placed es) at
-    lengthened tail is d =
+    pub lengthened : (ls after : List ℕ) (tail : List ℕ) → held_in w.placed slot ≡ HeldText (text_of (Some (held_in v.placed e.slot)) ++ tail) → HoldsAt (λ (pair : Pair). IsRewrite (map_of v es ls) at pair (HeldText (text_of (Some pair.value) ++ tail)) (map_of (forgetting_slot w e.slot) (set es at new) after)) (pairs_of v.placed es) at
+    lengthened ls after tail is d =
         let there : held_in v.placed e.slot ≡ (get_or (pairs_of v.placed es) at d).value = sym (ap (λ (pair : Pair). pair.value) (pair_there es at within e read v.placed d)) in
-        rewritten (HeldText (text_of (Some (get_or (pairs_of v.placed es) at d).value) ++ tail)) (is ∙ ap (λ (h : Held). HeldText (text_of (Some h) ++ tail)) there) d
+        rewritten ls after (HeldText (text_of (Some (get_or (pairs_of v.placed es) at d).value) ++ tail)) (is ∙ ap (λ (h : Held). HeldText (text_of (Some h) ++ tail)) there) d
 
   -- the entry goes
   removed_parts : (s : Span) → (uses_all (remove es at) s + uses_slot e.slot s) + uses_slot (Text e.key) s ≡ uses_all es s
@@ -100,8 +100,8 @@ module _ (v : ArenaValue) (es : List Entry) (m : IsMap v es) (at : ℕ) (within 
     tidy = tidy_forgot (forgetting v e.key) (λ s. uses_all (remove es at) s + uses_slot e.slot s) (uses_all (remove es at)) e.slot (λ s. refl) tidy_less_key;
   }
 
-  pub removed : HoldsAt (λ (pair : Pair). IsRemoval (map_of v es) at pair (map_of (forgetting_slot (forgetting v e.key) e.slot) (remove es at))) (pairs_of v.placed es) at
-  removed d =
+  pub removed : (ls after : List ℕ) → HoldsAt (λ (pair : Pair). IsRemoval (map_of v es ls) at pair (map_of (forgetting_slot (forgetting v e.key) e.slot) (remove es at) after)) (pairs_of v.placed es) at
+  removed ls after d =
       let f = forgets v (Text e.key) in
       let g = forgets (forgetting v e.key) e.slot in
       record {
@@ -128,5 +128,18 @@ module _ (v : ArenaValue) (es : List Entry) (m : IsMap v es) (e : Entry) (w : Ar
         };
       }
 
-  pub added : IsAddition (map_of v es) at pair (map_of w (insert es at e))
-  added = record { pairs = more_pairs; dead = dead_stored v (uses_entry e) w st (uses_all es) m.tidy }
+  pub added : (ls after : List ℕ) → IsAddition (map_of v es ls) at pair (map_of w (insert es at e) after)
+  added ls after = record { pairs = more_pairs; dead = dead_stored v (uses_entry e) w st (uses_all es) m.tidy }
+
+-- the same of a map that is known by equations
+pub kept_by : (v w : ArenaValue) (es fs : List Entry) → w ≡ v → fs ≡ es → IsMap v es → IsMap w fs
+kept_by v w es fs arena entries m = subst (λ (x : ArenaValue). IsMap x fs) (sym arena) (subst (λ (x : List Entry). IsMap v x) (sym entries) m)
+
+pub same_map : (v w : ArenaValue) (es fs : List Entry) (ls : List ℕ) → w ≡ v → fs ≡ es → map_of v es ls ≡ map_of w fs ls
+same_map v w es fs ls arena entries = λ i. map_of (sym arena i) (sym entries i) ls
+
+pub through : (P : MapValue → MapValue → Type 0) (old seen new end : MapValue) → old ≡ seen → new ≡ end → P old new → P seen end
+through P old seen new end first second h = subst (λ (x : MapValue). P x end) first (subst (λ (x : MapValue). P old x) second h)
+
+pub forgot_both : (v w x : ArenaValue) (span : Span) (slot : Slot) → x ≡ forgetting_slot w slot → w ≡ forgetting v span → x ≡ forgetting_slot (forgetting v span) slot
+forgot_both v w x span slot second first = second ∙ ap (λ (y : ArenaValue). forgetting_slot y slot) first

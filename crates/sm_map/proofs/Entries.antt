@@ -1,5 +1,5 @@
 -- The pairs of entries: at a place, where what is in use reads the same, and after an edit.
-use Rattle.std.proofs.Common.{◌≡◌, ℕ, ℤ, ◌<◌, ◌≤◌, ◌+◌, List, [], ◌∷◌, length, get_or, Option, unwrap_or, refl, sym, ap, ◌∙◌, arith}
+use Rattle.std.proofs.Common.{◌≡◌, ℕ, ℤ, ◌<◌, ◌≤◌, ◌+◌, List, [], ◌∷◌, length, sum, get_or, Option, unwrap_or, refl, sym, ap, ◌∙◌, arith}
 use Rattle.std.specs.List.{AllWithin, HoldsAt, insert, remove}
 use Rattle.std.specs.Borrow.{Bor}
 use Rattle.std.specs.declared.cmp.Ordering.{Ordering}
@@ -24,6 +24,9 @@ use Rattle.sm_map.specs.declared.val.Val.{Val}
 use Rattle.sm_map.specs.declared.slot.Slot.{Slot}
 use Rattle.sm_map.specs.declared.slot.Slot.TheVariants.{Text, Count}
 use Rattle.sm_map.specs.declared.entry.Entry.{Entry}
+use Rattle.sm_map.specs.Block.{BlockValue}
+use Rattle.sm_map.specs.Blocks.{entries_in, lengths_in}
+use Rattle.sm_map.proofs.Blocks.{all_entries}
 use Rattle.sm_map.proofs.Spans.{uses_itself, piece_stored, piece_reads, nothing_stored, both_stored}
 
 pub same_held : (old new : Places) (slot : Slot) → ((s : Span) → 0 < uses_slot slot s → piece_of new s ≡ piece_of old s) → held_in new slot ≡ held_in old slot
@@ -57,15 +60,18 @@ pub length-pairs : (placed : Places) (es : List Entry) → length (pairs_of plac
 length-pairs placed es = length-map es (pair_of placed)
 
 -- a place of a pair is one of an entry
-pub in_entries : (v : ArenaValue) (es : List Entry) (seen : MapValue) → map_of v es ≡ seen → (at : ℕ) → at < length seen.pairs → at < length es
-in_entries v es seen is at lt = omega (arith, length-pairs v.placed es, ap (λ (map : MapValue). length map.pairs) is)
+pub in_entries : (v : ArenaValue) (es : List Entry) (ls : List ℕ) (seen : MapValue) → map_of v es ls ≡ seen → (at : ℕ) → at < length seen.pairs → at < length es
+in_entries v es ls seen is at lt = omega (arith, length-pairs v.placed es, ap (λ (map : MapValue). length map.pairs) is)
 
 -- and the other way round
-pub in_seen : (v : ArenaValue) (es : List Entry) (seen : MapValue) → map_of v es ≡ seen → (at : ℕ) → at < length es → at < length seen.pairs
-in_seen v es seen is at lt = omega (arith, length-pairs v.placed es, ap (λ (map : MapValue). length map.pairs) is)
+pub in_seen : (v : ArenaValue) (es : List Entry) (ls : List ℕ) (seen : MapValue) → map_of v es ls ≡ seen → (at : ℕ) → at < length es → at < length seen.pairs
+in_seen v es ls seen is at lt = omega (arith, length-pairs v.placed es, ap (λ (map : MapValue). length map.pairs) is)
 
-pub seen_in_order : (v : ArenaValue) (es : List Entry) (seen : MapValue) → map_of v es ≡ seen → IsMap v es → IsKeyMap seen.pairs
-seen_in_order v es seen is m = rw (← is) m.rising
+pub seen_in_order : (v : ArenaValue) (es : List Entry) (ls : List ℕ) (seen : MapValue) → map_of v es ls ≡ seen → IsMap v es → IsKeyMap seen.pairs
+seen_in_order v es ls seen is m = rw (← is) m.rising
+
+pub map_sum : (v : ArenaValue) (blocks : List BlockValue) → sum (lengths_in blocks) ≡ length (pairs_of v.placed (entries_in blocks))
+map_sum v blocks = all_entries blocks ∙ sym (length-pairs v.placed (entries_in blocks))
 
 -- an entry that stands at a place
 module _ (es : List Entry) (at : ℕ) (within : at < length es) (e : Entry) (read : HoldsAt (λ (x : Entry). e ≡ x) es at) where

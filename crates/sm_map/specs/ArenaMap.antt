@@ -3,11 +3,13 @@ use Rattle.std.specs.Prelude.{◌≡◌, ℕ, ◌+◌, List, Some, length, slice
 use Rattle.std.specs.List.{remove, insert}
 use Rattle.sm_map.specs.KeyMap.{Held, Pair, text_of, size_of}
 
--- the pairs in the order of their keys, and how many bytes of the arena are live, and dead
+-- the pairs in the order of their keys, how many bytes of the arena are live, and dead, and how many pairs each block of the
+-- index has
 pub record MapValue : Type 0 where
   pub pairs : List Pair
   pub bytes : ℕ
   pub dead : ℕ
+  pub blocks : List ℕ
 
 -- new is old with this value in the pair at the place, whose old text is dead
 pub record IsRewrite (old : MapValue) (at : ℕ) (pair : Pair) (value : Held) (new : MapValue) : Type 0 where

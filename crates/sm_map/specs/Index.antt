@@ -1,8 +1,31 @@
--- What a contract sees of an Index.
-use Rattle.std.specs.Prelude.{ℕ, List}
-use Rattle.sm_map.specs.declared.entry.Entry.{Entry}
+-- What a contract sees of an Index, and what it keeps.
+use Rattle.std.specs.Prelude.{◌≡◌, ◌<◌, ◌≤◌, ◌⊎◌, ℕ, List, [], All, length}
+use Rattle.std.specs.List.{HoldsAt}
+use Rattle.sm_map.specs.Block.{BlockValue}
+use Rattle.sm_map.specs.Blocks.{entries_in, lengths_in, IsFilled}
+use Rattle.sm_map.specs.declared.block.TheConstants.{MOST_ENTRIES}
+use Rattle.sm_map.specs.declared.place.Place.{Place}
+use Rattle.sm_map.specs.declared.room.Room.{Room}
+use Rattle.sm_map.specs.declared.room.Room.TheVariants.{Inside, Beside, First}
 
--- the entries in order, and how many more it takes in without growing
+-- the blocks in order, and how many more it takes in without growing
 pub record IndexValue : Type 0 where
-  pub entries : List Entry
+  pub blocks : List BlockValue
   pub room : ℕ
+
+-- no block is empty or too long, and len is the number of entries
+pub record IsIndex (blocks : List BlockValue) (len : ℕ) : Type 0 where
+  pub filled : All IsFilled blocks
+  pub counted : len ≡ length (entries_in blocks)
+
+-- the room takes in one more entry at the place
+abbrev pub IsReady : IndexValue → Place → Room → Type 0
+IsReady index place Inside =
+    (place.block < length index.blocks) ×
+    HoldsAt (λ block. (place.offset ≤ length block.entries) × (length block.entries < MOST_ENTRIES) × (0 < block.room)) index.blocks place.block
+IsReady index place (Beside upper) =
+    (place.block < length index.blocks) ×
+    HoldsAt (λ block. (place.offset ≤ length block.entries) × (length block.entries ≡ MOST_ENTRIES)) index.blocks place.block ×
+    (0 < index.room) × (upper.entries ≡ []) × (MOST_ENTRIES ≤ upper.room)
+IsReady index place (First first) =
+    (index.blocks ≡ []) × (place.block ≡ 0) × (place.offset ≡ 0) × (0 < index.room) × (first.entries ≡ []) × (0 < first.room)

@@ -1,23 +1,24 @@
 -- What an ArenaMap keeps: its entries are those of a key map, and use the spans of its arena.
-use Rattle.std.specs.Prelude.{List}
+use Rattle.std.specs.Prelude.{ℕ, List}
 use Rattle.sm_arena.specs.Value.{ArenaValue, live_of, dead_of}
 use Rattle.sm_map.specs.KeyMap.{IsKeyMap}
 use Rattle.sm_map.specs.ArenaMap.{MapValue}
 use Rattle.sm_map.specs.Stored.{IsTidy}
 use Rattle.sm_map.specs.Entry.{pairs_of, uses_all}
+use Rattle.sm_map.specs.Blocks.{entries_in, lengths_in}
 use Rattle.sm_map.specs.declared.entry.Entry.{Entry}
 use Rattle.sm_map.specs.declared.arena_map.ArenaMap.TheInside.{Inside}
 
--- the map that these entries are in an arena
-abbrev pub map_of : ArenaValue → List Entry → MapValue
-map_of v entries = record { pairs = pairs_of v.placed entries; bytes = live_of v; dead = dead_of v }
+-- the map that these entries are in an arena, in blocks of these lengths
+abbrev pub map_of : ArenaValue → List Entry → List ℕ → MapValue
+map_of v entries lengths = record { pairs = pairs_of v.placed entries; bytes = live_of v; dead = dead_of v; blocks = lengths }
 
 pub record IsMap (v : ArenaValue) (entries : List Entry) : Type 0 where
   pub rising : IsKeyMap (pairs_of v.placed entries)
   pub tidy : IsTidy v (uses_all entries)
 
 abbrev pub value_of : Inside → MapValue
-value_of map = map_of map.arena map.index.entries
+value_of map = map_of map.arena (entries_in map.index.blocks) (lengths_in map.index.blocks)
 
 abbrev pub IsKept : Inside → Type 0
-IsKept map = IsMap map.arena map.index.entries
+IsKept map = IsMap map.arena (entries_in map.index.blocks)

@@ -4,5 +4,8 @@ pub mod Stored
 pub mod Val
 pub mod Slot
 pub mod Entry
+pub mod Block
+pub mod Places
+pub mod Blocks
 pub mod Index
 pub mod Kept

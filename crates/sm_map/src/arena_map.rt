@@ -1,4 +1,4 @@
-ghost use Rattle.std.specs.Prelude.{◌≡◌, ◌<◌, ◌≤◌, ◌+◌, ◌++◌, [], Some, length, map, take, is_some, IfOk, IfErr, OnOk, OnErr};
+ghost use Rattle.std.specs.Prelude.{◌≡◌, ◌<◌, ◌≤◌, ◌+◌, ◌++◌, [], Some, length, map, sum, slice_index, take, is_some, IfOk, IfErr, OnOk, OnErr};
 ghost use Rattle.std.specs.List.{HoldsAt};
 ghost use Rattle.std.specs.Option.{option_map};
 ghost use Rattle.sm_ranges.specs.Keyed.{IsKeyPlace, IsKeyGap};
@@ -6,10 +6,13 @@ ghost use Rattle.sm_map.specs.KeyMap.{key_of, IsKeyMap, IsText, HoldsText, IsEdg
 ghost use Rattle.sm_map.specs.KeyMap.{held_at, holding, without, within, text_of, text_at, size_at};
 ghost use Rattle.sm_map.specs.KeyMap.{Text as HeldText};
 ghost use Rattle.sm_map.specs.ArenaMap.{IsRewrite, IsRemoval, IsAddition};
+ghost use Rattle.sm_map.specs.Blocks.{number_of, HasEntry, IsGap, IsStop};
 ghost use Rattle.sm_map.specs.Val.{held_of, row_of};
 
+use crate::block::MOST_ENTRIES;
 use crate::entry::Entry;
 use crate::index::Index;
+use crate::place::Place;
 use crate::slot::Slot;
 use crate::val::Val;
 use sm_arena::arena::Arena;
@@ -55,7 +58,24 @@ impl ArenaMap {
         ensures value { result ≡ length self.now.pairs }
         ensures is_key_map { IsKeyMap self.now.pairs }
     {
-        self.index.len() as u128
+        self.index.len()
+    }
+
+    /// How many blocks the index has. Each has 1 to 64 pairs.
+    pub fn blocks(&self) -> usize
+        ensures value { result ≡ length self.now.blocks }
+        ensures sum { sum self.now.blocks ≡ length self.now.pairs }
+    {
+        self.index.block_count()
+    }
+
+    /// How many pairs a block of the index has.
+    pub fn block_len(&self, at: usize) -> usize
+        requires { at < length self.now.blocks }
+        ensures value { result ≡ slice_index self.now.blocks at }
+        ensures bounds { (0 < result) × (result ≤ MOST_ENTRIES) }
+    {
+        self.index.block_len(at)
     }
 
     /// How many bytes lie in the arena that aren't dead.
@@ -77,7 +97,7 @@ impl ArenaMap {
         ensures { option_map held_of result ≡ held_at self.now.pairs key.now }
     {
         match self.find(key) {
-            Ok(at) => Some(self.pair_at(at).1),
+            Ok(place) => Some(self.pair_at(place).1),
             Err(_) => None,
         }
     }
@@ -93,8 +113,8 @@ impl ArenaMap {
         ensures err { OnErr result (self.new ≡ self.old) }
     {
         match self.find(key) {
-            Ok(at) => self.write_at(at, value),
-            Err(at) => self.insert_at(at, key, value),
+            Ok(place) => self.write_at(place, value),
+            Err(place) => self.insert_at(place, key, value),
         }
     }
 
@@ -110,7 +130,7 @@ impl ArenaMap {
         ensures err { OnErr result (self.new ≡ self.old) }
     {
         match self.find(key) {
-            Ok(at) => self.append_at(at, tail),
+            Ok(place) => self.append_at(place, tail),
             Err(_) => unreachable!(),
         }
     }
@@ -122,8 +142,8 @@ impl ArenaMap {
         ensures held { result ≡ is_some (held_at self.old.pairs key.now) }
     {
         match self.find(key) {
-            Ok(at) => {
-                self.remove_at(at);
+            Ok(place) => {
+                self.remove_at(place);
                 true
             }
             Err(_) => false,
@@ -143,11 +163,12 @@ impl ArenaMap {
     ) -> Result<Vec<(&[u8], Val<'_>)>, AllocError>
         ensures { IfOk result (λ rows. map row_of rows.items ≡ take max (within self.now.pairs low.now high.now)) }
     {
-        let start = self.edge(low);
-        let count = self.edge(high).saturating_sub(start).min(max);
-        let mut rows = Vec::with_capacity(self.alloc, count)?;
-        for at in start..start + count {
-            rows.push(self.pair_at(at))?;
+        let end = self.edge(high);
+        let mut place = self.edge(low);
+        let mut rows = Vec::with_capacity(self.alloc, place.most_before(end).min(max))?;
+        while rows.len() < max && place.precedes(end) {
+            rows.push(self.pair_at(place))?;
+            place = self.index.after(place);
         }
         Ok(rows)
     }
@@ -161,10 +182,12 @@ impl ArenaMap {
         ensures { IfOk result (λ map. (map.pairs ≡ self.now.pairs) × (map.dead ≡ 0)) }
     {
         let mut map = ArenaMap::new(self.alloc);
+        let mut place = self.index.first();
         // The pairs come in the order of their keys, so each goes to the end.
-        for at in 0..self.index.len() {
-            let (key, value) = self.pair_at(at);
-            map.insert_at(at, key, value)?;
+        while place.block < self.index.block_count() {
+            let (key, value) = self.pair_at(place);
+            map.insert_at(map.end(), key, value)?;
+            place = self.index.after(place);
         }
         Ok(map)
     }
@@ -185,78 +208,90 @@ impl ArenaMap {
     }
 
     // The place of the key's pair, or the place where it would go.
-    fn find(&self, key: &[u8]) -> Result<usize, usize>
+    fn find(&self, key: &[u8]) -> Result<Place, Place>
         ensures rising { IsKeyMap self.now.pairs }
-        ensures found { IfOk result (IsKeyPlace key_of self.now.pairs key.now) }
-        ensures absent { IfErr result (IsKeyGap key_of self.now.pairs key.now) }
+        ensures entry { IfOk result (HasEntry self.now.blocks) }
+        ensures found { IfOk result (λ place. IsKeyPlace key_of self.now.pairs key.now (number_of self.now.blocks place)) }
+        ensures gap { IfErr result (IsGap self.now.blocks) }
+        ensures absent { IfErr result (λ place. IsKeyGap key_of self.now.pairs key.now (number_of self.now.blocks place)) }
     {
         self.index.find(&self.arena, key)
     }
 
-    // The number of pairs below the key.
-    fn edge(&self, key: &[u8]) -> usize
-        ensures { IsEdgeOf self.now.pairs key.now result }
+    // The place of the first pair that isn't below the key, or the end.
+    fn edge(&self, key: &[u8]) -> Place
+        ensures stop { IsStop self.now.blocks result }
+        ensures edge { IsEdgeOf self.now.pairs key.now (number_of self.now.blocks result) }
     {
         match self.find(key) {
-            Ok(at) => at,
-            Err(at) => at,
+            Ok(place) => place,
+            Err(place) => self.index.stop(place),
         }
     }
 
-    // The pair at a place.
-    fn pair_at(&self, at: usize) -> (&[u8], Val<'_>)
-        requires { at < length self.now.pairs }
-        ensures { HoldsAt (λ pair. row_of result ≡ pair) self.now.pairs at }
+    // Where a pair goes after all others.
+    fn end(&self) -> Place
+        ensures gap { IsGap self.now.blocks result }
+        ensures end { number_of self.now.blocks result ≡ length self.now.pairs }
     {
-        let entry = self.index.entry(at);
+        self.index.end()
+    }
+
+    // The pair at a place.
+    fn pair_at(&self, place: Place) -> (&[u8], Val<'_>)
+        requires { HasEntry self.now.blocks place }
+        ensures { HoldsAt (λ pair. row_of result ≡ pair) self.now.pairs (number_of self.now.blocks place) }
+    {
+        let entry = self.index.entry(place);
         (self.arena.get(entry.key), entry.slot.read(&self.arena))
     }
 
     // Writes the value over that of the pair at a place.
-    fn write_at(&mut self, at: usize, value: Val<'_>) -> Result<(), AllocError>
-        requires { at < length self.old.pairs }
-        ensures ok { OnOk result (HoldsAt (λ pair. IsRewrite self.old at pair (held_of value.entry) self.new) self.old.pairs at) }
+    fn write_at(&mut self, place: Place, value: Val<'_>) -> Result<(), AllocError>
+        requires { HasEntry self.old.blocks place }
+        ensures ok { OnOk result (HoldsAt (λ pair. IsRewrite self.old (number_of self.old.blocks place) pair (held_of value.entry) self.new) self.old.pairs (number_of self.old.blocks place)) }
         ensures err { OnErr result (self.new ≡ self.old) }
     {
-        let Entry { key, slot: before } = self.index.entry(at);
+        let Entry { key, slot: before } = self.index.entry(place);
         let slot = Slot::place(&mut self.arena, value)?;
-        self.index.set(at, Entry { key, slot });
+        self.index.set(place, Entry { key, slot });
         before.forget(&mut self.arena);
         Ok(())
     }
 
     // Writes its text followed by the tail over the text of the pair at a place.
-    fn append_at(&mut self, at: usize, tail: &[u8]) -> Result<(), AllocError>
-        requires place { at < length self.old.pairs }
-        requires text { HoldsAt (λ pair. IsText pair.value) self.old.pairs at }
-        ensures ok { OnOk result (HoldsAt (λ pair. IsRewrite self.old at pair (HeldText (text_of (Some pair.value) ++ tail.now)) self.new) self.old.pairs at) }
+    fn append_at(&mut self, place: Place, tail: &[u8]) -> Result<(), AllocError>
+        requires entry { HasEntry self.old.blocks place }
+        requires text { HoldsAt (λ pair. IsText pair.value) self.old.pairs (number_of self.old.blocks place) }
+        ensures ok { OnOk result (HoldsAt (λ pair. IsRewrite self.old (number_of self.old.blocks place) pair (HeldText (text_of (Some pair.value) ++ tail.now)) self.new) self.old.pairs (number_of self.old.blocks place)) }
         ensures err { OnErr result (self.new ≡ self.old) }
     {
-        let Entry { key, slot: before } = self.index.entry(at);
+        let Entry { key, slot: before } = self.index.entry(place);
         let slot = before.concat(&mut self.arena, tail)?;
-        self.index.set(at, Entry { key, slot });
+        self.index.set(place, Entry { key, slot });
         before.forget(&mut self.arena);
         Ok(())
     }
 
     // Puts a new pair in at the place where its key goes.
-    fn insert_at(&mut self, at: usize, key: &[u8], value: Val<'_>) -> Result<(), AllocError>
-        requires { IsKeyGap key_of self.old.pairs key.now at }
-        ensures ok { OnOk result (IsAddition self.old at (record { key = key.now; value = held_of value.entry }) self.new) }
+    fn insert_at(&mut self, place: Place, key: &[u8], value: Val<'_>) -> Result<(), AllocError>
+        requires gap { IsGap self.old.blocks place }
+        requires absent { IsKeyGap key_of self.old.pairs key.now (number_of self.old.blocks place) }
+        ensures ok { OnOk result (IsAddition self.old (number_of self.old.blocks place) (record { key = key.now; value = held_of value.entry }) self.new) }
         ensures err { OnErr result (self.new ≡ self.old) }
     {
-        self.index.reserve()?;
+        let room = self.index.reserve(place)?;
         let entry = Entry::place(&mut self.arena, key, value)?;
-        self.index.insert(at, entry);
+        self.index.insert(place, entry, room);
         Ok(())
     }
 
     // Removes the pair at a place.
-    fn remove_at(&mut self, at: usize)
-        requires { at < length self.old.pairs }
-        ensures { HoldsAt (λ pair. IsRemoval self.old at pair self.new) self.old.pairs at }
+    fn remove_at(&mut self, place: Place)
+        requires { HasEntry self.old.blocks place }
+        ensures { HoldsAt (λ pair. IsRemoval self.old (number_of self.old.blocks place) pair self.new) self.old.pairs (number_of self.old.blocks place) }
     {
-        let Entry { key, slot } = self.index.remove(at);
+        let Entry { key, slot } = self.index.remove(place);
         self.arena.forget(key);
         slot.forget(&mut self.arena);
     }

@@ -1,110 +1,256 @@
-ghost use Rattle.std.specs.Prelude.{◌≡◌, ◌<◌, ◌≤◌, ◌+◌, ◌-◌, [], length, slice_set, IfOk, IfErr, OnOk};
+ghost use Rattle.std.specs.Prelude.{◌≡◌, ◌<◌, ◌≤◌, ◌+◌, [], All, length, slice_index, slice_set, IfOk, IfErr};
+ghost use Rattle.std.specs.Vec.{vec_len, vec_capacity};
 ghost use Rattle.std.specs.List.{HoldsAt, insert, remove};
-ghost use Rattle.sm_map.specs.KeyMap.{key_of, IsKeyMap};
 ghost use Rattle.sm_ranges.specs.Keyed.{IsKeyPlace, IsKeyGap};
+ghost use Rattle.sm_map.specs.KeyMap.{key_of, IsKeyMap};
 ghost use Rattle.sm_map.specs.Entry.{pairs_of, HasKeys};
+ghost use Rattle.sm_map.specs.Blocks.{entries_in, lengths_in, number_of, HasEntry, IsGap, IsStop, IsFilled, IsBlockGap};
+ghost use Rattle.sm_map.specs.Index.{IsReady};
 
+use crate::block::{Block, MOST_ENTRIES};
 use crate::entry::Entry;
+use crate::place::Place;
+use crate::room::Room;
 use sm_arena::arena::Arena;
 use sm_ranges::order::compare;
 use std::alloc::{AllocError, Global};
 use std::cmp::Ordering;
 use std::marker::Model;
 
-// Entries in the order of their keys, which lie in an arena.
+// Entries in the order of their keys, in blocks of 1 to 64.
 #[derive(Drop)]
 pub(crate) struct Index {
-    entries: Vec<Entry>,
+    alloc: Global,
+    blocks: Vec<Block>,
+    len: u128,
 }
 
 impl Model for Index {
     ghost use Rattle.std.specs.Prelude.{◌-◌};
     ghost use Rattle.std.specs.Vec.{vec_len, vec_capacity};
-    ghost use Rattle.sm_map.specs.Index.{IndexValue};
+    ghost use Rattle.sm_map.specs.Index.{IndexValue, IsIndex};
 
     ghost Value = { IndexValue };
 
-    ghost view = { λ index. record { entries = index.entries.items; room = vec_capacity index.entries - vec_len index.entries } };
+    ghost view = { λ index. record { blocks = index.blocks.items; room = vec_capacity index.blocks - vec_len index.blocks } };
+
+    ghost invariant = { λ index. IsIndex index.blocks.items index.len };
 }
 
 impl Index {
     pub(crate) fn new(alloc: Global) -> Index
-        ensures { result.entries ≡ [] }
+        ensures { result.blocks ≡ [] }
     {
         Index {
-            entries: Vec::new(alloc),
+            alloc,
+            blocks: Vec::new(alloc),
+            len: 0,
         }
     }
 
-    pub(crate) fn len(&self) -> usize
-        ensures { result ≡ length self.now.entries }
+    pub(crate) fn len(&self) -> u128
+        ensures { result ≡ length (entries_in self.now.blocks) }
     {
-        self.entries.len()
+        self.len
+    }
+
+    // How many blocks there are.
+    pub(crate) fn block_count(&self) -> usize
+        ensures { result ≡ length (lengths_in self.now.blocks) }
+    {
+        self.blocks.len()
+    }
+
+    // How many entries a block has.
+    pub(crate) fn block_len(&self, at: usize) -> usize
+        requires { at < length (lengths_in self.now.blocks) }
+        ensures value { result ≡ slice_index (lengths_in self.now.blocks) at }
+        ensures bounds { (0 < result) × (result ≤ MOST_ENTRIES) }
+    {
+        self.blocks[at].len()
     }
 
     // The place of the entry with the key, or the place where one would go.
-    pub(crate) fn find(&self, arena: &Arena, key: &[u8]) -> Result<usize, usize>
-        requires keys { HasKeys arena.now.placed self.now.entries }
-        requires rising { IsKeyMap (pairs_of arena.now.placed self.now.entries) }
-        ensures found { IfOk result (IsKeyPlace key_of (pairs_of arena.now.placed self.now.entries) key.now) }
-        ensures absent { IfErr result (IsKeyGap key_of (pairs_of arena.now.placed self.now.entries) key.now) }
+    pub(crate) fn find(&self, arena: &Arena, key: &[u8]) -> Result<Place, Place>
+        requires keys { HasKeys arena.now.placed (entries_in self.now.blocks) }
+        requires rising { IsKeyMap (pairs_of arena.now.placed (entries_in self.now.blocks)) }
+        ensures entry { IfOk result (HasEntry (lengths_in self.now.blocks)) }
+        ensures found { IfOk result (λ place. IsKeyPlace key_of (pairs_of arena.now.placed (entries_in self.now.blocks)) key.now (number_of (lengths_in self.now.blocks) place)) }
+        ensures gap { IfErr result (IsGap (lengths_in self.now.blocks)) }
+        ensures absent { IfErr result (λ place. IsKeyGap key_of (pairs_of arena.now.placed (entries_in self.now.blocks)) key.now (number_of (lengths_in self.now.blocks) place)) }
     {
-        search(&self.entries, arena, key)
+        match search(&self.blocks, arena, key) {
+            Ok(block) => Ok(Place { block, offset: 0 }),
+            Err(0) => Err(Place::FIRST),
+            Err(count) => self.find_in(count - 1, arena, key),
+        }
     }
 
-    pub(crate) fn entry(&self, at: usize) -> Entry
-        requires { at < length self.now.entries }
-        ensures { HoldsAt (λ entry. result ≡ entry) self.now.entries at }
+    // The same in the one block that can have the key.
+    fn find_in(&self, block: usize, arena: &Arena, key: &[u8]) -> Result<Place, Place>
+        requires within { block < length (lengths_in self.now.blocks) }
+        requires keys { HasKeys arena.now.placed (entries_in self.now.blocks) }
+        requires rising { IsKeyMap (pairs_of arena.now.placed (entries_in self.now.blocks)) }
+        requires between { IsBlockGap (pairs_of arena.now.placed (entries_in self.now.blocks)) (lengths_in self.now.blocks) key.now (block + 1) }
+        ensures entry { IfOk result (HasEntry (lengths_in self.now.blocks)) }
+        ensures found { IfOk result (λ place. IsKeyPlace key_of (pairs_of arena.now.placed (entries_in self.now.blocks)) key.now (number_of (lengths_in self.now.blocks) place)) }
+        ensures gap { IfErr result (IsGap (lengths_in self.now.blocks)) }
+        ensures absent { IfErr result (λ place. IsKeyGap key_of (pairs_of arena.now.placed (entries_in self.now.blocks)) key.now (number_of (lengths_in self.now.blocks) place)) }
     {
-        self.entries[at]
+        match self.blocks[block].find(arena, key) {
+            Ok(offset) => Ok(Place { block, offset }),
+            Err(offset) => Err(Place { block, offset }),
+        }
+    }
+
+    pub(crate) fn entry(&self, place: Place) -> Entry
+        requires { HasEntry (lengths_in self.now.blocks) place }
+        ensures { HoldsAt (λ entry. result ≡ entry) (entries_in self.now.blocks) (number_of (lengths_in self.now.blocks) place) }
+    {
+        self.blocks[place.block].entry(place.offset)
+    }
+
+    // The place of the first entry, or the end.
+    pub(crate) fn first(&self) -> Place
+        ensures stop { IsStop (lengths_in self.now.blocks) result }
+        ensures first { number_of (lengths_in self.now.blocks) result ≡ 0 }
+    {
+        // No block is empty: a proof knows it where a field is used.
+        let _ = &self.blocks;
+        Place::FIRST
+    }
+
+    // The place of the entry after a gap, or the end.
+    pub(crate) fn stop(&self, place: Place) -> Place
+        requires { IsGap (lengths_in self.now.blocks) place }
+        ensures stop { IsStop (lengths_in self.now.blocks) result }
+        ensures same { number_of (lengths_in self.now.blocks) result ≡ number_of (lengths_in self.now.blocks) place }
+    {
+        if place.block < self.blocks.len() && place.offset == self.blocks[place.block].len() {
+            return Place {
+                block: place.block + 1,
+                offset: 0,
+            };
+        }
+        place
+    }
+
+    // The place of the next entry, or the end.
+    pub(crate) fn after(&self, place: Place) -> Place
+        requires { HasEntry (lengths_in self.now.blocks) place }
+        ensures stop { IsStop (lengths_in self.now.blocks) result }
+        ensures next { number_of (lengths_in self.now.blocks) result ≡ number_of (lengths_in self.now.blocks) place + 1 }
+    {
+        // No block is long: a proof knows it where a field is used.
+        let _ = &self.blocks;
+        self.stop(Place {
+            block: place.block,
+            offset: place.offset + 1,
+        })
+    }
+
+    // Where an entry goes after all others.
+    pub(crate) fn end(&self) -> Place
+        ensures gap { IsGap (lengths_in self.now.blocks) result }
+        ensures end { number_of (lengths_in self.now.blocks) result ≡ length (entries_in self.now.blocks) }
+    {
+        let count = self.blocks.len();
+        if count == 0 {
+            return Place::FIRST;
+        }
+        let block = count - 1;
+        Place {
+            block,
+            offset: self.blocks[block].len(),
+        }
     }
 
     // Writes over an entry.
-    pub(crate) fn set(&mut self, at: usize, entry: Entry)
-        requires { at < length self.old.entries }
-        ensures { self.new.entries ≡ slice_set self.old.entries at entry }
+    pub(crate) fn set(&mut self, place: Place, entry: Entry)
+        requires { HasEntry (lengths_in self.old.blocks) place }
+        ensures { entries_in self.new.blocks ≡ slice_set (entries_in self.old.blocks) (number_of (lengths_in self.old.blocks) place) entry }
     {
-        self.entries[at] = entry;
+        self.blocks[place.block].set(place.offset, entry);
     }
 
-    // Makes room for one more entry.
-    pub(crate) fn reserve(&mut self) -> Result<(), AllocError>
-        ensures entries { self.new.entries ≡ self.old.entries }
-        ensures room { OnOk result (0 < self.new.room) }
+    // Makes room for one more entry at a place.
+    pub(crate) fn reserve(&mut self, place: Place) -> Result<Room, AllocError>
+        requires { IsGap (lengths_in self.old.blocks) place }
+        ensures entries { entries_in self.new.blocks ≡ entries_in self.old.blocks }
+        ensures lengths { lengths_in self.new.blocks ≡ lengths_in self.old.blocks }
+        ensures ready { IfOk result (IsReady self.new place) }
     {
-        self.entries.reserve(1)
+        if self.blocks.len() == 0 {
+            self.blocks.reserve(1)?;
+            return Ok(Room::First(Block::with_room(self.alloc, 1)?));
+        }
+        if self.blocks[place.block].len() < MOST_ENTRIES {
+            self.blocks[place.block].reserve()?;
+            return Ok(Room::Inside);
+        }
+        self.blocks.reserve(1)?;
+        Ok(Room::Beside(Block::with_room(self.alloc, MOST_ENTRIES)?))
     }
 
-    pub(crate) fn insert(&mut self, at: usize, entry: Entry)
-        requires place { at ≤ length self.old.entries }
-        requires room { 0 < self.old.room }
-        ensures { self.new.entries ≡ insert self.old.entries at entry }
+    // Puts an entry into the room that was made for it at the place.
+    pub(crate) fn insert(&mut self, place: Place, entry: Entry, room: Room)
+        requires { IsReady self.old place room }
+        ensures { entries_in self.new.blocks ≡ insert (entries_in self.old.blocks) (number_of (lengths_in self.old.blocks) place) entry }
     {
-        // There is room, so this can't fail.
-        let _ = self.entries.insert(at, entry);
+        self.len += 1;
+        match room {
+            Room::Inside => self.blocks[place.block].insert(place.offset, entry),
+            Room::Beside(upper) => {
+                let upper = self.blocks[place.block].insert_in_half(place.offset, entry, upper);
+                add(&mut self.blocks, place.block + 1, upper);
+            }
+            Room::First(first) => {
+                let mut first = first;
+                first.insert(0, entry);
+                add(&mut self.blocks, 0, first);
+            }
+        }
     }
 
-    pub(crate) fn remove(&mut self, at: usize) -> Entry
-        requires { at < length self.old.entries }
-        ensures removed { HoldsAt (λ entry. result ≡ entry) self.old.entries at }
-        ensures entries { self.new.entries ≡ remove self.old.entries at }
+    // Removes an entry, and its block where it was the only one there.
+    pub(crate) fn remove(&mut self, place: Place) -> Entry
+        requires { HasEntry (lengths_in self.old.blocks) place }
+        ensures removed { HoldsAt (λ entry. result ≡ entry) (entries_in self.old.blocks) (number_of (lengths_in self.old.blocks) place) }
+        ensures entries { entries_in self.new.blocks ≡ remove (entries_in self.old.blocks) (number_of (lengths_in self.old.blocks) place) }
     {
-        self.entries.remove(at)
+        self.len -= 1;
+        let entry = self.blocks[place.block].remove(place.offset);
+        if self.blocks[place.block].len() == 0 {
+            self.blocks.remove(place.block);
+        }
+        entry
     }
 }
 
-// The place of the entry with the key, or the place where one would go: each step halves the entries between low and high.
-fn search(entries: &[Entry], arena: &Arena, key: &[u8]) -> Result<usize, usize>
-    requires keys { HasKeys arena.now.placed entries.now }
-    requires rising { IsKeyMap (pairs_of arena.now.placed entries.now) }
-    ensures found { IfOk result (IsKeyPlace key_of (pairs_of arena.now.placed entries.now) key.now) }
-    ensures absent { IfErr result (IsKeyGap key_of (pairs_of arena.now.placed entries.now) key.now) }
+// Puts a block in where there is room for it.
+fn add(blocks: &mut Vec<Block>, at: usize, block: Block)
+    requires place { at ≤ length blocks.old.items }
+    requires room { vec_len blocks.old < vec_capacity blocks.old }
+    ensures { blocks.new.items ≡ insert blocks.old.items at block }
+{
+    // There is room, so this can't fail.
+    let _ = blocks.insert(at, block);
+}
+
+// The block whose first entry has the key, or how many have a first entry below it.
+fn search(blocks: &[Block], arena: &Arena, key: &[u8]) -> Result<usize, usize>
+    requires filled { All IsFilled blocks.now }
+    requires keys { HasKeys arena.now.placed (entries_in blocks.now) }
+    requires rising { IsKeyMap (pairs_of arena.now.placed (entries_in blocks.now)) }
+    ensures within { IfOk result (λ block. block < length blocks.now) }
+    ensures found { IfOk result (λ block. IsKeyPlace key_of (pairs_of arena.now.placed (entries_in blocks.now)) key.now (number_of (lengths_in blocks.now) (record { block = block; offset = 0 }))) }
+    ensures absent { IfErr result (IsBlockGap (pairs_of arena.now.placed (entries_in blocks.now)) (lengths_in blocks.now) key.now) }
 {
     let mut low = 0;
-    let mut high = entries.len();
+    let mut high = blocks.len();
     while low < high {
         let middle = low + (high - low) / 2;
-        match compare(arena.get(entries[middle].key), key) {
+        match compare(arena.get(blocks[middle].entry(0).key), key) {
             Ordering::Less => low = middle + 1,
             Ordering::Equal => return Ok(middle),
             Ordering::Greater => high = middle,

@@ -11,8 +11,11 @@
 #![tactic(auto)]
 
 pub mod arena_map;
+mod block;
 mod entry;
 mod index;
+mod place;
+mod room;
 mod slot;
 pub mod val;
 
