@@ -34,10 +34,10 @@ fn new_server_adopts(rt: HostRuntime) -> Result<(), Fail> {
     };
     assert!(rt; changed(&board, &mut chair, k, Change::Assign(owner)));
     let mut first = board.pass(Some(owner));
-    for text in [b"x".as_slice(), b"yy".as_slice()] {
-        let put = adopted(&board, &mut first, k, put_of(alloc, text)?);
-        assert!(rt; matches!(put, Some(Reply::Done)));
-    }
+    let put = adopted(&board, &mut first, k, put_of(alloc, b"x")?);
+    assert!(rt; matches!(put, Some(Reply::Done)));
+    let put = adopted(&board, &mut first, k, put_of(alloc, b"yy")?);
+    assert!(rt; matches!(put, Some(Reply::Done)));
     assert!(rt; migrated(&board, &mut chair, k, ServerId::of(2)));
     let mut second = board.pass(Some(ServerId::of(2)));
     let get = Request::Get(Key::new(alloc, b"a")?);
@@ -123,9 +123,9 @@ fn adoption_refused(rt: HostRuntime) -> Result<(), Fail> {
     };
     assert!(rt; changed(&board, &mut chair, k, Change::Assign(owner)));
     let mut pass = board.pass(Some(owner));
-    for asked in 0..3u64 {
-        assert!(rt; adopted(&board, &mut pass, k, Ask) == Some(asked));
-    }
+    assert!(rt; adopted(&board, &mut pass, k, Ask) == Some(0));
+    assert!(rt; adopted(&board, &mut pass, k, Ask) == Some(1));
+    assert!(rt; adopted(&board, &mut pass, k, Ask) == Some(2));
     let rows = board.close(chair);
     assert!(rt; rows.len() == 1);
     let moves = rows[0].1.as_ref().map(|body| body.machine().moves);
