@@ -1,4 +1,3 @@
-mod blocks;
 mod limits;
 mod numbers;
 mod plain;
