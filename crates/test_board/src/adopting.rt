@@ -1,54 +1,13 @@
-use crate::calls::{adopted, changed, migrated};
+use crate::calls::{adopted, changed};
 use sm_body::logged::Logged;
 use sm_body::machine::Machine;
 use sm_ownership::change::Change;
-use sm_ranges::key::Key;
 use sm_ranges::server_id::ServerId;
 use sm_ranges::shard_id::ShardId;
 use sm_rule::board::Board;
-use sm_service::{Bytes, CounterText, Reply, Request};
 use std::alloc::{AllocError, Global};
 use std::marker::Model;
 use std::test::Fail;
-
-fn put_of(alloc: Global, text: &[u8]) -> Result<Request, Fail> {
-    let text = Bytes::new(alloc, text)?;
-    Ok(Request::Put(Key::new(alloc, b"a")?, text))
-}
-
-fn is_text(reply: &Option<Reply>, want: &[u8]) -> bool {
-    match reply {
-        Some(Reply::Text(text)) => text.as_bytes() == want,
-        _ => false,
-    }
-}
-
-// The next server to execute a shard's requests moves its body into fresh memory, where nothing is dead.
-#[test]
-fn new_server_adopts(rt: HostRuntime) -> Result<(), Fail> {
-    let alloc = rt.alloc();
-    let (k, owner) = (ShardId::new(0).ok_or("shard 0")?, ServerId::of(1));
-    let bodies = vec![in alloc; CounterText::new(alloc, 100)]?;
-    let Ok((board, mut chair)) = Board::make(alloc, bodies, 1_000) else {
-        return Err("a board".into());
-    };
-    assert!(rt; changed(&board, &mut chair, k, Change::Assign(owner)));
-    let mut first = board.pass(Some(owner));
-    let put = adopted(&board, &mut first, k, put_of(alloc, b"x")?);
-    assert!(rt; matches!(put, Some(Reply::Done)));
-    let put = adopted(&board, &mut first, k, put_of(alloc, b"yy")?);
-    assert!(rt; matches!(put, Some(Reply::Done)));
-    assert!(rt; migrated(&board, &mut chair, k, ServerId::of(2)));
-    let mut second = board.pass(Some(ServerId::of(2)));
-    let get = Request::Get(Key::new(alloc, b"a")?);
-    let held = adopted(&board, &mut second, k, get);
-    assert!(rt; is_text(&held, b"yy"));
-    let rows = board.close(chair);
-    assert!(rt; rows.len() == 1);
-    let dead = rows[0].1.as_ref().map(|body| body.machine().dead());
-    assert!(rt; dead == Some(0));
-    Ok(())
-}
 
 #[derive(Drop)]
 struct Ask;
