@@ -5,6 +5,8 @@ unsafe extern "C" {
     fn bench_rule_chained_looks(looks: u64) -> u64;
     fn bench_rule_admissions(tries: u64) -> u64;
     fn bench_rule_executions(tries: u64) -> u64;
+    fn bench_rule_notes(notes: u64) -> u64;
+    fn bench_rule_meetings(notes: u64) -> u64;
 }
 
 pub fn looks(operations: u64) -> u64 {
@@ -25,4 +27,14 @@ pub fn admissions(operations: u64) -> u64 {
 pub fn executions(operations: u64) -> u64 {
     // SAFETY: as in `looks`.
     unsafe { bench_rule_executions(operations) }
+}
+
+pub fn notes(operations: u64) -> u64 {
+    // SAFETY: as in `looks`.
+    unsafe { bench_rule_notes(operations) }
+}
+
+pub fn meetings(operations: u64) -> u64 {
+    // SAFETY: as in `looks`.
+    unsafe { bench_rule_meetings(operations) }
 }

@@ -74,3 +74,14 @@ pub fn executions(operations: u64) -> u64 {
     let bodies = Bodies::new();
     at_random(operations, |shard| bodies.execute(shard))
 }
+
+/// Takes the first lock so many times, and counts.
+pub fn takes(operations: u64) -> u64 {
+    let locks = Locks::new();
+    let mut made = 0u64;
+    for _ in 0..operations {
+        black_box(locks.look(0));
+        made = made.wrapping_add(1);
+    }
+    made
+}

@@ -1,4 +1,4 @@
-//! Times looks and admissions on a board of 4,096 shards: the proved board of crates/bench_rule, atomic words in Rust, and a
+//! Times looks, admissions and notes on a board of 4,096 shards: the proved board of crates/bench_rule, atomic words in Rust, and a
 //! lock for each shard in Rust, in alternating rounds. Each line is a row, a way, its round and its nanoseconds for each operation.
 
 mod board;
@@ -19,7 +19,7 @@ struct Row {
     ways: [(&'static str, Loop); 3],
 }
 
-const ROWS: [Row; 4] = [
+const ROWS: [Row; 6] = [
     Row {
         name: "look",
         operations: 10_000_000,
@@ -39,6 +39,16 @@ const ROWS: [Row; 4] = [
         name: "admit, count in the body, and finish",
         operations: 3_000_000,
         ways: [("board", board::executions), ("words", slots::executions), ("locks", locks::executions)],
+    },
+    Row {
+        name: "make a note and drop it, beside a load",
+        operations: 10_000_000,
+        ways: [("board", board::notes), ("words", words::loads), ("locks", locks::takes)],
+    },
+    Row {
+        name: "make a note and meet it, beside two loads",
+        operations: 10_000_000,
+        ways: [("board", board::meetings), ("words", words::pairs_of_loads), ("locks", locks::takes)],
     },
 ];
 

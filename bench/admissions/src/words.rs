@@ -55,3 +55,26 @@ pub fn admissions(operations: u64) -> u64 {
     let words = Words::new();
     at_random(operations, |shard| words.admit(shard).map_or(0, |admitted| words.finish(shard, admitted)))
 }
+
+/// Loads the first word so many times, and counts.
+pub fn loads(operations: u64) -> u64 {
+    let words = Words::new();
+    let mut made = 0u64;
+    for _ in 0..operations {
+        black_box(words.0[0].load(SeqCst));
+        made = made.wrapping_add(1);
+    }
+    made
+}
+
+/// Loads it twice each time.
+pub fn pairs_of_loads(operations: u64) -> u64 {
+    let words = Words::new();
+    let mut made = 0u64;
+    for _ in 0..operations {
+        black_box(words.0[0].load(SeqCst));
+        black_box(words.0[0].load(SeqCst));
+        made = made.wrapping_add(1);
+    }
+    made
+}

@@ -137,6 +137,37 @@ impl FullBoard {
         counted
     }
 
+    /// Makes so many notes of the pass and drops each, and counts them.
+    pub(crate) fn notes(&mut self, notes: u64) -> u64 {
+        let mut made = 0u64;
+        for _ in 0..notes {
+            made = made.wrapping_add(self.note());
+        }
+        made
+    }
+
+    /// Makes so many notes of the pass, has it meet each, and counts them.
+    pub(crate) fn meetings(&mut self, notes: u64) -> u64 {
+        let mut met = 0u64;
+        for _ in 0..notes {
+            met = met.wrapping_add(self.meeting());
+        }
+        met
+    }
+
+    // Makes a note and drops it.
+    fn note(&mut self) -> u64 {
+        let _note = self.board.note(&mut self.pass);
+        1
+    }
+
+    // Makes a note and has the pass meet it.
+    fn meeting(&mut self) -> u64 {
+        let note = self.board.note(&mut self.pass);
+        self.board.meet(&mut self.pass, note);
+        1
+    }
+
     // The generation at which an admission leaves the shard, or 0.
     fn admission(&mut self, k: ShardId) -> u64 {
         match self.board.admit(&mut self.pass, k, Mode::Direct) {

@@ -1,4 +1,4 @@
-//! What looks and admissions on a board of 4,096 shards cost: loops for bench/admissions, which takes their time from Rust.
+//! What looks, admissions and notes on a board of 4,096 shards cost: loops for bench/admissions, which takes their time from Rust.
 #![tactic(auto)]
 
 mod full_board;
@@ -41,6 +41,24 @@ pub extern "C" fn bench_rule_admissions(alloc: Global, tries: u64) -> u64 {
 pub extern "C" fn bench_rule_executions(alloc: Global, tries: u64) -> u64 {
     match FullBoard::make(alloc) {
         Some(mut board) => board.executions(tries),
+        None => 0,
+    }
+}
+
+/// Makes a board and so many notes of a pass, drops each, and gives their number.
+#[unsafe(no_mangle)]
+pub extern "C" fn bench_rule_notes(alloc: Global, notes: u64) -> u64 {
+    match FullBoard::make(alloc) {
+        Some(mut board) => board.notes(notes),
+        None => 0,
+    }
+}
+
+/// Makes a board and so many notes of a pass, which meets each, and gives their number.
+#[unsafe(no_mangle)]
+pub extern "C" fn bench_rule_meetings(alloc: Global, notes: u64) -> u64 {
+    match FullBoard::make(alloc) {
+        Some(mut board) => board.meetings(notes),
         None => 0,
     }
 }

@@ -13,6 +13,7 @@ use Rattle.sm_word.specs.lemmas.Histories.{well_formed}
 use Rattle.sm_word.specs.Word.{IsWellFormed, word_of}
 use Rattle.sm_word.specs.lemmas.Words.{word_once}
 use Rattle.sm_rule.specs.declared.limits.Limits.{Limits}
+use Rattle.sm_rule.specs.declared.view.Stage.TheVariants.{Acting}
 use Rattle.sm_rule.specs.declared.view.View.{View}
 use Rattle.sm_rule.specs.Boards.{limit_at}
 use Rattle.sm_rule.specs.Changes.{chair_value}
@@ -92,7 +93,7 @@ module _ {S Q : Type 0} (requests : S → List Q) (limit : S → ℕ) (limits : 
             (home.0, is.2.2 ∙ (ap (λ (flag : Bool). if flag then None else is.2.0) idle ∙ slot), home.2, home.3)),
       )
 
-  module _ (live : view.spent ≡ false) (chair : view.number ≡ 0) where
+  module _ (live : view.stage ≡ Acting) (chair : view.number ≡ 0) where
     abbrev fit : Fits limits id view history
     fit = holds.fit id view last.1.1 live
 

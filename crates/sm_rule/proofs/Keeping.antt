@@ -13,7 +13,7 @@ use lib.LanesLaws.{map-replicate}
 use prog.Atomic.{either}
 use Rattle.atomic_table.specs.Table.{State, Me, step, Act, keeps, takes, gives, Enters, Allows, Valid, carried_after, homes_after, rest, stepped, opening}
 use Rattle.atomic_table.specs.Seated.{TableId}
-use Rattle.atomic_table.proofs.Lists.{at_set, exchanged, set_else, set_here}
+use Rattle.atomic_table.proofs.Lists.{at_longer, at_set, exchanged, set_else, set_here}
 use Rattle.sm_ownership.specs.declared.change.Change.{Change}
 use Rattle.sm_ownership.specs.declared.entry.Entry.{Entry}
 use Rattle.sm_ownership.specs.declared.entry.Kind.{Kind}
@@ -29,28 +29,70 @@ use Rattle.sm_word.specs.Word.{IsWellFormed, word_of}
 use Rattle.sm_word.specs.lemmas.Words.{word_once}
 use Rattle.sm_rule.specs.declared.limits.Limits.{Limits}
 use Rattle.sm_rule.specs.declared.view.Held.{Held}
+use Rattle.sm_rule.specs.declared.view.Stage.{Stage}
+use Rattle.sm_rule.specs.declared.view.Stage.TheVariants.{Acting, Cut, Joined}
+use Rattle.sm_rule.specs.declared.view.Told.{Told}
 use Rattle.sm_rule.specs.declared.view.View.{View}
 use Rattle.sm_rule.specs.Admissions.{HoldsPermit, PermitValue, beyond}
 use Rattle.sm_rule.specs.Boards.{limit_at}
 use Rattle.sm_rule.specs.Passes.{PassValue, pass_value, slots_of}
-use Rattle.sm_rule.specs.Rule.{AreHome, Fits, Holds, HoldsShard, Rule, table_in}
+use Rattle.sm_rule.specs.Rule.{AreHome, AreTold, Fits, Holds, HoldsShard, IsCut, Rule, IsTold, table_in}
 use Rattle.sm_rule.specs.Steps.{Entered, Exchanged, IsFree, IsWordOf, Loaded, MayAdd, Stored, TakesBody, is_end}
-use Rattle.sm_rule.specs.Views.{Adds, Looks, adding, entry_of, held_after, list_held, list_with, newcomer, record_in, seeing}
+use Rattle.sm_rule.specs.Views.{Adds, Looks, adding, entry_of, held_after, left_behind, list_held, list_with, newcomer, record_in, seeing}
 
 -- the ceiling of a board's key is that of its origin
 pub low_ceiling : (key origin : ℕ) → key ≡ origin → origin < 2 ^ 36 → key < 2 ^ 36
 low_ceiling key origin same low = omega arith
 
+pub none_some : {X : Type 0} (x : X) → None ≡ Some x → ⊥
+none_some x is = absurd (cc)
+
 -- the views after one of them is set
-fit_set : {Q : Type 0} (P : ℕ → View Q → Type 0) (views : List (View Q)) (id : ℕ) (mine : View Q) → ((n : ℕ) (view : View Q) → n ≢ id → get_elem? views n ≡ some view → view.spent ≡ false → P n view) → P id mine → (n : ℕ) (view : View Q) → get_elem? (slice_set views id mine) n ≡ some view → view.spent ≡ false → P n view
-fit_set P views id mine others here n view at live =
+pub views_set : {Q : Type 0} (P : ℕ → View Q → Type 0) (views : List (View Q)) (id : ℕ) (mine : View Q) → ((n : ℕ) (view : View Q) → n ≢ id → get_elem? views n ≡ some view → P n view) → P id mine → (n : ℕ) (view : View Q) → get_elem? (slice_set views id mine) n ≡ some view → P n view
+views_set P views id mine others here n view at =
     ⊎_elim
     (λ (same : (n ≡ id) × (mine ≡ view)). subst (λ (pair : ℕ × View _). P pair.0 pair.1) (λ i. (sym same.0 i, same.1 i)) here)
-    (λ (other : (n ≢ id) × (get_elem? views n ≡ some view)). others n view other.0 other.1 live)
+    (λ (other : (n ≢ id) × (get_elem? views n ≡ some view)). others n view other.0 other.1)
     (at_set views id n mine view at)
 
+pub acting_uncut : (stage : Stage) → stage ≡ Acting → stage ≡ Cut → ⊥
+acting_uncut stage acts cut = absurd (cc)
+
+pub acting_unjoined : (stage : Stage) → stage ≡ Acting → stage ≡ Joined → ⊥
+acting_unjoined stage acts joined = absurd (cc)
+
+-- a seat that isn't joined is none that was taken in
+apart_joined : {Q : Type 0} (views : List (View Q)) (by id : ℕ) (view : View Q) → get_elem? views by ≡ some left_behind → get_elem? views id ≡ some view → (view.stage ≡ Joined → ⊥) → by ≢ id
+apart_joined views by id view joined at live same =
+    live (ap (λ (one : View _). one.stage) (some-injective view left_behind (sym at ∙ (ap (get_elem? views) (sym same) ∙ joined))))
+
+-- what seats were told, once another that isn't joined has another view, and was told the same
+pub told_set : {Q : Type 0} (views : List (View Q)) (id : ℕ) (before after : View Q) (history : List (Entry Q)) → get_elem? views id ≡ some before → (before.stage ≡ Joined → ⊥) → ((told : Told Q) → after.told ≡ Some told → before.told ≡ Some told) → AreTold views history → AreTold (slice_set views id after) history
+told_set {Q} views id before after history at live same are =
+    let stays : (told : Told Q) → IsTold views told history → IsTold (slice_set views id after) told history = λ told is. record {
+      later = is.later;
+      seen = is.seen;
+      others = is.others;
+      joined = set_else views id told.by after (apart_joined views told.by id before is.joined at live) ∙ is.joined;
+    } in
+    λ n view there told is. views_set (λ m one. (it : Told Q) → one.told ≡ Some it → IsTold (slice_set views id after) it history) views id after
+    (λ m one apart found it its. stays it (are m one found it its))
+    (λ it its. stays it (are id before at it (same it its)))
+    n view there told is
+
+-- and once there is an entry of a seat that isn't joined
+pub told_added : {Q : Type 0} (views : List (View Q)) (entry : Entry Q) (view : View Q) (history : List (Entry Q)) → get_elem? views entry.actor ≡ some view → (view.stage ≡ Joined → ⊥) → AreTold views history → AreTold views (entry ∷ history)
+told_added views entry view history at live are n one there told is =
+    let before = are n one there told is in
+    record {
+      later = entry ∷ before.later;
+      seen = ap (λ entries. entry ∷ entries) before.seen;
+      others = All-cons (λ it. it.actor ≢ told.by) entry before.later (λ same. apart_joined views told.by entry.actor view before.joined at live (sym same)) before.others;
+      joined = before.joined;
+    }
+
 -- a seat isn't past the end
-at_end : {Q : Type 0} (n id : ℕ) (views : List (View Q)) (view : View Q) → get_elem? views id ≡ some view → length views ≤ n → n ≡ id → ⊥
+pub at_end : {Q : Type 0} (n id : ℕ) (views : List (View Q)) (view : View Q) → get_elem? views id ≡ some view → length views ≤ n → n ≡ id → ⊥
 at_end n id [] view at past is = some-ne-none view (sym at)
 at_end zero id (one ∷ views) view at past is = omega arith
 at_end (suc n) zero (one ∷ views) view at past is = absurd (cc)
@@ -61,6 +103,22 @@ at_last [] mine view zero at = inr (refl, some-injective mine view at)
 at_last [] mine view (suc n) at = absurd (some-ne-none view (sym at))
 at_last (one ∷ views) mine view zero at = inl at
 at_last (one ∷ views) mine view (suc n) at = ⊎_elim inl (λ (last : (n ≡ length views) × (mine ≡ view)). inr (ap suc last.0, last.1)) (at_last views mine view n at)
+
+-- the views and one more
+pub views_pushed : {Q : Type 0} (P : ℕ → View Q → Type 0) (views : List (View Q)) (mine : View Q) → ((n : ℕ) (view : View Q) → get_elem? views n ≡ some view → P n view) → P (length views) mine → (n : ℕ) (view : View Q) → get_elem? (views ++ mine ∷ []) n ≡ some view → P n view
+views_pushed P views mine others here n view at =
+    ⊎_elim
+    (λ (before : get_elem? views n ≡ some view). others n view before)
+    (λ (last : (n ≡ length views) × (mine ≡ view)). subst (λ (pair : ℕ × View _). P pair.0 pair.1) (λ i. (sym last.0 i, last.1 i)) here)
+    (at_last views mine view n at)
+
+pub told_pushed : {Q : Type 0} (views : List (View Q)) (mine : View Q) (history : List (Entry Q)) → mine.told ≡ None → AreTold views history → AreTold (views ++ mine ∷ []) history
+told_pushed {Q} views mine history untold are =
+    views_pushed (λ n view. (told : Told Q) → view.told ≡ Some told → IsTold (views ++ mine ∷ []) told history) views mine
+    (λ n view there told is.
+    let before = are n view there told is in
+    record { later = before.later; seen = before.seen; others = before.others; joined = at_longer views (mine ∷ []) told.by left_behind before.joined })
+    (λ told is. absurd (none_some told (sym untold ∙ is)))
 
 -- what was seen, and what came later, in order
 pub in_order : {Q : Type 0} (later seen history : List (Entry Q)) → later ++ reverse seen ≡ history → reverse history ≡ seen ++ reverse later
@@ -95,7 +153,7 @@ module _ {Q : Type 0} (limits : Limits) (id : ℕ) (view : View Q) (history : Li
   pub others_all : NoneBy view.number (reverse fit.later)
   others_all = NoneBy-reverse view.number fit.later (subst (λ n. NoneBy n fit.later) (sym fit.number_is) fit.others)
 
-  looks_all : IsLegalLatest limits.count limits.ceiling history → Looks view (seeing view (reverse history))
+  pub looks_all : IsLegalLatest limits.count limits.ceiling history → Looks view (seeing view (reverse history))
   looks_all legal = ((reverse fit.later, in_order fit.later view.seen history fit.seen ∙ sym (append-nil _), others_all, legal_all legal), refl)
 
   -- the record that it sees
@@ -112,7 +170,7 @@ word_seen limits history its shard word same is low legal known = (
 )
 
 -- a look changes the looking seat's view alone
-look_keeps : {S Q : Type 0} (requests : S → List Q) (limit : S → ℕ) (limits : Limits) (id word : ℕ) (words : List ℕ) (homes : List (math.Option (Option S))) (views : List (View Q)) (history : List (Entry Q)) (view : View Q) → Holds requests limit limits words homes views history → get_elem? views id ≡ some view → view.spent ≡ false → Holds requests limit limits (slice_set words word (slice_index words word)) homes (slice_set views id (seeing view (reverse history))) history
+pub look_keeps : {S Q : Type 0} (requests : S → List Q) (limit : S → ℕ) (limits : Limits) (id word : ℕ) (words : List ℕ) (homes : List (math.Option (Option S))) (views : List (View Q)) (history : List (Entry Q)) (view : View Q) → Holds requests limit limits words homes views history → get_elem? views id ≡ some view → view.stage ≡ Acting → Holds requests limit limits (slice_set words word (slice_index words word)) homes (slice_set views id (seeing view (reverse history))) history
 look_keeps requests limit limits id word words homes views history view holds at live =
     let long = length-set views id (seeing view (reverse history)) in
     record {
@@ -121,13 +179,15 @@ look_keeps requests limit limits id word words homes views history view holds at
       words_are = set-get_or words word 0 ∙ holds.words_are;
       slots = holds.slots;
       home = holds.home;
-      fit = fit_set (λ n one. Fits limits n one history) views id (seeing view (reverse history)) (λ n one apart there alive. holds.fit n one there alive) (fits_all limits id view history (holds.fit id view at live));
+      fit = views_set (λ n one. one.stage ≡ Acting → Fits limits n one history) views id (seeing view (reverse history)) (λ n one apart there. holds.fit n one there) (λ _. fits_all limits id view history (holds.fit id view at live));
+      cut = views_set (λ n one. one.stage ≡ Cut → IsCut limits n one history) views id (seeing view (reverse history)) (λ n one apart there. holds.cut n one there) (λ is. absurd (acting_uncut view.stage live is));
+      told = told_set views id view (seeing view (reverse history)) history at (acting_unjoined view.stage live) (λ told is. is) holds.told;
       unused = λ n past. holds.unused n (subst (λ many. many ≤ n) long past);
       chaired = subst (λ many. 0 < many) (sym long) holds.chaired;
     }
 
 -- a load keeps the rule
-pub loads : {S Q : Type 0} (requests : S → List Q) (limit : S → ℕ) (limits : Limits) (slots id word : ℕ) (me : Me (Option S) (View Q)) → limits.ceiling < 2 ^ 36 → me.0.spent ≡ false
+pub loads : {S Q : Type 0} (requests : S → List Q) (limit : S → ℕ) (limits : Limits) (slots id word : ℕ) (me : Me (Option S) (View Q)) → limits.ceiling < 2 ^ 36 → me.0.stage ≡ Acting
     → Allows (Rule requests limit limits) slots id me word (λ n. n) (Loaded (step {S = Option S} slots word 0 0 none) me)
 loads requests limit limits slots id word me low live table rule size at small =
     let history = rule.0 in
@@ -192,8 +252,16 @@ fits_other limits number view entry history legal apart fit = record {
       held_stays limits number held entry history legal (admission_excludes limits.count limits.ceiling entry history held.shard number legal.0 (λ same. apart (sym same)) busy before.own) before;
 }
 
-none_some : {X : Type 0} (x : X) → None ≡ Some x → ⊥
-none_some x is = absurd (cc)
+-- and that of a seat that was cut off
+cut_added : {Q : Type 0} (limits : Limits) (number : ℕ) (view : View Q) (entry : Entry Q) (history : List (Entry Q)) → number ≢ entry.actor → IsCut limits number view history → IsCut limits number view (entry ∷ history)
+cut_added limits number view entry history apart is = record {
+  limits_are = is.limits_are;
+  number_new = is.number_new;
+  not_control = is.not_control;
+  later = entry ∷ is.later;
+  seen = ap (λ entries. entry ∷ entries) is.seen;
+  unused = All-cons (λ one. one.actor ≢ number) entry history (λ same. apart (sym same)) is.unused;
+}
 
 pub same_some : {X : Type 0} (x y : X) → Some x ≡ Some y → x ≡ y
 same_some x y is = cc
@@ -339,7 +407,7 @@ module _ {S Q : Type 0} (requests : S → List Q) (limit : S → ℕ) (limits : 
 
 -- the whole board after an entry
 adds_keep : {S Q : Type 0} (requests : S → List Q) (limit : S → ℕ) (limits : Limits) (id word new : ℕ) (words : List ℕ) (homes later : List (math.Option (Option S))) (views : List (View Q)) (history : List (Entry Q)) (view : View Q) (kind : Kind Q)
-    → Holds requests limit limits words homes views history → word < limits.count → get_elem? views id ≡ some view → view.spent ≡ false
+    → Holds requests limit limits words homes views history → word < limits.count → get_elem? views id ≡ some view → view.stage ≡ Acting
     → length later ≡ limits.count → AreHome requests limit limits later (entry_of id word kind ∷ history)
     → IsFree view kind → ((server : ℕ) → view.server ≡ Some server → admits_only server kind ≡ true) → KnownKind kind
     → fits limits.ceiling history (table_in limits history) (entry_of id word kind) ≡ true
@@ -356,7 +424,9 @@ adds_keep requests limit limits id word new words homes later views history view
       words_are = words_add limits entry history fit words new holds.words_are is;
       slots = many;
       home = home;
-      fit = fit_set (λ n one. Fits limits n one (entry ∷ history)) views id mine (λ n one apart there alive. fits_other limits n one entry history legal apart (holds.fit n one there alive)) (fits_own limits id word view history (holds.fit id view at live) within kind free only legal);
+      fit = views_set (λ n one. one.stage ≡ Acting → Fits limits n one (entry ∷ history)) views id mine (λ n one apart there alive. fits_other limits n one entry history legal apart (holds.fit n one there alive)) (λ _. fits_own limits id word view history (holds.fit id view at live) within kind free only legal);
+      cut = views_set (λ n one. one.stage ≡ Cut → IsCut limits n one (entry ∷ history)) views id mine (λ n one apart there off. cut_added limits n one entry history apart (holds.cut n one there off)) (λ is. absurd (acting_uncut view.stage live is));
+      told = told_set views id view mine (entry ∷ history) at (acting_unjoined view.stage live) (λ told is. is) (told_added views entry view history at (acting_unjoined view.stage live) holds.told);
       unused = λ n past.
           let before : length views ≤ n = subst (λ many. many ≤ n) long past in
           All-cons (λ one. one.actor ≢ n) entry history (λ is. at_end n id views view at before (sym is)) (holds.unused n before);
@@ -417,7 +487,7 @@ module _ {S Q : Type 0} (requests : S → List Q) (limit : S → ℕ) (limits : 
   Leaves table n =
       (view : View Q) × (act : Act (Option S)) × Valid table.homes me.1 act × Rule requests limit limits (stepped table word n id me.1 view act) × Tells (slice_index table.words word) (view, carried_after me.1 act)
 
-  module _ (low : limits.ceiling < 2 ^ 36) (within : word < limits.count) (live : me.0.spent ≡ false) (table : State (Option S) (View Q)) (history : List (Entry Q)) (holds : Holds requests limit limits table.words table.homes table.views history) (at : get_elem? table.views id ≡ some me.0) where
+  module _ (low : limits.ceiling < 2 ^ 36) (within : word < limits.count) (live : me.0.stage ≡ Acting) (table : State (Option S) (View Q)) (history : List (Entry Q)) (holds : Holds requests limit limits table.words table.homes table.views history) (at : get_elem? table.views id ≡ some me.0) where
     abbrev here : Record
     here = record_at (table_in limits history) word
 
@@ -480,7 +550,7 @@ module _ {S Q : Type 0} (requests : S → List Q) (limit : S → ℕ) (limits : 
       )
 
 exchanges : {S Q : Type 0} (requests : S → List Q) (limit : S → ℕ) (limits : Limits) (slots id word old new : ℕ) (me : Me (Option S) (View Q)) (read : Record) (kind : Kind Q)
-    → limits.ceiling < 2 ^ 36 → word < limits.count → me.0.spent ≡ false → IsWellFormed read → old ≡ word_of read → new ≡ word_of (after_kind read kind)
+    → limits.ceiling < 2 ^ 36 → word < limits.count → me.0.stage ≡ Acting → IsWellFormed read → old ≡ word_of read → new ≡ word_of (after_kind read kind)
     → MayAdd me.0 word read kind
     → Allows (Rule requests limit limits) slots id me word (λ n. either (n == old) new n) (Exchanged requests limit kind (step {S = Option S} slots word old new none) me)
 exchanges requests limit limits slots id word old new me read kind low within live formed packed written may table rule size at small =
@@ -489,7 +559,7 @@ exchanges requests limit limits slots id word old new me read kind low within li
     (loses requests limit limits slots id word old new me kind low within live table rule.0 rule.1 at)
 
 pub exchange_allowed : {S Q : Type 0} (requests : S → List Q) (limit : S → ℕ) (limits : Limits) (slots id shard word old new : ℕ) (me : Me (Option S) (View Q)) (read : Record) (kind : Kind Q)
-    → word ≡ shard → limits.ceiling < 2 ^ 36 → shard < limits.count → me.0.spent ≡ false → IsWellFormed read → old ≡ word_of read → new ≡ word_of (after_kind read kind)
+    → word ≡ shard → limits.ceiling < 2 ^ 36 → shard < limits.count → me.0.stage ≡ Acting → IsWellFormed read → old ≡ word_of read → new ≡ word_of (after_kind read kind)
     → MayAdd me.0 shard read kind
     → Allows (Rule requests limit limits) slots id me word (λ n. either (n == old) new n) (Exchanged requests limit kind (step {S = Option S} slots word old new none) me)
 exchange_allowed requests limit limits slots id shard word old new me read kind at low within live formed packed written may =
@@ -497,7 +567,7 @@ exchange_allowed requests limit limits slots id shard word old new me read kind 
 
 -- the store of the one who holds the shard, whose body has come back to the slot that it carries
 pub stores : {S Q : Type 0} (requests : S → List Q) (limit : S → ℕ) (limits : Limits) (slots id word new : ℕ) (view : View Q) (body : S) (held : Held Q) (request : Option Q)
-    → limits.ceiling < 2 ^ 36 → view.spent ≡ false → view.held ≡ Some held → held.shard ≡ word → new ≡ word_of (after_done held.state) → requests body ≡ list_with held.list request → limit body ≡ limit_at limits word
+    → limits.ceiling < 2 ^ 36 → view.stage ≡ Acting → view.held ≡ Some held → held.shard ≡ word → new ≡ word_of (after_done held.state) → requests body ≡ list_with held.list request → limit body ≡ limit_at limits word
     → Allows (Rule requests limit limits) slots id (view, (word, Some body) ∷ []) word (λ _. new) (λ _. Stored (Done request) (step {S = Option S} slots word new 0 none) (view, (word, Some body) ∷ []) new)
 stores {S} {Q} requests limit limits slots id word new view body held request low live holding shard written gains same_limit table rule size at small =
     let history = rule.0 in
@@ -562,11 +632,9 @@ enters {S} {Q} requests limit limits slots word server first same table rule siz
           words_are = holds.words_are;
           slots = holds.slots;
           home = holds.home;
-          fit = λ m one there alive.
-              ⊎_elim
-              (λ (before : get_elem? table.views m ≡ some one). holds.fit m one before alive)
-              (λ (last : (m ≡ n) × (mine ≡ one)). subst (λ (pair : ℕ × View Q). Fits limits pair.0 pair.1 history) (λ i. (sym last.0 i, last.1 i)) fit)
-              (at_last table.views mine one m there);
+          fit = views_pushed (λ m one. one.stage ≡ Acting → Fits limits m one history) table.views mine holds.fit (λ _. fit);
+          cut = views_pushed (λ m one. one.stage ≡ Cut → IsCut limits m one history) table.views mine holds.cut (λ is. absurd (acting_uncut Acting refl is));
+          told = told_pushed table.views mine history refl holds.told;
           unused = λ m past. holds.unused m (omega arith);
           chaired = omega arith;
         },
@@ -604,11 +672,17 @@ begins {S} {Q} requests limit limits words bodies slots are many sizes put empty
         let body = nth limit bodies shard (subst (λ n. shard < n) many within) in
         (body.0, ap (λ (all : List (Option S)). get_elem? (map some all) shard) put ∙ body.1, all_at (λ one. requests one ≡ []) bodies shard body.0 empty body.2, body.3 ∙ ap (λ all. slice_index_or all shard 0) (sym sizes));
     fit = λ n view at live. first n view at;
+    cut = λ n view at is. absurd (acting_uncut view.stage (ap (λ (one : View Q). one.stage) (only n view at)) is);
+    told = λ n view at told is. absurd (none_some told (sym (ap (λ (one : View Q). one.told) (only n view at)) ∙ is));
     unused = λ n past. All-nil (λ one. one.actor ≢ n);
     chaired = omega arith;
   },
 )
   where
+    only : (n : ℕ) (view : View Q) → get_elem? (newcomer limits 0 None [] ∷ []) n ≡ some view → view ≡ newcomer limits 0 None []
+    only zero view at = sym (some-injective _ _ at)
+    only (suc n) view at = absurd (some-ne-none view (sym at))
+
     first : (n : ℕ) (view : View Q) → get_elem? (newcomer limits 0 None [] ∷ []) n ≡ some view → Fits limits n view []
     first zero view at = subst (λ (one : View Q). Fits limits 0 one []) (some-injective _ _ at) (record {
       limits_are = refl;
@@ -667,7 +741,7 @@ module _ {S Q : Type 0} (id : TableId) (view : View Q) (pass : PassValue Q) (per
   list_is = ap (λ (it : PassValue Q). list_held it.held) of_pass
 
   pub store_allowed : (requests : S → List Q) (limit : S → ℕ) (limits : Limits) (slots seat word new : ℕ) (body : S) (me : Me (Option S) (View Q))
-      → me ≡ (view, (word, Some body) ∷ []) → limits.ceiling < 2 ^ 36 → view.spent ≡ false → permit.shard ≡ word → new ≡ word_of (after_done permit.state)
+      → me ≡ (view, (word, Some body) ∷ []) → limits.ceiling < 2 ^ 36 → view.stage ≡ Acting → permit.shard ≡ word → new ≡ word_of (after_done permit.state)
       → ((request : Option Q) × (requests body ≡ list_with (list_held pass.held) request))
       → limit body ≡ limit_at limits word
       → Allows (Rule requests limit limits) slots seat me word (λ _. new) (λ _. Stored (Done (beyond (list_held pass.held) (requests body))) (step {S = Option S} slots word new 0 none) me new)

@@ -165,7 +165,7 @@ leads_on stand change none = phase_fault-none stand change ∙ ap is_none none
 -- a pass that has looked
 module _ {Q : Type 0} (server : Option ℕ) (u w : View Q) where
   pub pass_looks : Looks u w → IsPassView server u → IsPassView server w
-  pass_looks looked is = subst (IsPassView server) (sym looked.1) is
+  pass_looks looked is = subst (IsPassView server) (sym looked.1) (is.0, is.1, is.2, is.3, looked.0.3)
 
   held_added : (shard : ℕ) (kind : Kind Q) (history : List (Entry Q)) → shard < u.limits.count → IsPassView server u → IfSome (held_after u.limits shard kind history u.held) (λ held. held.shard < u.limits.count)
   held_added shard (Changed change) history within is = is.3
@@ -174,7 +174,7 @@ module _ {Q : Type 0} (server : Option ℕ) (u w : View Q) where
 
   -- and one that has added an entry
   pub pass_adds : (shard : ℕ) (kind : Kind Q) → Adds u shard kind w → shard < u.limits.count → IsPassView server u → IsPassView server w
-  pass_adds shard kind added within is = subst (IsPassView server) (sym added.1) (is.0, is.1, is.2, held_added shard kind w.seen within is)
+  pass_adds shard kind added within is = subst (IsPassView server) (sym added.1) (is.0, is.1, is.2, held_added shard kind w.seen within is, added.0.3)
 
   -- one that was admitted, and whose body is out
   pub pass_holds : {S : Type 0} (shard one : ℕ) (mode : Mode) (me : View Q × List (ℕ × Option S)) → Adds u shard (Admit one mode) w → shard < u.limits.count → IsPassView server u → me ≡ (w, (shard, None) ∷ [])
@@ -263,7 +263,7 @@ module _ {Q : Type 0} (stands : List Stand) (u w : View Q) (is : IsChairView sta
       let more = looked.0.1 ∙ append-nil (u.seen ++ looked.0.0) in
       let legal = subst (λ entries. IsLegal u.limits.count u.limits.ceiling entries) more looked.0.3 in
       subst (IsChairView stands) (sym looked.1)
-      (is.0, is.1, is.2, (is.3.0, λ shard. stand_kept looked.0.0 shard legal looked.0.2 ∙ ap (λ entries. (record_in u.limits entries shard).stand) (sym more)))
+      (is.0, is.1, is.2, (is.3.0, λ shard. stand_kept looked.0.0 shard legal looked.0.2 ∙ ap (λ entries. (record_in u.limits entries shard).stand) (sym more)), looked.0.3)
 
   pub chair_adds : (shard : ℕ) (change : Change) (next : Record) → shard < u.limits.count → Adds u shard (Changed change) w → next ≡ record_in w.limits w.seen shard → IsChairView (slice_set stands shard next.stand) w
   chair_adds shard change next within added at =
@@ -289,7 +289,7 @@ module _ {Q : Type 0} (stands : List Stand) (u w : View Q) (is : IsChairView sta
       ∙ ap (λ entries. (record_in limits entries one).stand) (sym added.0.1))))
       (cases_eq one shard) in
       subst (IsChairView (slice_set stands shard next.stand)) (sym added.1)
-      (is.0, is.1, is.2, (length-set stands shard next.stand ∙ is.3.0, known))
+      (is.0, is.1, is.2, (length-set stands shard next.stand ∙ is.3.0, known), added.0.3)
 
 -- what the chair has read
 module _ {Q : Type 0} (stands : List Stand) (u w : View Q) (is : IsChairView stands u) (looked : Looks u w) (shard : ℕ) (read : Record) (change : Change) (state : read ≡ record_in w.limits w.seen shard) where

@@ -1,5 +1,5 @@
 -- What an admission on a board is refused for.
-use Rattle.std.specs.Prelude.{ℕ, ◌≡◌, ◌<◌, List, [], ◌∷◌, ◌++◌, Option, Some, None}
+use Rattle.std.specs.Prelude.{ℕ, ◌≡◌, ◌<◌, List, [], ◌∷◌, Option, Some, None}
 use Rattle.std.specs.Option.{option_map}
 use Rattle.sm_ownership.specs.declared.admit_fault.AdmitFault.{AdmitFault}
 use Rattle.sm_ownership.specs.declared.admit_fault.AdmitFault.TheVariants.{NotExecutor}
@@ -13,16 +13,12 @@ use Rattle.sm_rule.specs.declared.admit_refusal.AdmitRefusal.TheVariants.{Refuse
 use Rattle.sm_rule.specs.declared.limits.Limits.{Limits}
 use Rattle.sm_rule.specs.Boards.{BoardValue}
 use Rattle.sm_rule.specs.Passes.{PassAdds, PassValue, record_of}
-use Rattle.sm_rule.specs.Views.{record_in}
+use Rattle.sm_rule.specs.Views.{Begins, record_in}
 
 -- the first reason for which a record doesn't admit a server, or who has none
 abbrev pub fault_for : ℕ → Record → Option ℕ → Mode → Option AdmitFault
 fault_for ceiling state None mode = fault_at state.stand (Some NotExecutor)
 fault_for ceiling state (Some server) mode = admit_fault ceiling state server mode
-
--- the second history begins with the first
-abbrev pub Begins : {Q : Type 0} → List (Entry Q) → List (Entry Q) → Type 0
-Begins earlier later = (more : List (Entry _)) × (later ≡ earlier ++ more)
 
 -- an exchange was lost: `read` stood at a point between what had been seen and what is seen now, and `found`, of a
 -- greater generation, stands now

@@ -10,9 +10,10 @@ use Rattle.sm_ownership.specs.declared.record.Record.{Record}
 use Rattle.sm_rule.specs.declared.change_refusal.ChangeRefusal.{ChangeRefusal}
 use Rattle.sm_rule.specs.declared.change_refusal.ChangeRefusal.TheVariants.{Spent, Busy, Raced}
 use Rattle.sm_rule.specs.Admissions.{Races}
+use Rattle.sm_rule.specs.declared.view.Stage.TheVariants.{Acting}
 use Rattle.sm_rule.specs.declared.view.View.{View}
 use Rattle.sm_rule.specs.Boards.{BoardValue}
-use Rattle.sm_rule.specs.Views.{Grows, entry_of, record_in}
+use Rattle.sm_rule.specs.Views.{Grows, HasSeenLegal, entry_of, record_in}
 
 -- the board, and the history that the chair has seen. Its number is 0
 pub record ChairValue (Q : Type 0) : Type 0 where
@@ -31,7 +32,7 @@ AreStandsOf stands view =
 
 -- the view of a chair that keeps these stands
 abbrev pub IsChairView : {Q : Type 0} → List Stand → View Q → Type 0
-IsChairView stands view = (view.spent ≡ false) × (view.number ≡ 0) × (view.held ≡ None) × AreStandsOf stands view
+IsChairView stands view = (view.stage ≡ Acting) × (view.number ≡ 0) × (view.held ≡ None) × AreStandsOf stands view × HasSeenLegal view
 
 -- the shard's record in all that the chair has seen
 abbrev pub record_at_chair : {Q : Type 0} → ChairValue Q → ℕ → Record

@@ -1,13 +1,15 @@
 -- Passes as contracts see them, and what looking and acting does to one.
-use Rattle.std.specs.Prelude.{ℕ, false, ◌≡◌, ◌≢◌, ◌<◌, IfSome, List, [], ◌∷◌, Option, Some, None}
+use Rattle.std.specs.Prelude.{ℕ, ◌≡◌, ◌≢◌, ◌<◌, IfSome, List, [], ◌∷◌, Option, Some, None}
 use Rattle.atomic_table.specs.Seated.{TableId}
 use Rattle.sm_ownership.specs.declared.entry.Entry.{Entry}
 use Rattle.sm_ownership.specs.declared.entry.Kind.{Kind}
 use Rattle.sm_ownership.specs.declared.record.Record.{Record}
 use Rattle.sm_rule.specs.declared.view.Held.{Held}
+use Rattle.sm_rule.specs.declared.view.Stage.TheVariants.{Acting}
 use Rattle.sm_rule.specs.declared.view.View.{View}
 use Rattle.sm_rule.specs.Boards.{BoardValue}
-use Rattle.sm_rule.specs.Views.{Grows, entry_of, held_after, record_in}
+use Rattle.sm_ownership.specs.History.{IsLegal}
+use Rattle.sm_rule.specs.Views.{Grows, HasSeenLegal, entry_of, held_after, record_in}
 
 -- the board, the pass's number and server for good, the shard whose permit it holds, and the history that it has seen
 pub record PassValue (Q : Type 0) : Type 0 where
@@ -30,7 +32,16 @@ slots_of (Some held) = (held.shard, None) ∷ []
 -- the view of a pass with this server
 abbrev pub IsPassView : {Q : Type 0} → Option ℕ → View Q → Type 0
 IsPassView server view =
-    (view.spent ≡ false) × (view.number ≢ 0) × (view.server ≡ server) × IfSome view.held (λ held. held.shard < view.limits.count)
+    (view.stage ≡ Acting) × (view.number ≢ 0) × (view.server ≡ server) × IfSome view.held (λ held. held.shard < view.limits.count)
+    × HasSeenLegal view
+
+-- the view of a note, which is that of a pass which holds nothing
+abbrev pub IsNoteView : {Q : Type 0} → View Q → Type 0
+IsNoteView view = (view.stage ≡ Acting) × (view.number ≢ 0) × (view.held ≡ None) × HasSeenLegal view
+
+-- what a pass has seen is a legal history
+abbrev pub HasLegalFront : {Q : Type 0} → PassValue Q → Type 0
+HasLegalFront pass = IsLegal pass.board.limits.count pass.board.limits.ceiling pass.seen
 
 -- the shard's record in all that the pass has seen
 abbrev pub record_of : {Q : Type 0} → PassValue Q → ℕ → Record

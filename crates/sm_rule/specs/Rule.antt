@@ -1,5 +1,5 @@
 -- The rule of a board: what its words are, where the bodies are, and what each seat knows.
-use Rattle.std.specs.Prelude.{ℕ, true, false, ◌≡◌, ◌<◌, ◌≤◌, List, ◌++◌, Option, Some, length, map, reverse}
+use Rattle.std.specs.Prelude.{ℕ, true, false, ◌≡◌, ◌≢◌, ◌<◌, ◌≤◌, List, ◌++◌, Option, Some, length, map, reverse}
 use mathlib.Core.Option as math
 use mathlib.Core.Option.{some}
 use lib.ListN.{get_elem?}
@@ -12,7 +12,10 @@ use Rattle.sm_word.specs.Word.{word_of}
 use Rattle.sm_rule.specs.Boards.{limit_at}
 use Rattle.sm_rule.specs.declared.limits.Limits.{Limits}
 use Rattle.sm_rule.specs.declared.view.Held.{Held}
+use Rattle.sm_rule.specs.declared.view.Stage.TheVariants.{Acting, Cut}
+use Rattle.sm_rule.specs.declared.view.Told.{Told}
 use Rattle.sm_rule.specs.declared.view.View.{View}
+use Rattle.sm_rule.specs.Views.{left_behind}
 
 -- below, histories have the latest entry first
 
@@ -38,6 +41,26 @@ pub record Fits {Q : Type 0} (limits : Limits) (number : ℕ) (view : View Q) (h
   pub server : (server : ℕ) → view.server ≡ Some server → acts_as history number server ≡ true
   pub held : (held : Held Q) → view.held ≡ Some held → HoldsShard limits number held history
 
+-- a seat that was cut from another has seen a front of the history, which has no entry of the number that it is to have
+pub record IsCut {Q : Type 0} (limits : Limits) (number : ℕ) (view : View Q) (history : List (Entry Q)) : Type 0 where
+  pub limits_are : view.limits ≡ limits
+  pub number_new : number ≢ view.number
+  pub not_control : number ≢ 0
+  pub later : List (Entry Q)
+  pub seen : later ++ reverse view.seen ≡ history
+  pub unused : NoneBy number history
+
+-- a seat that was taken in had seen a front of the history, which has no more entries of its number
+pub record IsTold {Q : Type 0} (views : List (View Q)) (told : Told Q) (history : List (Entry Q)) : Type 0 where
+  pub later : List (Entry Q)
+  pub seen : later ++ reverse told.seen ≡ history
+  pub others : NoneBy told.by later
+  pub joined : get_elem? views told.by ≡ some left_behind
+
+-- all that seats were told is so
+abbrev pub AreTold : {Q : Type 0} → List (View Q) → List (Entry Q) → Type 0
+AreTold views history = (number : ℕ) (view : View _) → get_elem? views number ≡ some view → (told : Told _) → view.told ≡ Some told → IsTold views told history
+
 -- the bodies of the idle shards are at home: each keeps what the history kept for its shard, and has the shard's limit
 abbrev pub AreHome : {S Q : Type 0} → (S → List Q) → (S → ℕ) → Limits → List (math.Option (Option S)) → List (Entry Q) → Type 0
 AreHome {S} requests limit limits homes history =
@@ -45,14 +68,17 @@ AreHome {S} requests limit limits homes history =
     → (body : S) × (get_elem? homes shard ≡ some (some (Some body))) × (requests body ≡ kept (reverse history) shard) × (limit body ≡ limit_at limits shard)
 
 -- the words are those of the table of a legal history of known servers; the bodies of its idle shards are at home; each seat
--- knows it as far as it has looked, and a number that no seat has yet has no entry in it
+-- that acts knows it as far as it has looked, and so do those that were cut off or taken in; a number that no seat has yet has
+-- no entry in it
 pub record Holds {S Q : Type 0} (requests : S → List Q) (limit : S → ℕ) (limits : Limits) (words : List ℕ) (homes : List (math.Option (Option S))) (views : List (View Q)) (history : List (Entry Q)) : Type 0 where
   pub legal : IsLegalLatest limits.count limits.ceiling history
   pub known : AreKnown history
   pub words_are : words ≡ map word_of (table_in limits history)
   pub slots : length homes ≡ limits.count
   pub home : AreHome requests limit limits homes history
-  pub fit : (number : ℕ) (view : View Q) → get_elem? views number ≡ some view → view.spent ≡ false → Fits limits number view history
+  pub fit : (number : ℕ) (view : View Q) → get_elem? views number ≡ some view → view.stage ≡ Acting → Fits limits number view history
+  pub cut : (number : ℕ) (view : View Q) → get_elem? views number ≡ some view → view.stage ≡ Cut → IsCut limits number view history
+  pub told : AreTold views history
   pub unused : (number : ℕ) → length views ≤ number → NoneBy number history
   pub chaired : 0 < length views
 

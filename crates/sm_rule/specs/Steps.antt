@@ -8,10 +8,11 @@ use Rattle.sm_ownership.specs.declared.record.Record.{Record}
 use Rattle.sm_ownership.specs.History.{IsLegal, admits_only, kept, kept_of, kind_fits, NoneBy}
 use Rattle.sm_word.specs.Known.{KnownKind}
 use Rattle.sm_word.specs.Word.{IsWellFormed, word_of}
+use Rattle.sm_rule.specs.declared.view.Told.{Told}
 use Rattle.sm_rule.specs.declared.view.View.{View}
 use Rattle.sm_rule.specs.Boards.{limit_at}
 use Rattle.sm_rule.specs.Rule.{Fits}
-use Rattle.sm_rule.specs.Views.{Adds, Looks, list_held, list_with, newcomer, record_in}
+use Rattle.sm_rule.specs.Views.{Adds, Begins, IsMet, Looks, list_held, list_with, newcomer, record_in}
 
 -- the word is that of the shard's record in all that the view has seen
 abbrev pub IsWordOf : {Q : Type 0} → ℕ → View Q → ℕ → Type 0
@@ -29,6 +30,28 @@ Entered server step first found after =
     × NoneBy after.0.number after.0.seen
     × IsLegal first.0.limits.count first.0.limits.ceiling after.0.seen
     × (after.0 ≡ newcomer first.0.limits after.0.number server after.0.seen)
+
+-- the view of a seat that was cut from another one: as that of a new seat with the other's server, but for another number than
+-- the other's, and for the history, which extends what the other had seen
+abbrev pub IsHalf : {Q : Type 0} → View Q → View Q → Type 0
+IsHalf view half =
+    (half.number ≢ 0)
+    × (half.number ≢ view.number)
+    × NoneBy half.number half.seen
+    × Begins view.seen half.seen
+    × IsLegal view.limits.count view.limits.ceiling half.seen
+    × (half ≡ newcomer view.limits half.number view.server half.seen)
+
+-- the first load of a seat that was cut from another
+abbrev pub Enrolled : {S Q : Type 0} → Step S → Me S (View Q) → ℕ → Me S (View Q) → Type 0
+Enrolled step before found after = IsHalf before.0 after.0 × (after.1 ≡ before.1)
+
+-- the load after another seat was taken in: more was seen, as at any load, and all that the other had seen
+abbrev pub Met : {S Q : Type 0} → Step S → Me S (View Q) → ℕ → Me S (View Q) → Type 0
+Met step before found after =
+    Looks before.0 after.0
+    × ((told : Told _) → before.0.told ≡ Some told → IsMet told.by told.seen after.0.seen)
+    × (after.1 ≡ before.1)
 
 -- an admission takes the shard's slot, with a body of its limit that keeps what was kept for the shard; a change takes none
 abbrev pub TakesBody : {S Q : Type 0} → (S → List Q) → (S → ℕ) → Kind Q → ℕ → List (ℕ × Option S) → View Q → List (ℕ × Option S) → Type 0

@@ -1,5 +1,5 @@
 -- What the view of a seat becomes, and how what was seen grows.
-use Rattle.std.specs.Prelude.{ℕ, true, false, ◌≡◌, List, [], ◌∷◌, ◌++◌, Option, Some, None}
+use Rattle.std.specs.Prelude.{ℕ, ◌≡◌, List, [], ◌∷◌, ◌++◌, Option, Some, None}
 use Rattle.sm_ownership.specs.declared.entry.Entry.{Entry}
 use Rattle.sm_ownership.specs.declared.entry.Kind.{Kind}
 use Rattle.sm_ownership.specs.declared.entry.Kind.TheVariants.{Change as Changed, Admit, Done}
@@ -7,6 +7,7 @@ use Rattle.sm_ownership.specs.declared.record.Record.{Record}
 use Rattle.sm_ownership.specs.History.{IsLegal, kept, record_at, table_of, NoneBy}
 use Rattle.sm_rule.specs.declared.limits.Limits.{Limits}
 use Rattle.sm_rule.specs.declared.view.Held.{Held}
+use Rattle.sm_rule.specs.declared.view.Stage.TheVariants.{Acting, Cut, Joined}
 use Rattle.sm_rule.specs.declared.view.View.{View}
 
 -- a shard's record after a history of a board with these limits
@@ -15,6 +16,14 @@ record_in limits history shard = record_at (table_of limits.count limits.ceiling
 
 abbrev pub entry_of : {Q : Type 0} → ℕ → ℕ → Kind Q → Entry Q
 entry_of actor shard kind = record { actor = actor; shard = shard; kind = kind }
+
+-- the second history begins with the first
+abbrev pub Begins : {Q : Type 0} → List (Entry Q) → List (Entry Q) → Type 0
+Begins earlier later = (more : List (Entry _)) × (later ≡ earlier ++ more)
+
+-- a history extends what was seen under a number, by entries of others
+abbrev pub IsMet : {Q : Type 0} → ℕ → List (Entry Q) → List (Entry Q) → Type 0
+IsMet number seen history = (others : List (Entry _)) × (history ≡ seen ++ others) × NoneBy number others
 
 -- what was seen grows by entries of others, and then by these
 abbrev pub Grows : {Q : Type 0} → Limits → ℕ → List (Entry Q) → List (Entry Q) → List (Entry Q) → Type 0
@@ -41,7 +50,22 @@ list_with list (Some request) = list ++ request ∷ []
 -- the view of a new seat
 abbrev pub newcomer : {Q : Type 0} → Limits → ℕ → Option ℕ → List (Entry Q) → View Q
 newcomer limits number server history =
-    record { limits = limits; number = number; server = server; held = None; seen = history; spent = false; named = true; parent = 0; told = None }
+    record { limits = limits; number = number; server = server; held = None; seen = history; stage = Acting; told = None }
+
+-- the history that a view has seen is a legal one
+abbrev pub HasSeenLegal : {Q : Type 0} → View Q → Type 0
+HasSeenLegal view = IsLegal view.limits.count view.limits.ceiling view.seen
+
+-- the view of a seat that is cut from another, until its first load gives it a number
+abbrev pub cut_off : {Q : Type 0} → View Q → View Q
+cut_off view = record view { stage = Cut; held = None; told = None }
+
+-- a view that takes in another, and what is left of the other
+abbrev pub informed : {Q : Type 0} → View Q → View Q → View Q
+informed view other = record view { told = Some (record { by = other.number; seen = other.seen }) }
+
+abbrev pub left_behind : {Q : Type 0} → View Q
+left_behind = record { limits = record { count = 0; ceiling = 0; bodies = [] }; number = 0; server = None; held = None; seen = []; stage = Joined; told = None }
 
 -- a view that has seen this history
 abbrev pub seeing : {Q : Type 0} → View Q → List (Entry Q) → View Q

@@ -1,6 +1,7 @@
-ghost use Rattle.std.specs.Prelude.{◌≡◌, ◌≢◌, ◌<◌, ◌^◌, false, None, IfErr, OnErr, OnOk};
+ghost use Rattle.std.specs.Prelude.{◌≡◌, ◌≢◌, ◌<◌, ◌^◌, None, IfErr, OnErr, OnOk};
 ghost use Rattle.sm_ownership.specs.History.{IsLegal, NoneBy, after_kind};
 ghost use Rattle.sm_word.specs.Word.{IsWellFormed, word_of};
+ghost use Rattle.sm_rule.specs.declared.view.Stage.TheVariants.{Acting};
 ghost use Rattle.sm_rule.specs.Changes.{ChairLooks, record_at_chair};
 ghost use Rattle.sm_rule.specs.Passes.{PassLooks, record_of};
 ghost use Rattle.sm_rule.specs.Steps.{MayAdd, TakesBody};
@@ -11,6 +12,7 @@ mod changing;
 mod closing;
 mod executing;
 mod making;
+mod telling;
 
 use crate::chair::Chair;
 use crate::origin::Origin;
@@ -118,7 +120,7 @@ impl<S: Service> Board<S> {
     ) -> Result<(), Record>
         requires table { seat.old.table_id ≡ self.now.id }
         requires limits { seat.old.me.0.limits ≡ self.now.limits }
-        requires live { seat.old.me.0.spent ≡ false }
+        requires live { seat.old.me.0.stage ≡ Acting }
         requires shard { k < self.now.limits.count }
         requires formed { IsWellFormed read.now × IsWellFormed next.now }
         requires next { next.now ≡ after_kind read.now B.kind }
@@ -152,7 +154,7 @@ impl<S: Service> Board<S> {
     ) -> (u64, Record)
         requires table { seat.old.table_id ≡ self.now.id }
         requires limits { seat.old.me.0.limits ≡ self.now.limits }
-        requires live { seat.old.me.0.spent ≡ false }
+        requires live { seat.old.me.0.stage ≡ Acting }
         requires shard { k < self.now.limits.count }
         ensures table { seat.new.table_id ≡ seat.old.table_id }
         ensures slots { seat.new.me.1 ≡ seat.old.me.1 }

@@ -34,6 +34,14 @@ impl<S: Service> Chair<S> {
     ghost use Rattle.sm_rule.specs.Changes.{record_at_chair};
     ghost use Rattle.sm_rule.specs.Views.{record_in};
 
+    /// Says, for proofs alone, that what a chair has seen is a legal history. It does nothing.
+    pub fn soundness(&self)
+        ensures { IsLegal self.now.board.limits.count self.now.board.limits.ceiling self.now.seen }
+    {
+        // This opens the value, whose invariant the proof cites.
+        let _ = &self.room;
+    }
+
     /// The shard's stand, which nobody else changes: it is the shard's in every legal history to which the one that the chair
     /// has seen may grow by entries of passes.
     pub fn stand(&self, k: ShardId) -> Stand

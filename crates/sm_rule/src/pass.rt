@@ -1,3 +1,4 @@
+use crate::note::Note;
 use crate::view::View;
 use atomic_table::Seat;
 use sm_body::service::Service;
@@ -23,7 +24,25 @@ impl<S: Service> Model for Pass<S> {
 }
 
 impl<S: Service> Pass<S> {
-    ghost use Rattle.std.specs.Prelude.{◌≡◌};
+    ghost use Rattle.std.specs.Prelude.{◌≡◌, None};
+    ghost use Rattle.sm_rule.specs.Passes.{HasLegalFront};
+
+    /// Says, for proofs alone, that what a pass has seen is a legal history. It does nothing.
+    pub fn soundness(&self)
+        ensures { HasLegalFront self.now }
+    {
+        // This opens the value, whose invariant the proof cites.
+        let _ = &self.server;
+    }
+
+    /// The pass, which holds nothing, as a note. It keeps all that the pass is and has seen, and takes no memory.
+    pub fn into_note(self) -> Note<S>
+        requires { self.held ≡ None }
+        ensures { result ≡ self }
+    {
+        let Pass { seat, server: _ } = self;
+        Note { seat }
+    }
 
     /// The server that the pass is admitted as; a pass without one is never admitted.
     pub fn server(&self) -> Option<ServerId>

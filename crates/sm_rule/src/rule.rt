@@ -2,7 +2,7 @@
 
 use crate::origin::Origin;
 use crate::view::View;
-use atomic_table::{Play, TableRule};
+use atomic_table::{Join, Play, Split, TableRule};
 use sm_body::service::Service;
 use std::marker::{Brand, PhantomData};
 
@@ -116,4 +116,41 @@ impl<S, Q, B: Asks<Q>> Play<Option<S>, View<Q>> for Store<B> {
     ghost use Rattle.sm_rule.specs.Steps.{Stored};
 
     ghost then = { Stored B.kind };
+}
+
+/// How a seat is cut in two, and how it takes in another.
+pub struct Halves;
+
+impl<Q> Split<View<Q>> for Halves {
+    ghost use Rattle.sm_rule.specs.Views.{cut_off};
+
+    ghost left = { λ view. view };
+
+    ghost right = { cut_off };
+}
+
+impl<Q> Join<View<Q>> for Halves {
+    ghost use Rattle.sm_rule.specs.Views.{informed, left_behind};
+
+    ghost both = { informed };
+
+    ghost spent = { left_behind };
+}
+
+/// The first load of a seat that was cut from another.
+pub struct Enroll;
+
+impl<S, Q> Play<Option<S>, View<Q>> for Enroll {
+    ghost use Rattle.sm_rule.specs.Steps.{Enrolled};
+
+    ghost then = { Enrolled };
+}
+
+/// The load after another seat was taken in.
+pub struct Meet;
+
+impl<S, Q> Play<Option<S>, View<Q>> for Meet {
+    ghost use Rattle.sm_rule.specs.Steps.{Met};
+
+    ghost then = { Met };
 }

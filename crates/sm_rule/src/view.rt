@@ -15,15 +15,18 @@ pub struct View<Q> {
     pub held: Option<Held<Q>>,
     /// The history as far as it has looked.
     pub seen: LinkedList<Entry<Q>>,
-    // The rest is for notes, which aren't there yet: each view has it as that of a new seat has.
-    /// Another seat has taken it in, and nothing is said of it any more.
-    pub spent: bool,
-    /// Its number is the seat's own; a seat cut from another gets one by its first load.
-    pub named: bool,
-    /// The number of the seat that it was cut from.
-    pub parent: u64,
-    /// A seat that it has taken in and whose history it hasn't looked at since.
+    pub stage: Stage,
+    /// The seat that it has taken in last.
     pub told: Option<Told<Q>>,
+}
+
+/// Whether a seat acts.
+pub enum Stage {
+    /// It was cut from another seat, and has that one's number until its first load gives it one of its own.
+    Cut,
+    Acting,
+    /// Another seat has taken it in.
+    Joined,
 }
 
 /// The shard that a seat is admitted to, its record since then, and what it had kept.

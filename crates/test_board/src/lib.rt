@@ -12,6 +12,8 @@ mod executing;
 #[cfg(test)]
 mod logged;
 #[cfg(test)]
+mod notes;
+#[cfg(test)]
 mod queue;
 #[cfg(test)]
 mod rule;

@@ -17,7 +17,7 @@ use std::test::Fail;
 use std::thread;
 
 // The shard with this number.
-fn shard(number: u16) -> ShardId
+pub(crate) fn shard(number: u16) -> ShardId
     requires { number < 4096 }
     ensures { result ≡ number }
 {
@@ -65,7 +65,7 @@ fn board_over(
 }
 
 // A board of so many shards, and its chair; none where there is no such board.
-fn board_of(
+pub(crate) fn board_of(
     alloc: Global,
     count: usize,
     ceiling: u64,
@@ -77,7 +77,7 @@ fn board_of(
 }
 
 // Assigns a vacant shard, and whether that was done.
-fn assign(
+pub(crate) fn assign(
     board: &Board<CounterText>,
     chair: &mut Chair<CounterText>,
     k: ShardId,
@@ -149,7 +149,7 @@ fn is_refused(
 }
 
 // The shard's generation after an admission of the pass and its end; none where it is refused.
-fn generation_left(
+pub(crate) fn generation_left(
     board: &Board<CounterText>,
     pass: &mut Pass<CounterText>,
     k: ShardId,
@@ -172,7 +172,7 @@ fn put_of(alloc: Global) -> Option<Request> {
 }
 
 // Has the shard's body apply a put under an admission of the pass, which is ended. None where it isn't applied.
-fn put(
+pub(crate) fn put(
     board: &Board<CounterText>,
     pass: &mut Pass<CounterText>,
     alloc: Global,
@@ -197,7 +197,7 @@ fn put(
     }
 }
 
-fn serving(owner: ServerId, admitted: bool, generation: u64) -> Record {
+pub(crate) fn serving(owner: ServerId, admitted: bool, generation: u64) -> Record {
     Record {
         stand: Stand::Serving(owner),
         admitted,
@@ -210,7 +210,7 @@ fn front_at(shard: ShardId, generation: u64) -> Front {
 }
 
 // How many requests the body of a closed shard keeps; none where it isn't there.
-fn kept_in(row: &(Record, Option<CounterText>)) -> Option<usize> {
+pub(crate) fn kept_in(row: &(Record, Option<CounterText>)) -> Option<usize> {
     match &row.1 {
         Some(body) => Some(body.kept()),
         None => None,

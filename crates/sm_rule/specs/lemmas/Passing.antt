@@ -9,10 +9,10 @@ use Rattle.sm_ownership.specs.declared.mode.Mode.{Mode}
 use Rattle.sm_rule.specs.declared.admit_refusal.AdmitRefusal.{AdmitRefusal}
 use Rattle.sm_rule.specs.declared.admit_refusal.AdmitRefusal.TheVariants.{Refused, Raced}
 use Rattle.sm_rule.specs.declared.limits.Limits.{Limits}
-use Rattle.sm_rule.specs.Admissions.{Begins, PassAdmitted, Races, RefusedBy, fault_for}
+use Rattle.sm_rule.specs.Admissions.{PassAdmitted, Races, RefusedBy, fault_for}
 use Rattle.sm_rule.specs.Boards.{BoardValue}
 use Rattle.sm_rule.specs.Passes.{PassAdds, PassLooks, PassValue, pass_adding, pass_seeing}
-use Rattle.sm_rule.specs.Views.{Grows, entry_of}
+use Rattle.sm_rule.specs.Views.{Begins, Grows, entry_of}
 
 -- what grows by entries of others, and then grows on
 pub grows_grows : {Q : Type 0} (limits : Limits) (number : ℕ) (one two three added : List (Entry Q)) → Grows limits number one two [] → Grows limits number two three added → Grows limits number one three added

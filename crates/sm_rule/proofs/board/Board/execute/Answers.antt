@@ -1,5 +1,4 @@
-use Rattle.std.proofs.Common.{◌≡◌, ◌∙◌, ◌++◌, ◌∷◌, [], ap, Some, None}
-use Rattle.sm_rule.specs.Views.{list_held, list_with}
+use Rattle.std.proofs.Common.{◌∙◌, ◌++◌, ◌∷◌, [], ap, Some, None}
 use Rattle.sm_rule.proofs.board.Board.execute.Goals as goal
 
 -- the body had what it kept at the admission, and then the request too, or still that

@@ -1,0 +1,125 @@
+-- A seat that takes in another keeps the rule, and so does the load that looks at the history then.
+use Rattle.std.proofs.Common.{◌≡◌, ◌≢◌, ℕ, zero, suc, ◌<◌, ◌≤◌, List, [], ◌∷◌, length, refl, sym, ap, ◌∙◌, subst, arith}
+use Rattle.std.specs.Prelude.{Option, Some, reverse, slice_set}
+use Rattle.std.proofs.lemmas.List.{length-set}
+use mathlib.Core.Option as math
+use mathlib.Core.Option.{some, none, some-injective, some-ne-none}
+use lib.ListN.{get_elem?}
+use Rattle.atomic_table.specs.Table.{Me, step, keeps, Allows, Joins}
+use Rattle.atomic_table.proofs.Lists.{set_else, set_here}
+use Rattle.sm_ownership.specs.declared.entry.Entry.{Entry}
+use Rattle.sm_ownership.specs.History.{NoneBy}
+use Rattle.sm_ownership.specs.lemmas.Lasting.{NoneBy-reverse}
+use Rattle.sm_rule.specs.declared.limits.Limits.{Limits}
+use Rattle.sm_rule.specs.declared.view.Stage.TheVariants.{Acting, Cut, Joined}
+use Rattle.sm_rule.specs.declared.view.Told.{Told}
+use Rattle.sm_rule.specs.declared.view.View.{View}
+use Rattle.sm_rule.specs.Rule.{AreTold, Fits, Holds, IsCut, Rule, IsTold}
+use Rattle.sm_rule.specs.Steps.{Met}
+use Rattle.sm_rule.specs.Views.{informed, left_behind, seeing}
+use Rattle.sm_rule.proofs.Keeping.{acting_uncut, in_order, look_keeps, looks_all, same_some, views_set}
+
+joined_unacting : Joined ≡ Acting → ⊥
+joined_unacting is = absurd (cc)
+
+joined_uncut : Joined ≡ Cut → ⊥
+joined_uncut is = absurd (cc)
+
+below_end : {Q : Type 0} (views : List (View Q)) (n : ℕ) (view : View Q) → get_elem? views n ≡ some view → n < length views
+below_end [] n view at = absurd (some-ne-none view (sym at))
+below_end (one ∷ views) zero view at = omega arith
+below_end (one ∷ views) (suc n) view at = let below = below_end views n view at in omega arith
+
+-- a seat that acts takes in another
+module _ {S Q : Type 0} (requests : S → List Q) (limit : S → ℕ) (limits : Limits) (words : List ℕ) (homes : List (math.Option (Option S))) (views : List (View Q)) (history : List (Entry Q)) (holds : Holds requests limit limits words homes views history)
+    (id other : ℕ) (view one : View Q) (live : view.stage ≡ Acting) (alive : one.stage ≡ Acting) (at : get_elem? views id ≡ some view) (apart : other ≢ id) (there : get_elem? views other ≡ some one) where
+  abbrev both : View Q
+  both = informed view one
+
+  abbrev first : List (View Q)
+  first = slice_set views id both
+
+  abbrev last : List (View Q)
+  last = slice_set first other left_behind
+
+  found : get_elem? first other ≡ some one
+  found = set_else views id other both apart ∙ there
+
+  fits_both : Fits limits id both history
+  fits_both =
+      let fit = holds.fit id view at live in
+      record { limits_are = fit.limits_are; number_is = fit.number_is; later = fit.later; seen = fit.seen; others = fit.others; server = fit.server; held = fit.held }
+
+  -- what the seat is told of the other
+  tells : IsTold last (record { by = one.number; seen = one.seen }) history
+  tells =
+      let fit = holds.fit other one there alive in
+      record {
+        later = fit.later;
+        seen = fit.seen;
+        others = subst (λ n. NoneBy n fit.later) (sym fit.number_is) fit.others;
+        joined = ap (get_elem? last) fit.number_is ∙ set_here first other left_behind (below_end first other one found);
+      }
+
+  told_last : (told : Told Q) → IsTold views told history → IsTold last told history
+  told_last told is =
+      let apart_from : (n : ℕ) (its : View Q) → get_elem? views n ≡ some its → its.stage ≡ Acting → told.by ≢ n = λ n its found_it acts same.
+      joined_unacting (sym (ap (λ (it : View Q). it.stage) (some-injective its left_behind (sym found_it ∙ (ap (get_elem? views) (sym same) ∙ is.joined)))) ∙ acts) in
+      record {
+        later = is.later;
+        seen = is.seen;
+        others = is.others;
+        joined = set_else first other told.by left_behind (apart_from other one there alive) ∙ (set_else views id told.by both (apart_from id view at live) ∙ is.joined);
+      }
+
+  told_both : AreTold last history
+  told_both = views_set (λ n it. (told : Told Q) → it.told ≡ Some told → IsTold last told history) first other left_behind
+      (λ n it away at_first. views_set (λ m its. (told : Told Q) → its.told ≡ Some told → IsTold last told history) views id both
+      (λ m its off at_views told is. told_last told (holds.told m its at_views told is))
+      (λ told is. subst (λ its. IsTold last its history) (same_some _ told is) tells)
+      n it at_first)
+      (λ told is. absurd (cc))
+
+  joined : Holds requests limit limits words homes last history
+  joined =
+      let long = length-set first other left_behind ∙ length-set views id both in
+      record {
+        legal = holds.legal;
+        known = holds.known;
+        words_are = holds.words_are;
+        slots = holds.slots;
+        home = holds.home;
+        fit = views_set (λ n it. it.stage ≡ Acting → Fits limits n it history) first other left_behind
+            (λ n it away at_first. views_set (λ m its. its.stage ≡ Acting → Fits limits m its history) views id both (λ m its off at_views. holds.fit m its at_views) (λ _. fits_both) n it at_first)
+            (λ is. absurd (joined_unacting is));
+        cut = views_set (λ n it. it.stage ≡ Cut → IsCut limits n it history) first other left_behind
+            (λ n it away at_first. views_set (λ m its. its.stage ≡ Cut → IsCut limits m its history) views id both (λ m its off at_views. holds.cut m its at_views) (λ is. absurd (acting_uncut view.stage live is)) n it at_first)
+            (λ is. absurd (joined_uncut is));
+        told = told_both;
+        unused = λ n past. holds.unused n (subst (λ many. many ≤ n) long past);
+        chaired = subst (λ many. 0 < many) (sym long) holds.chaired;
+      }
+
+pub joins : {S Q : Type 0} (requests : S → List Q) (limit : S → ℕ) (limits : Limits) (id other : ℕ) (view one : View Q) → view.stage ≡ Acting → one.stage ≡ Acting → Joins {S = Option S} (Rule requests limit limits) id view other one (informed view one) left_behind
+joins requests limit limits id other view one live alive table rule at apart there =
+    (rule.0, joined requests limit limits table.words table.homes table.views rule.0 rule.1 id other view one live alive at apart (sym (set_else table.views id other (informed view one) apart) ∙ there))
+
+-- the load after it
+pub meets : {S Q : Type 0} (requests : S → List Q) (limit : S → ℕ) (limits : Limits) (slots id word : ℕ) (me : Me (Option S) (View Q)) → me.0.stage ≡ Acting
+    → Allows (Rule requests limit limits) slots id me word (λ n. n) (Met (step {S = Option S} slots word 0 0 none) me)
+meets requests limit limits slots id word me live table rule size at small =
+    let history = rule.0 in
+    let holds = rule.1 in
+    let fit = holds.fit id me.0 at live in (
+      seeing me.0 (reverse history),
+      keeps,
+      tt,
+      (history, look_keeps requests limit limits id word table.words table.homes table.views history me.0 holds at live),
+      (
+        looks_all limits id me.0 history fit holds.legal,
+        (λ told is.
+            let tells = holds.told id me.0 at told is in
+            (reverse tells.later, in_order tells.later told.seen history tells.seen, NoneBy-reverse told.by tells.later tells.others)),
+        refl,
+      ),
+    )
