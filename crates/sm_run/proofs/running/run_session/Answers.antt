@@ -1,4 +1,4 @@
-use Rattle.std.proofs.Common.{◌≡◌, ◌∙◌, Err, ap, inr}
+use Rattle.std.proofs.Common.{rules, ◌≡◌, ◌∙◌, Err, ap, inr}
 use Rattle.std.proofs.lemmas.Result.{err_from_is_err_and}
 use Rattle.sm_lines.specs.declared.answer_fault.AnswerFault.TheVariants.{Read, Write, NoMemory}
 use Rattle.sm_lines.specs.lemmas.Keeping.{keeps_as, keeps_unread}
@@ -8,6 +8,18 @@ pub returns-in_err-session-clause-reading : goal.returns-in_err-session-clause-r
 returns-in_err-session-clause-reading g c =
     let fault = err_from_is_err_and c.from_residual.result c.from_residual.ensures.1 in
     keeps_unread _ _ _ _ (fault.1 ∙ ap Err fault.2)
+
+pub returns-in-Ok-clause-read : goal.returns-in-Ok-clause-read
+returns-in-Ok-clause-read g c = search rules
+
+pub returns-in-Ok-clause-reading : goal.returns-in-Ok-clause-reading
+returns-in-Ok-clause-reading g c = search rules
+
+pub returns-in-Ok-clause-write : goal.returns-in-Ok-clause-write
+returns-in-Ok-clause-write g c = search rules
+
+pub returns-in-Ok-clause-write_failed : goal.returns-in-Ok-clause-write_failed
+returns-in-Ok-clause-write_failed g c = search rules
 
 pub returns-clause-reading : goal.returns-clause-reading
 returns-clause-reading g c = keeps_as _ c.in-Err.fault _ _ _ _ c.in-Err.ensures.reading
