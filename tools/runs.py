@@ -1,4 +1,6 @@
 """How the tools of this folder run the program: by itself, and with memory or streams that fail (tools/faults.c)."""
+import importlib.machinery
+import importlib.util
 import os
 import pathlib
 import subprocess
@@ -11,6 +13,14 @@ EXAMPLES = sorted((TOP / "examples").glob("*.in"))
 
 # What a run left: its exit status, what it wrote, and whether it met the failure that it was asked to meet.
 Run = namedtuple("Run", "status output complaint has_failed")
+
+
+def loaded(name):
+    """The module of a tool, whose file has no ending."""
+    loader = importlib.machinery.SourceFileLoader(name.replace("-", "_"), str(TOP / "tools" / name))
+    module = importlib.util.module_from_spec(importlib.util.spec_from_loader(loader.name, loader))
+    loader.exec_module(module)
+    return module
 
 
 class Faults:
