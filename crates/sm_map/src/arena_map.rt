@@ -177,7 +177,7 @@ impl ArenaMap {
     ///
     /// # Errors
     ///
-    /// `AllocError` where memory is refused; what was copied is then freed.
+    /// `AllocError` where memory is refused.
     pub fn copy(&self) -> Result<ArenaMap, AllocError>
         ensures { IfOk result (λ map. (map.pairs ≡ self.now.pairs) × (map.dead ≡ 0)) }
     {

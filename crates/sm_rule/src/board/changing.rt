@@ -12,6 +12,7 @@ use crate::change_refusal::ChangeRefusal;
 use crate::rule::Asks;
 use sm_body::service::Service;
 use sm_ownership::change::Change;
+use sm_ownership::change_fault::ChangeFault;
 use sm_ownership::record::Record;
 use sm_ranges::shard_id::ShardId;
 use sm_word::word::pack;
@@ -71,21 +72,13 @@ impl<S: Service> Board<S> {
         ensures next { IfOk result (λ next. next ≡ after_change read.now change) }
         ensures refused { IfErr result (λ refusal. Forbids self.now.limits.ceiling read.now refusal) }
     {
-        if read.generation >= self.ceiling {
-            return Err(ChangeRefusal::Spent(*read));
-        }
-        if read.admitted {
-            return Err(ChangeRefusal::Busy(*read));
-        }
         names_servers(&change);
-        let Ok(stand) = change.apply_to(read.stand) else {
-            unreachable!()
-        };
-        Ok(Record {
-            stand,
-            admitted: false,
-            generation: read.generation + 1,
-        })
+        match read.changed(change, self.ceiling) {
+            Ok(next) => Ok(next),
+            Err(ChangeFault::Spent(state)) => Err(ChangeRefusal::Spent(state)),
+            Err(ChangeFault::Busy(state)) => Err(ChangeRefusal::Busy(state)),
+            Err(_) => unreachable!(),
+        }
     }
 }
 

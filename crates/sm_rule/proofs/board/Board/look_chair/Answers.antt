@@ -1,4 +1,4 @@
-use Rattle.std.proofs.Common.{◌∙◌}
+use Rattle.std.proofs.Common.{rules, ◌∙◌}
 use Rattle.sm_rule.proofs.Seeing.{chair_looks, room_stays}
 use Rattle.sm_rule.proofs.board.Board.look_chair.Goals as goal
 
@@ -9,3 +9,6 @@ invariant_of-chair g c = (
   c.chair.invariant.2,
   room_stays c.chair.inside.seat.me.0 c.load.new.seat.me.0 c.load.ensures.seen _ c.chair.invariant.3,
 )
+
+pub returns-clause-state : goal.returns-clause-state
+returns-clause-state g c = search rules
