@@ -1,7 +1,8 @@
 -- What the last state of a board leaves.
-use Rattle.std.proofs.Common.{◌≡◌, ℕ, zero, suc, ◌<◌, ◌^◌, Bool, true, false, List, [], ◌∷◌, ◌++◌, length, refl, sym, ap, ◌∙◌, subst, arith, ⊎_elim}
+use Rattle.std.proofs.Common.{◌≡◌, ◌≢◌, append_assoc, ℕ, zero, suc, ◌<◌, ◌^◌, Bool, true, false, List, [], ◌∷◌, ◌++◌, length, refl, sym, ap, ◌∙◌, subst, arith, ⊎_elim}
 use Rattle.std.specs.Prelude.{Option, Some, None, reverse, slice_index, slice_index_or, slice_set, if◌then◌else◌}
-use Rattle.std.proofs.lemmas.List.{length-map}
+use Rattle.std.proofs.lemmas.List.{append-nil, length-map}
+use Rattle.std.proofs.lemmas.List.Elements.{All-append}
 use mathlib.Core.Option.{some, some-injective, some-ne-none}
 use lib.ListN.{get_elem?}
 use Rattle.atomic_table.specs.Seated.{TableId}
@@ -17,7 +18,9 @@ use Rattle.sm_rule.specs.declared.view.Stage.TheVariants.{Acting}
 use Rattle.sm_rule.specs.declared.view.View.{View}
 use Rattle.sm_rule.specs.Boards.{limit_at}
 use Rattle.sm_rule.specs.Changes.{chair_value}
-use Rattle.sm_rule.specs.Closing.{AreTaken, AreWords, IsLeft, IsTaken, WasClosed}
+use Rattle.sm_rule.specs.Closing.{AreLeft, AreTaken, AreWords, IsTaken, WasClosed}
+use Rattle.sm_rule.specs.Passes.{PassValue}
+use Rattle.sm_rule.specs.Views.{IsMet, Looks}
 use Rattle.sm_rule.specs.Rule.{Fits, Holds, Rule, table_in}
 use Rattle.sm_rule.proofs.Keeping.{at_last, in_order, legal_all, length-table, others_all, sees, word_at}
 
@@ -101,16 +104,39 @@ module _ {S Q : Type 0} (requests : S → List Q) (limit : S → ℕ) (limits : 
     whole : reverse history ≡ view.seen ++ reverse fit.later
     whole = in_order fit.later view.seen history fit.seen
 
-    pub was_closed : (board : TableId) (rows : List (Record × Option S)) → AreTaken words slots rows → length rows ≡ limits.count → WasClosed requests limit (chair_value board view) rows
-    was_closed board rows taken many =
-        let legal : IsLegal view.limits.count view.limits.ceiling (reverse history) = legal_all limits id view history fit holds.legal in
-        let none : NoneBy 0 (reverse fit.later) = subst (λ n. NoneBy n (reverse fit.later)) chair (others_all limits id view history fit) in (
-          reverse fit.later,
-          subst (IsLegal view.limits.count view.limits.ceiling) whole legal,
-          none,
-          many ∙ ap (λ (its : Limits). its.count) (sym fit.limits_are),
-          λ shard row at.
-              let left = row_left rows taken shard row at in
-              subst (λ entries. IsLeft requests limit view.limits entries shard row) whole
-              (left.0 ∙ sym (sees limits id view history fit shard), left.1, λ idle. let body = left.2 idle in (body.0, body.1, body.2, body.3 ∙ ap (λ (its : Limits). limit_at its shard) (sym fit.limits_are))),
-        )
+    all_left : (rows : List (Record × Option S)) → AreTaken words slots rows → length rows ≡ limits.count → AreLeft requests limit view.limits (reverse history) rows
+    all_left rows taken many = (
+      many ∙ ap (λ (its : Limits). its.count) (sym fit.limits_are),
+      λ shard row at.
+          let left = row_left rows taken shard row at in
+          (left.0 ∙ sym (sees limits id view history fit shard), left.1, λ idle. let body = left.2 idle in (body.0, body.1, body.2, body.3 ∙ ap (λ (its : Limits). limit_at its shard) (sym fit.limits_are))),
+    )
+
+    -- the seat is the chair's, and has taken in the pass's
+    module _ (first : View Q) (pass : PassValue Q) (looked : Looks first view) (met : IsMet pass.number pass.seen view.seen) where
+      after_first : reverse history ≡ first.seen ++ (looked.0.0 ++ reverse fit.later)
+      after_first =
+          whole ∙ (ap (λ entries. entries ++ reverse fit.later) (looked.0.1 ∙ append-nil (first.seen ++ looked.0.0)) ∙ append_assoc first.seen looked.0.0 (reverse fit.later))
+
+      after_pass : reverse history ≡ pass.seen ++ (met.0 ++ reverse fit.later)
+      after_pass = whole ∙ (ap (λ entries. entries ++ reverse fit.later) met.1 ∙ append_assoc pass.seen met.0 (reverse fit.later))
+
+      same : view.limits ≡ first.limits
+      same = ap (λ (one : View Q). one.limits) looked.1
+
+      closed_after : (board : TableId) (rows : List (Record × Option S)) → AreTaken words slots rows → length rows ≡ limits.count → WasClosed requests limit (chair_value board first) pass rows
+      closed_after board rows taken many =
+          let legal : IsLegal view.limits.count view.limits.ceiling (reverse history) = legal_all limits id view history fit holds.legal in
+          let none : NoneBy 0 (reverse fit.later) = subst (λ n. NoneBy n (reverse fit.later)) chair (others_all limits id view history fit) in
+          let others : NoneBy 0 looked.0.0 = subst (λ n. NoneBy n looked.0.0) (sym (ap (λ (one : View Q). one.number) looked.1) ∙ chair) looked.0.2 in (
+            looked.0.0 ++ reverse fit.later,
+            subst (λ (pair : Limits × List (Entry Q)). IsLegal pair.0.count pair.0.ceiling pair.1) (λ i. (same i, after_first i)) legal,
+            All-append (λ entry. entry.actor ≢ 0) looked.0.0 (reverse fit.later) others none,
+            (met.0 ++ reverse fit.later, sym after_first ∙ after_pass),
+            subst (λ (pair : Limits × List (Entry Q)). AreLeft requests limit pair.0 pair.1 rows) (λ i. (same i, after_first i)) (all_left rows taken many),
+          )
+
+  -- the same of a chair that acts, and has taken in the pass's seat
+  pub was_closed : (first : View Q) (pass : PassValue Q) → Looks first view → first.stage ≡ Acting → first.number ≡ 0 → IsMet pass.number pass.seen view.seen → (board : TableId) (rows : List (Record × Option S)) → AreTaken words slots rows → length rows ≡ limits.count → WasClosed requests limit (chair_value board first) pass rows
+  was_closed first pass looked live chair met board rows taken many =
+      closed_after (ap (λ (one : View Q). one.stage) looked.1 ∙ live) (ap (λ (one : View Q). one.number) looked.1 ∙ chair) first pass looked met board rows taken many

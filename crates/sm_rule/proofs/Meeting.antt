@@ -123,3 +123,7 @@ meets requests limit limits slots id word me live table rule size at small =
         refl,
       ),
     )
+
+-- the seat acts on
+pub still_acts : {S Q : Type 0} (me : Me (Option S) (View Q)) (view one : View Q) (slots : List (ℕ × Option S)) → me ≡ (informed view one, slots) → view.stage ≡ Acting → me.0.stage ≡ Acting
+still_acts {S} {Q} me view one slots is live = ap (λ (it : Me (Option S) (View Q)). it.0.stage) is ∙ live

@@ -9,7 +9,8 @@ use Rattle.sm_word.specs.Word.{IsWellFormed, word_of}
 use Rattle.sm_rule.specs.declared.limits.Limits.{Limits}
 use Rattle.sm_rule.specs.Boards.{limit_at}
 use Rattle.sm_rule.specs.Changes.{ChairValue}
-use Rattle.sm_rule.specs.Views.{record_in}
+use Rattle.sm_rule.specs.Passes.{PassValue}
+use Rattle.sm_rule.specs.Views.{Begins, record_in}
 
 -- what is left of a shard after a history: its record, and its body where it isn't admitted, of its limit and with what was kept for it
 abbrev pub IsLeft : {S Q : Type 0} → (S → List Q) → (S → ℕ) → Limits → List (Entry Q) → ℕ → Record × Option S → Type 0
@@ -18,14 +19,21 @@ IsLeft {S} requests limit limits history shard row =
     × (row.0.admitted ≡ true → row.1 ≡ None)
     × (row.0.admitted ≡ false → (body : S) × (row.1 ≡ Some body) × (requests body ≡ kept history shard) × (limit body ≡ limit_at limits shard))
 
--- the rows are those of all shards after one legal history, to which passes alone have added since the chair last looked
-abbrev pub WasClosed : {S Q : Type 0} → (S → List Q) → (S → ℕ) → ChairValue Q → List (Record × Option S) → Type 0
-WasClosed {S} {Q} requests limit chair rows =
+-- the rows are those of all shards after a history
+abbrev pub AreLeft : {S Q : Type 0} → (S → List Q) → (S → ℕ) → Limits → List (Entry Q) → List (Record × Option S) → Type 0
+AreLeft {S} requests limit limits history rows =
+    (length rows ≡ limits.count)
+    × ((shard : ℕ) (row : Record × Option S) → get_elem? rows shard ≡ some row → IsLeft requests limit limits history shard row)
+
+-- the rows are those of all shards after one legal history, to which passes alone have added since the chair last looked, and
+-- which extends what the pass had seen
+abbrev pub WasClosed : {S Q : Type 0} → (S → List Q) → (S → ℕ) → ChairValue Q → PassValue Q → List (Record × Option S) → Type 0
+WasClosed {S} {Q} requests limit chair pass rows =
     (later : List (Entry Q))
     × IsLegal chair.board.limits.count chair.board.limits.ceiling (chair.seen ++ later)
     × NoneBy 0 later
-    × (length rows ≡ chair.board.limits.count)
-    × ((shard : ℕ) (row : Record × Option S) → get_elem? rows shard ≡ some row → IsLeft requests limit chair.board.limits (chair.seen ++ later) shard row)
+    × Begins pass.seen (chair.seen ++ later)
+    × AreLeft requests limit chair.board.limits (chair.seen ++ later) rows
 
 -- each word is that of a record
 abbrev pub AreWords : List ℕ → Type 0

@@ -1,5 +1,5 @@
 -- Passes as contracts see them, and what looking and acting does to one.
-use Rattle.std.specs.Prelude.{ℕ, ◌≡◌, ◌≢◌, ◌<◌, IfSome, List, [], ◌∷◌, Option, Some, None}
+use Rattle.std.specs.Prelude.{ℕ, ◌≡◌, ◌≢◌, ◌<◌, ◌==◌, filter, IfSome, List, [], ◌∷◌, Option, Some, None}
 use Rattle.atomic_table.specs.Seated.{TableId}
 use Rattle.sm_ownership.specs.declared.entry.Entry.{Entry}
 use Rattle.sm_ownership.specs.declared.entry.Kind.{Kind}
@@ -53,6 +53,10 @@ pass_seeing pass history = record pass { seen = history }
 abbrev pub pass_adding : {Q : Type 0} → PassValue Q → ℕ → Kind Q → List (Entry Q) → PassValue Q
 pass_adding pass shard kind history =
     record pass { seen = history; held = held_after pass.board.limits shard kind history pass.held }
+
+-- the entries of this number
+abbrev pub own : {Q : Type 0} → ℕ → List (Entry Q) → List (Entry Q)
+own number entries = filter (λ entry. entry.actor == number) entries
 
 -- the pass has seen more, made by others alone
 abbrev pub PassLooks : {Q : Type 0} → PassValue Q → PassValue Q → Type 0

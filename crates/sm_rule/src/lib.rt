@@ -7,7 +7,7 @@
 //!     return Err("the pass is admitted again".into());
 //! };
 //! assert_eq!(rt; board.finish(&mut pass, permit), front_at(k, 5));
-//! let rows = board.close(chair);
+//! let rows = board.close(chair, pass);
 //! ```
 #![tactic(auto)]
 

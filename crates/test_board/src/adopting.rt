@@ -85,7 +85,7 @@ fn adoption_refused(rt: HostRuntime) -> Result<(), Fail> {
     assert!(rt; adopted(&board, &mut pass, k, Ask) == Some(0));
     assert!(rt; adopted(&board, &mut pass, k, Ask) == Some(1));
     assert!(rt; adopted(&board, &mut pass, k, Ask) == Some(2));
-    let rows = board.close(chair);
+    let rows = board.close(chair, pass);
     assert!(rt; rows.len() == 1);
     let moves = rows[0].1.as_ref().map(|body| body.machine().moves);
     assert!(rt; moves == Some(1));

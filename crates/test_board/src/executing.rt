@@ -54,7 +54,7 @@ fn executes_up_to_the_limit(rt: HostRuntime) -> Result<(), Fail> {
     assert!(rt; matches!(counted, Some(Ok(Reply::Count(7)))));
     let refused = executed(&board, &mut pass, k, inc_of(alloc)?);
     assert!(rt; matches!(refused, Some(Err(ApplyFault::KeptFull))));
-    let rows = board.close(chair);
+    let rows = board.close(chair, pass);
     assert!(rt; rows.len() == 1);
     let kept = rows[0].1.as_ref().map(|body| body.kept());
     assert!(rt; kept == Some(1));

@@ -2,7 +2,7 @@
 ghost use Rattle.std.specs.Arc.{arc_value};
 ghost use Rattle.std.specs.Prelude.{◌≡◌, ◌<◌, None};
 
-use crate::rule::{assign, board_of, generation_left, put, serving, shard};
+use crate::rule::{assign, board_of, generation_left, kept_in, put, serving, shard};
 use crossbeam_channel::Receiver;
 use sm_ownership::record::Record;
 use sm_ranges::{ServerId, ShardId};
@@ -32,7 +32,12 @@ fn note_is_met(rt: HostRuntime) -> Result<(), Fail> {
     let mut pass = board.pass(Some(owner));
     assert!(rt; generation_left(&board, &mut pass, k) == Some(3));
     let note = board.note(&mut pass);
-    assert!(rt; record_told(&board, note, k) == serving(owner, false, 3));
+    let mut reader = board.pass(None);
+    board.meet(&mut reader, note);
+    assert!(rt; board.look(&mut reader, k) == serving(owner, false, 3));
+    let rows = board.close(chair, reader);
+    assert!(rt; rows.len() == 1 && rows[0].0 == serving(owner, false, 3));
+    assert!(rt; kept_in(&rows[0]) == Some(0));
     Ok(())
 }
 

@@ -189,7 +189,8 @@ fn two_threads_push(rt: HostRuntime) -> Result<(), Fail> {
     let Ok(board) = Arc::try_unwrap(board) else {
         return Err("the threads have let the board go".into());
     };
-    let rows = board.close(chair);
+    let last = board.pass(None);
+    let rows = board.close(chair, last);
     assert!(rt; rows.len() == 1);
     let jobs = rows[0].1.as_ref().map(|body| body.kept());
     assert!(rt; jobs == Some(made));

@@ -325,7 +325,7 @@ fn body_comes_home(rt: HostRuntime) -> Result<(), Fail> {
     let applied = put(&board, &mut pass, rt.alloc(), k);
     assert!(rt; applied == Some(front_at(k, 3)));
     assert!(rt; generation_left(&board, &mut pass, k) == Some(5));
-    let rows = board.close(chair);
+    let rows = board.close(chair, pass);
     assert!(rt; rows.len() == 1);
     assert!(rt; rows[0].0 == serving(owner, false, 5));
     assert!(rt; kept_in(&rows[0]) == Some(1));
@@ -343,7 +343,7 @@ fn admits_again_and_closes(rt: HostRuntime) -> Result<(), Fail> {
         return Err("the pass is admitted again".into());
     };
     assert_eq!(rt; board.finish(&mut pass, permit), front_at(k, 5));
-    let rows = board.close(chair);
+    let rows = board.close(chair, pass);
     assert!(rt; rows.len() == 1);
     Ok(())
 }
@@ -372,7 +372,8 @@ fn permit_is_never_spent(rt: HostRuntime) -> Result<(), Fail> {
     let Ok(permit) = board.admit(&mut pass, k, Mode::Direct) else {
         return Err("the pass is admitted".into());
     };
-    let rows = board.close(chair);
+    let last = board.pass(None);
+    let rows = board.close(chair, last);
     let _unspent = unsafe { ManuallyDrop::new_unchecked(permit) };
     assert!(rt; rows.len() == 2);
     assert!(rt; rows[0].0 == serving(owner, true, 2));
@@ -438,7 +439,8 @@ fn two_threads_admit(rt: HostRuntime) -> Result<(), Fail> {
     let Ok(board) = Arc::try_unwrap(board) else {
         return Err("the threads have let the board go".into());
     };
-    let rows = board.close(chair);
+    let last = board.pass(None);
+    let rows = board.close(chair, last);
     assert!(rt; rows.len() == 1);
     assert!(rt; rows[0].0 == serving(owner, false, 1 + 2 * made));
     assert!(rt; kept_in(&rows[0]) == Some(made as usize));

@@ -1,8 +1,11 @@
 -- What several calls with one pass tell together.
-use Rattle.std.proofs.Common.{◌≡◌, ◌≢◌, ℕ, List, [], ◌∷◌, ◌++◌, sym, ap, ◌∙◌, subst, append_assoc}
-use Rattle.std.specs.Prelude.{Option, Some, None}
+use Rattle.std.proofs.Common.{◌≡◌, ◌≢◌, ℕ, false, List, [], ◌∷◌, ◌++◌, refl, sym, ap, ◌∙◌, subst, append_assoc}
+use Rattle.std.specs.Prelude.{Option, Some, None, ◌==◌}
+use Rattle.std.proofs.lemmas.Bool.{ne_eqb}
 use Rattle.std.proofs.lemmas.List.{append-nil}
-use Rattle.std.proofs.lemmas.List.Elements.{All-append}
+use Rattle.std.proofs.lemmas.List.Elements.{All-append, All-head, All-nil, All-tail, filter-append}
+use Rattle.sm_ownership.specs.History.{IsLegal, NoneBy}
+use Rattle.sm_ownership.specs.lemmas.Growth.{legal_prefix}
 use Rattle.sm_ownership.specs.declared.entry.Entry.{Entry}
 use Rattle.sm_ownership.specs.declared.entry.Kind.{Kind}
 use Rattle.sm_ownership.specs.declared.mode.Mode.{Mode}
@@ -11,8 +14,8 @@ use Rattle.sm_rule.specs.declared.admit_refusal.AdmitRefusal.TheVariants.{Refuse
 use Rattle.sm_rule.specs.declared.limits.Limits.{Limits}
 use Rattle.sm_rule.specs.Admissions.{PassAdmitted, Races, RefusedBy, fault_for}
 use Rattle.sm_rule.specs.Boards.{BoardValue}
-use Rattle.sm_rule.specs.Passes.{PassAdds, PassLooks, PassValue, pass_adding, pass_seeing}
-use Rattle.sm_rule.specs.Views.{Begins, Grows, entry_of}
+use Rattle.sm_rule.specs.Passes.{HasLegalFront, PassAdds, PassLooks, PassValue, own, pass_adding, pass_seeing}
+use Rattle.sm_rule.specs.Views.{Begins, Grows, IsMet, entry_of}
 
 -- what grows by entries of others, and then grows on
 pub grows_grows : {Q : Type 0} (limits : Limits) (number : ℕ) (one two three added : List (Entry Q)) → Grows limits number one two [] → Grows limits number two three added → Grows limits number one three added
@@ -35,6 +38,47 @@ grows_begins limits number before after added grows = (grows.0 ++ added, grows.1
 pub begins_begins : {Q : Type 0} (one two three : List (Entry Q)) → Begins one two → Begins two three → Begins one three
 begins_begins one two three first second =
     (first.0 ++ second.0, second.1 ∙ (ap (λ entries. entries ++ second.0) first.1 ∙ append_assoc one first.0 second.0))
+
+-- a front of a legal history is one
+pub legal_begins : {Q : Type 0} (limits : Limits) (earlier later : List (Entry Q)) → Begins earlier later → IsLegal limits.count limits.ceiling later → IsLegal limits.count limits.ceiling earlier
+legal_begins limits earlier later begins legal =
+    legal_prefix limits.count limits.ceiling earlier begins.0 (subst (λ entries. IsLegal limits.count limits.ceiling entries) begins.1 legal)
+
+-- own entries of what comes after others
+pub own_append : {Q : Type 0} (number : ℕ) (one two : List (Entry Q)) → own number (one ++ two) ≡ own number one ++ own number two
+own_append number one two = filter-append (λ entry. entry.actor == number) one two
+
+pub own_none : {Q : Type 0} (number : ℕ) (entries : List (Entry Q)) → NoneBy number entries → own number entries ≡ []
+own_none number [] none = refl
+own_none number (entry ∷ entries) none =
+    let other : (entry.actor == number) ≡ false = ne_eqb entry.actor number (All-head (λ one. one.actor ≢ number) entry entries none) in
+    rw other (own_none number entries (All-tail (λ one. one.actor ≢ number) entry entries none))
+
+-- what grows has those own entries more that were added
+pub own_grows : {Q : Type 0} (limits : Limits) (number : ℕ) (before after added : List (Entry Q)) → Grows limits number before after added → own number after ≡ own number before ++ own number added
+own_grows limits number before after added grows =
+    ap (own number) grows.1
+    ∙ (own_append number (before ++ grows.0) added
+    ∙ ap (λ entries. entries ++ own number added) (own_append number before grows.0 ∙ (ap (λ entries. own number before ++ entries) (own_none number grows.0 grows.2) ∙ append-nil (own number before))))
+
+-- what was met begins with what was told, and has no more entries of the note's number
+pub met_begins : {Q : Type 0} (number : ℕ) (seen history : List (Entry Q)) → IsMet number seen history → Begins seen history
+met_begins number seen history met = (met.0, met.1)
+
+pub met_own : {Q : Type 0} (number : ℕ) (seen history : List (Entry Q)) → IsMet number seen history → own number history ≡ own number seen
+met_own number seen history met =
+    ap (own number) met.1 ∙ (own_append number seen met.0 ∙ (ap (λ entries. own number seen ++ entries) (own_none number met.0 met.2) ∙ append-nil (own number seen)))
+
+-- a pass that stays as it was has looked
+pub looks_none : {Q : Type 0} (pass : PassValue Q) → HasLegalFront pass → PassLooks pass pass
+looks_none pass legal = (([], sym (append-nil (pass.seen ++ []) ∙ append-nil pass.seen), All-nil (λ entry. entry.actor ≢ pass.number), legal), refl)
+
+-- after a look, and after an entry of one's own, what had been seen is a front of what is
+pub looks_begins : {Q : Type 0} (p q : PassValue Q) → PassLooks p q → Begins p.seen q.seen
+looks_begins p q looks = grows_begins p.board.limits p.number p.seen q.seen [] looks.0
+
+pub adds_begins : {Q : Type 0} (p q : PassValue Q) (shard : ℕ) (kind : Kind Q) → PassAdds p shard kind q → Begins p.seen q.seen
+adds_begins p q shard kind adds = grows_begins p.board.limits p.number p.seen q.seen (entry_of p.number shard kind ∷ []) adds.0
 
 module _ {Q : Type 0} (p q r : PassValue Q) (first : PassLooks p q) where
   board_stays : q.board ≡ p.board

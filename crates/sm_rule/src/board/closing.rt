@@ -5,6 +5,7 @@ ghost use Rattle.sm_rule.specs.Closing.{AreTaken, AreWords, WasClosed};
 
 use super::Board;
 use crate::chair::Chair;
+use crate::pass::Pass;
 use atomic_table::Closed;
 use sm_body::service::Service;
 use sm_ownership::record::Record;
@@ -13,22 +14,29 @@ use std::alloc::Global;
 
 impl<S: Service> Board<S> {
     /// Ends the board: each shard's record, and the body of each idle one, of its limit and with what was kept for it, after one
-    /// legal history that extends what the chair had seen by entries of passes. The body of a shard whose permit was never
-    /// spent isn't there.
-    pub fn close(self, chair: Chair<S>) -> Vec<(Record, Option<S>)>
+    /// legal history that extends what the chair had seen by entries of passes, and extends what the pass had seen. The body of
+    /// a shard whose permit was never spent isn't there.
+    pub fn close(self, chair: Chair<S>, pass: Pass<S>) -> Vec<(Record, Option<S>)>
         requires board { chair.board ≡ self }
-        ensures { WasClosed S.requests S.limit chair result.items }
+        requires pass { pass.board ≡ self }
+        requires free { pass.held ≡ None }
+        ensures { WasClosed S.requests S.limit chair pass result.items }
     {
+        let Chair {
+            mut seat,
+            stands: _,
+            room,
+        } = chair;
+        let Pass {
+            seat: other,
+            server: _,
+        } = pass;
+        self.take_in(&mut seat, other);
         let Board {
             table,
             count: _,
             ceiling: _,
         } = self;
-        let Chair {
-            seat,
-            stands: _,
-            room,
-        } = chair;
         emptied(table.close_with(seat), room)
     }
 }

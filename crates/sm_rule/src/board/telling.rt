@@ -91,7 +91,7 @@ impl<S: Service> Board<S> {
     }
 
     // Takes in another seat, and looks.
-    fn take_in(
+    pub(super) fn take_in(
         &self,
         seat: &mut Seat<Option<S>, View<S::Request>>,
         other: Seat<Option<S>, View<S::Request>>,

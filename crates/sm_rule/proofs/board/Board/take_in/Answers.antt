@@ -1,6 +1,6 @@
-use Rattle.std.proofs.Common.{ap, ◌∙◌, arith}
+use Rattle.std.proofs.Common.{◌∙◌, arith}
 use Rattle.sm_rule.specs.Boards.{limits_of}
-use Rattle.sm_rule.proofs.Meeting.{joins, meets}
+use Rattle.sm_rule.proofs.Meeting.{joins, meets, still_acts}
 use Rattle.sm_rule.proofs.Seeing.{same_table}
 use Rattle.sm_rule.proofs.board.Board.take_in.Goals as goal
 
@@ -20,9 +20,8 @@ pub load-requires : goal.load-requires
 load-requires g c =
     let limits = limits_of g.S.Service.limit c.self.inside.count c.self.inside.ceiling c.self.inside.table.shared.key.bodies.value.items in
     let words = c.self.invariant.2 in
-    let some = c.self.invariant.4 in
-    let joined = c.join_seat.ensures in (
-      joined.0 ∙ same_table c.self.inside.table.shared.table_id limits _ c.self.view_is _ c.requires.table,
+    let some = c.self.invariant.4 in (
+      c.join_seat.ensures.0 ∙ same_table c.self.inside.table.shared.table_id limits _ c.self.view_is _ c.requires.table,
       omega arith,
-      meets _ _ _ _ _ _ _ (ap (λ me. me.0.stage) joined.2 ∙ c.requires.live),
+      meets _ _ _ _ _ _ _ (still_acts c.join_seat.new.seat.me c.args.seat.now.me.0 c.args.other.me.0 c.args.seat.now.me.1 c.join_seat.ensures.2 c.requires.live),
     )
