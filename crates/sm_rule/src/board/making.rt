@@ -1,5 +1,6 @@
 //! Making a board.
 ghost use Rattle.std.specs.Prelude.{◌≡◌, ◌<◌, ◌≤◌, ◌^◌, All, IfOk, IfSome, IfNone, IsOkUnless, [], Some, length, map, replicate};
+ghost use Rattle.sm_ranges.specs.declared.limits.TheConstants.{MAX_SHARDS};
 ghost use Rattle.sm_rule.specs.Boards.{make_fault};
 
 use super::Board;
@@ -43,7 +44,7 @@ impl<S: Service> Board<S> {
     // The board and its chair, where their sizes have no fault.
     fn made(alloc: Global, bodies: Vec<S>, ceiling: u64) -> Result<(Board<S>, Chair<S>), AllocError>
         requires empty { All (λ body. S.requests body ≡ []) bodies.items }
-        requires count { (1 ≤ length bodies.items) × (length bodies.items ≤ 4096) }
+        requires count { (1 ≤ length bodies.items) × (length bodies.items ≤ MAX_SHARDS) }
         requires ceiling { ceiling < 2 ^ 36 }
         ensures count { IfOk result (λ made. made.0.limits.count ≡ length bodies.items) }
         ensures ceiling { IfOk result (λ made. made.0.limits.ceiling ≡ ceiling) }
@@ -76,7 +77,7 @@ impl<S: Service> Board<S> {
 // The first reason, other than want of memory, for which there is no board of so many shards below this ceiling.
 fn first_fault(count: usize, ceiling: u64) -> Option<MakeFault>
     ensures fault { result ≡ make_fault count ceiling }
-    ensures sizes { IfNone result ((1 ≤ count) × (count ≤ 4096) × (ceiling < 2 ^ 36)) }
+    ensures sizes { IfNone result ((1 ≤ count) × (count ≤ MAX_SHARDS) × (ceiling < 2 ^ 36)) }
 {
     if count == 0 {
         return Some(MakeFault::NoShard);
