@@ -6,6 +6,7 @@ use Rattle.sm_envelope.specs.declared.envelope.TheConstants.{MOST_HOPS}
 use Rattle.sm_envelope.specs.declared.refusal.Refusal.TheVariants as refusal
 use Rattle.sm_ownership.specs.declared.admit_fault.AdmitFault.TheVariants as admit
 use Rattle.sm_ownership.specs.declared.record.Record.{Record}
+use Rattle.sm_ownership.specs.declared.entry.Ending.TheVariants.{Nothing}
 use Rattle.sm_ownership.specs.History.{kept, record_at}
 use Rattle.sm_ranges.specs.Ranges.{shard_of}
 use Rattle.sm_ranges.specs.Stand.{owner_of}
@@ -205,7 +206,7 @@ worked_keeps : (w : WorldState Request) (mark : Mark) (shard server : ℕ) (work
 worked_keeps w mark shard server None = refl
 worked_keeps w mark shard server (Some work) = room (nat_lt (length (kept w.history shard)) (slice_index_or w.frame.limits shard 0))
   where
-    room : (some : Bool) → (if some then with_room counter_text w mark shard server work else (Ok (Refused refusal.KeptFull), ended w shard server None)).1.in_flight ≡ w.in_flight
+    room : (some : Bool) → (if some then with_room counter_text w mark shard server work else (Ok (Refused refusal.KeptFull), ended w shard server Nothing)).1.in_flight ≡ w.in_flight
     room true = with_room_keeps w mark shard server work
     room false = refl
 

@@ -15,6 +15,7 @@ use Rattle.sm_desk.specs.declared.command.CommandFault.{CommandFault}
 use Rattle.sm_table.specs.declared.world.Flight.{Flight}
 use Rattle.sm_table.specs.declared.hands.InHand.{InHand}
 use Rattle.sm_table.specs.declared.hands.Work.{Work}
+use Rattle.sm_ownership.specs.declared.entry.Ending.TheVariants.{Nothing}
 use Rattle.sm_ownership.specs.declared.mode.Mode.TheVariants.{Direct}
 use Rattle.sm_table.specs.declared.step.Step.TheVariants.{Control, Look, Send, Deliver, Finish, Hold, Free}
 use Rattle.sm_table.specs.declared.world_answer.WorldAnswer.{WorldAnswer}
@@ -46,7 +47,7 @@ control_settles w shard change None rest = record { answers = refl; rest = rest 
 worked_settles : (w : WorldState Request) (shard server : ℕ) (work : Work Request) → w.in_flight ≡ [] → Settles (worked counter_text w Plain shard server (Some work))
 worked_settles w shard server work rest = room (nat_lt (length (kept w.history shard)) (slice_index_or w.frame.limits shard 0))
   where
-    room : (some : Bool) → Settles (if some then with_room counter_text w Plain shard server work else (Ok (Refused KeptFull), ended w shard server None))
+    room : (some : Bool) → Settles (if some then with_room counter_text w Plain shard server work else (Ok (Refused KeptFull), ended w shard server Nothing))
     room true = record { answers = refl; rest = rest }
     room false = record { answers = refl; rest = rest }
 

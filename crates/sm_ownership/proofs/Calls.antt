@@ -6,6 +6,7 @@ use Rattle.std.proofs.lemmas.Bool.{and_from, and_parts, lt-ltb, ne_eqb}
 use Rattle.sm_ownership.specs.declared.change.Change.{Change}
 use Rattle.sm_ownership.specs.declared.change.PhaseFault.{PhaseFault}
 use Rattle.sm_ownership.specs.declared.change_fault.ChangeFault.{ChangeFault}
+use Rattle.sm_ownership.specs.declared.entry.Ending.{Ending}
 use Rattle.sm_ownership.specs.declared.entry.Entry.{Entry}
 use Rattle.sm_ownership.specs.declared.entry.Kind.TheVariants.{Change as Changed, Admit, Done}
 use Rattle.sm_ownership.specs.declared.mode.Mode.{Mode}
@@ -65,9 +66,9 @@ module _ {Q : Type 0} (count ceiling : ℕ) (history : List (Entry Q)) (legal : 
       next_unless (record { actor = actor; shard = shard; kind = Admit server mode }) (admit_fault ceiling state server mode)
       (rw (there shard within, outside, alone) (sym (admit_fault-none ceiling state server mode)))
 
-  pub end_next : (actor shard : ℕ) (request : Option Q) → shard < count → IsLegal count ceiling (longer (record { actor = actor; shard = shard; kind = Done request })) ↔ (((record_at (table_of count ceiling history) shard).admitted ≡ true) × (is_admission_of actor (latest_of (reverse history) shard) ≡ true))
-  end_next actor shard request within =
-      let entry : Entry Q = record { actor = actor; shard = shard; kind = Done request } in (
+  pub end_next : (actor shard : ℕ) (ending : Ending Q) → shard < count → IsLegal count ceiling (longer (record { actor = actor; shard = shard; kind = Done ending })) ↔ (((record_at (table_of count ceiling history) shard).admitted ≡ true) × (is_admission_of actor (latest_of (reverse history) shard) ≡ true))
+  end_next actor shard ending within =
+      let entry : Entry Q = record { actor = actor; shard = shard; kind = Done ending } in (
         λ after. and_parts _ _ (and_parts _ _ ((next entry).0 after)).1,
         λ both. (next entry).1 (and_from _ _ (there shard within) (and_from _ _ both.0 both.1)),
       )

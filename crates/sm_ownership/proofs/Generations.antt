@@ -16,7 +16,7 @@ use Rattle.sm_ownership.specs.lemmas.Growth.{record_at-empty, record_at-latest, 
 one_more : {Q : Type 0} (state : Record) (kind : Kind Q) → (after_kind state kind).generation ≡ state.generation + 1
 one_more state (Changed change) = refl
 one_more state (Admit server mode) = refl
-one_more state (Done request) = refl
+one_more state (Done ending) = refl
 
 count_by-cons : {X : Type 0} (test : X → Bool) (x : X) (xs : List X) → count_by test (x ∷ xs) ≡ (if test x then 1 else 0) + count_by test xs
 count_by-cons test x xs = sum_by-cons (λ y. if test y then 1 else 0) x xs

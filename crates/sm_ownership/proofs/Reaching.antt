@@ -40,7 +40,7 @@ apart_after _ _ apart = apart
 apart_kind : {Q : Type 0} (state : Record) (kind : Kind Q) → IsApart state.stand → IsApart (after_kind state kind).stand
 apart_kind state (Changed change) apart = apart_after state.stand change apart
 apart_kind state (Admit server mode) apart = apart
-apart_kind state (Done request) apart = apart
+apart_kind state (Done ending) apart = apart
 
 module _ {Q : Type 0} (count ceiling : ℕ) where
   apart_latest : (earlier : List (Entry Q)) (shard : ℕ) → IsLegalLatest count ceiling earlier → IsApart (record_at (table_of_latest count ceiling earlier) shard).stand

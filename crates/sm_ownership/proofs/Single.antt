@@ -68,7 +68,7 @@ module _ {Q : Type 0} where
       let same : (entry.shard == entry.shard) ≡ true = eq-eqb entry.shard entry.shard refl in
       rw (none_at_idle earlier entry.shard state standing (not-true state.admitted free.0) single)
       (refl, rw same refl, (server, mode, is, executes state.stand server mode accepted))
-  own_shard ceiling entry earlier state standing (Done request) is fit single =
+  own_shard ceiling entry earlier state standing (Done ending) is fit single =
       rw (ended_alone earlier entry.shard entry.actor state standing (and_parts state.admitted _ fit).1 single) refl
 
   one_where_admitted : (earlier : List (Entry Q)) (shard : ℕ) (state : Record) (standing : List (Entry Q)) → IsSingle earlier shard state standing → length standing ≡ (if state.admitted then 1 else 0)

@@ -1,9 +1,11 @@
 -- Histories: what the entries of one leave in the ownership table, which are legal, and what the shards keep.
-use Rattle.std.specs.Prelude.{ℕ, Bool, true, false, Option, Some, None, ◌≡◌, ◌≢◌, ◌⊎◌, ◌==◌, ◌&&◌, ◌||◌, ◌+◌, ◌<◌, nat_lt, nat_le, not, is_some, unwrap_or, if◌then◌else◌, List, [], ◌∷◌, All, filter, find, length, reverse, replicate, slice_get, slice_index_or, slice_set, take}
+use Rattle.std.specs.Prelude.{ℕ, Bool, true, false, Option, Some, None, ◌≡◌, ◌≢◌, ◌⊎◌, ◌==◌, ◌&&◌, ◌||◌, ◌+◌, ◌<◌, nat_lt, nat_le, not, is_some, unwrap_or, if◌then◌else◌, List, [], ◌∷◌, ◌++◌, All, drop, filter, find, length, reverse, replicate, slice_get, slice_index_or, slice_set, take}
 use Rattle.std.specs.List.{filter_map, list_all}
 use Rattle.std.specs.Option.{option_map}
 use Rattle.sm_ranges.specs.declared.stand.Stand.TheVariants.{Vacant}
 use Rattle.sm_ownership.specs.declared.change.Change.{Change}
+use Rattle.sm_ownership.specs.declared.entry.Ending.{Ending}
+use Rattle.sm_ownership.specs.declared.entry.Ending.TheVariants.{Nothing, Request, Checkpoint}
 use Rattle.sm_ownership.specs.declared.entry.Entry.{Entry}
 use Rattle.sm_ownership.specs.declared.entry.Kind.{Kind}
 use Rattle.sm_ownership.specs.declared.entry.Kind.TheVariants.{Change as Changed, Admit, Done}
@@ -33,7 +35,7 @@ after_done state = record { stand = state.stand; admitted = false; generation = 
 abbrev pub after_kind : {Q : Type 0} → Record → Kind Q → Record
 after_kind state (Changed change) = after_change state change
 after_kind state (Admit server mode) = after_admit state
-after_kind state (Done request) = after_done state
+after_kind state (Done ending) = after_done state
 
 -- below, `earlier` lists the entries before one, the latest of them first
 
@@ -75,7 +77,7 @@ done_fits earlier state actor shard = state.admitted && is_admission_of actor (l
 abbrev pub kind_fits : {Q : Type 0} → ℕ → List (Entry Q) → Record → ℕ → ℕ → Kind Q → Bool
 kind_fits ceiling earlier state actor shard (Changed change) = change_fits ceiling state actor change
 kind_fits ceiling earlier state actor shard (Admit server mode) = admit_fits ceiling earlier state actor server mode
-kind_fits ceiling earlier state actor shard (Done request) = done_fits earlier state actor shard
+kind_fits ceiling earlier state actor shard (Done ending) = done_fits earlier state actor shard
 
 -- the entry may come next, after these entries with this table
 abbrev pub fits : {Q : Type 0} → ℕ → List (Entry Q) → List Record → Entry Q → Bool
@@ -117,7 +119,7 @@ IsSameOrLater before after = (after ≡ before) ⊎ (before.generation < after.g
 abbrev pub without_ended : {Q : Type 0} → Entry Q → Kind Q → List (Entry Q) → List (Entry Q)
 without_ended entry (Changed change) standing = standing
 without_ended entry (Admit server mode) standing = entry ∷ standing
-without_ended entry (Done request) standing = filter (λ admission. not (admission.actor == entry.actor)) standing
+without_ended entry (Done ending) standing = filter (λ admission. not (admission.actor == entry.actor)) standing
 
 abbrev pub admitted_latest : {Q : Type 0} → List (Entry Q) → ℕ → List (Entry Q)
 admitted_latest [] shard = []
@@ -128,16 +130,44 @@ admitted_latest (entry ∷ earlier) shard =
 abbrev pub admitted : {Q : Type 0} → List (Entry Q) → ℕ → List (Entry Q)
 admitted history shard = admitted_latest (reverse history) shard
 
--- the request that an entry of this kind keeps
-abbrev pub kept_of : {Q : Type 0} → Kind Q → Option Q
-kept_of (Done request) = request
-kept_of _ = None
+-- how an entry of this kind ends an admission: with nothing, where it ends none
+abbrev pub ending_of : {Q : Type 0} → Kind Q → Ending Q
+ending_of (Done ending) = ending
+ending_of _ = Nothing
 
--- the requests that a history kept for a shard, in order
+-- the request of an ending, if it has one
+abbrev pub request_of : {Q : Type 0} → Ending Q → Option Q
+request_of (Request request) = Some request
+request_of _ = None
+
+abbrev pub is_checkpoint : {Q : Type 0} → Ending Q → Bool
+is_checkpoint Checkpoint = true
+is_checkpoint _ = false
+
+-- all requests that a history has for a shard, in order
+abbrev pub all_of : {Q : Type 0} → List (Entry Q) → ℕ → List Q
+all_of history shard = filter_map (λ entry. if entry.shard == shard then request_of (ending_of entry.kind) else None) history
+
+abbrev pub first_latest : {Q : Type 0} → List (Entry Q) → ℕ → ℕ
+first_latest [] shard = 0
+first_latest (entry ∷ earlier) shard =
+    if entry.shard == shard && is_checkpoint (ending_of entry.kind) then length (all_of (reverse earlier) shard) else first_latest earlier shard
+
+-- how many of these came before the shard's last checkpoint
+abbrev pub first_of : {Q : Type 0} → List (Entry Q) → ℕ → ℕ
+first_of history shard = first_latest (reverse history) shard
+
+-- the requests that a shard keeps: those after its last checkpoint
 abbrev pub kept : {Q : Type 0} → List (Entry Q) → ℕ → List Q
-kept history shard = filter_map (λ entry. if entry.shard == shard then kept_of entry.kind else None) history
+kept history shard = drop (first_of history shard) (all_of history shard)
 
--- the reply at a place of a shard's kept requests, where `reply_of` says what a request is answered after others
+-- what a shard that kept these requests keeps after an ending
+abbrev pub kept_after : {Q : Type 0} → List Q → Ending Q → List Q
+kept_after list Nothing = list
+kept_after list (Request request) = list ++ request ∷ []
+kept_after list Checkpoint = []
+
+-- the reply at a place of all requests of a shard, where `reply_of` says what a request is answered after others
 abbrev pub said : {Q R : Type 0} → (List Q → Q → R) → List (Entry Q) → ℕ → ℕ → Option R
 said reply_of history shard place =
-    option_map (λ request. reply_of (take place (kept history shard)) request) (slice_get (kept history shard) place)
+    option_map (λ request. reply_of (take place (all_of history shard)) request) (slice_get (all_of history shard) place)

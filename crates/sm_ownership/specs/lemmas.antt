@@ -3,3 +3,4 @@ pub mod Ceilings
 pub mod Faults
 pub mod Growth
 pub mod Lasting
+pub mod Requests

@@ -3,6 +3,17 @@ use crate::mode::Mode;
 use sm_ranges::server_id::ServerId;
 use sm_ranges::shard_id::ShardId;
 
+/// How an admission ended.
+#[derive(Debug, Drop)]
+pub enum Ending<Q> {
+    /// No request was executed.
+    Nothing,
+    /// This request was executed.
+    Request(Q),
+    /// The shard's state became its base, and the requests before it are kept no more.
+    Checkpoint,
+}
+
 /// What an entry of a history records.
 #[derive(Debug, Drop)]
 pub enum Kind<Q> {
@@ -10,8 +21,8 @@ pub enum Kind<Q> {
     Change(Change),
     /// The server was admitted to the shard.
     Admit(ServerId, Mode),
-    /// The admission ended, with the request that the shard keeps from it, if any.
-    Done(Option<Q>),
+    /// The admission ended so.
+    Done(Ending<Q>),
 }
 
 /// One event of a shard's history: who acted, on which shard, and what happened.

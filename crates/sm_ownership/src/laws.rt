@@ -1,13 +1,15 @@
 //! Laws of the definitions: what holds of every history.
 
-ghost use Rattle.std.specs.Prelude.{◌≡◌, ◌≢◌, ℕ, ◌+◌, ◌<◌, ◌≤◌, ◌↔◌, ◌==◌, nat_lt, IsTrue, Option, Some, None, List, [], ◌∷◌, ◌++◌, All, count_by, if◌then◌else◌, length, reverse};
+ghost use Rattle.std.specs.Prelude.{◌≡◌, ◌≢◌, ℕ, ◌+◌, ◌<◌, ◌≤◌, ◌↔◌, ◌==◌, nat_lt, IsTrue, Some, None, List, [], ◌∷◌, ◌++◌, All, count_by, if◌then◌else◌, length, reverse, take};
 ghost use Rattle.sm_ownership.specs.declared.admit_fault.AdmitFault.TheVariants.{Admitted, Spent};
 ghost use Rattle.sm_ownership.specs.declared.change.Change.{Change};
+ghost use Rattle.sm_ownership.specs.declared.entry.Ending.{Ending};
+ghost use Rattle.sm_ownership.specs.declared.entry.Ending.TheVariants.{Checkpoint};
 ghost use Rattle.sm_ownership.specs.declared.entry.Entry.{Entry};
 ghost use Rattle.sm_ownership.specs.declared.entry.Kind.TheVariants.{Change as Changed, Admit, Done};
 ghost use Rattle.sm_ownership.specs.declared.mode.Mode.{Mode};
 ghost use Rattle.sm_ownership.specs.declared.record.Record.{Record};
-ghost use Rattle.sm_ownership.specs.History.{IsLegal, acts_as, admit_fits, admitted, change_fits, is_admission_of, kept, latest_of, record_at, table_of};
+ghost use Rattle.sm_ownership.specs.History.{IsLegal, acts_as, admit_fits, admitted, all_of, change_fits, ending_of, first_of, is_admission_of, kept, kept_after, latest_of, record_at, table_of};
 ghost use Rattle.sm_ownership.specs.Reach.{IsApart, IsReached, IsServed};
 ghost use Rattle.sm_ownership.specs.Rules.{accepts, admit_fault, executor, phase_fault};
 ghost use Rattle.sm_ownership.specs.Tables.{apply_fault, record_fault, table_admitted, table_changed, table_done, table_view};
@@ -52,10 +54,10 @@ pub fn admission_extends_history<Q>()
 /// The end of an admission is the next entry of a legal history exactly where the shard's record is admitted and the
 /// shard's latest entry is an admission by the same actor, and makes the table of the longer history.
 pub fn end_extends_history<Q>()
-    ensures { (count ceiling : ℕ) (history : List (Entry Q)) (actor shard : ℕ) (request : Option Q)
+    ensures { (count ceiling : ℕ) (history : List (Entry Q)) (actor shard : ℕ) (ending : Ending Q)
         → IsLegal count ceiling history → shard < count
         → let table = table_view count ceiling history in
-        let longer = history ++ record { actor = actor; shard = shard; kind = Done request } ∷ [] in
+        let longer = history ++ record { actor = actor; shard = shard; kind = Done ending } ∷ [] in
         (IsLegal count ceiling longer
         ↔ (IsTrue (record_at table.records shard).admitted × IsTrue (is_admission_of actor (latest_of (reverse history) shard))))
         × (IsLegal count ceiling longer → table_view count ceiling longer ≡ table_done table shard) }
@@ -115,10 +117,29 @@ pub fn generation_within_ceiling<Q>()
         IsTrue state.admitted → state.generation < ceiling }
 {}
 
-/// What a longer history keeps for a shard begins with what the shorter one kept.
-pub fn kept_grows<Q>()
+/// All requests that a longer history has for a shard begin with those that the shorter one has.
+pub fn all_grows<Q>()
     ensures { (history later : List (Entry Q)) (shard : ℕ)
-        → kept (history ++ later) shard ≡ kept history shard ++ kept later shard }
+        → all_of (history ++ later) shard ≡ all_of history shard ++ all_of later shard }
+{}
+
+/// What a shard keeps is the end of all its requests.
+pub fn kept_ends_all<Q>()
+    ensures within { (history : List (Entry Q)) (shard : ℕ) → first_of history shard ≤ length (all_of history shard) }
+    ensures parts { (history : List (Entry Q)) (shard : ℕ)
+        → take (first_of history shard) (all_of history shard) ++ kept history shard ≡ all_of history shard }
+{}
+
+/// An entry of a shard adds its request to what the shard keeps, leaves it, or is a checkpoint: the shard then keeps
+/// nothing, and all its requests came before. An entry of another shard leaves it.
+pub fn kept_grows<Q>()
+    ensures own { (history : List (Entry Q)) (entry : Entry Q)
+        → kept (history ++ entry ∷ []) entry.shard ≡ kept_after (kept history entry.shard) (ending_of entry.kind) }
+    ensures checkpoint { (history : List (Entry Q)) (actor shard : ℕ)
+        → let longer = history ++ record { actor = actor; shard = shard; kind = Done Checkpoint } ∷ [] in
+        (kept longer shard ≡ []) × (first_of longer shard ≡ length (all_of history shard)) }
+    ensures others { (history : List (Entry Q)) (entry : Entry Q) (shard : ℕ) → entry.shard ≢ shard
+        → kept (history ++ entry ∷ []) shard ≡ kept history shard }
 {}
 
 /// In a legal history the next or previous server of a migration is never the shard's owner.

@@ -29,7 +29,7 @@ pub mod table;
 pub use admit_fault::AdmitFault;
 pub use change::{Change, PhaseFault};
 pub use change_fault::ChangeFault;
-pub use entry::{Entry, Kind};
+pub use entry::{Ending, Entry, Kind};
 pub use mode::Mode;
 pub use record::Record;
 pub use route::Route;

@@ -15,13 +15,15 @@ use Rattle.atomic_table.specs.Table.{State, Me, step, Act, keeps, takes, gives, 
 use Rattle.atomic_table.specs.Seated.{TableId}
 use Rattle.atomic_table.proofs.Lists.{at_longer, at_set, exchanged, set_else, set_here}
 use Rattle.sm_ownership.specs.declared.change.Change.{Change}
+use Rattle.sm_ownership.specs.declared.entry.Ending.{Ending}
 use Rattle.sm_ownership.specs.declared.entry.Entry.{Entry}
 use Rattle.sm_ownership.specs.declared.entry.Kind.{Kind}
 use Rattle.sm_ownership.specs.declared.entry.Kind.TheVariants.{Change as Changed, Admit, Done}
 use Rattle.sm_ownership.specs.declared.mode.Mode.{Mode}
 use Rattle.sm_ownership.specs.declared.record.Record.{Record}
-use Rattle.sm_ownership.specs.lemmas.Growth.{kept-push_none, kept-push_other, kept-push_some, length-table_of, record_at-latest, record_at-latest_other}
-use Rattle.sm_ownership.specs.History.{IsLegal, IsLegalLatest, acts_as, admit_fits, admits_only, after_done, after_kind, change_fits, fits, is_admission_of, kept, kept_of, kind_fits, latest_of, record_at, table_of_latest, vacant, NoneBy}
+use Rattle.sm_ownership.specs.lemmas.Requests.{kept-push, kept-push_other}
+use Rattle.sm_ownership.specs.lemmas.Growth.{length-table_of, record_at-latest, record_at-latest_other}
+use Rattle.sm_ownership.specs.History.{IsLegal, IsLegalLatest, acts_as, admit_fits, admits_only, after_done, after_kind, change_fits, ending_of, fits, is_admission_of, kept, kept_after, kind_fits, latest_of, record_at, table_of_latest, vacant, NoneBy}
 use Rattle.sm_ownership.specs.lemmas.Lasting.{NoneBy-reverse, acts_as-none, acts_as-other, acts_as-own, admission_excludes, latest_of-other, next_record}
 use Rattle.sm_word.specs.lemmas.Histories.{well_formed}
 use Rattle.sm_word.specs.Known.{AreKnown, KnownKind}
@@ -38,7 +40,7 @@ use Rattle.sm_rule.specs.Boards.{limit_at}
 use Rattle.sm_rule.specs.Passes.{PassValue, pass_value, slots_of}
 use Rattle.sm_rule.specs.Rule.{AreHome, AreTold, Fits, Holds, HoldsShard, IsCut, Rule, IsTold, table_in}
 use Rattle.sm_rule.specs.Steps.{Entered, Exchanged, IsFree, IsWordOf, Loaded, MayAdd, Stored, TakesBody, is_end}
-use Rattle.sm_rule.specs.Views.{Adds, Looks, adding, entry_of, held_after, left_behind, list_held, list_with, newcomer, record_in, seeing}
+use Rattle.sm_rule.specs.Views.{Adds, Looks, adding, entry_of, held_after, ending_with, left_behind, list_held, list_with, newcomer, record_in, seeing}
 
 -- the ceiling of a board's key is that of its origin
 pub low_ceiling : (key origin : ℕ) → key ≡ origin → origin < 2 ^ 36 → key < 2 ^ 36
@@ -304,7 +306,7 @@ module _ {Q : Type 0} (limits : Limits) (number shard : ℕ) (view : View Q) (hi
       let same : held_now limits shard (longer kind) (reverse (longer kind)) ≡ held =
       ap (λ entries. held_now limits shard entries (reverse (longer kind))) (sym turned) ∙ same_some (held_now limits shard (reverse (reverse (longer kind))) (reverse (longer kind))) held is in
       subst (λ its. HoldsShard limits number its (longer kind)) same here
-  holds_own (Done request) free legal held is = absurd (cc)
+  holds_own (Done ending) free legal held is = absurd (cc)
 
   fits_own : (kind : Kind Q) → IsFree view kind → ((server : ℕ) → view.server ≡ Some server → admits_only server kind ≡ true) → IsLegalLatest limits.count limits.ceiling (longer kind) → Fits limits number (mine kind) (longer kind)
   fits_own kind free only legal = record {
@@ -347,13 +349,9 @@ home_other requests limit limits homes slot entry history home fit shard within 
     ap (λ entries. kept entries shard) (reverse-append (entry ∷ []) history) ∙ kept-push_other (reverse history) entry shard differs in
     (before.0, set_else homes entry.shard shard slot apart ∙ before.1, before.2 ∙ sym list, before.3)
 
-list_pushed : {Q : Type 0} (history : List (Entry Q)) (entry : Entry Q) (request : Option Q) → kept_of entry.kind ≡ request → kept (history ++ entry ∷ []) entry.shard ≡ list_with (kept history entry.shard) request
-list_pushed history entry None is = kept-push_none history entry entry.shard is
-list_pushed history entry (Some request) is = kept-push_some history entry request is
-
 -- what the requests of a shard become by an entry of it
-list_here : {Q : Type 0} (entry : Entry Q) (history : List (Entry Q)) → kept (reverse (entry ∷ history)) entry.shard ≡ list_with (kept (reverse history) entry.shard) (kept_of entry.kind)
-list_here entry history = ap (λ entries. kept entries entry.shard) (reverse-append (entry ∷ []) history) ∙ list_pushed (reverse history) entry (kept_of entry.kind) refl
+list_here : {Q : Type 0} (entry : Entry Q) (history : List (Entry Q)) → kept (reverse (entry ∷ history)) entry.shard ≡ kept_after (kept (reverse history) entry.shard) (ending_of entry.kind)
+list_here entry history = ap (λ entries. kept entries entry.shard) (reverse-append (entry ∷ []) history) ∙ kept-push (reverse history) entry
 
 -- a change and an admission fit an idle record alone
 idle_changed : (ceiling : ℕ) (state : Record) (number : ℕ) (change : Change) → change_fits ceiling state number change ≡ true → state.admitted ≡ false
@@ -384,7 +382,7 @@ module _ {S Q : Type 0} (requests : S → List Q) (limit : S → ℕ) (limits : 
       ⊎_elim
       (λ (same : shard ≡ entry.shard).
       let before = home shard within (subst (λ k. (record_at (table_in limits history) k).admitted ≡ false) (sym same) free) in
-      let list : kept (reverse (entry ∷ history)) entry.shard ≡ kept (reverse history) entry.shard = list_here entry history ∙ ap (λ kind. list_with (kept (reverse history) entry.shard) (kept_of kind)) changes in
+      let list : kept (reverse (entry ∷ history)) entry.shard ≡ kept (reverse history) entry.shard = list_here entry history ∙ ap (λ kind. kept_after (kept (reverse history) entry.shard) (ending_of kind)) changes in
       (before.0, before.1, before.2 ∙ subst (λ k. kept (reverse history) k ≡ kept (reverse (entry ∷ history)) k) (sym same) (sym list), before.3))
       (λ (apart : shard ≢ entry.shard).
       let there = home_other requests limit limits homes none entry history home fit shard within apart idle in
@@ -392,11 +390,11 @@ module _ {S Q : Type 0} (requests : S → List Q) (limit : S → ℕ) (limits : 
       (cases_eq shard entry.shard)
 
   -- the end of an admission brings the body home, with what it has gained
-  home_ended : (entry : Entry Q) (request : Option Q) (body : S) → entry.kind ≡ Done request → entry.shard < length homes → requests body ≡ list_with (kept (reverse history) entry.shard) request → limit body ≡ limit_at limits entry.shard → fits limits.ceiling history (table_in limits history) entry ≡ true → at_home_after entry (slice_set homes entry.shard (some (Some body)))
-  home_ended entry request body ends within_homes gains size fit shard within idle =
+  home_ended : (entry : Entry Q) (ending : Ending Q) (body : S) → entry.kind ≡ Done ending → entry.shard < length homes → requests body ≡ kept_after (kept (reverse history) entry.shard) ending → limit body ≡ limit_at limits entry.shard → fits limits.ceiling history (table_in limits history) entry ≡ true → at_home_after entry (slice_set homes entry.shard (some (Some body)))
+  home_ended entry ending body ends within_homes gains size fit shard within idle =
       ⊎_elim
       (λ (same : shard ≡ entry.shard).
-      let list : requests body ≡ kept (reverse (entry ∷ history)) entry.shard = gains ∙ (ap (λ kind. list_with (kept (reverse history) entry.shard) (kept_of kind)) (sym ends) ∙ sym (list_here entry history)) in (
+      let list : requests body ≡ kept (reverse (entry ∷ history)) entry.shard = gains ∙ (ap (λ kind. kept_after (kept (reverse history) entry.shard) (ending_of kind)) (sym ends) ∙ sym (list_here entry history)) in (
         body,
         subst (λ k. get_elem? (slice_set homes entry.shard (some (Some body))) k ≡ some (some (Some body))) (sym same) (set_here homes entry.shard (some (Some body)) within_homes),
         list ∙ ap (kept (reverse (entry ∷ history))) (sym same),
@@ -469,7 +467,7 @@ module _ {S Q : Type 0} (requests : S → List Q) (limit : S → ℕ) (limits : 
         at_home = home_admitted requests limit limits homes history home entry server mode refl fitting;
         takes = (body.0, refl, body.2 ∙ sym (list_here entry history), body.3 ∙ ap (λ (its : Limits). limit_at its word) (sym limits_are));
       }
-  moves (Done request) begins fit fitting = absurd (true≢false begins)
+  moves (Done ending) begins fit fitting = absurd (true≢false begins)
 
 -- an exchange of a seat's, which adds an entry where it finds the word expected, and else looks
 module _ {S Q : Type 0} (requests : S → List Q) (limit : S → ℕ) (limits : Limits) (slots id word old new : ℕ) (me : Me (Option S) (View Q)) (kind : Kind Q) where
@@ -566,15 +564,15 @@ exchange_allowed requests limit limits slots id shard word old new me read kind 
     exchanges requests limit limits slots id word old new me read kind low (subst (λ k. k < limits.count) (sym at) within) live formed packed written (subst (λ k. MayAdd me.0 k read kind) (sym at) may)
 
 -- the store of the one who holds the shard, whose body has come back to the slot that it carries
-pub stores : {S Q : Type 0} (requests : S → List Q) (limit : S → ℕ) (limits : Limits) (slots id word new : ℕ) (view : View Q) (body : S) (held : Held Q) (request : Option Q)
-    → limits.ceiling < 2 ^ 36 → view.stage ≡ Acting → view.held ≡ Some held → held.shard ≡ word → new ≡ word_of (after_done held.state) → requests body ≡ list_with held.list request → limit body ≡ limit_at limits word
-    → Allows (Rule requests limit limits) slots id (view, (word, Some body) ∷ []) word (λ _. new) (λ _. Stored (Done request) (step {S = Option S} slots word new 0 none) (view, (word, Some body) ∷ []) new)
-stores {S} {Q} requests limit limits slots id word new view body held request low live holding shard written gains same_limit table rule size at small =
+pub stores : {S Q : Type 0} (requests : S → List Q) (limit : S → ℕ) (limits : Limits) (slots id word new : ℕ) (view : View Q) (body : S) (held : Held Q) (ending : Ending Q)
+    → limits.ceiling < 2 ^ 36 → view.stage ≡ Acting → view.held ≡ Some held → held.shard ≡ word → new ≡ word_of (after_done held.state) → requests body ≡ kept_after held.list ending → limit body ≡ limit_at limits word
+    → Allows (Rule requests limit limits) slots id (view, (word, Some body) ∷ []) word (λ _. new) (λ _. Stored (Done ending) (step {S = Option S} slots word new 0 none) (view, (word, Some body) ∷ []) new)
+stores {S} {Q} requests limit limits slots id word new view body held ending low live holding shard written gains same_limit table rule size at small =
     let history = rule.0 in
     let holds : Holds requests limit limits table.words table.homes table.views history = rule.1 in
     let fit = holds.fit id view at live in
     let is = fit.held held holding in
-    let kind : Kind Q = Done request in
+    let kind : Kind Q = Done ending in
     let here = record_at (table_in limits history) word in
     let within : word < limits.count = subst (λ k. k < limits.count) shard is.known in
     let state : here ≡ held.state = subst (λ k. record_at (table_in limits history) k ≡ held.state) shard is.state in
@@ -585,8 +583,8 @@ stores {S} {Q} requests limit limits slots id word new view body held request lo
     let known = All-cons (λ one. KnownKind one.kind) entry history tt holds.known in
     let made : new ≡ word_of (after_kind here kind) = written ∙ ap (λ (one : Record). word_of (after_done one)) (sym state) in
     let list : kept (reverse history) word ≡ held.list = subst (λ k. kept (reverse history) k ≡ held.list) shard is.list in
-    let gained : requests body ≡ list_with (kept (reverse history) word) request = gains ∙ ap (λ entries. list_with entries request) (sym list) in
-    let at_home = home_ended requests limit limits table.homes history holds.home entry request body refl (subst (λ many. word < many) (sym holds.slots) within) gained same_limit fitting in (
+    let gained : requests body ≡ kept_after (kept (reverse history) word) ending = gains ∙ ap (λ entries. kept_after entries ending) (sym list) in
+    let at_home = home_ended requests limit limits table.homes history holds.home entry ending body refl (subst (λ many. word < many) (sym holds.slots) within) gained same_limit fitting in (
       adding view word kind (reverse (entry ∷ history)),
       gives,
       tt,
@@ -594,7 +592,7 @@ stores {S} {Q} requests limit limits slots id word new view body held request lo
       (
         adds_all limits id word view history fit within kind legal,
         word_seen limits (entry ∷ history) view.limits word new (sees_own limits id word view history fit within kind) (made ∙ ap word_of (sym (record_adds limits entry history fitting))) low legal known,
-        list_here entry history ∙ ap (λ entries. list_with entries request) (list ∙ sym (ap list_held holding)),
+        list_here entry history ∙ ap (λ entries. kept_after entries ending) (list ∙ sym (ap list_held holding)),
         refl,
       ),
     )
@@ -708,6 +706,11 @@ beyond_with_gained list longer gains =
     let same : beyond list longer ≡ gains.0 = ap (beyond list) gains.1 ∙ beyond_with list gains.0 in
     ap (list_with list) same ∙ sym gains.1
 
+-- what is kept after an end with a request, or with none
+pub kept_after-ending_with : {Q : Type 0} (list : List Q) (request : Option Q) → kept_after list (ending_with request) ≡ list_with list request
+kept_after-ending_with list None = refl
+kept_after-ending_with list (Some request) = refl
+
 -- the slot that is carried, once its body is back
 pub carries_body : {S Q : Type 0} (me : Me (Option S) (View Q)) (view : View Q) (carried : List (ℕ × Option S)) (at shard : ℕ) (body : S) → me ≡ (view, (at, Some body) ∷ rest carried) → carried ≡ (shard, None) ∷ [] → me ≡ (view, (at, Some body) ∷ [])
 carries_body {S} {Q} me view carried at shard body out slots = out ∙ ap (λ (all : List (ℕ × Option S)). (view, (at, Some body) ∷ rest all)) slots
@@ -744,12 +747,12 @@ module _ {S Q : Type 0} (id : TableId) (view : View Q) (pass : PassValue Q) (per
       → me ≡ (view, (word, Some body) ∷ []) → limits.ceiling < 2 ^ 36 → view.stage ≡ Acting → permit.shard ≡ word → new ≡ word_of (after_done permit.state)
       → ((request : Option Q) × (requests body ≡ list_with (list_held pass.held) request))
       → limit body ≡ limit_at limits word
-      → Allows (Rule requests limit limits) slots seat me word (λ _. new) (λ _. Stored (Done (beyond (list_held pass.held) (requests body))) (step {S = Option S} slots word new 0 none) me new)
+      → Allows (Rule requests limit limits) slots seat me word (λ _. new) (λ _. Stored (Done (ending_with (beyond (list_held pass.held) (requests body)))) (step {S = Option S} slots word new 0 none) me new)
   store_allowed requests limit limits slots seat word new body me carries low live shard written gains same_limit =
       let is = held_view in
       let request = gains.0 in
       let list : is.0.list ≡ list_held pass.held = sym (ap list_held is.1) ∙ list_is in
-      let kept_list : requests body ≡ list_with is.0.list request = gains.1 ∙ ap (λ entries. list_with entries request) (sym list) in
+      let kept_list : requests body ≡ kept_after is.0.list (ending_with request) = gains.1 ∙ (ap (λ entries. list_with entries request) (sym list) ∙ sym (kept_after-ending_with is.0.list request)) in
       let done : request ≡ beyond (list_held pass.held) (requests body) = sym (ap (beyond (list_held pass.held)) gains.1 ∙ beyond_with (list_held pass.held) request) in
-      let allowed = stores requests limit limits slots seat word new view body is.0 request low live is.1 (is.2 ∙ shard) (written ∙ ap (λ (state : Record). word_of (after_done state)) (sym is.3)) kept_list same_limit in
-      subst (λ (pair : Option Q × Me (Option S) (View Q)). Allows (Rule requests limit limits) slots seat pair.1 word (λ _. new) (λ _. Stored (Done pair.0) (step {S = Option S} slots word new 0 none) pair.1 new)) (λ i. (done i, sym carries i)) allowed
+      let allowed = stores requests limit limits slots seat word new view body is.0 (ending_with request) low live is.1 (is.2 ∙ shard) (written ∙ ap (λ (state : Record). word_of (after_done state)) (sym is.3)) kept_list same_limit in
+      subst (λ (pair : Option Q × Me (Option S) (View Q)). Allows (Rule requests limit limits) slots seat pair.1 word (λ _. new) (λ _. Stored (Done (ending_with pair.0)) (step {S = Option S} slots word new 0 none) pair.1 new)) (λ i. (done i, sym carries i)) allowed

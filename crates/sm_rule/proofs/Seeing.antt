@@ -170,7 +170,7 @@ module _ {Q : Type 0} (server : Option ℕ) (u w : View Q) where
   held_added : (shard : ℕ) (kind : Kind Q) (history : List (Entry Q)) → shard < u.limits.count → IsPassView server u → IfSome (held_after u.limits shard kind history u.held) (λ held. held.shard < u.limits.count)
   held_added shard (Changed change) history within is = is.3
   held_added shard (Admit server mode) history within is = within
-  held_added shard (Done request) history within is = tt
+  held_added shard (Done ending) history within is = tt
 
   -- and one that has added an entry
   pub pass_adds : (shard : ℕ) (kind : Kind Q) → Adds u shard kind w → shard < u.limits.count → IsPassView server u → IsPassView server w

@@ -5,14 +5,14 @@ use Rattle.sm_ownership.specs.declared.entry.Entry.{Entry}
 use Rattle.sm_ownership.specs.declared.entry.Kind.{Kind}
 use Rattle.sm_ownership.specs.declared.entry.Kind.TheVariants.{Change as Changed, Admit, Done}
 use Rattle.sm_ownership.specs.declared.record.Record.{Record}
-use Rattle.sm_ownership.specs.History.{IsLegal, admits_only, kept, kept_of, kind_fits, NoneBy}
+use Rattle.sm_ownership.specs.History.{IsLegal, admits_only, ending_of, kept, kept_after, kind_fits, NoneBy}
 use Rattle.sm_word.specs.Known.{KnownKind}
 use Rattle.sm_word.specs.Word.{IsWellFormed, word_of}
 use Rattle.sm_rule.specs.declared.view.Told.{Told}
 use Rattle.sm_rule.specs.declared.view.View.{View}
 use Rattle.sm_rule.specs.Boards.{limit_at}
 use Rattle.sm_rule.specs.Rule.{Fits}
-use Rattle.sm_rule.specs.Views.{Adds, Begins, IsMet, Looks, list_held, list_with, newcomer, record_in}
+use Rattle.sm_rule.specs.Views.{Adds, Begins, IsMet, Looks, list_held, newcomer, record_in}
 
 -- the word is that of the shard's record in all that the view has seen
 abbrev pub IsWordOf : {Q : Type 0} → ℕ → View Q → ℕ → Type 0
@@ -65,23 +65,23 @@ Exchanged requests limit kind step before found after =
     (found ≡ step.first → Adds before.0 step.word kind after.0 × IsWordOf step.second after.0 step.word × TakesBody requests limit kind step.word before.1 after.0 after.1)
     × (found ≢ step.first → Loaded step before found after)
 
--- a store adds the end of an admission to all that was seen, which then keeps the request of the end after what was kept at the
+-- a store adds the end of an admission to all that was seen, which then keeps what such an end leaves of what was kept at the
 -- admission, and gives the slot back that was taken last
 abbrev pub Stored : {S Q : Type 0} → Kind Q → Step S → Me S (View Q) → ℕ → Me S (View Q) → Type 0
 Stored kind step before found after =
     Adds before.0 step.word kind after.0
     × IsWordOf found after.0 step.word
-    × (kept after.0.seen step.word ≡ list_with (list_held before.0.held) (kept_of kind))
+    × (kept after.0.seen step.word ≡ kept_after (list_held before.0.held) (ending_of kind))
     × (after.1 ≡ rest before.1)
 
 -- the control holds nothing when it changes a stand
 abbrev pub IsFree : {Q : Type 0} → View Q → Kind Q → Type 0
 IsFree view (Changed change) = view.held ≡ None
 IsFree view (Admit server mode) = Unit {0}
-IsFree view (Done request) = Unit {0}
+IsFree view (Done ending) = Unit {0}
 
 abbrev pub is_end : {Q : Type 0} → Kind Q → Bool
-is_end (Done request) = true
+is_end (Done ending) = true
 is_end _ = false
 
 -- a seat with this view may add an entry of this kind, which ends no admission, where it finds the shard's record as it was read

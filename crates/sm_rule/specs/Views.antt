@@ -1,5 +1,7 @@
 -- What the view of a seat becomes, and how what was seen grows.
 use Rattle.std.specs.Prelude.{ℕ, ◌≡◌, List, [], ◌∷◌, ◌++◌, Option, Some, None}
+use Rattle.sm_ownership.specs.declared.entry.Ending.{Ending}
+use Rattle.sm_ownership.specs.declared.entry.Ending.TheVariants.{Nothing, Request}
 use Rattle.sm_ownership.specs.declared.entry.Entry.{Entry}
 use Rattle.sm_ownership.specs.declared.entry.Kind.{Kind}
 use Rattle.sm_ownership.specs.declared.entry.Kind.TheVariants.{Change as Changed, Admit, Done}
@@ -35,7 +37,7 @@ abbrev pub held_after : {Q : Type 0} → Limits → ℕ → Kind Q → List (Ent
 held_after limits shard (Changed change) history held = held
 held_after limits shard (Admit server mode) history held =
     Some (record { shard = shard; state = record_in limits history shard; list = kept history shard })
-held_after limits shard (Done request) history held = None
+held_after limits shard (Done ending) history held = None
 
 -- what the body of the shard that is held kept at the admission
 abbrev pub list_held : {Q : Type 0} → Option (Held Q) → List Q
@@ -46,6 +48,11 @@ list_held (Some held) = held.list
 abbrev pub list_with : {Q : Type 0} → List Q → Option Q → List Q
 list_with list None = list
 list_with list (Some request) = list ++ request ∷ []
+
+-- how an admission ends with this request, or with none
+abbrev pub ending_with : {Q : Type 0} → Option Q → Ending Q
+ending_with None = Nothing
+ending_with (Some request) = Request request
 
 -- the view of a new seat
 abbrev pub newcomer : {Q : Type 0} → Limits → ℕ → Option ℕ → List (Entry Q) → View Q

@@ -90,10 +90,10 @@ pub trait Asks<Q> {
 }
 
 impl<Q> Asks<Q> for Brand {
-    ghost use Rattle.std.specs.Prelude.{None};
+    ghost use Rattle.sm_ownership.specs.declared.entry.Ending.TheVariants.{Nothing};
     ghost use Rattle.sm_ownership.specs.declared.entry.Kind.TheVariants.{Done};
 
-    ghost kind = { Done None };
+    ghost kind = { Done Nothing };
 }
 
 /// A compare-exchange, which admits and takes the shard's slot, or changes, where it is won, and else is a load.

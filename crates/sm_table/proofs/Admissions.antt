@@ -7,10 +7,12 @@ use Rattle.sm_ownership.specs.declared.entry.Kind.TheVariants.{Admit}
 use Rattle.sm_ownership.specs.declared.mode.Mode.{Mode}
 use Rattle.sm_ownership.specs.declared.record.Record.{Record}
 use Rattle.sm_ownership.specs.History.{vacant, record_at, after_kind, table_of, IsLegal}
-use Rattle.sm_ownership.specs.lemmas.Growth.{fits-push, table_of-push, kept-push_none}
+use Rattle.sm_ownership.specs.lemmas.Growth.{fits-push, table_of-push}
 use Rattle.sm_table.specs.declared.hands.InHand.{InHand}
 use Rattle.sm_table.specs.World.{WorldState, count_of, with_entry, with_hand, desk_of}
 use Rattle.sm_table.specs.Standing.{IsSound, with_admission}
+use Rattle.sm_table.specs.Bodies.{Past}
+use Rattle.sm_table.proofs.Pasts.{past_of-push_none}
 use Rattle.sm_table.proofs.Parts.{parts_of, Keeps}
 
 -- an entry that leaves the stand of its shard leaves all stands
@@ -19,20 +21,20 @@ stands-push count ceiling history entry legal stays =
     ap (map (λ (state : Record). state.stand)) (table_of-push count ceiling history entry (fits-push count ceiling history entry legal))
     ∙ map-set_same (λ (state : Record). state.stand) (table_of count ceiling history) entry.shard (after_kind (record_at (table_of count ceiling history) entry.shard) entry.kind) vacant stays
 
-module _ {Q : Type 0} (w : WorldState Q) (server shard : ℕ) (mode : Mode) (hand : InHand Q) (lists : List (List Q)) where
+module _ {Q : Type 0} (w : WorldState Q) (server shard : ℕ) (mode : Mode) (hand : InHand Q) (pasts : List (Past Q)) where
   -- the world after the admission
   abbrev pub entered : WorldState Q
   entered = with_hand (with_entry w server shard (Admit server mode)) shard (Some hand)
 
   -- has the parts that the code makes
-  pub entered_parts : IsSound entered → with_admission (parts_of w lists) shard hand ≡ parts_of entered lists
+  pub entered_parts : IsSound entered → with_admission (parts_of w pasts) shard hand ≡ parts_of entered pasts
   entered_parts after =
       let entry : Entry Q = record { actor = server; shard = shard; kind = Admit server mode } in
       let grown = table_of-push (count_of w) w.frame.ceiling w.history entry (fits-push (count_of w) w.frame.ceiling w.history entry after.legal) in
       let shown = stands-push (count_of w) w.frame.ceiling w.history entry after.legal refl in
-      ap (λ stands. record (with_admission (parts_of w lists) shard hand) { desk = record { servers = w.frame.servers; stands = stands } }) (sym shown)
-      ∙ ap (λ records. record (with_admission (parts_of w lists) shard hand) { desk = desk_of entered; records = records }) (sym grown)
+      ap (λ stands. record (with_admission (parts_of w pasts) shard hand) { desk = record { servers = w.frame.servers; stands = stands } }) (sym shown)
+      ∙ ap (λ records. record (with_admission (parts_of w pasts) shard hand) { desk = desk_of entered; records = records }) (sym grown)
 
-  -- and keeps what was kept
-  pub entered_keeps : Keeps w lists → Keeps entered lists
-  entered_keeps keeps = record { bodies = keeps.bodies; each = λ other within. keeps.each other within ∙ sym (kept-push_none w.history (record { actor = server; shard = shard; kind = Admit server mode }) other refl) }
+  -- and the pasts that it had
+  pub entered_keeps : Keeps w pasts → Keeps entered pasts
+  entered_keeps keeps = record { bodies = keeps.bodies; each = λ other within. keeps.each other within ∙ sym (past_of-push_none w.history (record { actor = server; shard = shard; kind = Admit server mode }) other refl) }

@@ -24,10 +24,11 @@ use Rattle.sm_ownership.specs.Tables.{TableView, record_fault, apply_fault, tabl
 use Rattle.sm_body.specs.Service.{Service}
 use Rattle.sm_table.specs.World.{WorldState, Plain, count_of, desk_of, world_table, world_record, table_fault, with_entry, outcome}
 use Rattle.sm_table.specs.Standing.{IsSound, WorldView, view_of, StandsFor, Follows}
-use Rattle.sm_ownership.specs.lemmas.Growth.{fits-push, length-table_of, table_of-push, kept-push_none}
-use Rattle.sm_table.specs.Bodies.{BodiesView}
+use Rattle.sm_ownership.specs.lemmas.Growth.{fits-push, length-table_of, table_of-push}
+use Rattle.sm_table.specs.Bodies.{BodiesView, Past}
 use Rattle.sm_table.specs.declared.world.Flight.{Flight}
 use Rattle.sm_table.specs.declared.hands.InHand.{InHand}
+use Rattle.sm_table.proofs.Pasts.{past_of-push_none}
 use Rattle.sm_table.proofs.Parts.{parts_of, parts-from_StandsFor, Follows-unchanged, Follows-changed}
 
 module _ {Q R : Type 0} (service : Service Q R) (w : WorldState Q) (sound : IsSound w) (shard : ℕ) (change : Change) (none : None ≡ desk_change_fault (desk_of w) shard change) where
@@ -58,16 +59,16 @@ module _ {Q R : Type 0} (service : Service Q R) (w : WorldState Q) (sound : IsSo
   changed_parts v = record v { desk = desk_after v.desk (ChangeOf shard change); records = (table_changed (record { records = v.records; ceiling = v.ceiling }) shard change).records }
 
   -- are those of the changed world
-  pub changed_parts_of : (lists : List (List Q)) → IsSound changed_world → changed_parts (parts_of w lists) ≡ parts_of changed_world lists
-  changed_parts_of lists after =
+  pub changed_parts_of : (pasts : List (Past Q)) → IsSound changed_world → changed_parts (parts_of w pasts) ≡ parts_of changed_world pasts
+  changed_parts_of pasts after =
       let entry : Entry Q = record { actor = 0; shard = shard; kind = Changed change } in
       let grown = table_of-push (count_of w) w.frame.ceiling w.history entry (fits-push (count_of w) w.frame.ceiling w.history entry after.legal) in
       let shown : (desk_after (desk_of w) (ChangeOf shard change)).stands ≡ (desk_of changed_world).stands =
       ap (λ stand. slice_set (map (λ (state : Record). state.stand) (world_table w)) shard (unwrap_or (stand_after stand change) stand)) same_stand
       ∙ sym (map-set (λ (state : Record). state.stand) (world_table w) shard (after_change (world_record w shard) change))
       ∙ ap (map (λ (state : Record). state.stand)) (sym grown) in
-      ap (λ stands. record (parts_of w lists) { desk = record { servers = w.frame.servers; stands = stands }; records = slice_set (world_table w) shard (after_change (world_record w shard) change) }) shown
-      ∙ ap (λ records. record (parts_of w lists) { desk = desk_of changed_world; records = records }) (sym grown)
+      ap (λ stands. record (parts_of w pasts) { desk = record { servers = w.frame.servers; stands = stands }; records = slice_set (world_table w) shard (after_change (world_record w shard) change) }) shown
+      ∙ ap (λ records. record (parts_of w pasts) { desk = desk_of changed_world; records = records }) (sym grown)
 
 module _ {Q R : Type 0} (service : Service Q R) {bounds : List (List ℕ)} {desk_was : DeskView} {table_was : TableView} {bodies_was : BodiesView Q} {flights_was : List (Flight Q)} {hands_was : List (Option (InHand Q))} (now : WorldView Q) (same : view_of bounds desk_was table_was bodies_was flights_was hands_was ≡ now) (w : WorldState Q) (given : StandsFor now w) (shard : ℕ) (change : Change) where
   abbrev v : WorldView Q
@@ -101,12 +102,12 @@ module _ {Q R : Type 0} (service : Service Q R) {bounds : List (List ℕ)} {desk
     made table desk is changed noted =
         let taken : table_fault w.frame.ceiling (world_record w shard) ≡ None = refusal service w stands.sound shard change allowed None (as_of_world None is) in
         let through : desk_change_fault (desk_of w) shard change ≡ None = sym allowed in
-        Follows-changed service w Plain (Control (ChangeOf shard change)) (record v { desk = desk; records = table.records; ceiling = table.ceiling }) (Ok Made) (with_entry w 0 shard (Changed change)) v.kept stands.sound (rw (through, taken) refl)
+        Follows-changed service w Plain (Control (ChangeOf shard change)) (record v { desk = desk; records = table.records; ceiling = table.ceiling }) (Ok Made) (with_entry w 0 shard (Changed change)) v.pasts stands.sound (rw (through, taken) refl)
         (λ after. ap (λ (t : TableView). record v { desk = desk; records = t.records; ceiling = t.ceiling }) changed
         ∙ ap (λ (d : DeskView). record v { desk = d; records = (table_changed (record { records = v.records; ceiling = v.ceiling }) shard change).records }) noted
         ∙ ap (changed_parts service w stands.sound shard change allowed) (parts-from_StandsFor v w stands)
-        ∙ changed_parts_of service w stands.sound shard change allowed v.kept after)
-        (λ after. record { bodies = stands.bodies; each = λ other within. stands.kept other within ∙ sym (kept-push_none w.history (record { actor = 0; shard = shard; kind = Changed change }) other refl) })
+        ∙ changed_parts_of service w stands.sound shard change allowed v.pasts after)
+        (λ after. record { bodies = stands.bodies; each = λ other within. stands.pasts other within ∙ sym (past_of-push_none w.history (record { actor = 0; shard = shard; kind = Changed change }) other refl) })
 
 -- a shard whose change the table doesn't refuse is there
 pub within-apply_fault : (table : TableView) (shard : ℕ) (change : Change) → None ≡ apply_fault table shard change → shard < length table.records

@@ -66,7 +66,7 @@ module _ {Q R : Type 0} (service : Service Q R) {bounds : List (List ℕ)} {desk
   abbrev taken : WorldView Q
   taken = record v { in_flight = in_flight }
 
-  taken_parts : taken ≡ parts_of (without_flight w place) v.kept
+  taken_parts : taken ≡ parts_of (without_flight w place) v.pasts
   taken_parts =
       ap (λ flights. record v { in_flight = flights }) gone
       ∙ ap (λ (u : WorldView Q). record u { in_flight = remove u.in_flight place }) (parts-from_StandsFor v w stands)
@@ -82,9 +82,9 @@ module _ {Q R : Type 0} (service : Service Q R) {bounds : List (List ℕ)} {desk
       let hop : WorldAnswer R × List (Flight Q) = after_hop (remove w.in_flight place) sent in
       subst (λ flights. FollowsHop (after_hop flights sent)) (sym left)
       (subst (λ mark. Follows (record v { in_flight = hop.1 }) (Ok hop.0) (outcome service w mark (Deliver place))) (sym (plain_hop R (remove w.in_flight place) sent))
-      (Follows-changed service w Plain (Deliver place) (record v { in_flight = hop.1 }) (Ok hop.0) (record w { in_flight = hop.1 }) v.kept stands.sound (rw found (rw onward refl))
+      (Follows-changed service w Plain (Deliver place) (record v { in_flight = hop.1 }) (Ok hop.0) (record w { in_flight = hop.1 }) v.pasts stands.sound (rw found (rw onward refl))
       (λ _. ap (λ (u : WorldView Q). record u { in_flight = hop.1 }) (parts-from_StandsFor v w stands))
-      (λ _. record { bodies = stands.bodies; each = stands.kept })))
+      (λ _. record { bodies = stands.bodies; each = stands.pasts })))
 
   -- the server forwards the request, or refuses it for want of a hop
   pub forwarded_on : is_some (forward_to state flight.to) ≡ true → (answer : WorldAnswer R) (flights : List (Flight Q)) → (answer, flights) ≡ after_hop in_flight (forwarded flight.envelope state flight.to) → FollowsHop (answer, flights)
@@ -108,9 +108,9 @@ module _ {Q R : Type 0} (service : Service Q R) {bounds : List (List ℕ)} {desk
     -- the server refuses the request
     pub refused : (fault : AdmitFault) (after : WorldView Q) → Some fault ≡ admit_fault v.ceiling (record_at v.records shard) flight.to mode → after ≡ record v { in_flight = in_flight } → Follows after (Ok (Refused (NotAdmitted fault))) (outcome service w Plain (Deliver place))
     refused fault after is unchanged =
-        Follows-changed service w Plain (Deliver place) after (Ok (Refused (NotAdmitted fault))) (without_flight w place) v.kept stands.sound (reached_so (Some fault) is)
+        Follows-changed service w Plain (Deliver place) after (Ok (Refused (NotAdmitted fault))) (without_flight w place) v.pasts stands.sound (reached_so (Some fault) is)
         (λ _. unchanged ∙ taken_parts)
-        (λ _. record { bodies = stands.bodies; each = stands.kept })
+        (λ _. record { bodies = stands.bodies; each = stands.pasts })
 
     -- the server is admitted
     pub began : (number : ℕ) (request : Q) (after : WorldView Q) → None ≡ admit_fault v.ceiling (record_at v.records shard) flight.to mode → number ≡ flight.envelope.number → request ≡ flight.envelope.request → after ≡ with_admission (record v { in_flight = in_flight }) shard (begun flight.to number request) → Follows after (Ok (Began flight.to)) (outcome service w Plain (Deliver place))
@@ -118,10 +118,10 @@ module _ {Q R : Type 0} (service : Service Q R) {bounds : List (List ℕ)} {desk
         let left = without_flight w place in
         let work = hand_of flight.to flight.envelope in
         let hand_is : begun flight.to number request ≡ work = ap (λ n. begun flight.to n request) number_is ∙ ap (λ q. begun flight.to flight.envelope.number q) request_is in
-        Follows-changed service w Plain (Deliver place) after (Ok (Began flight.to)) (entered left flight.to flight.envelope.shard flight.envelope.mode work v.kept) v.kept stands.sound (reached_so None is)
+        Follows-changed service w Plain (Deliver place) after (Ok (Began flight.to)) (entered left flight.to flight.envelope.shard flight.envelope.mode work v.pasts) v.pasts stands.sound (reached_so None is)
         (λ sound. admitted
         ∙ ap (λ h. with_admission taken shard h) hand_is
         ∙ ap (λ k. with_admission taken k work) shard_is
         ∙ ap (λ u. with_admission u flight.envelope.shard work) taken_parts
-        ∙ entered_parts left flight.to flight.envelope.shard flight.envelope.mode work v.kept sound)
-        (λ _. entered_keeps left flight.to flight.envelope.shard flight.envelope.mode work v.kept (record { bodies = stands.bodies; each = stands.kept }))
+        ∙ entered_parts left flight.to flight.envelope.shard flight.envelope.mode work v.pasts sound)
+        (λ _. entered_keeps left flight.to flight.envelope.shard flight.envelope.mode work v.pasts (record { bodies = stands.bodies; each = stands.pasts }))

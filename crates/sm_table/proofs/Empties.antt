@@ -12,7 +12,7 @@ use Rattle.sm_ownership.specs.History.{vacant}
 use Rattle.sm_table.specs.World.{Frame, empty_world}
 use Rattle.sm_ownership.specs.Tables.{TableView}
 use Rattle.sm_desk.specs.Desk.{DeskView}
-use Rattle.sm_table.specs.Bodies.{BodiesView}
+use Rattle.sm_table.specs.Bodies.{BodiesView, no_past}
 use Rattle.sm_table.specs.Standing.{IsFrame, StandsFor, IsTogether, view_of}
 use Rattle.sm_table.specs.lemmas.Soundness.{sound_empty}
 
@@ -30,27 +30,27 @@ map-replicate f (suc count) x = ap (λ rest. f x ∷ rest) (map-replicate f coun
 
 module _ {Q : Type 0} {bounds : List (List ℕ)} {desk : DeskView} {table : TableView} {bodies : BodiesView Q} {in_flight : List (Flight Q)} {in_hand : List (Option (InHand Q))} where
   -- parts with a vacant record for each shard, where nothing is kept, in flight or in hand
-  pub StandsFor-empty : (frame : Frame) → IsFrame frame → bounds ≡ frame.bounds → desk.servers ≡ frame.servers → desk.stands ≡ replicate (length frame.bounds) Vacant → table.records ≡ replicate (length frame.bounds) vacant → table.ceiling ≡ frame.ceiling → length bodies.kept ≡ length frame.bounds → All (λ list. list ≡ []) bodies.kept → bodies.limits ≡ frame.limits → in_flight ≡ [] → in_hand ≡ replicate (length frame.bounds) None → StandsFor (view_of bounds desk table bodies in_flight in_hand) (empty_world frame)
+  pub StandsFor-empty : (frame : Frame) → IsFrame frame → bounds ≡ frame.bounds → desk.servers ≡ frame.servers → desk.stands ≡ replicate (length frame.bounds) Vacant → table.records ≡ replicate (length frame.bounds) vacant → table.ceiling ≡ frame.ceiling → length bodies.pasts ≡ length frame.bounds → All (λ past. past ≡ no_past) bodies.pasts → bodies.limits ≡ frame.limits → in_flight ≡ [] → in_hand ≡ replicate (length frame.bounds) None → StandsFor (view_of bounds desk table bodies in_flight in_hand) (empty_world frame)
   StandsFor-empty frame is same servers stands records ceiling long empty limits flights hands = record {
     bounds = same;
     desk = ap (λ numbers. record { servers = numbers; stands = desk.stands }) servers ∙ ap (λ of_shards. record { servers = frame.servers; stands = of_shards }) (stands ∙ sym (map-replicate (λ (state : Record). state.stand) (length frame.bounds) vacant));
     records = records;
     ceiling = ceiling;
     bodies = long;
-    kept = λ shard within. empty shard [] (omega (arith, long));
+    pasts = λ shard within. empty shard no_past (omega (arith, long));
     limits = limits;
     in_flight = flights;
     in_hand = hands;
     sound = sound_empty frame is;
   }
 
-  pub IsTogether-empty : (count : ℕ) → length bounds ≡ count → table.records ≡ replicate count vacant → length bodies.kept ≡ count → in_flight ≡ [] → in_hand ≡ replicate count None → IsTogether (view_of bounds desk table bodies in_flight in_hand)
-  IsTogether-empty count layout records kept flights hands =
+  pub IsTogether-empty : (count : ℕ) → length bounds ≡ count → table.records ≡ replicate count vacant → length bodies.pasts ≡ count → in_flight ≡ [] → in_hand ≡ replicate count None → IsTogether (view_of bounds desk table bodies in_flight in_hand)
+  IsTogether-empty count layout records pasts flights hands =
       let long : length in_hand ≡ count = ap length hands ∙ length-replicate count None in
       record {
         layout = layout ∙ sym long;
         table = ap length records ∙ length-replicate count vacant ∙ sym long;
-        bodies = kept ∙ sym long;
+        bodies = pasts ∙ sym long;
         flights = subst (λ all. All (λ (flight : Flight Q). flight.envelope.shard < length in_hand) all) (sym flights) (All-nil (λ (flight : Flight Q). flight.envelope.shard < length in_hand));
         admitted = λ shard hand is. absurd (no_hand count shard hand (ap (λ all. slice_index_or all shard None) (sym hands) ∙ is));
       }

@@ -4,6 +4,8 @@ use Rattle.std.specs.Prelude.{Option, Some, None, Ok, Err, nat_lt, slice_index_o
 use Rattle.std.proofs.lemmas.Bool.{cases_eq, lt-ltb}
 use Rattle.std.proofs.lemmas.Bool.Decides.{nat_tests}
 use Rattle.std.proofs.lemmas.List.{get_or-set_same, get_or-set_other, length-set}
+use Rattle.sm_ownership.specs.declared.entry.Ending.{Ending}
+use Rattle.sm_ownership.specs.declared.entry.Ending.TheVariants.{Nothing, Request}
 use Rattle.sm_ownership.specs.declared.entry.Entry.{Entry}
 use Rattle.sm_ownership.specs.declared.entry.Kind.TheVariants.{Done}
 use Rattle.sm_table.specs.declared.hands.InHand.{InHand}
@@ -14,13 +16,14 @@ use Rattle.sm_envelope.specs.declared.refusal.Refusal.TheVariants.{KeptFull, NoM
 use Rattle.sm_table.specs.declared.step.Step.TheVariants.{Finish}
 use Rattle.sm_table.specs.declared.world_answer.WorldAnswer.TheVariants.{Replied, Refused}
 use Rattle.sm_table.specs.declared.world_fault.WorldFault.TheVariants.{NotHeld}
-use Rattle.sm_ownership.specs.History.{record_at, after_done, kept}
-use Rattle.sm_table.specs.Bodies.{BodiesView}
+use Rattle.sm_ownership.specs.History.{record_at, after_done, all_of, kept}
+use Rattle.sm_table.specs.Bodies.{BodiesView, Past, kept_in, no_past, past_after, past_at, past_of}
 use Rattle.sm_ownership.specs.Tables.{TableView, table_done}
 use Rattle.sm_body.specs.Service.{Service}
 use Rattle.sm_table.specs.World.{WorldState, Mark, Plain, Unserved, count_of, desk_of, ended, worked, served, outcome}
 use Rattle.sm_table.specs.Standing.{IsSound, WorldView, view_of, StandsFor, Follows}
-use Rattle.sm_ownership.specs.lemmas.Growth.{fits-push, table_of-push, kept-push_none, kept-push_other, kept-push_some}
+use Rattle.sm_ownership.specs.lemmas.Growth.{fits-push, table_of-push}
+use Rattle.sm_table.proofs.Pasts.{past_of-push, past_of-push_none, past_of-push_other}
 use Rattle.sm_table.proofs.Parts.{parts_of, Keeps, parts-from_StandsFor, Follows-unchanged, Follows-changed}
 use Rattle.sm_table.proofs.Admissions.{stands-push}
 use Rattle.sm_desk.specs.Desk.{DeskView}
@@ -46,19 +49,19 @@ pub hand-from_work : {Q : Type 0} (hand : Option (InHand Q)) (begun_by : ℕ × 
 hand-from_work None begun_by is = absurd cc
 hand-from_work (Some hand) begun_by is = in_hand-begun hand.server hand.work begun_by is
 
-module _ {Q : Type 0} (w : WorldState Q) (shard : ℕ) (server : ℕ) (request : Option Q) where
+module _ {Q : Type 0} (w : WorldState Q) (shard : ℕ) (server : ℕ) (ending : Ending Q) where
   -- the parts after the end, as the code makes them
-  abbrev pub done_parts : List (List Q) → WorldView Q → WorldView Q
-  done_parts lists v = record v { records = slice_set v.records shard (after_done (record_at v.records shard)); kept = lists; in_hand = slice_set v.in_hand shard None }
+  abbrev pub done_parts : List (Past Q) → WorldView Q → WorldView Q
+  done_parts pasts v = record v { records = slice_set v.records shard (after_done (record_at v.records shard)); pasts = pasts; in_hand = slice_set v.in_hand shard None }
 
   -- are those of the world after it
-  pub done_parts_of : (lists before : List (List Q)) → IsSound (ended w shard server request) → done_parts lists (parts_of w before) ≡ parts_of (ended w shard server request) lists
-  done_parts_of lists before after =
-      let entry : Entry Q = record { actor = server; shard = shard; kind = Done request } in
+  pub done_parts_of : (pasts before : List (Past Q)) → IsSound (ended w shard server ending) → done_parts pasts (parts_of w before) ≡ parts_of (ended w shard server ending) pasts
+  done_parts_of pasts before after =
+      let entry : Entry Q = record { actor = server; shard = shard; kind = Done ending } in
       let grown = table_of-push (count_of w) w.frame.ceiling w.history entry (fits-push (count_of w) w.frame.ceiling w.history entry after.legal) in
       let shown = stands-push (count_of w) w.frame.ceiling w.history entry after.legal refl in
-      ap (λ stands. record (done_parts lists (parts_of w before)) { desk = record { servers = w.frame.servers; stands = stands } }) (sym shown)
-      ∙ ap (λ records. record (done_parts lists (parts_of w before)) { desk = desk_of (ended w shard server request); records = records }) (sym grown)
+      ap (λ stands. record (done_parts pasts (parts_of w before)) { desk = record { servers = w.frame.servers; stands = stands } }) (sym shown)
+      ∙ ap (λ records. record (done_parts pasts (parts_of w before)) { desk = desk_of (ended w shard server ending); records = records }) (sym grown)
 
 worked-none : {Q R : Type 0} (service : Service Q R) (w : WorldState Q) (mark : Mark) (shard server : ℕ) (work : Option (Work Q)) → None ≡ option_map (begun server) work → worked service w mark shard server work ≡ (Err NotHeld, w)
 worked-none service w mark shard server None none = refl
@@ -90,83 +93,84 @@ module _ {Q R : Type 0} (service : Service Q R) {bounds : List (List ℕ)} {desk
   in_hand_of_world : slice_index_or w.in_hand shard None ≡ in_hand server (Some work)
   in_hand_of_world = ap (λ hands. slice_index_or hands shard None) (sym stands.in_hand) ∙ held
 
-  Keeps-none : Keeps (ended w shard server None) v.kept
-  Keeps-none = record { bodies = stands.bodies; each = λ other there. stands.kept other there ∙ sym (kept-push_none w.history (record { actor = server; shard = shard; kind = Done None }) other refl) }
+  Keeps-none : Keeps (ended w shard server Nothing) v.pasts
+  Keeps-none = record { bodies = stands.bodies; each = λ other there. stands.pasts other there ∙ sym (past_of-push_none w.history (record { actor = server; shard = shard; kind = Done Nothing }) other refl) }
 
-  Keeps-some : Keeps (ended w shard server (Some work.request)) (slice_set v.kept shard (slice_index_or v.kept shard [] ++ work.request ∷ []))
-  Keeps-some = record { bodies = length-set v.kept shard (slice_index_or v.kept shard [] ++ work.request ∷ []) ∙ stands.bodies; each = λ other there. each other there }
+  -- the shard's requests after such an end, among those of all
+  abbrev pasts_after : Ending Q → List (Past Q)
+  pasts_after ending = slice_set v.pasts shard (past_after (past_at v.pasts shard) ending)
+
+  Keeps-end : (ending : Ending Q) → Keeps (ended w shard server ending) (pasts_after ending)
+  Keeps-end ending = record { bodies = length-set v.pasts shard (past_after (past_at v.pasts shard) ending) ∙ stands.bodies; each = λ other there. each other there }
     where
-      entry : Entry Q
-      entry = record { actor = server; shard = shard; kind = Done (Some work.request) }
-
-      each : (other : ℕ) → other < count_of w → slice_index_or (slice_set v.kept shard (slice_index_or v.kept shard [] ++ work.request ∷ [])) other [] ≡ kept (w.history ++ record { actor = server; shard = shard; kind = Done (Some work.request) } ∷ []) other
+      each : (other : ℕ) → other < count_of w → past_at (pasts_after ending) other ≡ past_of (w.history ++ record { actor = server; shard = shard; kind = Done ending } ∷ []) other
       each other there = ⊎_elim
           (λ (at : other ≡ shard).
-          ap (λ i. slice_index_or (slice_set v.kept shard (slice_index_or v.kept shard [] ++ work.request ∷ [])) i []) at
-          ∙ get_or-set_same v.kept shard (slice_index_or v.kept shard [] ++ work.request ∷ []) [] (omega (arith, stands.bodies, inside))
-          ∙ ap (λ list. list ++ work.request ∷ []) (stands.kept shard inside)
-          ∙ sym (kept-push_some w.history (record { actor = server; shard = shard; kind = Done (Some work.request) }) work.request refl)
-          ∙ ap (λ i. kept (w.history ++ record { actor = server; shard = shard; kind = Done (Some work.request) } ∷ []) i) (sym at))
+          ap (λ i. past_at (pasts_after ending) i) at
+          ∙ get_or-set_same v.pasts shard (past_after (past_at v.pasts shard) ending) no_past (omega (arith, stands.bodies, inside))
+          ∙ ap (λ past. past_after past ending) (stands.pasts shard inside)
+          ∙ sym (past_of-push w.history (record { actor = server; shard = shard; kind = Done ending }) ending refl)
+          ∙ ap (λ i. past_of (w.history ++ record { actor = server; shard = shard; kind = Done ending } ∷ []) i) (sym at))
           (λ (apart : other ≡ shard → ⊥).
           let differs : (shard == other) ≡ false = grind (arith, nat_tests) in
-          get_or-set_other v.kept shard other (slice_index_or v.kept shard [] ++ work.request ∷ []) [] apart
-          ∙ stands.kept other there
-          ∙ sym (kept-push_other w.history (record { actor = server; shard = shard; kind = Done (Some work.request) }) other differs))
+          get_or-set_other v.pasts shard other (past_after (past_at v.pasts shard) ending) no_past apart
+          ∙ stands.pasts other there
+          ∙ sym (past_of-push_other w.history (record { actor = server; shard = shard; kind = Done ending }) other differs))
           (cases_eq other shard)
 
   -- room in the parts is room in the world
-  has_room : length (slice_index_or v.kept shard []) < slice_index_or v.limits shard 0 → nat_lt (length (kept w.history shard)) (slice_index_or w.frame.limits shard 0) ≡ true
+  has_room : length (kept_in (past_at v.pasts shard)) < slice_index_or v.limits shard 0 → nat_lt (length (kept w.history shard)) (slice_index_or w.frame.limits shard 0) ≡ true
   has_room room =
-      let list : slice_index_or v.kept shard [] ≡ kept w.history shard = stands.kept shard inside in
-      let below : length (kept w.history shard) < slice_index_or w.frame.limits shard 0 = subst (λ l. length l < slice_index_or w.frame.limits shard 0) list (subst (λ all. length (slice_index_or v.kept shard []) < slice_index_or all shard 0) stands.limits room) in
+      let past : past_at v.pasts shard ≡ past_of w.history shard = stands.pasts shard inside in
+      let below : length (kept w.history shard) < slice_index_or w.frame.limits shard 0 = subst (λ one. length (kept_in one) < slice_index_or w.frame.limits shard 0) past (subst (λ all. length (kept_in (past_at v.pasts shard)) < slice_index_or all shard 0) stands.limits room) in
       lt-ltb _ _ below
 
   module _ (table : TableView) (bodies : BodiesView Q) (hands : List (Option (InHand Q))) (done : table ≡ table_done (record { records = v.records; ceiling = v.ceiling }) shard) (limits : bodies.limits ≡ v.limits) (let_go : hands ≡ slice_set v.in_hand shard None) where
     -- the parts that the code makes
     abbrev pub parts : WorldView Q
-    parts = record v { records = table.records; ceiling = table.ceiling; kept = bodies.kept; limits = bodies.limits; in_hand = hands }
+    parts = record v { records = table.records; ceiling = table.ceiling; pasts = bodies.pasts; limits = bodies.limits; in_hand = hands }
 
-    parts_are : (lists : List (List Q)) → bodies.kept ≡ lists → parts ≡ record v { records = slice_set v.records shard (after_done (record_at v.records shard)); kept = lists; in_hand = slice_set v.in_hand shard None }
-    parts_are lists is =
-        ap (λ (t : TableView). record v { records = t.records; ceiling = t.ceiling; kept = bodies.kept; limits = bodies.limits; in_hand = hands }) done
-        ∙ ap (λ all. record v { records = slice_set v.records shard (after_done (record_at v.records shard)); kept = all; limits = bodies.limits; in_hand = hands }) is
-        ∙ ap (λ all. record v { records = slice_set v.records shard (after_done (record_at v.records shard)); kept = lists; limits = all; in_hand = hands }) limits
-        ∙ ap (λ all. record v { records = slice_set v.records shard (after_done (record_at v.records shard)); kept = lists; in_hand = all }) let_go
+    parts_are : (pasts : List (Past Q)) → bodies.pasts ≡ pasts → parts ≡ record v { records = slice_set v.records shard (after_done (record_at v.records shard)); pasts = pasts; in_hand = slice_set v.in_hand shard None }
+    parts_are pasts is =
+        ap (λ (t : TableView). record v { records = t.records; ceiling = t.ceiling; pasts = bodies.pasts; limits = bodies.limits; in_hand = hands }) done
+        ∙ ap (λ all. record v { records = slice_set v.records shard (after_done (record_at v.records shard)); pasts = all; limits = bodies.limits; in_hand = hands }) is
+        ∙ ap (λ all. record v { records = slice_set v.records shard (after_done (record_at v.records shard)); pasts = pasts; limits = all; in_hand = hands }) limits
+        ∙ ap (λ all. record v { records = slice_set v.records shard (after_done (record_at v.records shard)); pasts = pasts; in_hand = all }) let_go
 
-    parts_of_world : (request : Option Q) (lists : List (List Q)) → bodies.kept ≡ lists → IsSound (ended w shard server request) → parts ≡ parts_of (ended w shard server request) lists
-    parts_of_world request lists is after =
-        parts_are lists is
-        ∙ ap (done_parts w shard server request lists) (parts-from_StandsFor v w stands)
-        ∙ done_parts_of w shard server request lists v.kept after
+    parts_of_world : (ending : Ending Q) (pasts : List (Past Q)) → bodies.pasts ≡ pasts → IsSound (ended w shard server ending) → parts ≡ parts_of (ended w shard server ending) pasts
+    parts_of_world ending pasts is after =
+        parts_are pasts is
+        ∙ ap (done_parts w shard server ending pasts) (parts-from_StandsFor v w stands)
+        ∙ done_parts_of w shard server ending pasts v.pasts after
 
     -- the request was executed
-    pub replied : (reply : R) (place : ℕ) → bodies.kept ≡ slice_set v.kept shard (slice_index_or v.kept shard [] ++ work.request ∷ []) → place ≡ length (slice_index_or v.kept shard []) → reply ≡ service.reply_of (slice_index_or v.kept shard []) work.request → length (slice_index_or v.kept shard []) < slice_index_or v.limits shard 0 → Follows parts (Ok (Replied work.number server reply place)) (outcome service w Plain (Finish shard))
+    pub replied : (reply : R) (place : ℕ) → bodies.pasts ≡ pasts_after (Request work.request) → place ≡ length (past_at v.pasts shard).all → reply ≡ service.reply_of (past_at v.pasts shard).all work.request → length (kept_in (past_at v.pasts shard)) < slice_index_or v.limits shard 0 → Follows parts (Ok (Replied work.number server reply place)) (outcome service w Plain (Finish shard))
     replied reply place keeps place_is reply_is room =
-        let list : slice_index_or v.kept shard [] ≡ kept w.history shard = stands.kept shard inside in
+        let past : past_at v.pasts shard ≡ past_of w.history shard = stands.pasts shard inside in
         let lt = has_room room in
-        let as_said : reply ≡ service.reply_of (kept w.history shard) work.request = reply_is ∙ ap (λ l. service.reply_of l work.request) list in
-        let at : place ≡ length (kept w.history shard) = place_is ∙ ap length list in
-        Follows-changed service w Plain (Finish shard) parts (Ok (Replied work.number server reply place)) (ended w shard server (Some work.request)) (slice_set v.kept shard (slice_index_or v.kept shard [] ++ work.request ∷ [])) stands.sound (rw (in_hand_of_world, lt, as_said, at) refl)
-        (λ after. parts_of_world (Some work.request) _ keeps after)
-        (λ _. Keeps-some)
+        let as_said : reply ≡ service.reply_of (all_of w.history shard) work.request = reply_is ∙ ap (λ one. service.reply_of one.all work.request) past in
+        let at : place ≡ length (all_of w.history shard) = place_is ∙ ap (λ one. length one.all) past in
+        Follows-changed service w Plain (Finish shard) parts (Ok (Replied work.number server reply place)) (ended w shard server (Request work.request)) (pasts_after (Request work.request)) stands.sound (rw (in_hand_of_world, lt, as_said, at) refl)
+        (λ after. parts_of_world (Request work.request) _ keeps after)
+        (λ _. Keeps-end (Request work.request))
 
     -- the shard keeps as many requests as it may
-    pub full : bodies.kept ≡ v.kept → slice_index_or v.limits shard 0 ≤ length (slice_index_or v.kept shard []) → Follows {R = R} parts (Ok (Refused KeptFull)) (outcome service w Plain (Finish shard))
+    pub full : bodies.pasts ≡ v.pasts → slice_index_or v.limits shard 0 ≤ length (kept_in (past_at v.pasts shard)) → Follows {R = R} parts (Ok (Refused KeptFull)) (outcome service w Plain (Finish shard))
     full keeps reached =
-        let list : slice_index_or v.kept shard [] ≡ kept w.history shard = stands.kept shard inside in
-        let above : slice_index_or w.frame.limits shard 0 ≤ length (kept w.history shard) = subst (λ l. slice_index_or w.frame.limits shard 0 ≤ length l) list (subst (λ all. slice_index_or all shard 0 ≤ length (slice_index_or v.kept shard [])) stands.limits reached) in
+        let past : past_at v.pasts shard ≡ past_of w.history shard = stands.pasts shard inside in
+        let above : slice_index_or w.frame.limits shard 0 ≤ length (kept w.history shard) = subst (λ one. slice_index_or w.frame.limits shard 0 ≤ length (kept_in one)) past (subst (λ all. slice_index_or all shard 0 ≤ length (kept_in (past_at v.pasts shard))) stands.limits reached) in
         let ge : nat_lt (length (kept w.history shard)) (slice_index_or w.frame.limits shard 0) ≡ false = not_below _ _ above in
-        Follows-changed service w Plain (Finish shard) parts (Ok (Refused KeptFull)) (ended w shard server None) v.kept stands.sound (rw (in_hand_of_world, ge) refl)
-        (λ after. parts_of_world None _ keeps after)
+        Follows-changed service w Plain (Finish shard) parts (Ok (Refused KeptFull)) (ended w shard server Nothing) v.pasts stands.sound (rw (in_hand_of_world, ge) refl)
+        (λ after. parts_of_world Nothing _ keeps after)
         (λ _. Keeps-none)
       where
         not_below : (a b : ℕ) → b ≤ a → nat_lt a b ≡ false
         not_below a b h = grind (arith, nat_tests)
 
     -- memory was refused to the service
-    pub unserved : bodies.kept ≡ v.kept → length (slice_index_or v.kept shard []) < slice_index_or v.limits shard 0 → Follows {R = R} parts (Ok (Refused NoMemoryFor)) (outcome service w Unserved (Finish shard))
+    pub unserved : bodies.pasts ≡ v.pasts → length (kept_in (past_at v.pasts shard)) < slice_index_or v.limits shard 0 → Follows {R = R} parts (Ok (Refused NoMemoryFor)) (outcome service w Unserved (Finish shard))
     unserved keeps room =
         let lt = has_room room in
-        Follows-changed service w Unserved (Finish shard) parts (Ok (Refused NoMemoryFor)) (ended w shard server None) v.kept stands.sound (rw (in_hand_of_world, lt) refl)
-        (λ after. parts_of_world None _ keeps after)
+        Follows-changed service w Unserved (Finish shard) parts (Ok (Refused NoMemoryFor)) (ended w shard server Nothing) v.pasts stands.sound (rw (in_hand_of_world, lt) refl)
+        (λ after. parts_of_world Nothing _ keeps after)
         (λ _. Keeps-none)

@@ -5,14 +5,17 @@ use Rattle.std.proofs.lemmas.Bool.{cases_eq, cond_both}
 use Rattle.std.proofs.lemmas.List.{get_or-set_same, get_or-set_other, length-set}
 use Rattle.std.proofs.lemmas.List.Elements.{All-append, All-push, All-take, All-drop}
 use Rattle.sm_ownership.specs.declared.change.Change.{Change}
+use Rattle.sm_ownership.specs.declared.entry.Ending.TheVariants.{Request}
 use Rattle.sm_ownership.specs.declared.mode.Mode.TheVariants.{Direct}
 use Rattle.sm_ownership.specs.declared.record.Record.{Record}
 use Rattle.sm_table.specs.declared.world.Flight.{Flight}
 use Rattle.sm_table.specs.declared.hands.InHand.{InHand}
+use Rattle.sm_table.specs.declared.hands.Work.{Work}
+use Rattle.sm_table.specs.lemmas.Entries.{hand_within}
 use Rattle.sm_ownership.specs.History.{vacant, record_at, after_admit, after_change, after_done}
 use Rattle.sm_ownership.specs.Tables.{TableView, table_admitted, table_changed, table_done}
 use Rattle.sm_desk.specs.Desk.{DeskView}
-use Rattle.sm_table.specs.Bodies.{BodiesView}
+use Rattle.sm_table.specs.Bodies.{BodiesView, past_after, past_at}
 use Rattle.sm_table.specs.Standing.{IsTogether, view_of}
 use Rattle.sm_envelope.specs.Envelope.{EnvelopeView, forwarded, one_hop_more, sent_on}
 use Rattle.sm_ownership.specs.Rules.{forward_to}
@@ -29,7 +32,7 @@ module _ {Q : Type 0} {bounds : List (List ℕ)} {desk : DeskView} {table : Tabl
   IsShardThere flight = flight.envelope.shard < length in_hand
 
   -- another record of a shard, and another hand, which it admits
-  with_shard : (shard : ℕ) (state : Record) (desk_now : DeskView) (table_now : TableView) (bodies_now : BodiesView Q) (hands : List (Option (InHand Q))) → table_now.records ≡ slice_set table.records shard state → length bodies_now.kept ≡ length bodies.kept → length hands ≡ length in_hand → ((other : ℕ) → (other ≡ shard → ⊥) → slice_index_or hands other None ≡ slice_index_or in_hand other None) → ((hand : InHand Q) → slice_index_or hands shard None ≡ Some hand → (record_at (slice_set table.records shard state) shard).admitted ≡ true) → IsTogether (view_of bounds desk_now table_now bodies_now in_flight hands)
+  with_shard : (shard : ℕ) (state : Record) (desk_now : DeskView) (table_now : TableView) (bodies_now : BodiesView Q) (hands : List (Option (InHand Q))) → table_now.records ≡ slice_set table.records shard state → length bodies_now.pasts ≡ length bodies.pasts → length hands ≡ length in_hand → ((other : ℕ) → (other ≡ shard → ⊥) → slice_index_or hands other None ≡ slice_index_or in_hand other None) → ((hand : InHand Q) → slice_index_or hands shard None ≡ Some hand → (record_at (slice_set table.records shard state) shard).admitted ≡ true) → IsTogether (view_of bounds desk_now table_now bodies_now in_flight hands)
   with_shard shard state desk_now table_now bodies_now hands records kept long others here = record {
     layout = whole.layout ∙ sym long;
     table = ap length records ∙ length-set table.records shard state ∙ whole.table ∙ sym long;
@@ -51,19 +54,19 @@ module _ {Q : Type 0} {bounds : List (List ℕ)} {desk : DeskView} {table : Tabl
       (λ hand is. ap (λ (r : Record). r.admitted) (get_or-set_same table.records shard (after_change (record_at table.records shard) change) vacant within) ∙ whole.admitted shard hand is)
 
   -- after the end of an admission
-  ended : (shard : ℕ) (table_now : TableView) (bodies_now : BodiesView Q) (hands : List (Option (InHand Q))) → shard < length in_hand → table_now ≡ table_done table shard → hands ≡ slice_set in_hand shard None → length bodies_now.kept ≡ length bodies.kept → IsTogether (view_of bounds desk table_now bodies_now in_flight hands)
+  ended : (shard : ℕ) (table_now : TableView) (bodies_now : BodiesView Q) (hands : List (Option (InHand Q))) → shard < length in_hand → table_now ≡ table_done table shard → hands ≡ slice_set in_hand shard None → length bodies_now.pasts ≡ length bodies.pasts → IsTogether (view_of bounds desk table_now bodies_now in_flight hands)
   ended shard table_now bodies_now hands within done is kept =
       rw is (with_shard shard (after_done (record_at table.records shard)) desk table_now bodies_now (slice_set in_hand shard None) (ap (λ (t : TableView). t.records) done) kept (length-set in_hand shard None) (λ other apart. get_or-set_other in_hand shard other None None apart)
       (λ hand held. let none = get_or-set_same in_hand shard None None within in absurd cc))
 
-  -- the shard keeps what it kept
-  pub IsTogether-done : (shard : ℕ) (table_now : TableView) (bodies_now : BodiesView Q) (hands : List (Option (InHand Q))) → shard < length in_hand → table_now ≡ table_done table shard → hands ≡ slice_set in_hand shard None → bodies_now.kept ≡ bodies.kept → IsTogether (view_of bounds desk table_now bodies_now in_flight hands)
+  -- the bodies keep what they kept
+  pub IsTogether-done : (shard : ℕ) (table_now : TableView) (bodies_now : BodiesView Q) (hands : List (Option (InHand Q))) → shard < length in_hand → table_now ≡ table_done table shard → hands ≡ slice_set in_hand shard None → bodies_now.pasts ≡ bodies.pasts → IsTogether (view_of bounds desk table_now bodies_now in_flight hands)
   IsTogether-done shard table_now bodies_now hands within done is kept = ended shard table_now bodies_now hands within done is (ap length kept)
 
-  -- or a request more
-  pub IsTogether-kept : (shard : ℕ) (table_now : TableView) (bodies_now : BodiesView Q) (hands : List (Option (InHand Q))) (request : Q) → shard < length in_hand → table_now ≡ table_done table shard → hands ≡ slice_set in_hand shard None → bodies_now.kept ≡ slice_set bodies.kept shard (slice_index_or bodies.kept shard [] ++ request ∷ []) → IsTogether (view_of bounds desk table_now bodies_now in_flight hands)
-  IsTogether-kept shard table_now bodies_now hands request within done is kept =
-      ended shard table_now bodies_now hands within done is (ap length kept ∙ length-set bodies.kept shard (slice_index_or bodies.kept shard [] ++ request ∷ []))
+  -- or one keeps the request that its server had in hand
+  pub IsTogether-replied : (shard server : ℕ) (work : Work Q) (table_now : TableView) (bodies_now : BodiesView Q) (hands : List (Option (InHand Q))) → slice_index_or in_hand shard None ≡ Some (record { server = server; work = Some work }) → table_now ≡ table_done table shard → hands ≡ slice_set in_hand shard None → bodies_now.pasts ≡ slice_set bodies.pasts shard (past_after (past_at bodies.pasts shard) (Request work.request)) → IsTogether (view_of bounds desk table_now bodies_now in_flight hands)
+  IsTogether-replied shard server work table_now bodies_now hands held done is kept =
+      ended shard table_now bodies_now hands (hand_within in_hand shard (record { server = server; work = Some work }) held) done is (ap length kept ∙ length-set bodies.pasts shard (past_after (past_at bodies.pasts shard) (Request work.request)))
 
   -- after an admission
   pub IsTogether-admitted : (shard : ℕ) (hand : InHand Q) (table_now : TableView) (hands : List (Option (InHand Q))) → shard < length table.records → table_now ≡ table_admitted table shard → hands ≡ slice_set in_hand shard (Some hand) → IsTogether (view_of bounds desk table_now bodies in_flight hands)

@@ -4,7 +4,8 @@ use Rattle.std.specs.Prelude.{Option, Some, None, Ok, Err, is_none, nat_lt, slic
 use Rattle.std.proofs.lemmas.Bool.{lt-ltb}
 use Rattle.sm_ownership.specs.declared.entry.Kind.TheVariants.{Done}
 use Rattle.sm_ownership.specs.declared.mode.Mode.TheVariants.{Direct}
-use Rattle.sm_ownership.specs.lemmas.Growth.{kept-push_none, length-table_of}
+use Rattle.sm_ownership.specs.declared.entry.Ending.TheVariants.{Nothing}
+use Rattle.sm_ownership.specs.lemmas.Growth.{length-table_of}
 use Rattle.sm_ownership.specs.History.{record_at}
 use Rattle.sm_ownership.specs.Rules.{admit_fault}
 use Rattle.sm_ownership.specs.Tables.{TableView, table_done}
@@ -22,6 +23,7 @@ use Rattle.sm_table.proofs.Admissions.{entered, entered_parts, entered_keeps}
 use Rattle.sm_table.proofs.Endings.{in_hand, done_parts, done_parts_of}
 use Rattle.sm_table.specs.Bodies.{BodiesView}
 use Rattle.sm_table.specs.declared.world.Flight.{Flight}
+use Rattle.sm_table.proofs.Pasts.{past_of-push_none}
 use Rattle.sm_table.proofs.Parts.{parts-from_StandsFor, Follows-unchanged, Follows-changed}
 
 in_hand-alone : {Q : Type 0} (own : ℕ) (some : Option (Work Q)) → true ≡ is_none some → in_hand own some ≡ in_hand own None
@@ -60,9 +62,9 @@ module _ {Q R : Type 0} (service : Service Q R) {bounds : List (List ℕ)} {desk
       ap (λ ceiling. admit_fault ceiling (world_record w shard) server Direct) (sym stands.ceiling)
       ∙ ap (λ records. admit_fault v.ceiling (record_at records shard) server Direct) (sym stands.records)
       ∙ sym is in
-      Follows-changed service w Plain (Hold shard server) after (Ok Made) (entered w server shard Direct hand v.kept) v.kept stands.sound (rw inside (rw known (rw by_record refl)))
-      (λ sound. admitted ∙ ap (λ u. with_admission u shard hand) (parts-from_StandsFor v w stands) ∙ entered_parts w server shard Direct hand v.kept sound)
-      (λ _. entered_keeps w server shard Direct hand v.kept (record { bodies = stands.bodies; each = stands.kept }))
+      Follows-changed service w Plain (Hold shard server) after (Ok Made) (entered w server shard Direct hand v.pasts) v.pasts stands.sound (rw inside (rw known (rw by_record refl)))
+      (λ sound. admitted ∙ ap (λ u. with_admission u shard hand) (parts-from_StandsFor v w stands) ∙ entered_parts w server shard Direct hand v.pasts sound)
+      (λ _. entered_keeps w server shard Direct hand v.pasts (record { bodies = stands.bodies; each = stands.pasts }))
 
   -- no server holds the shard so
   pub not_freed : (hands : List (Option (InHand Q))) → false ≡ is_alone (slice_index_or v.in_hand shard None) → hands ≡ v.in_hand → Follows {R = R} (record v { in_hand = hands }) (Err NotHeld) (outcome service w Plain (Free shard))
@@ -74,9 +76,9 @@ module _ {Q R : Type 0} (service : Service Q R) {bounds : List (List ℕ)} {desk
   pub freed_by : (server : ℕ) (table : TableView) (hands : List (Option (InHand Q))) → slice_index_or v.in_hand shard None ≡ in_hand server None → table ≡ table_done (record { records = v.records; ceiling = v.ceiling }) shard → hands ≡ slice_set v.in_hand shard None → Follows (record v { records = table.records; ceiling = table.ceiling; in_hand = hands }) (Ok Made) (outcome service w Plain (Free shard))
   freed_by server table hands held done let_go =
       let in_hand_of_world : slice_index_or w.in_hand shard None ≡ in_hand server None = ap (λ all. slice_index_or all shard None) (sym stands.in_hand) ∙ held in
-      Follows-changed service w Plain (Free shard) (record v { records = table.records; ceiling = table.ceiling; in_hand = hands }) (Ok Made) (ended w shard server None) v.kept stands.sound (rw inside (rw in_hand_of_world refl))
+      Follows-changed service w Plain (Free shard) (record v { records = table.records; ceiling = table.ceiling; in_hand = hands }) (Ok Made) (ended w shard server Nothing) v.pasts stands.sound (rw inside (rw in_hand_of_world refl))
       (λ sound. ap (λ (t : TableView). record v { records = t.records; ceiling = t.ceiling; in_hand = hands }) done
       ∙ ap (λ all. record v { records = (table_done (record { records = v.records; ceiling = v.ceiling }) shard).records; in_hand = all }) let_go
-      ∙ ap (done_parts w shard server None v.kept) (parts-from_StandsFor v w stands)
-      ∙ done_parts_of w shard server None v.kept v.kept sound)
-      (λ _. record { bodies = stands.bodies; each = λ other there. stands.kept other there ∙ sym (kept-push_none w.history (record { actor = server; shard = shard; kind = Done None }) other refl) })
+      ∙ ap (done_parts w shard server Nothing v.pasts) (parts-from_StandsFor v w stands)
+      ∙ done_parts_of w shard server Nothing v.pasts v.pasts sound)
+      (λ _. record { bodies = stands.bodies; each = λ other there. stands.pasts other there ∙ sym (past_of-push_none w.history (record { actor = server; shard = shard; kind = Done Nothing }) other refl) })

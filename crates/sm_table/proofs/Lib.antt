@@ -9,5 +9,6 @@ pub mod Holding
 pub mod Losses
 pub mod Maps
 pub mod Parts
+pub mod Pasts
 pub mod Runs
 pub mod Sends

@@ -24,7 +24,7 @@ module _ {Q R : Type 0} (service : Service Q R) {bounds : List (List ℕ)} {desk
   pub lost : (in_flight : List (Flight Q)) → in_flight ≡ remove v.in_flight place → Follows (record v { in_flight = in_flight }) (Ok Made) (outcome service w Plain (Lose place))
   lost in_flight gone =
       let within : nat_lt place (length w.in_flight) ≡ true = lt-ltb _ _ (subst (λ flights. place < length flights) stands.in_flight there) in
-      Follows-changed service w Plain (Lose place) (record v { in_flight = in_flight }) (Ok Made) (without_flight w place) v.kept stands.sound (rw within refl)
+      Follows-changed service w Plain (Lose place) (record v { in_flight = in_flight }) (Ok Made) (without_flight w place) v.pasts stands.sound (rw within refl)
       (λ _. ap (λ flights. record v { in_flight = flights }) gone
       ∙ ap (λ (u : WorldView Q). record u { in_flight = remove u.in_flight place }) (parts-from_StandsFor v w stands))
-      (λ _. record { bodies = stands.bodies; each = stands.kept })
+      (λ _. record { bodies = stands.bodies; each = stands.pasts })

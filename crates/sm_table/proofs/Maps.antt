@@ -3,6 +3,8 @@ use Rattle.std.proofs.Common.{◌≡◌, ℕ, ◌<◌, List, [], ◌++◌, ◌�
 use Rattle.std.specs.Prelude.{map, Result, OnOk, OnErr}
 use Rattle.std.specs.declared.result.Result.TheVariants.{Ok, Err}
 use Rattle.std.proofs.Math.Seq.{map-set_same}
+use Rattle.sm_ownership.specs.declared.entry.Ending.TheVariants.{Request}
+use Rattle.sm_table.specs.Bodies.{Past, no_past, past_after, past_at}
 use Rattle.std.proofs.lemmas.List.{map-set, length-map, get_or-map}
 
 module _ {A B : Type 0} (f : A → B) (items : List A) (k : ℕ) (old new : A) (shown : List B) where
@@ -14,14 +16,18 @@ module _ {A B : Type 0} (f : A → B) (items : List A) (k : ℕ) (old new : A) (
   pub shown_set : map f items ≡ shown → (y : B) → f new ≡ y → map f (set items k new) ≡ set shown k y
   shown_set is y same = map-set f items k new ∙ ap (λ l. set l k (f new)) is ∙ ap (λ z. set shown k z) same
 
--- what a body keeps after a request, among what all keep
-pub ok_kept : {A Q X E : Type 0} (f : A → List Q) (items : List A) (k : ℕ) (old new : A) (shown : List (List Q)) (q : Q) (r : Result X E) → map f items ≡ shown → k < length shown → old ≡ get_or items k old → OnOk r (f new ≡ f old ++ q ∷ []) → OnOk r (map f (set items k new) ≡ set shown k (get_or shown k [] ++ q ∷ []))
-ok_kept f items k old new shown q (Err e) is within at h = tt
-ok_kept f items k old new shown q (Ok x) is within at h =
-    let inside : k < length items = omega (arith, ap length is, length-map items f) in
-    let same : get_or shown k [] ≡ f old = sym (ap (λ l. get_or l k []) is) ∙ get_or-map f items k old [] inside ∙ ap f (sym at) in
-    shown_set f items k old new shown is _ (h ∙ ap (λ l. l ++ q ∷ []) (sym same))
+-- the past of a body that has made no checkpoint
+abbrev pub past_with : {A Q : Type 0} → (A → List Q) → A → Past Q
+past_with f body = record { all = f body; first = 0 }
 
-pub err_kept : {A B X E : Type 0} (f : A → B) (items : List A) (k : ℕ) (old new : A) (shown : List B) (r : Result X E) → map f items ≡ shown → old ≡ get_or items k old → OnErr r (f new ≡ f old) → OnErr r (map f (set items k new) ≡ shown)
-err_kept f items k old new shown (Ok x) is at h = tt
-err_kept f items k old new shown (Err e) is at h = same_shown f items k old new shown is at h
+-- the past of a body after a request, among those of all
+pub ok_past : {A Q X E : Type 0} (f : A → List Q) (items : List A) (k : ℕ) (old new : A) (shown : List (Past Q)) (q : Q) (r : Result X E) → map (past_with f) items ≡ shown → k < length shown → old ≡ get_or items k old → OnOk r (f new ≡ f old ++ q ∷ []) → OnOk r (map (past_with f) (set items k new) ≡ set shown k (past_after (past_at shown k) (Request q)))
+ok_past f items k old new shown q (Err e) is within at h = tt
+ok_past f items k old new shown q (Ok x) is within at h =
+    let inside : k < length items = omega (arith, ap length is, length-map items (past_with f)) in
+    let same : past_at shown k ≡ past_with f old = sym (ap (λ l. get_or l k no_past) is) ∙ get_or-map (past_with f) items k old no_past inside ∙ ap (past_with f) (sym at) in
+    shown_set (past_with f) items k old new shown is _ (ap (λ list. record { all = list; first = 0 }) h ∙ ap (λ past. past_after past (Request q)) (sym same))
+
+pub err_past : {A Q X E : Type 0} (f : A → List Q) (items : List A) (k : ℕ) (old new : A) (shown : List (Past Q)) (r : Result X E) → map (past_with f) items ≡ shown → old ≡ get_or items k old → OnErr r (f new ≡ f old) → OnErr r (map (past_with f) (set items k new) ≡ shown)
+err_past f items k old new shown (Ok x) is at h = tt
+err_past f items k old new shown (Err e) is at h = same_shown (past_with f) items k old new shown is at (ap (λ list. record { all = list; first = 0 }) h)

@@ -1,4 +1,4 @@
--- Each reply is that of one run of the shard's kept requests.
+-- Each reply is that of one run of all requests of the shard.
 use Rattle.std.proofs.Common.{◌≡◌, ℕ, List, [], ◌∷◌, ◌++◌, length, refl, ap, ◌∙◌, append_assoc}
 use Rattle.std.specs.Prelude.{Option, Some, None, Result, Ok, Err, nat_lt, slice_get, slice_index_or, take}
 use Rattle.std.specs.Option.{option_map}
@@ -8,6 +8,7 @@ use Rattle.sm_ownership.specs.declared.admit_fault.AdmitFault.{AdmitFault}
 use Rattle.sm_ownership.specs.declared.change.Change.{Change}
 use Rattle.sm_desk.specs.declared.command.Command.TheVariants.{Change as ChangeOf}
 use Rattle.sm_desk.specs.declared.command.CommandFault.{CommandFault}
+use Rattle.sm_ownership.specs.declared.entry.Ending.TheVariants.{Request}
 use Rattle.sm_ownership.specs.declared.entry.Entry.{Entry}
 use Rattle.sm_ownership.specs.declared.entry.Kind.TheVariants.{Done}
 use Rattle.sm_table.specs.declared.world.Flight.{Flight}
@@ -19,11 +20,11 @@ use Rattle.sm_table.specs.declared.world_answer.WorldAnswer.TheVariants.{Replied
 use Rattle.sm_ownership.specs.Rules.{forward_to}
 use Rattle.sm_desk.specs.Desk.{is_known}
 use Rattle.sm_envelope.specs.Envelope.{EnvelopeView}
-use Rattle.sm_ownership.specs.History.{kept, said}
+use Rattle.sm_ownership.specs.History.{all_of, kept, said}
 use Rattle.sm_body.specs.Service.{Service}
 use Rattle.sm_table.specs.World.{Frame, WorldState, Mark, Plain, Unmade, Unserved, Outcome, count_of, world_record, controlled, reached, after_hop, hopped, arrived, without_flight, delivered, with_room, worked, served, held, after_hold, let_go, freed, empty_world, answer, next, outcome, world_after, world_of}
 use Rattle.sm_table.proofs.Extensions.{extends_after}
-use Rattle.sm_ownership.specs.lemmas.Growth.{kept-append, kept-push_some}
+use Rattle.sm_ownership.specs.lemmas.Requests.{all_of-append, all_of-push_some}
 
 slice_get-middle : {X : Type 0} (xs : List X) (x : X) (ys : List X) → slice_get (xs ++ x ∷ ys) (length xs) ≡ Some x
 slice_get-middle [] x ys = refl
@@ -32,13 +33,13 @@ slice_get-middle (first ∷ xs) x ys = slice_get-middle xs x ys
 said_middle : {Q R : Type 0} (reply_of : List Q → Q → R) (all before : List Q) (request : Q) (after : List Q) → all ≡ before ++ request ∷ after → option_map (λ (q : Q). reply_of (take (length before) all) q) (slice_get all (length before)) ≡ Some (reply_of before request)
 said_middle reply_of all before request after is = rw is (rw (slice_get-middle before request after, take_at before (request ∷ after) (length before) refl) refl)
 
--- a step that replied executed a request after those that the shard had kept, and kept it
+-- a step that replied executed a request after all those of the shard, and that is in the history
 record HasRun {Q R : Type 0} (service : Service Q R) (w : WorldState Q) (outcome : Outcome Q R) (shard : ℕ) (reply : R) (place : ℕ) : Type 0 where
   server : ℕ
   request : Q
-  at_end : place ≡ length (kept w.history shard)
-  executed : reply ≡ service.reply_of (kept w.history shard) request
-  written : outcome.1.history ≡ w.history ++ record { actor = server; shard = shard; kind = Done (Some request) } ∷ []
+  at_end : place ≡ length (all_of w.history shard)
+  executed : reply ≡ service.reply_of (all_of w.history shard) request
+  written : outcome.1.history ≡ w.history ++ record { actor = server; shard = shard; kind = Done (Request request) } ∷ []
 
 module _ {Q R : Type 0} (service : Service Q R) (w : WorldState Q) (number server : ℕ) (reply : R) (place : ℕ) where
   abbrev RunsAt : ℕ → Outcome Q R → Type 0
@@ -124,18 +125,18 @@ history_grows service frame steps later =
     (after.added, ap (λ w. w.history) (world_after-append service (empty_world frame) steps later) ∙ after.history)
 
 module _ {Q R : Type 0} (service : Service Q R) (w : WorldState Q) (mark : Mark) (step : Step Q) (shard : ℕ) (reply : R) (place : ℕ) (run : HasRun service w (outcome service w mark step) shard reply place) where
-  -- after any further steps the shard's kept requests still say that reply
+  -- after any further steps all requests of the shard still say that reply
   said_after : (later : List (Mark × Step Q)) → said service.reply_of (world_after service (next service w mark step) later).history shard place ≡ Some reply
   said_after later =
       let after = extends_after service (next service w mark step) later in
-      let entry : Entry Q = record { actor = run.server; shard = shard; kind = Done (Some run.request) } in
+      let entry : Entry Q = record { actor = run.server; shard = shard; kind = Done (Request run.request) } in
       let longer : (world_after service (next service w mark step) later).history ≡ (w.history ++ entry ∷ []) ++ after.added = after.history ∙ ap (λ l. l ++ after.added) run.written in
-      let all : kept (world_after service (next service w mark step) later).history shard ≡ kept w.history shard ++ run.request ∷ kept after.added shard =
-      ap (λ l. kept l shard) longer ∙ (kept-append (w.history ++ entry ∷ []) after.added shard ∙ (ap (λ l. l ++ kept after.added shard) (kept-push_some w.history entry run.request refl) ∙ append_assoc (kept w.history shard) (run.request ∷ []) (kept after.added shard))) in
-      rw (run.at_end, run.executed) (said_middle service.reply_of (kept (world_after service (next service w mark step) later).history shard) (kept w.history shard) run.request (kept after.added shard) all)
+      let all : all_of (world_after service (next service w mark step) later).history shard ≡ all_of w.history shard ++ run.request ∷ all_of after.added shard =
+      ap (λ l. all_of l shard) longer ∙ (all_of-append (w.history ++ entry ∷ []) after.added shard ∙ (ap (λ l. l ++ all_of after.added shard) (all_of-push_some w.history entry run.request refl) ∙ append_assoc (all_of w.history shard) (run.request ∷ []) (all_of after.added shard))) in
+      rw (run.at_end, run.executed) (said_middle service.reply_of (all_of (world_after service (next service w mark step) later).history shard) (all_of w.history shard) run.request (all_of after.added shard) all)
 
 -- what a reply says of the run of its shard, from the world that the steps before it made
-pub one_run : {Q R : Type 0} (service : Service Q R) (frame : Frame) (steps later : List (Mark × Step Q)) (mark : Mark) (step : Step Q) (number server : ℕ) (reply : R) (place : ℕ) → answer service (world_of service frame steps) mark step ≡ Ok (Replied number server reply place) → (shard : ℕ) × (step ≡ Finish shard) × (place ≡ length (kept (world_of service frame steps).history shard)) × (said service.reply_of (world_of service frame (steps ++ (mark, step) ∷ later)).history shard place ≡ Some reply)
+pub one_run : {Q R : Type 0} (service : Service Q R) (frame : Frame) (steps later : List (Mark × Step Q)) (mark : Mark) (step : Step Q) (number server : ℕ) (reply : R) (place : ℕ) → answer service (world_of service frame steps) mark step ≡ Ok (Replied number server reply place) → (shard : ℕ) × (step ≡ Finish shard) × (place ≡ length (all_of (world_of service frame steps).history shard)) × (said service.reply_of (world_of service frame (steps ++ (mark, step) ∷ later)).history shard place ≡ Some reply)
 one_run service frame steps later mark step number server reply place answered =
     let found = runs_step service (world_of service frame steps) number server reply place mark step answered in
     let joined = world_after-append service (empty_world frame) steps ((mark, step) ∷ later) in

@@ -35,8 +35,8 @@ module _ {Q R : Type 0} (service : Service Q R) {bounds : List (List ℕ)} {desk
       let of_world : shard ≡ shard_of w.frame.bounds (service.key_of request) = by_key ∙ ap (λ bounds. shard_of bounds (service.key_of request)) given.bounds in
       let last : EnvelopeView Q = direct number (shard_of w.frame.bounds (service.key_of request)) request in
       let last_is : envelope ≡ last = envelope_is ∙ ap (λ k. direct number k request) of_world in
-      Follows-changed service w Plain (Send to number request) (record v { in_flight = in_flight }) (Ok Sent) (record w { in_flight = w.in_flight ++ flight_to to last ∷ [] }) v.kept stands.sound (rw knows refl)
+      Follows-changed service w Plain (Send to number request) (record v { in_flight = in_flight }) (Ok Sent) (record w { in_flight = w.in_flight ++ flight_to to last ∷ [] }) v.pasts stands.sound (rw knows refl)
       (λ _. ap (λ all. record v { in_flight = all }) is
       ∙ ap (λ one. record v { in_flight = v.in_flight ++ flight_to to one ∷ [] }) last_is
       ∙ ap (λ (u : WorldView Q). record u { in_flight = u.in_flight ++ flight_to to last ∷ [] }) (parts-from_StandsFor v w stands))
-      (λ _. record { bodies = stands.bodies; each = stands.kept })
+      (λ _. record { bodies = stands.bodies; each = stands.pasts })

@@ -1,5 +1,5 @@
 -- When the parts of a `World` stand for a world of the definitions.
-use Rattle.std.specs.Prelude.{ℕ, Bool, true, false, Option, Some, None, Result, ◌≡◌, ◌<◌, List, [], All, length, reverse, slice_index_or, slice_set}
+use Rattle.std.specs.Prelude.{ℕ, Bool, true, false, Option, Some, None, Result, ◌≡◌, ◌<◌, List, All, length, reverse, slice_index_or, slice_set}
 use Rattle.std.specs.List.{list_all}
 use Rattle.sm_body.specs.Service.{Service}
 use Rattle.sm_ranges.specs.Ranges.{IsLayout}
@@ -14,9 +14,9 @@ use Rattle.sm_table.specs.declared.step.Step.{Step}
 use Rattle.sm_table.specs.declared.world_answer.WorldAnswer.{WorldAnswer}
 use Rattle.sm_table.specs.declared.world_fault.WorldFault.{WorldFault}
 use Rattle.sm_desk.specs.Desk.{DeskView, is_known}
-use Rattle.sm_ownership.specs.History.{after_admit, record_at, IsLegal, admits_only, is_admission_of, latest_of, kept}
+use Rattle.sm_ownership.specs.History.{after_admit, record_at, IsLegal, admits_only, is_admission_of, latest_of}
 use Rattle.sm_ownership.specs.Tables.{TableView}
-use Rattle.sm_table.specs.Bodies.{BodiesView}
+use Rattle.sm_table.specs.Bodies.{BodiesView, Past, past_at, past_of}
 use Rattle.sm_table.specs.World.{Frame, WorldState, Outcome, count_of, desk_of, mark_of, outcome, world_record, world_table}
 
 -- a frame that a world can be made with: bounds of a layout, and servers by their numbers
@@ -58,7 +58,7 @@ pub record WorldView (Q : Type 0) : Type 0 where
   pub desk : DeskView
   pub records : List Record
   pub ceiling : ℕ
-  pub kept : List (List Q)
+  pub pasts : List (Past Q)
   pub limits : List ℕ
   pub in_flight : List (Flight Q)
   pub in_hand : List (Option (InHand Q))
@@ -70,7 +70,7 @@ view_of bounds desk table bodies in_flight in_hand = record {
   desk = desk;
   records = table.records;
   ceiling = table.ceiling;
-  kept = bodies.kept;
+  pasts = bodies.pasts;
   limits = bodies.limits;
   in_flight = in_flight;
   in_hand = in_hand;
@@ -80,7 +80,7 @@ view_of bounds desk table bodies in_flight in_hand = record {
 pub record IsTogether {Q : Type 0} (view : WorldView Q) : Type 0 where
   pub layout : length view.bounds ≡ length view.in_hand
   pub table : length view.records ≡ length view.in_hand
-  pub bodies : length view.kept ≡ length view.in_hand
+  pub bodies : length view.pasts ≡ length view.in_hand
   pub flights : All (λ flight. flight.envelope.shard < length view.in_hand) view.in_flight
   pub admitted : (shard : ℕ) (hand : InHand Q) → slice_index_or view.in_hand shard None ≡ Some hand → (record_at view.records shard).admitted ≡ true
 
@@ -90,8 +90,8 @@ pub record StandsFor {Q : Type 0} (view : WorldView Q) (w : WorldState Q) : Type
   pub desk : view.desk ≡ desk_of w
   pub records : view.records ≡ world_table w
   pub ceiling : view.ceiling ≡ w.frame.ceiling
-  pub bodies : length view.kept ≡ count_of w
-  pub kept : (shard : ℕ) → shard < count_of w → slice_index_or view.kept shard [] ≡ kept w.history shard
+  pub bodies : length view.pasts ≡ count_of w
+  pub pasts : (shard : ℕ) → shard < count_of w → past_at view.pasts shard ≡ past_of w.history shard
   pub limits : view.limits ≡ w.frame.limits
   pub in_flight : view.in_flight ≡ w.in_flight
   pub in_hand : view.in_hand ≡ w.in_hand

@@ -9,6 +9,8 @@ use Rattle.sm_desk.specs.declared.command.Command.{Command}
 use Rattle.sm_desk.specs.declared.command.Command.TheVariants.{Change as ChangeOf}
 use Rattle.sm_desk.specs.declared.command.CommandFault.{CommandFault}
 use Rattle.sm_desk.specs.declared.command.CommandFault.TheVariants.{Change as ChangeRefused}
+use Rattle.sm_ownership.specs.declared.entry.Ending.{Ending}
+use Rattle.sm_ownership.specs.declared.entry.Ending.TheVariants.{Nothing, Request}
 use Rattle.sm_ownership.specs.declared.entry.Entry.{Entry}
 use Rattle.sm_ownership.specs.declared.entry.Kind.{Kind}
 use Rattle.sm_ownership.specs.declared.entry.Kind.TheVariants.{Change as Changed, Admit, Done}
@@ -26,7 +28,7 @@ use Rattle.sm_table.specs.declared.world_fault.WorldFault.{WorldFault}
 use Rattle.sm_table.specs.declared.world_fault.WorldFault.TheVariants.{Command as CommandRefused, Admit as AdmitRefused, UnknownShard, UnknownServer, NoEnvelope, NotHeld, NoMemory}
 use Rattle.sm_desk.specs.Desk.{DeskView, is_known, desk_fault}
 use Rattle.sm_envelope.specs.Envelope.{EnvelopeView, sent_on}
-use Rattle.sm_ownership.specs.History.{record_at, table_of, kept}
+use Rattle.sm_ownership.specs.History.{all_of, kept, record_at, table_of}
 use Rattle.sm_ownership.specs.Rules.{admit_fault, forward_to}
 use Rattle.sm_ownership.specs.Tables.{record_fault}
 
@@ -144,16 +146,16 @@ after_deliver w place = delivered w place (slice_get w.in_flight place)
 abbrev pub after_lose : {Q R : Type 0} → WorldState Q → ℕ → Outcome Q R
 after_lose w place = if nat_lt place (length w.in_flight) then (Ok Made, without_flight w place) else (Err NoEnvelope, w)
 
--- the admission ends, and the shard keeps this request of it, if any
-abbrev pub ended : {Q : Type 0} → WorldState Q → ℕ → ℕ → Option Q → WorldState Q
-ended w shard server request = with_hand (with_entry w server shard (Done request)) shard None
+-- the admission ends so
+abbrev pub ended : {Q : Type 0} → WorldState Q → ℕ → ℕ → Ending Q → WorldState Q
+ended w shard server ending = with_hand (with_entry w server shard (Done ending)) shard None
 
 -- a shard with room keeps the request and replies, unless memory for it is refused
 abbrev pub with_room : {Q R : Type 0} → Service Q R → WorldState Q → Mark → ℕ → ℕ → Work Q → Outcome Q R
-with_room service w Unserved shard server work = (Ok (Refused NoMemoryFor), ended w shard server None)
+with_room service w Unserved shard server work = (Ok (Refused NoMemoryFor), ended w shard server Nothing)
 with_room service w mark shard server work = (
-  Ok (Replied work.number server (service.reply_of (kept w.history shard) work.request) (length (kept w.history shard))),
-  ended w shard server (Some work.request),
+  Ok (Replied work.number server (service.reply_of (all_of w.history shard) work.request) (length (all_of w.history shard))),
+  ended w shard server (Request work.request),
 )
 
 abbrev pub worked : {Q R : Type 0} → Service Q R → WorldState Q → Mark → ℕ → ℕ → Option (Work Q) → Outcome Q R
@@ -161,7 +163,7 @@ worked service w mark shard server None = (Err NotHeld, w)
 worked service w mark shard server (Some work) =
     if nat_lt (length (kept w.history shard)) (slice_index_or w.frame.limits shard 0)
     then with_room service w mark shard server work
-    else (Ok (Refused KeptFull), ended w shard server None)
+    else (Ok (Refused KeptFull), ended w shard server Nothing)
 
 abbrev pub served : {Q R : Type 0} → Service Q R → WorldState Q → Mark → ℕ → Option (InHand Q) → Outcome Q R
 served service w mark shard None = (Err NotHeld, w)
@@ -183,7 +185,7 @@ after_hold w shard server =
     else (Err UnknownShard, w)
 
 abbrev pub let_go : {Q R : Type 0} → WorldState Q → ℕ → ℕ → Option (Work Q) → Outcome Q R
-let_go w shard server None = (Ok Made, ended w shard server None)
+let_go w shard server None = (Ok Made, ended w shard server Nothing)
 let_go w shard server (Some work) = (Err NotHeld, w)
 
 abbrev pub freed : {Q R : Type 0} → WorldState Q → ℕ → Option (InHand Q) → Outcome Q R

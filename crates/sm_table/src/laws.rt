@@ -2,7 +2,7 @@
 
 ghost use Rattle.std.specs.Prelude.{◌≡◌, ℕ, Some, Ok, List, ◌∷◌, ◌++◌, length};
 ghost use Rattle.sm_ownership.specs.declared.entry.Entry.{Entry};
-ghost use Rattle.sm_ownership.specs.History.{IsLegal, kept, said};
+ghost use Rattle.sm_ownership.specs.History.{IsLegal, all_of, said};
 ghost use Rattle.sm_table.specs.declared.step.Step.{Step};
 ghost use Rattle.sm_table.specs.declared.step.Step.TheVariants.{Finish};
 ghost use Rattle.sm_table.specs.declared.world_answer.WorldAnswer.TheVariants.{Replied};
@@ -11,9 +11,9 @@ ghost use Rattle.sm_body.specs.Service.{Service};
 ghost use Rattle.sm_table.specs.World.{Frame, Mark, answer, world_of};
 
 pub use sm_ownership::laws::{
-    accepted_is_admitted, admission_extends_history, admission_refused_exactly,
+    accepted_is_admitted, admission_extends_history, admission_refused_exactly, all_grows,
     change_extends_history, change_refused_exactly, end_extends_history, executor_admitted,
-    generation_counts_entries, generation_within_ceiling, kept_grows, legal_prefix,
+    generation_counts_entries, generation_within_ceiling, kept_ends_all, kept_grows, legal_prefix,
     no_phase_refuses, one_admission, same_generation_same_record, two_servers,
 };
 
@@ -30,8 +30,8 @@ pub fn history_grows<Q, R>()
         × ((world_of service frame (steps ++ later)).history ≡ (world_of service frame steps).history ++ added) }
 {}
 
-/// Whatever the steps, a reply has the place after the requests that its shard has kept, and is what one run of those
-/// requests says there. It stays so whatever steps follow.
+/// Whatever the steps, a reply has the place after all requests of its shard, and is what one run of these says there. It
+/// stays so whatever steps follow.
 pub fn one_run<Q, R>()
     ensures { (service : Service Q R) (frame : Frame) (steps later : List (Mark × Step Q)) (mark : Mark) (step : Step Q)
         (number server : ℕ) (reply : R) (place : ℕ)
@@ -39,6 +39,6 @@ pub fn one_run<Q, R>()
         let after = world_of service frame (steps ++ (mark, step) ∷ later) in
         answer service before mark step ≡ Ok (Replied number server reply place)
         → (shard : ℕ) × (step ≡ Finish shard)
-        × (place ≡ length (kept before.history shard))
+        × (place ≡ length (all_of before.history shard))
         × (said service.reply_of after.history shard place ≡ Some reply) }
 {}

@@ -243,7 +243,7 @@ impl<S: Service> World<S> {
         };
         let Work { number, request } = work;
         self.table.done(k);
-        let place = self.bodies.kept(k) as u64;
+        let place = self.bodies.applied(k) as u64;
         match self.bodies.apply(k, request) {
             Ok(reply) => Ok(WorldAnswer::Replied {
                 number,

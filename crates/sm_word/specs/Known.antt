@@ -14,7 +14,7 @@ NewlyNamesServer change = IfSome (newly_named change) IsServer
 abbrev pub KnownKind : {Q : Type 0} → Kind Q → Type 0
 KnownKind (Changed change) = NewlyNamesServer change
 KnownKind (Admit server mode) = IsServer server
-KnownKind (Done request) = Unit {0}
+KnownKind (Done ending) = Unit {0}
 
 -- each change and each admission is of servers 1 to 4,095
 abbrev pub AreKnown : {Q : Type 0} → List (Entry Q) → Type 0

@@ -23,7 +23,7 @@ within_kind ceiling earlier state actor shard (Admit server mode) fit within =
     let alone = and_parts (acts_as earlier actor server) _ (and_parts (not (actor == 0)) _ fit).1 in
     let room = leb-true _ _ (and_parts (nat_le (state.generation + 2) ceiling) _ (and_parts (not state.admitted) _ alone.1).1).0 in
     (omega arith, λ busy. omega arith)
-within_kind ceiling earlier state actor shard (Done request) fit within =
+within_kind ceiling earlier state actor shard (Done ending) fit within =
     let below = within.1 (and_parts state.admitted _ fit).0 in
     (omega arith, λ busy. absurd (true≢false (sym busy)))
 

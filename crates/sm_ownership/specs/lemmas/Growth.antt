@@ -1,13 +1,11 @@
 -- A history that grows by one entry.
-use Rattle.std.proofs.Common.{◌≡◌, ◌≢◌, ℕ, Bool, true, false, List, [], ◌∷◌, ◌++◌, length, refl, subst, arith, ⊎_elim, ◌∙◌}
-use Rattle.std.specs.Prelude.{Some, None, reverse, replicate, slice_set, ◌==◌, if◌then◌else◌}
-use Rattle.std.proofs.lemmas.List.{reverse-append, get_or-set_same, get_or-set_other, get_or-replicate, get_or_past, length-set, length-replicate, append-nil}
-use Rattle.std.proofs.lemmas.List.Elements.{filter_map-append}
-use Rattle.std.proofs.lemmas.Bool.{and_parts, cases_lt, cond_both, eq-eqb, ltb-true}
+use Rattle.std.proofs.Common.{◌≡◌, ◌≢◌, ℕ, true, List, [], ◌∷◌, ◌++◌, length, refl, subst, arith, ⊎_elim, ◌∙◌}
+use Rattle.std.specs.Prelude.{reverse, replicate, slice_set}
+use Rattle.std.proofs.lemmas.List.{reverse-append, get_or-set_same, get_or-set_other, get_or-replicate, get_or_past, length-set, length-replicate}
+use Rattle.std.proofs.lemmas.Bool.{and_parts, cases_lt, cond_both, ltb-true}
 use Rattle.sm_ownership.specs.declared.entry.Entry.{Entry}
-use Rattle.sm_ownership.specs.declared.entry.Kind.{Kind}
 use Rattle.sm_ownership.specs.declared.record.Record.{Record}
-use Rattle.sm_ownership.specs.History.{vacant, record_at, after_kind, fits, table_of, table_of_latest, IsLegal, IsLegalLatest, kept, kept_of}
+use Rattle.sm_ownership.specs.History.{vacant, record_at, after_kind, fits, table_of, table_of_latest, IsLegal, IsLegalLatest}
 
 -- the empty table has a vacant record for every shard
 pub record_at-empty : (count shard : ℕ) → record_at (replicate count vacant) shard ≡ vacant
@@ -75,22 +73,3 @@ module _ {Q : Type 0} (count ceiling : ℕ) where
   -- what a legal history begins with is legal
   pub legal_prefix : (history later : List (Entry Q)) → IsLegal count ceiling (history ++ later) → IsLegal count ceiling history
   legal_prefix history later legal = legal_earlier (reverse later) (reverse history) (subst (IsLegalLatest count ceiling) (reverse-append history later) legal)
-
--- what a longer history keeps begins with what the shorter one kept
-pub kept-append : {Q : Type 0} (history later : List (Entry Q)) (shard : ℕ) → kept (history ++ later) shard ≡ kept history shard ++ kept later shard
-kept-append history later shard = filter_map-append _ history later
-
-kept_entry_none : {Q : Type 0} (b : Bool) (kind : Kind Q) → kept_of kind ≡ None → (if b then kept_of kind else None) ≡ None
-kept_entry_none true kind none = none
-kept_entry_none false kind none = refl
-
--- an entry of another shard, or one that keeps no request, leaves what a shard keeps
-pub kept-push_other : {Q : Type 0} (history : List (Entry Q)) (entry : Entry Q) (shard : ℕ) → (entry.shard == shard) ≡ false → kept (history ++ entry ∷ []) shard ≡ kept history shard
-kept-push_other history entry shard other = kept-append history (entry ∷ []) shard ∙ rw other (append-nil (kept history shard))
-
-pub kept-push_none : {Q : Type 0} (history : List (Entry Q)) (entry : Entry Q) (shard : ℕ) → kept_of entry.kind ≡ None → kept (history ++ entry ∷ []) shard ≡ kept history shard
-kept-push_none history entry shard none = kept-append history (entry ∷ []) shard ∙ rw (kept_entry_none (entry.shard == shard) entry.kind none) (append-nil (kept history shard))
-
--- an entry that keeps a request adds it last
-pub kept-push_some : {Q : Type 0} (history : List (Entry Q)) (entry : Entry Q) (request : Q) → kept_of entry.kind ≡ Some request → kept (history ++ entry ∷ []) entry.shard ≡ kept history entry.shard ++ request ∷ []
-kept-push_some history entry request some = kept-append history (entry ∷ []) entry.shard ∙ rw (eq-eqb entry.shard entry.shard refl) (rw some refl)

@@ -60,17 +60,17 @@ module _ {Q : Type 0} where
   fits_admitted ceiling earlier state actor shard (Admit server mode) fit busy =
       let alone = and_parts (acts_as earlier actor server) _ (and_parts (not (actor == 0)) _ fit).1 in
       absurd (true≢false (sym busy ∙ not-true state.admitted (and_parts (not state.admitted) _ alone.1).0))
-  fits_admitted ceiling earlier state actor shard (Done request) fit busy = (and_parts state.admitted _ fit).1
+  fits_admitted ceiling earlier state actor shard (Done ending) fit busy = (and_parts state.admitted _ fit).1
 
   one_more : (state : Record) (kind : Kind Q) → (after_kind state kind).generation ≡ state.generation + 1
   one_more state (Changed change) = refl
   one_more state (Admit server mode) = refl
-  one_more state (Done request) = refl
+  one_more state (Done ending) = refl
 
   stand_without_control : (ceiling : ℕ) (earlier : List (Entry Q)) (state : Record) (actor shard : ℕ) (kind : Kind Q) → actor ≢ 0 → kind_fits ceiling earlier state actor shard kind ≡ true → (after_kind state kind).stand ≡ state.stand
   stand_without_control ceiling earlier state actor shard (Changed change) other fit = absurd (other (eqb-true actor 0 (and_parts (actor == 0) _ fit).0))
   stand_without_control ceiling earlier state actor shard (Admit server mode) other fit = refl
-  stand_without_control ceiling earlier state actor shard (Done request) other fit = refl
+  stand_without_control ceiling earlier state actor shard (Done ending) other fit = refl
 
 -- below, histories have the latest entry first
 module _ {Q : Type 0} (count ceiling : ℕ) where

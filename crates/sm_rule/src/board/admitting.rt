@@ -5,7 +5,7 @@ ghost use Rattle.sm_ownership.specs.History.{kept};
 ghost use Rattle.sm_rule.specs.Admissions.{HoldsPermit, PassAdmitted, RefusedBy, beyond, fault_for};
 ghost use Rattle.sm_rule.specs.Boards.{limit_at};
 ghost use Rattle.sm_rule.specs.Passes.{PassAdds, PassLooks, record_of};
-ghost use Rattle.sm_rule.specs.Views.{list_held, list_with};
+ghost use Rattle.sm_rule.specs.Views.{ending_with, list_held, list_with};
 
 use super::Board;
 use crate::admit_refusal::AdmitRefusal;
@@ -135,7 +135,7 @@ impl<S: Service> Board<S> {
         requires body { (request : Option S.Request) × (S.requests permit.body ≡ list_with (list_held pass.old.held) request) }
         requires limit { S.limit permit.body ≡ limit_at self.now.limits permit.shard }
         ensures done { (request : Option S.Request) → S.requests permit.body ≡ list_with (list_held pass.old.held) request
-            → PassAdds pass.old permit.shard (Done request) pass.new }
+            → PassAdds pass.old permit.shard (Done (ending_with request)) pass.new }
         ensures kept { kept pass.new.seen permit.shard ≡ S.requests permit.body }
         ensures board { pass.new.board ≡ pass.old.board }
         ensures free { pass.new.held ≡ None }
@@ -150,8 +150,8 @@ impl<S: Service> Board<S> {
         requires permit { HoldsPermit pass.old permit }
         requires body { (request : Option S.Request) × (S.requests permit.body ≡ list_with (list_held pass.old.held) request) }
         requires limit { S.limit permit.body ≡ limit_at self.now.limits permit.shard }
-        requires kind { B.kind ≡ Done (beyond (list_held pass.old.held) (S.requests permit.body)) }
-        ensures done { PassAdds pass.old permit.shard (Done (beyond (list_held pass.old.held) (S.requests permit.body))) pass.new }
+        requires kind { B.kind ≡ Done (ending_with (beyond (list_held pass.old.held) (S.requests permit.body))) }
+        ensures done { PassAdds pass.old permit.shard (Done (ending_with (beyond (list_held pass.old.held) (S.requests permit.body)))) pass.new }
         ensures kept { kept pass.new.seen permit.shard ≡ S.requests permit.body }
         ensures shard { result.shard ≡ permit.shard }
         ensures generation { result.generation ≡ (record_of pass.new permit.shard).generation }

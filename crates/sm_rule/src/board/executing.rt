@@ -1,5 +1,6 @@
 //! Requests that the body of an admitted shard applies.
-ghost use Rattle.std.specs.Prelude.{◌≡◌, ◌<◌, ◌≤◌, ◌++◌, ◌∷◌, [], Some, None, IfErr, IfOk, OnErr, OnOk, fold, length};
+ghost use Rattle.std.specs.Prelude.{◌≡◌, ◌<◌, ◌≤◌, ◌++◌, ◌∷◌, [], None, IfErr, IfOk, OnErr, OnOk, fold, length};
+ghost use Rattle.sm_ownership.specs.declared.entry.Ending.TheVariants.{Nothing, Request as Requested};
 ghost use Rattle.sm_ownership.specs.declared.entry.Kind.TheVariants.{Done};
 ghost use Rattle.sm_ownership.specs.History.{kept};
 ghost use Rattle.sm_rule.specs.Admissions.{HoldsPermit};
@@ -28,14 +29,14 @@ impl<S: Service> Board<S> {
         requires limit { S.limit permit.body ≡ limit_at self.now.limits permit.shard }
 
         // An applied request is the last one kept for the shard, and its reply is that of the state after those before it.
-        ensures applied { OnOk result.0 (PassAdds pass.old permit.shard (Done (Some request)) pass.new) }
+        ensures applied { OnOk result.0 (PassAdds pass.old permit.shard (Done (Requested request)) pass.new) }
         ensures kept { OnOk result.0 (kept pass.new.seen permit.shard ≡ S.requests permit.body ++ request ∷ []) }
         ensures reply { IfOk result.0 (λ reply.
             reply ≡ S.answer (fold S.next (S.base permit.body) (S.requests permit.body)) request) }
         ensures room { OnOk result.0 (length (S.requests permit.body) < S.limit permit.body) }
 
         // A refused one comes back, as the body refuses it, and the entry keeps none.
-        ensures refused { OnErr result.0 (PassAdds pass.old permit.shard (Done None) pass.new) }
+        ensures refused { OnErr result.0 (PassAdds pass.old permit.shard (Done Nothing) pass.new) }
         ensures unchanged { OnErr result.0 (kept pass.new.seen permit.shard ≡ S.requests permit.body) }
         ensures handed_back { IfErr result.0 (λ back. back.0 ≡ request) }
         ensures full { IfErr result.0 (λ back.

@@ -11,6 +11,7 @@ use Rattle.sm_ranges.specs.ServerId.{IsServer}
 use Rattle.sm_ranges.specs.Stand.{AllNamed}
 use Rattle.sm_ranges.specs.declared.stand.Stand.TheVariants.{Vacant}
 use Rattle.sm_ownership.specs.declared.change.Change.{Change}
+use Rattle.sm_ownership.specs.declared.entry.Ending.{Ending}
 use Rattle.sm_ownership.specs.declared.entry.Entry.{Entry}
 use Rattle.sm_ownership.specs.declared.entry.Kind.{Kind}
 use Rattle.sm_ownership.specs.declared.entry.Kind.TheVariants.{Change as Changed, Admit, Done}
@@ -186,15 +187,15 @@ module _ {Q : Type 0} (w : WorldState Q) (sound : IsSound w) where
       })
 
   -- the end of an admission by the server that has its request in hand
-  pub sound_done : (shard : ℕ) (hand : InHand Q) (request : Option Q) → slice_index_or w.in_hand shard None ≡ Some hand → IsSound (ended w shard hand.server request)
-  sound_done shard hand request is =
+  pub sound_done : (shard : ℕ) (hand : InHand Q) (ending : Ending Q) → slice_index_or w.in_hand shard None ≡ Some hand → IsSound (ended w shard hand.server ending)
+  sound_done shard hand ending is =
       let count = long_table in
       let long = sound.hands in
       let there : shard < length w.in_hand = hand_within w.in_hand shard hand is in
       let inside : shard < length (world_table w) = omega arith in
       let held : AgreesWithHand w.history (world_record w shard).admitted shard (Some hand) = subst (λ one. AgreesWithHand w.history (world_record w shard).admitted shard one) is (sound.held shard (omega arith)) in
       let freed : slice_index_or (slice_set w.in_hand shard None) shard None ≡ None = get_or-set_same w.in_hand shard None None there in
-      grown_sound w (record { actor = hand.server; shard = shard; kind = Done request }) (slice_set w.in_hand shard None) sound (record {
+      grown_sound w (record { actor = hand.server; shard = shard; kind = Done ending }) (slice_set w.in_hand shard None) sound (record {
         fit = and_from _ _ (lt-ltb _ _ inside) (and_from _ _ held.0 held.1);
         own_server = refl;
         places = length-set w.in_hand shard None ∙ sound.hands;

@@ -1,5 +1,5 @@
 -- Each world that steps lead to is sound.
-use Rattle.std.proofs.Common.{◌≡◌, ℕ, suc, ◌<◌, true, List, [], ◌∷◌, length, refl, sym, ap, subst, arith, ⊎_elim}
+use Rattle.std.proofs.Common.{◌≡◌, ℕ, suc, ◌<◌, true, List, [], ◌∷◌, length, refl, sym, ap, subst, ⊎_elim}
 use Rattle.std.specs.Prelude.{Option, Some, None, Result, All, replicate, remove, slice_get, slice_index_or, nat_lt, ◌==◌}
 use Rattle.std.specs.Option.{option_or}
 use Rattle.std.proofs.lemmas.Bool.{true≢false, cond_both, eqb-true, ltb-true, or_cases}
@@ -17,6 +17,7 @@ use Rattle.sm_desk.specs.declared.command.Command.TheVariants.{Change as ChangeO
 use Rattle.sm_table.specs.declared.world.Flight.{Flight}
 use Rattle.sm_table.specs.declared.hands.InHand.{InHand}
 use Rattle.sm_table.specs.declared.hands.Work.{Work}
+use Rattle.sm_ownership.specs.declared.entry.Ending.TheVariants.{Nothing, Request}
 use Rattle.sm_ownership.specs.declared.mode.Mode.TheVariants.{Direct}
 use Rattle.sm_ownership.specs.declared.record.Record.{Record}
 use Rattle.sm_table.specs.declared.step.Step.{Step}
@@ -117,15 +118,15 @@ module _ {Q : Type 0} (R : Type 0) (w : WorldState Q) (sound : IsSound w) where
   sound_arrived at envelope (Some to) within known is = sound_hopped at to envelope within (known_forward w.frame.servers (world_record w envelope.shard).stand at to (sound.named envelope.shard within) is)
 
   sound_with_room : (service : Service Q R) (mark : Mark) (shard : ℕ) (hand : InHand Q) (work : Work Q) → slice_index_or w.in_hand shard None ≡ Some hand → LeavesSound (with_room service w mark shard hand.server work)
-  sound_with_room service Unserved shard hand work is = sound_done w sound shard hand None is
-  sound_with_room service Plain shard hand work is = sound_done w sound shard hand (Some work.request) is
-  sound_with_room service Unmade shard hand work is = sound_done w sound shard hand (Some work.request) is
+  sound_with_room service Unserved shard hand work is = sound_done w sound shard hand Nothing is
+  sound_with_room service Plain shard hand work is = sound_done w sound shard hand (Request work.request) is
+  sound_with_room service Unmade shard hand work is = sound_done w sound shard hand (Request work.request) is
 
   sound_worked : (service : Service Q R) (mark : Mark) (shard : ℕ) (hand : InHand Q) (work : Option (Work Q)) → slice_index_or w.in_hand shard None ≡ Some hand → LeavesSound (worked service w mark shard hand.server work)
   sound_worked service mark shard hand None is = sound
   sound_worked service mark shard hand (Some work) is = cond_both (nat_lt (length (kept w.history shard)) (slice_index_or w.frame.limits shard 0)) _ _ LeavesSound
       (λ _. sound_with_room service mark shard hand work is)
-      (λ _. sound_done w sound shard hand None is)
+      (λ _. sound_done w sound shard hand Nothing is)
 
   sound_served : (service : Service Q R) (mark : Mark) (shard : ℕ) (hand : Option (InHand Q)) → slice_index_or w.in_hand shard None ≡ hand → LeavesSound (served service w mark shard hand)
   sound_served service mark shard None is = sound
@@ -146,7 +147,7 @@ module _ {Q : Type 0} (R : Type 0) (w : WorldState Q) (sound : IsSound w) where
       (λ _. sound)
 
   sound_let_go : (shard : ℕ) (hand : InHand Q) (work : Option (Work Q)) → slice_index_or w.in_hand shard None ≡ Some hand → LeavesSound (let_go w shard hand.server work)
-  sound_let_go shard hand None is = sound_done w sound shard hand None is
+  sound_let_go shard hand None is = sound_done w sound shard hand Nothing is
   sound_let_go shard hand (Some work) is = sound
 
   sound_freed : (shard : ℕ) (hand : Option (InHand Q)) → slice_index_or w.in_hand shard None ≡ hand → LeavesSound (freed w shard hand)

@@ -76,7 +76,7 @@ shaped_kind ceiling earlier state actor shard (Admit server mode) fit known shap
     let free = and_parts (not state.admitted) _ alone.1 in
     let accepted = (and_parts (nat_le (state.generation + 2) ceiling) _ free.1).1 in
     shaped_admit state.stand server mode state.generation shaped.0 accepted
-shaped_kind ceiling earlier state actor shard (Done request) fit known shaped =
+shaped_kind ceiling earlier state actor shard (Done ending) fit known shaped =
     shaped_done state.stand state.admitted state.generation (and_parts state.admitted _ fit).0 shaped
 
 module _ {Q : Type 0} (count ceiling : ℕ) where

@@ -3,14 +3,14 @@ use Rattle.std.specs.Prelude.{Option}
 use mathlib.Core.Option.{none}
 use Rattle.atomic_table.specs.Table.{Allows, step}
 use Rattle.sm_ownership.specs.declared.entry.Kind.TheVariants.{Done}
-use Rattle.sm_ownership.specs.History.{after_done, kept, kept_of}
+use Rattle.sm_ownership.specs.History.{after_done, ending_of, kept, kept_after}
 use Rattle.sm_word.specs.Word.{word_of}
 use Rattle.sm_rule.specs.Admissions.{beyond}
 use Rattle.sm_rule.specs.Boards.{limit_at, limits_of}
 use Rattle.sm_rule.specs.Rule.{Rule}
 use Rattle.sm_rule.specs.Steps.{Stored}
-use Rattle.sm_rule.specs.Views.{list_held, list_with}
-use Rattle.sm_rule.proofs.Keeping.{beyond_with_gained, carries_body, held_within, list_is, low_ceiling, slot_held, store_allowed}
+use Rattle.sm_rule.specs.Views.{ending_with, list_held, list_with}
+use Rattle.sm_rule.proofs.Keeping.{beyond_with_gained, carries_body, held_within, kept_after-ending_with, list_is, low_ceiling, slot_held, store_allowed}
 use Rattle.sm_rule.proofs.board.Board.finish_as.Goals as goal
 
 pub store-requires : goal.store-requires
@@ -38,7 +38,7 @@ store-requires g c =
     let allowed = store_allowed id view c.args.pass.now c.args.permit of_pass c.requires.permit g.S.Service.requests g.S.Service.limit key c.self.inside.table.shared.table_id.slots c.exchange.new.seat.id c.index-at.result c.done_word-word.result c.permit.inside.body c.exchange.new.seat.me
     carries (low_ceiling c.self.inside.table.shared.key.ceiling c.self.inside.ceiling c.self.invariant.1 c.self.invariant.6) c.pass.invariant.0.0 (sym shard ∙ sym at)
     (c.done_word-word.ensures c.permit.inside.state c.permit.invariant.2 (sym c.permit.invariant.3) ∙ ap (λ one. word_of (after_done one)) state) gains same_limit in
-    let kind = c.requires.kind ∙ ap (λ one. Done (beyond (list_held c.args.pass.now.held) (g.S.Service.requests one))) (sym body) in (
+    let kind = c.requires.kind ∙ ap (λ one. Done (ending_with (beyond (list_held c.args.pass.now.held) (g.S.Service.requests one)))) (sym body) in (
       out.0 ∙ (ap (λ p. p.board.id) of_pass ∙ ap (λ b. b.id) board),
       omega arith,
       subst (λ one. Allows (Rule g.S.Service.requests g.S.Service.limit key) c.self.inside.table.shared.table_id.slots c.exchange.new.seat.id c.exchange.new.seat.me c.index-at.result (λ _. c.done_word-word.result) (λ _. Stored one (step c.self.inside.table.shared.table_id.slots c.index-at.result c.done_word-word.result 0 none) c.exchange.new.seat.me c.done_word-word.result)) (sym kind) allowed,
@@ -51,5 +51,6 @@ returns-clause-kept g c =
     let held = ap (λ me. list_held me.0.held) c.exchange.ensures.3 ∙ list_is c.pass.inside.seat.table_id c.pass.inside.seat.me.0 c.args.pass.now c.args.permit of_pass c.requires.permit in
     ap (λ k. kept c.store.new.seat.me.0.seen k) (sym shard ∙ sym c.index-at.ensures.value)
     ∙ (c.store.ensures.2.2
-    ∙ ((λ i. list_with (held i) (kept_of (c.requires.kind i)))
-    ∙ beyond_with_gained (list_held c.args.pass.now.held) (g.S.Service.requests c.args.permit.body) c.requires.body))
+    ∙ ((λ i. kept_after (held i) (ending_of (c.requires.kind i)))
+    ∙ (kept_after-ending_with (list_held c.args.pass.now.held) (beyond (list_held c.args.pass.now.held) (g.S.Service.requests c.args.permit.body))
+    ∙ beyond_with_gained (list_held c.args.pass.now.held) (g.S.Service.requests c.args.permit.body) c.requires.body)))

@@ -1,16 +1,16 @@
 use Rattle.std.proofs.Common.{ap}
-use Rattle.sm_table.proofs.Maps.{same_shown, ok_kept, err_kept}
+use Rattle.sm_table.proofs.Maps.{same_shown, ok_past, err_past}
 use Rattle.sm_table.proofs.bodies.Bodies.apply.Goals as goal
 
 pub returns-clause-limits : goal.returns-clause-limits
 returns-clause-limits g c = same_shown g.S.Service.limit _ _ _ _ _ (ap (λ all. all.limits) c.self.view_is) c.index_mut.ensures.value c.apply.ensures.limit
 
-pub returns-clause-kept : goal.returns-clause-kept
-returns-clause-kept g c =
+pub returns-clause-pasts : goal.returns-clause-pasts
+returns-clause-pasts g c =
     let body = rw c.index.ensures.value at c.index_mut.ensures.value in
-    rw c.index.ensures.value (ok_kept g.S.Service.requests c.self.inside.bodies.items c.args.k c.index_mut.result.now c.apply.new.self c.args.self.now.kept c.args.request c.apply.result (ap (λ all. all.kept) c.self.view_is) c.requires body c.apply.ensures.kept)
+    rw c.index.ensures.value (ok_past g.S.Service.requests c.self.inside.bodies.items c.args.k c.index_mut.result.now c.apply.new.self c.args.self.now.pasts c.args.request c.apply.result (ap (λ all. all.pasts) c.self.view_is) c.requires body c.apply.ensures.kept)
 
 pub returns-clause-unchanged : goal.returns-clause-unchanged
 returns-clause-unchanged g c =
     let body = rw c.index.ensures.value at c.index_mut.ensures.value in
-    rw c.index.ensures.value (err_kept g.S.Service.requests c.self.inside.bodies.items c.args.k c.index_mut.result.now c.apply.new.self c.args.self.now.kept c.apply.result (ap (λ all. all.kept) c.self.view_is) body c.apply.ensures.unchanged)
+    rw c.index.ensures.value (err_past g.S.Service.requests c.self.inside.bodies.items c.args.k c.index_mut.result.now c.apply.new.self c.args.self.now.pasts c.apply.result (ap (λ all. all.pasts) c.self.view_is) body c.apply.ensures.unchanged)

@@ -1,4 +1,4 @@
-use Rattle.std.proofs.Common.{◌<◌, length, refl, sym, ap, subst}
+use Rattle.std.proofs.Common.{◌<◌, length, sym, subst}
 use Rattle.sm_table.proofs.Fitting.{IsTogether-admitted}
 use Rattle.sm_table.proofs.world.World.admit.Goals as goal
 

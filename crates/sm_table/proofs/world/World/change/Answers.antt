@@ -1,4 +1,3 @@
-use Rattle.std.proofs.Common.{ap, refl}
 use Rattle.std.proofs.lemmas.Result.{err_from_is_err_and}
 use Rattle.sm_body.specs.Service.{meaning_of}
 use Rattle.sm_table.proofs.Controls.{refused_by_desk, refused_by_table, made, within-apply_fault}

@@ -3,7 +3,7 @@ use Rattle.sm_body.specs.Service.{meaning_of}
 use Rattle.sm_table.proofs.Endings.{hand-from_work, not_begun, replied, full, unserved}
 use Rattle.sm_table.specs.lemmas.Entries.{hand_within}
 use Rattle.sm_table.proofs.Parts.{bounds_shown}
-use Rattle.sm_table.proofs.Fitting.{IsTogether-done, IsTogether-kept}
+use Rattle.sm_table.proofs.Fitting.{IsTogether-done, IsTogether-replied}
 use Rattle.sm_table.proofs.world.World.finish.Goals as goal
 
 pub invariant_of-self : goal.invariant_of-self
@@ -30,12 +30,12 @@ done-requires-clause-admitted g c = c.self.invariant.admitted c.args.k _ (hand-f
 pub invariant_of-self-in-Ok : goal.invariant_of-self-in-Ok
 invariant_of-self-in-Ok g c =
     let held = hand-from_work _ _ c.in-Some.ensures.work in
-    IsTogether-kept c.self.invariant c.args.k c.done.new.self c.apply.new.self c.take_work.new.self _ (hand_within _ c.args.k _ held) c.done.ensures c.in-Some.ensures.hands c.in-Ok.ensures.kept
+    IsTogether-replied c.self.invariant c.args.k _ _ c.done.new.self c.apply.new.self c.take_work.new.self held c.done.ensures c.in-Some.ensures.hands c.in-Ok.ensures.pasts
 
 pub returns-in-Ok-clause-stands : goal.returns-in-Ok-clause-stands
 returns-in-Ok-clause-stands g c = λ w stands.
     let held = hand-from_work _ _ c.in-Some.ensures.work in
-    replied (meaning_of g.S.Service.initial g.S.Service.next g.S.Service.answer g.S.Service.key_of) c.args.self.now c.self.view_is w stands c.args.k _ _ held c.done.new.self c.apply.new.self c.take_work.new.self c.done.ensures c.in-Ok.ensures.limits c.in-Some.ensures.hands c.in-Ok.reply c.kept-place.result c.in-Ok.ensures.kept c.kept-place.ensures c.in-Ok.ensures.reply c.in-Ok.ensures.room
+    replied (meaning_of g.S.Service.initial g.S.Service.next g.S.Service.answer g.S.Service.key_of) c.args.self.now c.self.view_is w stands c.args.k _ _ held c.done.new.self c.apply.new.self c.take_work.new.self c.done.ensures c.in-Ok.ensures.limits c.in-Some.ensures.hands c.in-Ok.reply c.applied-place.result c.in-Ok.ensures.pasts c.applied-place.ensures c.in-Ok.ensures.reply c.in-Ok.ensures.room
 
 pub invariant_of-self-in-Err-default-KeptFull : goal.invariant_of-self-in-Err-default-KeptFull
 invariant_of-self-in-Err-default-KeptFull g c =

@@ -1,4 +1,4 @@
-use Rattle.std.proofs.Common.{◌<◌, ap, length, refl, arith}
+use Rattle.std.proofs.Common.{◌<◌, length, refl, arith}
 use Rattle.sm_body.specs.Service.{meaning_of}
 use Rattle.sm_table.proofs.Fitting.{IsTogether-done}
 use Rattle.sm_table.proofs.Holding.{hand-from_alone, not_freed, freed_by}

@@ -1,7 +1,5 @@
-use Rattle.std.proofs.Common.{◌≡◌, ap, refl, subst, sym, ◌∙◌, [], None, length, replicate, arith}
+use Rattle.std.proofs.Common.{◌≡◌, ap, refl, subst, ◌∙◌, None, length, replicate, arith}
 use Rattle.std.specs.Prelude.{All, map}
-use Rattle.std.proofs.lemmas.List.{length-map}
-use Rattle.std.proofs.lemmas.List.Elements.{All-map}
 use Rattle.sm_ranges.specs.ServerId.{IsServer}
 use Rattle.sm_ownership.specs.History.{vacant}
 use Rattle.sm_table.specs.Standing.{setup_frame}
@@ -13,7 +11,7 @@ invariant_of-result g c =
     let bodies : length c.args.bodies.items ≡ length c.args.setup.layout = omega (arith, c.args.bodies.ok.0, c.requires.bodies) in
     IsTogether-empty (length c.args.setup.layout) refl
     (c.in_ok-new.ensures.records ∙ ap (λ count. replicate count vacant) c.count-count.ensures.value)
-    (ap length c.new-2.ensures.kept ∙ length-map c.args.bodies.items g.S.Service.requests ∙ bodies)
+    (c.new-2.ensures.length ∙ bodies)
     c.new-3.ensures.items
     (c.in_ok-none.ensures ∙ ap (λ count. replicate count None) c.count-count.ensures.value)
 
@@ -25,8 +23,8 @@ returns g c =
     refl refl c.requires.vacant
     (c.in_ok-new.ensures.records ∙ ap (λ count. replicate count vacant) c.count-count.ensures.value)
     c.in_ok-new.ensures.ceiling
-    (ap length c.new-2.ensures.kept ∙ length-map c.args.bodies.items g.S.Service.requests ∙ bodies)
-    (subst (λ lists. All (λ list. list ≡ []) lists) (sym c.new-2.ensures.kept) (All-map (λ list. list ≡ []) g.S.Service.requests c.args.bodies.items c.requires.empty))
+    (c.new-2.ensures.length ∙ bodies)
+    c.new-2.ensures.pasts
     c.new-2.ensures.limits
     c.new-3.ensures.items
     (c.in_ok-none.ensures ∙ ap (λ count. replicate count None) c.count-count.ensures.value)
