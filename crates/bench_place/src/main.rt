@@ -46,7 +46,7 @@ fn main(rt: HostRuntime) -> anyhow::Result<()> {
 fn measure_books(rt: &HostRuntime) -> anyhow::Result<()> {
     let rows = Rows::new(rt.alloc(), FULL, 1)?;
     let start = Instant::now(rt)?;
-    let books = Books::new(rt.alloc(), &rows.servers, &rows.groups, &rows.shards)?;
+    let books = rows.books(rt.alloc())?;
     println!(rt; "books {}", start.elapsed(rt)?.as_micros())?;
     println!(rt; "shards {}", books.shards().len())?;
     Ok(())
@@ -55,7 +55,7 @@ fn measure_books(rt: &HostRuntime) -> anyhow::Result<()> {
 // Makes books of so many shards and a plan of them, which fit no server below `roomy`.
 fn measure_plan(rt: &HostRuntime, size: u16, roomy: u16) -> anyhow::Result<()> {
     let rows = Rows::new(rt.alloc(), size, roomy)?;
-    let books = Books::new(rt.alloc(), &rows.servers, &rows.groups, &rows.shards)?;
+    let books = rows.books(rt.alloc())?;
     let start = Instant::now(rt)?;
     let plan = books.plan_assign(rt.alloc())?;
     println!(rt; "plan {}", start.elapsed(rt)?.as_micros())?;
@@ -77,7 +77,7 @@ fn measure_plain(rt: &HostRuntime) -> anyhow::Result<()> {
 // Has one server serve all shards, and looks again and again whether its restart may be approved.
 fn measure_approve(rt: &HostRuntime) -> anyhow::Result<()> {
     let rows = Rows::new(rt.alloc(), FULL, 1)?;
-    let mut books = Books::new(rt.alloc(), &rows.servers, &rows.groups, &rows.shards)?;
+    let mut books = rows.books(rt.alloc())?;
     let Some(a) = ServerId::new(1) else {
         return Ok(());
     };

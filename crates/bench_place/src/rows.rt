@@ -1,9 +1,11 @@
 use sm_place::books::Books;
+use sm_place::books_fault::BooksFault;
 use sm_place::laws::fit_leaves_room;
 use sm_ranges::server_id::ServerId;
 use sm_ranges::shard_id::ShardId;
 use sm_ranges::stand::Stand;
-use sm_rows::{GroupRow, ServerRow, ShardRow};
+use sm_rows::limits::MAX_DOMAIN_DOWN;
+use sm_rows::{DomainRow, GroupRow, ServerRow, ShardRow, equal_domains};
 use std::alloc::{AllocError, Global};
 
 /// Rows of servers in as many domains, of groups, and of as many shards of load 1, one a group.
@@ -12,6 +14,7 @@ pub(crate) struct Rows {
     pub(crate) servers: Vec<ServerRow>,
     pub(crate) groups: Vec<GroupRow>,
     pub(crate) shards: Vec<ShardRow>,
+    pub(crate) domains: Vec<DomainRow>,
 }
 
 impl Rows {
@@ -43,10 +46,22 @@ impl Rows {
             })?;
         }
         Ok(Rows {
+            domains: equal_domains(alloc, &servers, MAX_DOMAIN_DOWN)?,
             servers,
             groups,
             shards,
         })
+    }
+
+    /// The books of the rows.
+    pub(crate) fn books(&self, alloc: Global) -> Result<Books, BooksFault> {
+        Books::new(
+            alloc,
+            &self.servers,
+            &self.groups,
+            &self.shards,
+            &self.domains,
+        )
     }
 }
 

@@ -9,40 +9,46 @@ use Rattle.sm_rows.specs.declared.limits.TheConstants.{MAX_LIMIT}
 use Rattle.sm_rows.specs.declared.server_row.ServerRow.{ServerRow}
 use Rattle.sm_rows.specs.declared.group_row.GroupRow.{GroupRow}
 use Rattle.sm_rows.specs.declared.shard_row.ShardRow.{ShardRow}
+use Rattle.sm_rows.specs.declared.domain_row.DomainRow.{DomainRow}
 use Rattle.sm_rows.specs.Rows.{are_servers, are_groups, are_shards}
-use Rattle.sm_rows.specs.Kept.{AreServers, AreGroups, AreShards}
-use Rattle.sm_rows.specs.lemmas.Keeping.{AreServers-are_servers, AreGroups-are_groups, AreShards-are_shards}
+use Rattle.sm_rows.specs.Domains.{are_domains}
+use Rattle.sm_rows.specs.Kept.{AreServers, AreGroups, AreShards, AreDomains}
+use Rattle.sm_rows.specs.lemmas.Keeping.{AreServers-are_servers, AreGroups-are_groups, AreShards-are_shards, AreDomains-are_domains}
 use Rattle.sm_place.specs.declared.server_state.ServerState.TheVariants.{Up}
 use Rattle.sm_place.specs.declared.books_fault.BooksFault.{BooksFault}
-use Rattle.sm_place.specs.declared.books_fault.BooksFault.TheVariants.{BadServers, BadGroups, BadShards}
+use Rattle.sm_place.specs.declared.books_fault.BooksFault.TheVariants.{BadServers, BadGroups, BadShards, BadDomains}
 use Rattle.sm_place.specs.Books.{no_server, no_group, no_shard, place_of, first_books_fault, vacant_shard, shard_at}
 use Rattle.sm_place.specs.Room.{load_on, is_in, count_in}
 use Rattle.sm_place.specs.Counters.{IsTallied}
 use Rattle.sm_place.specs.Ranks.{Ranking, domain_cell, AreRanked}
 
 -- rows without a fault keep their rules
-pub record AreBooks (servers : List ServerRow) (groups : List GroupRow) (shards : List ShardRow) : Type 0 where
+pub record AreBooks (servers : List ServerRow) (groups : List GroupRow) (shards : List ShardRow) (domains : List DomainRow) : Type 0 where
   pub of_servers : AreServers servers
   pub of_groups : AreGroups groups
   pub of_shards : AreShards (length groups) shards
+  pub of_domains : AreDomains servers domains
 
-pub AreBooks-no_fault : (servers : List ServerRow) (groups : List GroupRow) (shards : List ShardRow)
-    → first_books_fault servers groups shards ≡ None → AreBooks servers groups shards
-AreBooks-no_fault servers groups shards e =
-    let t = three (are_servers servers) (are_groups groups) (are_shards (length groups) shards) e in
+pub AreBooks-no_fault : (servers : List ServerRow) (groups : List GroupRow) (shards : List ShardRow) (domains : List DomainRow)
+    → first_books_fault servers groups shards domains ≡ None → AreBooks servers groups shards domains
+AreBooks-no_fault servers groups shards domains e =
+    let t = four (are_servers servers) (are_groups groups) (are_shards (length groups) shards) (are_domains servers domains) e in
     record {
       of_servers = AreServers-are_servers servers t.0;
       of_groups = AreGroups-are_groups groups t.1;
       of_shards = AreShards-are_shards (length groups) shards t.2;
+      of_domains = AreDomains-are_domains servers domains t.3;
     }
   where
-    three : (p q r : Bool)
-        → ◌≡◌ {A = Option BooksFault} (cond p (cond q (cond r None (Some BadShards)) (Some BadGroups)) (Some BadServers)) None
-        → (p ≡ true) × (q ≡ true) × (r ≡ true)
-    three true true true e = (refl, refl, refl)
-    three true true false e = absurd (cc)
-    three true false r e = absurd (cc)
-    three false q r e = absurd (cc)
+    four : (p q r s : Bool)
+        → ◌≡◌ {A = Option BooksFault}
+        (cond p (cond q (cond r (cond s None (Some BadDomains)) (Some BadShards)) (Some BadGroups)) (Some BadServers)) None
+        → (p ≡ true) × (q ≡ true) × (r ≡ true) × (s ≡ true)
+    four true true true true e = (refl, refl, refl, refl)
+    four true true true false e = absurd (cc)
+    four true true false s e = absurd (cc)
+    four true false r s e = absurd (cc)
+    four false q r s e = absurd (cc)
 
 -- vacant shards load no server
 load_on-vacant : (rows : List ShardRow) (a : ℕ) → load_on (map vacant_shard rows) a ≡ 0
@@ -75,11 +81,11 @@ shard_at-vacant (row ∷ rows) zero h = refl
 shard_at-vacant (row ∷ rows) (suc k) h = shard_at-vacant rows k (omega arith)
 
 -- new counters agree with new books
-pub IsTallied-new : (servers : List ServerRow) (groups : List GroupRow) (shards : List ShardRow) (r : Ranking)
-    → AreBooks servers groups shards → AreRanked servers r
+pub IsTallied-new : (servers : List ServerRow) (groups : List GroupRow) (shards : List ShardRow) (domains : List DomainRow) (r : Ranking)
+    → AreBooks servers groups shards domains → AreRanked servers r
     → IsTallied servers groups (map vacant_shard shards) (replicate (length servers) Up) (replicate (length servers) 0)
     (replicate (length groups * r.width) 0) r
-IsTallied-new servers groups shards r ok ranked = record {
+IsTallied-new servers groups shards domains r ok ranked = record {
   has_ranges = record {
     servers_rise = ok.of_servers.ids_rise;
     states_len = length-replicate (length servers) Up;

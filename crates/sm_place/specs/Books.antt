@@ -6,12 +6,14 @@ use Rattle.sm_ranges.specs.declared.stand.Stand.TheVariants.{Vacant}
 use Rattle.sm_rows.specs.declared.server_row.ServerRow.{ServerRow}
 use Rattle.sm_rows.specs.declared.group_row.GroupRow.{GroupRow}
 use Rattle.sm_rows.specs.declared.shard_row.ShardRow.{ShardRow}
+use Rattle.sm_rows.specs.declared.domain_row.DomainRow.{DomainRow}
 use Rattle.sm_place.specs.declared.shard.Shard.{Shard}
 use Rattle.sm_place.specs.declared.server_state.ServerState.{ServerState}
 use Rattle.sm_place.specs.declared.server_state.ServerState.TheVariants.{Up}
 use Rattle.sm_place.specs.declared.books_fault.BooksFault.{BooksFault}
-use Rattle.sm_place.specs.declared.books_fault.BooksFault.TheVariants.{BadServers, BadGroups, BadShards}
+use Rattle.sm_place.specs.declared.books_fault.BooksFault.TheVariants.{BadServers, BadGroups, BadShards, BadDomains}
 use Rattle.sm_rows.specs.Rows.{are_servers, are_groups, are_shards}
+use Rattle.sm_rows.specs.Domains.{are_domains}
 
 -- what the books hold; the states are in the order of the servers
 pub record BooksView : Type 0 where
@@ -19,6 +21,7 @@ pub record BooksView : Type 0 where
   pub groups : List GroupRow
   pub shards : List Shard
   pub states : List ServerState
+  pub domains : List DomainRow
 
 -- what is read where there is no row of a server
 abbrev pub no_server : ServerRow
@@ -68,21 +71,22 @@ state_of books a = slice_index_or books.states (place_of books.servers a) Up
 abbrev pub with_state : BooksView → ℕ → ServerState → BooksView
 with_state books a state = record books { states = slice_set books.states (place_of books.servers a) state }
 
--- the first fault of rows, in the order BadServers, BadGroups, BadShards; none where they make books
-abbrev pub first_books_fault : List ServerRow → List GroupRow → List ShardRow → Option BooksFault
-first_books_fault servers groups shards =
-    if are_servers servers then (if are_groups groups then (if are_shards (length groups) shards then None
-    else Some BadShards) else Some BadGroups) else Some BadServers
+-- the first fault of rows, in the order BadServers, BadGroups, BadShards, BadDomains; none where they make books
+abbrev pub first_books_fault : List ServerRow → List GroupRow → List ShardRow → List DomainRow → Option BooksFault
+first_books_fault servers groups shards domains =
+    if are_servers servers then (if are_groups groups then (if are_shards (length groups) shards then (if are_domains servers domains then None
+    else Some BadDomains) else Some BadShards) else Some BadGroups) else Some BadServers
 
 -- the shard that nobody owns yet
 abbrev pub vacant_shard : ShardRow → Shard
 vacant_shard row = record { row = row; stand = Vacant }
 
 -- the books at the start: all servers are up, all shards vacant
-abbrev pub new_books : List ServerRow → List GroupRow → List ShardRow → BooksView
-new_books servers groups shards = record {
+abbrev pub new_books : List ServerRow → List GroupRow → List ShardRow → List DomainRow → BooksView
+new_books servers groups shards domains = record {
   servers = servers;
   groups = groups;
   shards = map vacant_shard shards;
   states = replicate (length servers) Up;
+  domains = domains;
 }

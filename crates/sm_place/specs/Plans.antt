@@ -36,7 +36,13 @@ first_fit books k servers = find (λ a. is_ok (fit books k a)) servers
 abbrev pub books_after : BooksView → ℕ → Option ℕ → BooksView
 books_after books k None = books
 books_after books k (Some a) =
-    record { servers = books.servers; groups = books.groups; shards = with_stand books.shards k (Serving a); states = books.states }
+    record {
+      servers = books.servers;
+      groups = books.groups;
+      shards = with_stand books.shards k (Serving a);
+      states = books.states;
+      domains = books.domains;
+    }
 
 -- each of the shards in turn goes to the first of the servers that it fits
 abbrev pub plan : BooksView → List ℕ → List ℕ → PlanView

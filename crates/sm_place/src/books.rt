@@ -22,11 +22,11 @@ use crate::tallies::{move_count, move_load, other_count, other_load};
 use sm_ranges::server_id::ServerId;
 use sm_ranges::shard_id::ShardId;
 use sm_ranges::stand::Stand;
-use sm_rows::{GroupRow, ServerRow, ShardRow};
+use sm_rows::{DomainRow, GroupRow, ServerRow, ShardRow};
 use std::alloc::{AllocError, Global};
 use std::marker::Model;
 
-/// The rows of servers, groups and shards, with the state of each server and the stand of each shard.
+/// The rows of servers, groups, shards and fault domains, with the state of each server and the stand of each shard.
 /// At all times each server has the capacity for the shards that name it, and each group is within its limit in each domain.
 #[derive(Drop)]
 pub struct Books {
@@ -38,6 +38,7 @@ pub struct Books {
     loads: Vec<u32>,
     // By group and rank of a domain: the shards that name a server of the domain, 4,096 at most.
     counts: Vec<u16>,
+    domains: Vec<DomainRow>,
     ranks: Ranks,
 }
 
@@ -47,7 +48,13 @@ impl Model for Books {
 
     ghost Value = { BooksView };
 
-    ghost view = { λ b. record { servers = b.roster; groups = b.groups.items; shards = b.shards.items; states = b.states.items } };
+    ghost view = { λ b. record {
+      servers = b.roster;
+      groups = b.groups.items;
+      shards = b.shards.items;
+      states = b.states.items;
+      domains = b.domains.items;
+    } };
 
     ghost invariant = { λ b. IsTallied b.roster b.groups.items b.shards.items b.states.items b.loads.items b.counts.items b.ranks };
 }
@@ -59,12 +66,13 @@ impl Books {
         servers: &[ServerRow],
         groups: &[GroupRow],
         shards: &[ShardRow],
+        domains: &[DomainRow],
     ) -> Result<Books, BooksFault>
-        ensures ok { IfOk result (λ books. books ≡ new_books servers.now groups.now shards.now) }
-        ensures fault { IfSome (first_books_fault servers.now groups.now shards.now) (λ fault. result ≡ Err fault) }
-        ensures no_fault { IfNone (first_books_fault servers.now groups.now shards.now) (IsOkUnless result BooksFault.NoMemory) }
+        ensures ok { IfOk result (λ books. books ≡ new_books servers.now groups.now shards.now domains.now) }
+        ensures fault { IfSome (first_books_fault servers.now groups.now shards.now domains.now) (λ fault. result ≡ Err fault) }
+        ensures no_fault { IfNone (first_books_fault servers.now groups.now shards.now domains.now) (IsOkUnless result BooksFault.NoMemory) }
     {
-        if let Some(fault) = BooksFault::first(servers, groups, shards) {
+        if let Some(fault) = BooksFault::first(servers, groups, shards, domains) {
             return Err(fault);
         }
         let ranks = Ranks::new(alloc, servers)?;
@@ -75,6 +83,7 @@ impl Books {
             states: vec![in alloc; ServerState::Up; servers.len()]?,
             loads: vec![in alloc; 0; servers.len()]?,
             counts: vec![in alloc; 0; groups.len() * ranks.width()]?,
+            domains: Vec::from_slice(alloc, domains)?,
             ranks,
         })
     }
@@ -92,6 +101,14 @@ impl Books {
         ensures rising { IsStrictlyIncreasing (map (λ row. row.id) result.now) }
     {
         self.roster.rows()
+    }
+
+    /// The row of the server.
+    pub fn row(&self, a: ServerId) -> ServerRow
+        requires { IsKnown self.now.servers a }
+        ensures { result ≡ row_by_id self.now.servers a }
+    {
+        self.roster.row(a)
     }
 
     /// The rows of the groups.
@@ -113,6 +130,13 @@ impl Books {
         ensures { result.now ≡ self.now.states }
     {
         self.states.as_slice()
+    }
+
+    /// The rows of the domains, by rising numbers.
+    pub fn domains(&self) -> &[DomainRow]
+        ensures { result.now ≡ self.now.domains }
+    {
+        self.domains.as_slice()
     }
 
     /// Says, for proofs alone, what holds of all books. It does nothing.
@@ -308,6 +332,7 @@ impl Books {
             states: Vec::from_slice(alloc, &self.states)?,
             loads: Vec::from_slice(alloc, &self.loads)?,
             counts: Vec::from_slice(alloc, &self.counts)?,
+            domains: Vec::from_slice(alloc, &self.domains)?,
             ranks: self.ranks.try_clone(alloc)?,
         })
     }

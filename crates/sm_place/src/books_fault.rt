@@ -1,7 +1,9 @@
 ghost use Rattle.std.specs.Prelude.{◌≡◌};
 ghost use Rattle.sm_place.specs.Books.{first_books_fault};
 
-use sm_rows::{GroupRow, ServerRow, ShardRow, are_groups, are_servers, are_shards};
+use sm_rows::{
+    DomainRow, GroupRow, ServerRow, ShardRow, are_domains, are_groups, are_servers, are_shards,
+};
 use std::alloc::AllocError;
 use thiserror::Error;
 
@@ -17,6 +19,9 @@ pub enum BooksFault {
     /// There are not 1 to 4,096 shards, or a shard's group has no row or its cap is above 1.
     #[error("the shards break their rules")]
     BadShards,
+    /// The domains are not those of the servers, each once by rising numbers, or a `down` is above 4,095.
+    #[error("the domains break their rules")]
+    BadDomains,
     /// The rows keep their rules, and memory for the books was refused.
     #[error("out of memory")]
     NoMemory,
@@ -28,8 +33,9 @@ impl BooksFault {
         servers: &[ServerRow],
         groups: &[GroupRow],
         shards: &[ShardRow],
+        domains: &[DomainRow],
     ) -> Option<BooksFault>
-        ensures { result ≡ first_books_fault servers.now groups.now shards.now }
+        ensures { result ≡ first_books_fault servers.now groups.now shards.now domains.now }
     {
         if !are_servers(servers) {
             return Some(BooksFault::BadServers);
@@ -39,6 +45,9 @@ impl BooksFault {
         }
         if !are_shards(groups.len(), shards) {
             return Some(BooksFault::BadShards);
+        }
+        if !are_domains(servers, domains) {
+            return Some(BooksFault::BadDomains);
         }
         None
     }

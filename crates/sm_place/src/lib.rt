@@ -8,7 +8,8 @@
 //!     load: 3,
 //!     cap: 0,
 //! };
-//! let books = Books::new(alloc, &servers, &[group], &[shard])?;
+//! let domains = equal_domains(alloc, &servers, 1)?;
+//! let books = Books::new(alloc, &servers, &[group], &[shard], &domains)?;
 //! let plan = books.plan_assign(alloc)?;
 //! ```
 #![tactic(auto)]
@@ -32,4 +33,4 @@ pub use place_fault::PlaceFault;
 pub use plan::{Move, Plan};
 pub use server_state::ServerState;
 pub use shard::Shard;
-pub use sm_rows::{GroupRow, ServerRow, ShardRow};
+pub use sm_rows::{DomainRow, GroupRow, ServerRow, ShardRow};

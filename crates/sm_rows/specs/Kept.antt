@@ -1,12 +1,14 @@
--- The rules of the rows of servers, groups and shards, as facts.
-use Rattle.std.specs.Prelude.{ℕ, ◌<◌, ◌≤◌, ◌^◌, List, length, map, All}
+-- The rules of the rows of servers, groups, shards and domains, as facts.
+use Rattle.std.specs.Prelude.{ℕ, ◌≡◌, ◌<◌, ◌≤◌, ◌^◌, List, length, map, All}
 use Rattle.std.specs.List.Sorted.{IsStrictlyIncreasing}
 use Rattle.sm_ranges.specs.ServerId.{IsServer}
 use Rattle.sm_ranges.specs.declared.limits.TheConstants.{MAX_SERVER, MAX_SHARDS}
-use Rattle.sm_rows.specs.declared.limits.TheConstants.{MAX_DOMAIN, MAX_GROUPS, MAX_LIMIT, MAX_CAP}
+use Rattle.sm_rows.specs.declared.limits.TheConstants.{MAX_DOMAIN, MAX_DOMAIN_DOWN, MAX_GROUPS, MAX_LIMIT, MAX_CAP}
 use Rattle.sm_rows.specs.declared.server_row.ServerRow.{ServerRow}
 use Rattle.sm_rows.specs.declared.group_row.GroupRow.{GroupRow}
 use Rattle.sm_rows.specs.declared.shard_row.ShardRow.{ShardRow}
+use Rattle.sm_rows.specs.declared.domain_row.DomainRow.{DomainRow}
+use Rattle.sm_rows.specs.Domains.{domains_of}
 
 -- what holds of servers by their rules
 pub record AreServers (rows : List ServerRow) : Type 0 where
@@ -31,3 +33,9 @@ pub record AreShards (groups : ℕ) (rows : List ShardRow) : Type 0 where
   pub places_of_groups : All (λ row. row.group < groups) rows
   pub loads : All (λ row. row.load < 2 ^ 32) rows
   pub caps : All (λ row. row.cap ≤ MAX_CAP) rows
+
+-- what holds of domains by their rules, where these are the servers
+pub record AreDomains (servers : List ServerRow) (rows : List DomainRow) : Type 0 where
+  pub those_of_servers : map (λ row. row.domain) rows ≡ domains_of servers
+  pub domains : All (λ row. row.domain ≤ MAX_DOMAIN) rows
+  pub downs : All (λ row. row.down ≤ MAX_DOMAIN_DOWN) rows

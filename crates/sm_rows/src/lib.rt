@@ -1,4 +1,4 @@
-//! The rows of servers, groups and shards, and the rules that they keep.
+//! The rows of servers, groups, shards and fault domains, and the rules that they keep.
 //!
 //! ```rust
 //! let server = ServerRow {
@@ -12,11 +12,13 @@
 //! ```
 #![tactic(auto)]
 
+pub mod domain_row;
 pub mod group_row;
 pub mod limits;
 pub mod server_row;
 pub mod shard_row;
 
+pub use domain_row::{DomainRow, are_domains, equal_domains};
 pub use group_row::{GroupRow, are_groups};
 pub use server_row::{ServerRow, are_servers};
 pub use shard_row::{ShardRow, are_shards};

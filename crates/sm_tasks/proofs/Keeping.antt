@@ -1,13 +1,15 @@
 -- Steps of restarts keep the caps.
-use Rattle.std.proofs.Common.{ℕ, ◌<◌, ◌≤◌, ◌≡◌, Bool, true, false, cond, eqb, length, Ok, ap, sym, ◌∙◌, arith, inl, inr, ◌&&◌}
-use Rattle.std.specs.Prelude.{count_by, nat_lt}
+use Rattle.std.proofs.Common.{ℕ, ◌+◌, ◌<◌, ◌≤◌, ◌≡◌, Bool, true, false, cond, eqb, length, Ok, ap, sym, ◌∙◌, arith, inl, inr, ◌&&◌}
+use Rattle.std.specs.Prelude.{count_by, nat_lt, zip}
 use Rattle.std.proofs.lemmas.Bool.{and_cases, and_from, and_parts, eq-eqb, ltb-false, or_left, or_right}
+use Rattle.std.proofs.lemmas.Bool.Decides.{eqb_tells}
 use Rattle.std.proofs.lemmas.List.Sums.{sum_by-set}
+use Rattle.sm_rows.specs.declared.server_row.ServerRow.{ServerRow}
 use Rattle.sm_ranges.specs.declared.stand.Stand.{Stand}
 use Rattle.sm_place.specs.declared.server_state.ServerState.{ServerState}
 use Rattle.sm_place.specs.declared.server_state.ServerState.TheVariants.{Up, Asked, Approved, Stopped, Failed}
 use Rattle.sm_place.specs.declared.shard.Shard.{Shard}
-use Rattle.sm_place.specs.Books.{BooksView, IsKnown, place_of, shard_at, state_of, with_state}
+use Rattle.sm_place.specs.Books.{BooksView, IsKnown, domain_of, place_of, row_by_id, shard_at, state_of, with_state}
 use Rattle.sm_ranges.specs.Stand.{names, names_one}
 use Rattle.sm_place.specs.ServerState.{is_leaving}
 use Rattle.sm_place.specs.lemmas.Changed.{state_of-set}
@@ -15,10 +17,12 @@ use Rattle.sm_place.specs.lemmas.Named.{names_one-found, names_one-named}
 use Rattle.sm_tasks.specs.Approvals.{approvable, leaving_count, names_down, stoppable, would_be_down}
 use Rattle.sm_tasks.specs.Caps.{MeetsCaps, names_away}
 use Rattle.sm_tasks.specs.Groups.{group_count, down_of, is_of}
+use Rattle.sm_tasks.specs.Domains.{domain_count, domain_down, is_server_of}
 use Rattle.sm_tasks.specs.States.{is_away, is_paused, is_stopped}
 use Rattle.sm_tasks.proofs.Restarts.{cond_within, false_within, count_by-within, count_by-within_but}
 use Rattle.sm_tasks.proofs.Restarts.{IsApprovable-approvable, IsStoppable-stoppable, is_away-approved}
 use Rattle.sm_tasks.proofs.Restarts.{is_leaving-away}
+use Rattle.sm_tasks.proofs.Zipped.{domain_count-with_state, one_server-within}
 
 -- a test of states that the new state passes only if the old one does passes at no further server
 calm : (books : BooksView) (a : ℕ) (state : ServerState) → length books.states ≡ length books.servers → IsKnown books.servers a
@@ -74,6 +78,10 @@ MeetsCaps-calm ops books a state len known away stopped caps =
                 (names_one-named (λ b. is_stopped (state_of books b)) (shard_at books.shards k).stand found.0 found.1.0
                 (sym (ap is_stopped p.1) ∙ found.1.1))
           ];
+      domains = λ d.
+          let set = domain_count-with_state is_away books a state d len known in
+          let less = one_server-within is_away d (row_by_id books.servers a) (state_of books a) state away in
+          omega (arith, set, less, caps.domains d);
     }
 
 -- a server that is asked for, comes back or fails
@@ -146,8 +154,33 @@ MeetsCaps-approve ops books a len known e caps =
       stopped = λ k h t. caps.stopped k h
           (one_within (λ b. is_stopped (state_of new b)) (λ b. is_stopped (state_of books b)) (shard_at books.shards k).stand
           (calm books a Approved len known is_stopped (λ s. absurd (cc))) t);
+      domains = λ d.
+          let set = domain_count-with_state is_away books a Approved d len known in
+          elim (eqb_tells (domain_of books.servers a) d) [
+            | inl p ↦
+                let one : cond (is_server_of is_away d (row_by_id books.servers a, Approved)) 1 0 ≤ 1 =
+                cond_most (is_server_of is_away d (row_by_id books.servers a, Approved)) in
+                let less : domain_count is_away books d ≤ domain_count is_leaving books d =
+                count_by-within (is_server_of is_away d) (is_server_of is_leaving d) (zip books.servers books.states)
+                (λ server. away_leaves d server) in
+                let room : domain_count is_leaving books d + 1 ≤ domain_down books d = rw (← p.1) may.domain in
+                omega (arith, set, one, less, room)
+            | inr p ↦
+                let none : ◌≡◌ {A = ℕ} (cond (is_server_of is_away d (row_by_id books.servers a, Approved)) 1 0) 0 =
+                ap (λ u. cond (u && true) 1 0) p.0 in
+                omega (arith, set, none, caps.domains d)
+          ];
     }
   where
+    cond_most : (u : Bool) → cond u 1 0 ≤ 1
+    cond_most true = omega arith
+    cond_most false = omega arith
+
+    away_leaves : (d : ℕ) (server : ServerRow × ServerState) → is_server_of is_away d server ≡ true → is_server_of is_leaving d server ≡ true
+    away_leaves d server e =
+        let parts = and_parts (eqb server.0.domain d) (is_away server.1) e in
+        and_from (eqb server.0.domain d) (is_leaving server.1) parts.0 (is_leaving-away server.1 parts.1)
+
     not_named : (u v : Bool) → u ≡ true → (u && v) ≡ false → v ≡ false
     not_named true v h e = e
     not_named false v h e = absurd (cc)

@@ -2,3 +2,4 @@ mod Keeping
 mod Restarts
 mod Standing
 mod Tallies
+mod Zipped

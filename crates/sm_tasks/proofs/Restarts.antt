@@ -11,14 +11,15 @@ use Rattle.std.proofs.lemmas.List.FromFn.{length-range_with_len, get_or-range_wi
 use Rattle.std.proofs.lemmas.List.Sums.{fails_before_first, sum_by-cons, sum_by-le-sum_by}
 use Rattle.sm_place.specs.declared.server_state.ServerState.{ServerState}
 use Rattle.sm_place.specs.declared.server_state.ServerState.TheVariants.{Up, Asked, Approved, Stopped, Failed}
-use Rattle.sm_place.specs.Books.{BooksView, no_shard, shard_at, state_of}
+use Rattle.sm_place.specs.Books.{BooksView, domain_of, no_shard, shard_at, state_of}
 use Rattle.sm_ranges.specs.Stand.{names}
 use Rattle.sm_place.specs.ServerState.{is_leaving}
 use Rattle.sm_tasks.specs.declared.task_fault.ApproveFault.{ApproveFault}
-use Rattle.sm_tasks.specs.declared.task_fault.ApproveFault.TheVariants.{NotAsked, GlobalCap, ShardCap, GroupCap}
+use Rattle.sm_tasks.specs.declared.task_fault.ApproveFault.TheVariants.{NotAsked, GlobalCap, ShardCap, GroupCap, DomainCap}
 use Rattle.sm_tasks.specs.declared.task_fault.StoppedFault.{StoppedFault}
 use Rattle.sm_tasks.specs.declared.task_fault.StoppedFault.TheVariants.{NotApproved, StillServing}
-use Rattle.sm_tasks.specs.Approvals.{approvable, capped_shard, full_group, is_full, leaving_count, ok_unless, serving_shard, stoppable}
+use Rattle.sm_tasks.specs.Approvals.{approvable, capped_shard, full_domain, full_group, is_full, leaving_count, ok_unless, serving_shard, stoppable}
+use Rattle.sm_tasks.specs.Domains.{domain_count, domain_down}
 use Rattle.sm_tasks.specs.States.{is_approved, is_asked, is_away, is_paused, is_stopped}
 
 no_place : (n len : ℕ) → cond (nat_lt n len) (Some n) None ≡ None → len ≤ n
@@ -71,10 +72,13 @@ pub record IsApprovable (ops : ℕ) (books : BooksView) (a : ℕ) : Type 0 where
   pub few : leaving_count books + 1 ≤ ops
   pub uncapped : (k : ℕ) → k < length books.shards → (shard_at books.shards k).row.cap ≡ 0 → names (shard_at books.shards k).stand a ≡ false
   pub groups : (g : ℕ) → g < length books.groups → is_full books a g ≡ false
+  pub domain : domain_count is_leaving books (domain_of books.servers a) + 1 ≤ domain_down books (domain_of books.servers a)
 
 pub IsApprovable-approvable : (ops : ℕ) (books : BooksView) (a : ℕ) → approvable ops books a ≡ Ok tt → IsApprovable ops books a
 IsApprovable-approvable ops books a e =
-    let t = four (is_asked (state_of books a)) (nat_lt ops (leaving_count books + 1)) (capped_shard books a) (full_group books a) e in
+    let d = domain_of books.servers a in
+    let t = five (is_asked (state_of books a)) (nat_lt ops (leaving_count books + 1)) (capped_shard books a) (full_group books a)
+    (nat_lt (domain_down books d) (domain_count is_leaving books d + 1)) d e in
     record {
       asked = t.0;
       few = ltb-false ops (leaving_count books + 1) t.1.0;
@@ -84,19 +88,22 @@ IsApprovable-approvable ops books a e =
           let inside : g < length (range_with_len 0 (length books.groups)) = rw (length-range_with_len 0 (length books.groups)) h in
           let at : get_or (range_with_len 0 (length books.groups)) g 0 ≡ g =
           get_or-range_with_len 0 (length books.groups) g 0 h ∙ zero-add g in
-          sym (ap (is_full books a) at) ∙ fails_everywhere (is_full books a) (range_with_len 0 (length books.groups)) g 0 t.1.1.1 inside;
+          sym (ap (is_full books a) at) ∙ fails_everywhere (is_full books a) (range_with_len 0 (length books.groups)) g 0 t.1.1.1.0 inside;
+      domain = ltb-false (domain_down books d) (domain_count is_leaving books d + 1) t.1.1.1.1;
     }
   where
-    four : (p q : Bool) (x y : Option ℕ)
+    five : (p q : Bool) (x y : Option ℕ) (r : Bool) (d : ℕ)
         → ◌≡◌ {A = Result (Unit {0}) ApproveFault}
-        (cond (not p) (Err NotAsked) (cond q (Err GlobalCap) (ok_unless (option_or (option_map ShardCap x) (option_map GroupCap y)))))
+        (cond (not p) (Err NotAsked) (cond q (Err GlobalCap)
+        (ok_unless (option_or (option_map ShardCap x) (option_or (option_map GroupCap y) (option_map DomainCap (cond r (Some d) None)))))))
         (Ok tt)
-        → (p ≡ true) × ((q ≡ false) × ((x ≡ None) × (y ≡ None)))
-    four false q x y e = absurd (cc)
-    four true true x y e = absurd (cc)
-    four true false (Some k) y e = absurd (cc)
-    four true false None (Some g) e = absurd (cc)
-    four true false None None e = (refl, (refl, (refl, refl)))
+        → (p ≡ true) × ((q ≡ false) × ((x ≡ None) × ((y ≡ None) × (r ≡ false))))
+    five false q x y r d e = absurd (cc)
+    five true true x y r d e = absurd (cc)
+    five true false (Some k) y r d e = absurd (cc)
+    five true false None (Some g) r d e = absurd (cc)
+    five true false None None true d e = absurd (cc)
+    five true false None None false d e = (refl, (refl, (refl, (refl, refl))))
 
     unnamed : (u v : Bool) → u ≡ true → (u && v) ≡ false → v ≡ false
     unnamed true v h e = e

@@ -9,6 +9,7 @@ use Rattle.std.proofs.lemmas.List.Elements.{All-get_or, All-map, All-replicate}
 use Rattle.std.proofs.lemmas.List.Sums.{sum_by-le, sum_by-set}
 use Rattle.sm_ranges.specs.declared.stand.Stand.{Stand}
 use Rattle.sm_ranges.specs.declared.stand.Stand.TheVariants.{Prepared, Serving, Vacant}
+use Rattle.sm_rows.specs.declared.domain_row.DomainRow.{DomainRow}
 use Rattle.sm_rows.specs.declared.group_row.GroupRow.{GroupRow}
 use Rattle.sm_rows.specs.declared.server_row.ServerRow.{ServerRow}
 use Rattle.sm_place.specs.declared.server_state.ServerState.TheVariants.{Up}
@@ -22,6 +23,8 @@ use Rattle.sm_place.specs.lemmas.Named.{AllNamed-at, names_one-found, names_one-
 use Rattle.sm_tasks.specs.Caps.{MeetsCaps, TakesNoneLeaving, names_away, names_stopped}
 use Rattle.sm_tasks.specs.Groups.{group_count, is_of}
 use Rattle.sm_tasks.specs.States.{is_away, is_paused, is_stopped}
+use Rattle.sm_tasks.specs.Domains.{domain_count, domain_down}
+use Rattle.sm_tasks.proofs.Zipped.{domain_count-none}
 use Rattle.sm_tasks.proofs.Restarts.{cond_within, false_within, is_away-stopped, is_leaving-away}
 
 -- nothing is counted where nothing passes
@@ -52,12 +55,16 @@ MeetsCaps-all_up ops books up all = record {
       let no : names_stopped books (shard_at books.shards k).stand ≡ false =
       ap (names_stopped books) (All-get_or (λ shard. shard.stand ≡ Vacant) books.shards k no_shard h all) in
       absurd (cc);
+  domains = λ d.
+      let none : domain_count is_away books d ≡ 0 =
+      domain_count-none is_away books.servers books.states d (λ k e h. ap is_away (up k e h)) in
+      omega (arith, none);
 }
 
-pub MeetsCaps-new : (ops : ℕ) (servers : List ServerRow) (groups : List GroupRow) (shards : List ShardRow)
-    → MeetsCaps ops (new_books servers groups shards)
-MeetsCaps-new ops servers groups shards =
-    MeetsCaps-all_up ops (new_books servers groups shards)
+pub MeetsCaps-new : (ops : ℕ) (servers : List ServerRow) (groups : List GroupRow) (shards : List ShardRow) (domains : List DomainRow)
+    → MeetsCaps ops (new_books servers groups shards domains)
+MeetsCaps-new ops servers groups shards domains =
+    MeetsCaps-all_up ops (new_books servers groups shards domains)
     (All-replicate (λ state. state ≡ Up) (length servers) Up refl)
     (All-map (λ shard. shard.stand ≡ Vacant) vacant_shard shards (λ k d h. refl))
 
@@ -130,6 +137,7 @@ MeetsCaps-taken ops books k stand inside takes caps =
             let h' : j < length books.shards = rw (← length-with_stand books.shards k stand) h in
             ap (λ (x : Shard). is_paused x.stand) e ∙ caps.stopped j h' (sym (ap (λ (x : Shard). names_stopped books x.stand) e) ∙ t)
       ];
+      domains = caps.domains;
     }
 
 -- a server that stays serves the shard

@@ -4,18 +4,19 @@ use Rattle.std.specs.Prelude.{nat_lt, if◌then◌else◌, length, count_by, pos
 use Rattle.std.specs.List.{range_with_len}
 use Rattle.std.specs.Option.{option_map, option_or}
 use Rattle.sm_ranges.specs.declared.stand.Stand.{Stand}
-use Rattle.sm_place.specs.Books.{BooksView, state_of}
+use Rattle.sm_place.specs.Books.{BooksView, domain_of, state_of}
 use Rattle.sm_ranges.specs.Stand.{names, names_one}
 use Rattle.sm_place.specs.ServerState.{is_leaving}
 use Rattle.sm_tasks.specs.declared.task_fault.AlreadyFailed.{AlreadyFailed}
 use Rattle.sm_tasks.specs.declared.task_fault.AlreadyUp.{AlreadyUp}
 use Rattle.sm_tasks.specs.declared.task_fault.NotUp.{NotUp}
 use Rattle.sm_tasks.specs.declared.task_fault.ApproveFault.{ApproveFault}
-use Rattle.sm_tasks.specs.declared.task_fault.ApproveFault.TheVariants.{NotAsked, GlobalCap, ShardCap, GroupCap}
+use Rattle.sm_tasks.specs.declared.task_fault.ApproveFault.TheVariants.{NotAsked, GlobalCap, ShardCap, GroupCap, DomainCap}
 use Rattle.sm_tasks.specs.declared.task_fault.StoppedFault.{StoppedFault}
 use Rattle.sm_tasks.specs.declared.task_fault.StoppedFault.TheVariants.{NotApproved, StillServing}
 use Rattle.sm_tasks.specs.States.{is_up, is_asked, is_approved, is_failed, is_paused}
 use Rattle.sm_tasks.specs.Groups.{group_count, down_of}
+use Rattle.sm_tasks.specs.Domains.{domain_count, domain_down}
 
 -- success, unless there is a fault
 abbrev pub ok_unless : {E : Type 0} → Option E → Result (Unit {0}) E
@@ -52,12 +53,19 @@ is_full books a g =
 abbrev pub full_group : BooksView → ℕ → Option ℕ
 full_group books a = position (is_full books a) (range_with_len 0 (length books.groups))
 
+-- the server's domain, where with the server more of its servers than may be would be leaving
+abbrev pub full_domain : BooksView → ℕ → Option ℕ
+full_domain books a =
+    let d = domain_of books.servers a in
+    if nat_lt (domain_down books d) (domain_count is_leaving books d + 1) then Some d else None
+
 -- whether the restart of the server is approved, where at most `ops` servers may be leaving
 abbrev pub approvable : ℕ → BooksView → ℕ → Result (Unit {0}) ApproveFault
 approvable ops books a =
     if not (is_asked (state_of books a)) then Err NotAsked
     else (if nat_lt ops (leaving_count books + 1) then Err GlobalCap
-    else ok_unless (option_or (option_map ShardCap (capped_shard books a)) (option_map GroupCap (full_group books a))))
+    else ok_unless (option_or (option_map ShardCap (capped_shard books a))
+    (option_or (option_map GroupCap (full_group books a)) (option_map DomainCap (full_domain books a)))))
 
 -- the lowest shard that names the server and is not paused
 abbrev pub serving_shard : BooksView → ℕ → Option ℕ

@@ -6,6 +6,7 @@ use Rattle.sm_ranges.specs.Stand.{AllNamed, names, names_one}
 use Rattle.sm_place.specs.ServerState.{is_leaving}
 use Rattle.sm_tasks.specs.States.{is_away, is_paused, is_stopped}
 use Rattle.sm_tasks.specs.Groups.{group_count, down_of}
+use Rattle.sm_tasks.specs.Domains.{domain_count, domain_down}
 
 -- whether the stand names a server that is away by approval
 abbrev pub names_away : BooksView → Stand → Bool
@@ -16,7 +17,8 @@ abbrev pub names_stopped : BooksView → Stand → Bool
 names_stopped books stand = names_one (λ b. is_stopped (state_of books b)) stand
 
 -- what approved restarts keep to: at most `ops` servers are away, no shard of cap 0 names one of them, of each group at
--- most `down` shards name one, and each shard that names a stopped server is paused
+-- most `down` shards name one, each shard that names a stopped server is paused, and of each domain at most `down` servers
+-- are away
 pub record MeetsCaps (ops : ℕ) (books : BooksView) : Type 0 where
   pub servers : count_by is_away books.states ≤ ops
   pub shards : (k : ℕ) → k < length books.shards
@@ -24,6 +26,7 @@ pub record MeetsCaps (ops : ℕ) (books : BooksView) : Type 0 where
   pub groups : (g : ℕ) → g < length books.groups → group_count (names_away books) books.shards g ≤ down_of books g
   pub stopped : (k : ℕ) → k < length books.shards
       → names_stopped books (shard_at books.shards k).stand ≡ true → is_paused (shard_at books.shards k).stand ≡ true
+  pub domains : (d : ℕ) → domain_count is_away books d ≤ domain_down books d
 
 -- each server that the new stand names is not leaving; or the old stand named it, and a paused shard stays paused
 abbrev pub TakesNoneLeaving : BooksView → Stand → Stand → Type 0

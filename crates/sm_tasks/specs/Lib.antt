@@ -1,4 +1,5 @@
 pub mod Approvals
 pub mod Caps
+pub mod Domains
 pub mod Groups
 pub mod States

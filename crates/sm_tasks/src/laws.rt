@@ -3,6 +3,7 @@
 ghost use Rattle.std.specs.Prelude.{◌≡◌, ℕ, ◌<◌, All, Ok, List, false, length, true};
 ghost use Rattle.sm_ranges.specs.declared.stand.Stand.{Stand};
 ghost use Rattle.sm_ranges.specs.declared.stand.Stand.TheVariants.{Prepared, Serving, Vacant};
+ghost use Rattle.sm_rows.specs.declared.domain_row.DomainRow.{DomainRow};
 ghost use Rattle.sm_rows.specs.declared.group_row.GroupRow.{GroupRow};
 ghost use Rattle.sm_rows.specs.declared.server_row.ServerRow.{ServerRow};
 ghost use Rattle.sm_place.specs.declared.server_state.ServerState.TheVariants.{Approved, Asked, Failed, Stopped, Up};
@@ -19,8 +20,8 @@ pub fn all_up_meets_caps()
     ensures all_up { (ops : ℕ) (books : BooksView)
         → All (λ state. state ≡ Up) books.states → All (λ shard. shard.stand ≡ Vacant) books.shards
         → MeetsCaps ops books }
-    ensures new { (ops : ℕ) (servers : List ServerRow) (groups : List GroupRow) (shards : List ShardRow)
-        → MeetsCaps ops (new_books servers groups shards) }
+    ensures new { (ops : ℕ) (servers : List ServerRow) (groups : List GroupRow) (shards : List ShardRow) (domains : List DomainRow)
+        → MeetsCaps ops (new_books servers groups shards domains) }
 {}
 
 /// Each step of a restart that is made keeps the caps. Coming back and failing keep them whatever the state was.

@@ -10,6 +10,7 @@
 #![tactic(auto)]
 
 mod counts;
+mod domains;
 mod groups;
 pub mod laws;
 pub mod task_fault;

@@ -22,6 +22,9 @@ pub enum ApproveFault {
     /// the server or one that is leaving.
     #[error("too many shards of group {0} would be down")]
     GroupCap(u16),
+    /// The domain of the server, of which with this server more than its `down` would be Approved, Stopped or Failed.
+    #[error("too many servers of domain {0} would be down")]
+    DomainCap(u16),
 }
 
 /// Why a server may not be stopped: the first reason that applies, in this order.

@@ -5,6 +5,7 @@ ghost use Rattle.sm_place.specs.declared.server_state.ServerState.TheVariants.{A
 ghost use Rattle.sm_tasks.specs.Approvals.{approvable, askable, failable, returnable, stoppable};
 
 use crate::counts::{capped_shard, leaving_count, serving_shard};
+use crate::domains::full_domain;
 use crate::groups::full_group;
 use crate::task_fault::{AlreadyFailed, AlreadyUp, ApproveFault, NotUp, StoppedFault};
 use sm_place::{Books, ServerState};
@@ -80,6 +81,9 @@ impl Tasks {
         }
         if let Some(g) = full_group(books, a) {
             return Err(ApproveFault::GroupCap(g));
+        }
+        if let Some(d) = full_domain(books, a) {
+            return Err(ApproveFault::DomainCap(d));
         }
         Ok(())
     }

@@ -9,7 +9,8 @@ ghost use Rattle.sm_place.specs.Room.{fit};
 use sm_place::laws::{fewer_names_leave_room, fit_leaves_room};
 use sm_place::{Books, PlaceFault};
 use sm_ranges::{ServerId, ShardId, Stand};
-use sm_rows::{GroupRow, ServerRow, ShardRow};
+use sm_rows::limits::MAX_DOMAIN_DOWN;
+use sm_rows::{GroupRow, ServerRow, ShardRow, equal_domains};
 use std::alloc::Global;
 use std::process::Abort;
 use std::test::Fail;
@@ -41,6 +42,17 @@ pub(crate) fn equal_groups(
     Ok(vec![in alloc; group; count]?)
 }
 
+/// Books of these rows, whose domains have no cap.
+pub(crate) fn open_books(
+    alloc: Global,
+    servers: &[ServerRow],
+    groups: &[GroupRow],
+    shards: &[ShardRow],
+) -> Result<Books, Fail> {
+    let domains = equal_domains(alloc, servers, MAX_DOMAIN_DOWN)?;
+    Ok(Books::new(alloc, servers, groups, shards, &domains)?)
+}
+
 /// Three servers in two domains, the second of this capacity and the others of 2, one group, and two shards of load 1, the
 /// first of which may not be down.
 pub(crate) fn new_books(alloc: Global, group: GroupRow, capacity: u32) -> Result<Books, Fail> {
@@ -50,7 +62,7 @@ pub(crate) fn new_books(alloc: Global, group: GroupRow, capacity: u32) -> Result
         server_row(3, 1, 2)?,
     ];
     let shards = [shard_row(0, 0), shard_row(0, 1)];
-    Ok(Books::new(alloc, &servers, &[group], &shards)?)
+    open_books(alloc, &servers, &[group], &shards)
 }
 
 pub(crate) fn server(rt: &impl Abort, books: &Books, a: u16) -> Result<ServerId, Fail>

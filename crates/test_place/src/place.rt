@@ -1,12 +1,12 @@
 use crate::common::{
-    assign_all, equal_groups, narrow, new_books, prepare_gives, server, server_row, shard,
-    shard_row,
+    assign_all, equal_groups, narrow, new_books, open_books, prepare_gives, server, server_row,
+    shard, shard_row,
 };
 use sm_place::{Books, BooksFault, Move, PlaceFault, Plan, ServerState};
 use sm_ranges::limits::{MAX_SERVER, MAX_SHARD, MAX_SHARDS};
 use sm_ranges::{ServerId, Stand};
 use sm_rows::limits::{MAX_DOMAIN, MAX_GROUPS, MAX_LIMIT};
-use sm_rows::{GroupRow, ServerRow, ShardRow};
+use sm_rows::{GroupRow, ServerRow, ShardRow, equal_domains};
 use std::alloc::{AllocError, Global};
 use std::process::Abort;
 use std::test::Fail;
@@ -72,7 +72,8 @@ fn plans_a_shard(rt: HostRuntime) -> Result<(), Fail> {
         load: 3,
         cap: 0,
     };
-    let books = Books::new(alloc, &servers, &[group], &[shard])?;
+    let domains = equal_domains(alloc, &servers, 1)?;
+    let books = Books::new(alloc, &servers, &[group], &[shard], &domains)?;
     let plan = books.plan_assign(alloc)?;
     assert!(rt; has_moves(&plan, &[(0, 2)]));
     assert!(rt; has_left(&plan, &[]));
@@ -90,6 +91,13 @@ fn shows_its_rows(rt: HostRuntime) -> Result<(), Fail> {
     let books = new_books(rt.alloc(), group(2), 2)?;
     assert!(rt; books.rows().len() == 3);
     assert!(rt; books.groups().len() == 1);
+    assert!(rt; books.domains().len() == 2);
+    assert_capacity(&rt, &books, 3, 2)
+}
+
+fn assert_capacity(rt: &impl Abort, books: &Books, a: u16, capacity: u32) -> Result<(), Fail> {
+    let a = server(rt, books, a)?;
+    assert!(rt; books.row(a).capacity == capacity);
     Ok(())
 }
 
@@ -180,11 +188,12 @@ fn made_in_two(rt: &impl Abort, alloc: Global) -> Result<Books, Fail> {
         server_row(3, 1, 2)?,
     ];
     let shards = [shard_row(0, 0), shard_row(0, 1)];
-    match Books::new(alloc, &servers, &[group(1)], &shards) {
+    let domains = equal_domains(alloc, &servers, 1).or_else(|_| equal_domains(alloc, &servers, 1))?;
+    match Books::new(alloc, &servers, &[group(1)], &shards, &domains) {
         Ok(books) => Ok(books),
         Err(fault) => {
             assert_eq!(*rt; fault, BooksFault::NoMemory);
-            Ok(Books::new(alloc, &servers, &[group(1)], &shards)?)
+            Ok(Books::new(alloc, &servers, &[group(1)], &shards, &domains)?)
         }
     }
 }
@@ -250,9 +259,10 @@ fn refused_memory_changes_nothing(rt: HostRuntime) -> Result<(), Fail> {
     assert_failed(&rt, &books, 2)
 }
 
-// Whether a server, a group of this limit and a shard of this cap make no books, for this reason.
+// Whether a server, a group of this limit and a shard of this cap make no books without a row of a domain, for this reason.
 fn is_refused(alloc: Global, server: ServerRow, limit: u16, cap: u8, fault: BooksFault) -> bool {
-    Books::new(alloc, &[server], &[group(limit)], &[shard_row(0, cap)]).err() == Some(fault)
+    let shards = [shard_row(0, cap)];
+    Books::new(alloc, &[server], &[group(limit)], &shards, &[]).err() == Some(fault)
 }
 
 #[test]
@@ -270,9 +280,16 @@ fn names_bad_groups_before_shards(rt: HostRuntime) -> Result<(), Fail> {
 }
 
 #[test]
-fn names_bad_shards_last(rt: HostRuntime) -> Result<(), Fail> {
+fn names_bad_shards_before_domains(rt: HostRuntime) -> Result<(), Fail> {
     let server = server_row(1, 0, 2)?;
     assert!(rt; is_refused(rt.alloc(), server, MAX_LIMIT, 2, BooksFault::BadShards));
+    Ok(())
+}
+
+#[test]
+fn names_bad_domains_last(rt: HostRuntime) -> Result<(), Fail> {
+    let server = server_row(1, 0, 2)?;
+    assert!(rt; is_refused(rt.alloc(), server, MAX_LIMIT, 1, BooksFault::BadDomains));
     Ok(())
 }
 
@@ -299,7 +316,7 @@ fn full_books(alloc: Global) -> Result<Books, Fail> {
     let servers = all_servers(alloc)?;
     let groups = equal_groups(alloc, group(1), MAX_GROUPS)?;
     let shards = all_shards(alloc)?;
-    Ok(Books::new(alloc, &servers, &groups, &shards)?)
+    open_books(alloc, &servers, &groups, &shards)
 }
 
 // Whether the plan moves all shards.
@@ -340,7 +357,7 @@ fn books_of_the_greatest_domain(alloc: Global) -> Result<Books, Fail> {
     let servers = [server_row(MAX_SERVER, MAX_DOMAIN, 2)?];
     let groups = equal_groups(alloc, group(1), MAX_GROUPS)?;
     let shards = [shard_row(MAX_SHARD, 1), shard_row(MAX_SHARD, 1)];
-    Ok(Books::new(alloc, &servers, &groups, &shards)?)
+    open_books(alloc, &servers, &groups, &shards)
 }
 
 #[test]

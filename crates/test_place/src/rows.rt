@@ -1,8 +1,10 @@
 use crate::common::{server_row, shard_row};
 use sm_ranges::ServerId;
 use sm_ranges::limits::{MAX_SERVER, MAX_SHARD};
-use sm_rows::limits::{MAX_DOMAIN, MAX_GROUPS, MAX_LIMIT};
-use sm_rows::{GroupRow, ServerRow, are_groups, are_servers, are_shards};
+use sm_rows::limits::{MAX_DOMAIN, MAX_DOMAIN_DOWN, MAX_GROUPS, MAX_LIMIT};
+use sm_rows::{
+    DomainRow, GroupRow, ServerRow, are_domains, are_groups, are_servers, are_shards, equal_domains,
+};
 use std::test::Fail;
 
 #[test]
@@ -52,4 +54,50 @@ fn shards_keep_their_limits(rt: HostRuntime) {
     assert!(rt; !is_shard(MAX_GROUPS - 1, MAX_SHARD, 1));
     assert!(rt; !is_shard(MAX_GROUPS, 0, 2));
     assert!(rt; !are_shards(MAX_GROUPS, &[]));
+}
+
+fn domain_row(domain: u16, down: u16) -> DomainRow {
+    DomainRow { domain, down }
+}
+
+// Three servers of the least and the greatest domain.
+fn servers_apart() -> Result<[ServerRow; 3], Fail> {
+    Ok([
+        server_row(1, MAX_DOMAIN, 0)?,
+        server_row(2, 0, 0)?,
+        server_row(3, 0, 0)?,
+    ])
+}
+
+#[test]
+fn domains_keep_their_limits(rt: HostRuntime) -> Result<(), Fail> {
+    let servers = servers_apart()?;
+    let (first, last) = (domain_row(0, 1), domain_row(MAX_DOMAIN, MAX_DOMAIN_DOWN));
+    assert!(rt; last.is_in_range());
+    assert!(rt; are_domains(&servers, &[first, last]));
+    assert!(rt;
+        !are_domains(
+            &servers,
+            &[first, domain_row(MAX_DOMAIN, MAX_DOMAIN_DOWN + 1)]
+        )
+    );
+    Ok(())
+}
+
+#[test]
+fn domains_are_those_of_servers(rt: HostRuntime) -> Result<(), Fail> {
+    let servers = servers_apart()?;
+    let (first, last) = (domain_row(0, 1), domain_row(MAX_DOMAIN, 1));
+    assert!(rt; !are_domains(&servers, &[first]));
+    assert!(rt; !are_domains(&servers, &[last, first]));
+    assert!(rt; !are_domains(&servers, &[first, first, last]));
+    assert!(rt; !are_domains(&servers, &[first, domain_row(1, 1), last]));
+    Ok(())
+}
+
+#[test]
+fn equal_domains_are_those_of_servers(rt: HostRuntime) -> Result<(), Fail> {
+    let rows = equal_domains(rt.alloc(), &servers_apart()?, 7)?;
+    assert!(rt; rows.as_slice() == [domain_row(0, 7), domain_row(MAX_DOMAIN, 7)].as_slice());
+    Ok(())
 }

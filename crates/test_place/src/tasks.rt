@@ -1,11 +1,12 @@
 use crate::common::{
-    assign_all, equal_groups, narrow, new_books, prepare_gives, server, server_row, shard_row,
+    assign_all, equal_groups, narrow, new_books, open_books, prepare_gives, server, server_row,
+    shard_row,
 };
 use sm_place::{Books, ServerState};
 use sm_ranges::limits::{MAX_SERVER, MAX_SHARDS};
 use sm_ranges::{ServerId, ShardId, Stand};
 use sm_rows::limits::{MAX_DOMAIN, MAX_GROUPS};
-use sm_rows::{GroupRow, ShardRow};
+use sm_rows::{GroupRow, ShardRow, equal_domains};
 use sm_tasks::{AlreadyFailed, AlreadyUp, ApproveFault, NotUp, StoppedFault, Tasks};
 use std::alloc::Global;
 use std::process::Abort;
@@ -42,8 +43,18 @@ fn tasks_of(ops: u16) -> Tasks {
 
 // Makes the steps in turn, with at most one server leaving.
 fn make_all(rt: &impl Abort, books: &mut Books, steps: &[(u16, Step)]) -> Result<(), Fail> {
+    make_each(rt, books, 1, steps)
+}
+
+// Makes the steps in turn, with at most so many servers leaving.
+fn make_each(
+    rt: &impl Abort,
+    books: &mut Books,
+    ops: u16,
+    steps: &[(u16, Step)],
+) -> Result<(), Fail> {
     for (a, step) in steps {
-        make(rt, books, 1, *step, *a)?;
+        make(rt, books, ops, *step, *a)?;
     }
     Ok(())
 }
@@ -127,6 +138,39 @@ fn group_cap(rt: HostRuntime) -> Result<(), Fail> {
     make_all(&rt, &mut books, &steps)
 }
 
+// Three servers, of which the last two are of domain 1, where of each domain one may be down.
+fn capped_books(alloc: Global) -> Result<Books, Fail> {
+    let servers = [
+        server_row(1, 0, 2)?,
+        server_row(2, 1, 2)?,
+        server_row(3, 1, 2)?,
+    ];
+    let group = GroupRow { limit: 2, down: 1 };
+    let domains = equal_domains(alloc, &servers, 1)?;
+    Ok(Books::new(alloc, &servers, &[group], &[shard_row(0, 1)], &domains)?)
+}
+
+// A failed server counts in its domain.
+#[test]
+fn domain_caps(rt: HostRuntime) -> Result<(), Fail> {
+    let mut books = capped_books(rt.alloc())?;
+    let steps = [
+        (1, Step::Ask(Ok(()))),
+        (2, Step::Ask(Ok(()))),
+        (3, Step::Ask(Ok(()))),
+        (2, Step::Approve(Ok(()))),
+        (3, Step::Approve(Err(ApproveFault::DomainCap(1)))),
+        (1, Step::Approve(Ok(()))),
+        (2, Step::Back(Ok(()))),
+        (3, Step::Approve(Ok(()))),
+        (2, Step::Ask(Ok(()))),
+        (2, Step::Approve(Err(ApproveFault::DomainCap(1)))),
+        (3, Step::Fail(Ok(()))),
+        (2, Step::Approve(Err(ApproveFault::DomainCap(1)))),
+    ];
+    make_each(&rt, &mut books, 3, &steps)
+}
+
 #[test]
 fn steps_out_of_turn(rt: HostRuntime) -> Result<(), Fail> {
     let mut books = new_books(rt.alloc(), GroupRow { limit: 2, down: 1 }, 2)?;
@@ -194,6 +238,14 @@ fn faults_of_approvals_have_texts(rt: HostRuntime) -> Result<(), Fail> {
     );
     assert!(rt; is_approve_text(alloc, capped, "shard 4095 may not be down")?);
     assert!(rt; is_approve_text(alloc, full, "too many shards of group 4095 would be down")?);
+    let domain = ApproveFault::DomainCap(4095);
+    assert!(rt;
+        is_approve_text(
+            alloc,
+            domain,
+            "too many servers of domain 4095 would be down"
+        )?
+    );
     Ok(())
 }
 
@@ -229,7 +281,7 @@ fn last_books(rt: &impl Abort, alloc: Global) -> Result<Books, Fail> {
     let servers = [server_row(1, 0, 2)?, server_row(MAX_SERVER, MAX_DOMAIN, 2)?];
     let groups = equal_groups(alloc, GroupRow { limit: 1, down: 0 }, MAX_GROUPS)?;
     let shards = last_shards(alloc)?;
-    let mut books = Books::new(alloc, &servers, &groups, &shards)?;
+    let mut books = open_books(alloc, &servers, &groups, &shards)?;
     assign_all(rt, &mut books, &[(4095, MAX_SERVER, Ok(()))])?;
     Ok(books)
 }

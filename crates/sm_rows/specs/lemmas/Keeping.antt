@@ -1,18 +1,22 @@
 -- Rows that pass the tests of their rules keep the rules.
-use Rattle.std.proofs.Common.{◌≡◌, ◌≤◌, ◌<◌, ◌+◌, ◌^◌, ◌&&◌, ℕ, zero, suc, List, [], ◌∷◌, length, map, subst, Bool, true, get_or, arith, nat_le, nat_lt}
+use Rattle.std.proofs.Common.{◌≡◌, ◌≤◌, ◌<◌, ◌+◌, ◌-◌, ◌^◌, ◌&&◌, ℕ, zero, suc, List, [], ◌∷◌, length, map, subst, refl, ap, ◌∙◌, eqb, Bool, true, get_or, arith, nat_le, nat_lt}
 use Rattle.std.specs.Prelude.{All}
-use Rattle.std.specs.List.{list_all}
+use Rattle.std.specs.List.{list_all, range_with_len}
 use Rattle.std.specs.List.Sorted.{IsStrictlyIncreasing}
-use Rattle.std.proofs.lemmas.Bool.{and_parts, leb-true, ltb-true}
+use Rattle.std.proofs.lemmas.Bool.{and_parts, eqb-true, leb-true, ltb-true}
 use Rattle.std.proofs.lemmas.List.Elements.{All-nil, All-cons}
+use Rattle.std.proofs.lemmas.List.FromFn.{length-range_with_len}
+use Rattle.std.proofs.lemmas.List.Sums.{count_by-le-length, length-filter}
 use Rattle.sm_ranges.specs.ServerId.{IsServer}
 use Rattle.sm_ranges.specs.declared.limits.TheConstants.{MAX_SERVER, MAX_SHARDS}
-use Rattle.sm_rows.specs.declared.limits.TheConstants.{MAX_DOMAIN, MAX_GROUPS, MAX_LIMIT, MAX_CAP}
+use Rattle.sm_rows.specs.declared.limits.TheConstants.{MAX_DOMAIN, MAX_DOMAIN_DOWN, MAX_GROUPS, MAX_LIMIT, MAX_CAP}
 use Rattle.sm_rows.specs.declared.server_row.ServerRow.{ServerRow}
 use Rattle.sm_rows.specs.declared.group_row.GroupRow.{GroupRow}
 use Rattle.sm_rows.specs.declared.shard_row.ShardRow.{ShardRow}
+use Rattle.sm_rows.specs.declared.domain_row.DomainRow.{DomainRow}
+use Rattle.sm_rows.specs.Domains.{are_domains, are_same, domains_from, domains_of, is_domain_row, is_used}
 use Rattle.sm_rows.specs.Rows.{is_within, is_server_row, is_group_row, is_shard_row, are_rising, are_servers, are_groups, are_shards}
-use Rattle.sm_rows.specs.Kept.{AreServers, AreGroups, AreShards}
+use Rattle.sm_rows.specs.Kept.{AreServers, AreGroups, AreShards, AreDomains}
 
 -- a number within a range is from its low to its high end
 pub is_within-true : (low high n : ℕ) → is_within low high n ≡ true → (low ≤ n) × (n ≤ high)
@@ -99,3 +103,38 @@ AreShards-are_shards groups rows e =
     parts : (row : ShardRow) → is_shard_row groups row ≡ true
         → (nat_lt row.group groups ≡ true) × (is_within 0 4294967295 row.load ≡ true) × (is_within 0 MAX_CAP row.cap ≡ true)
     parts row t = three (nat_lt row.group groups) (is_within 0 4294967295 row.load) (is_within 0 MAX_CAP row.cap) t
+
+-- numbers that are the same one by one are the same
+same-are_same : (xs ys : List ℕ) → are_same xs ys ≡ true → xs ≡ ys
+same-are_same [] [] e = refl
+same-are_same [] (y ∷ ys) e = absurd (cc)
+same-are_same (x ∷ xs) [] e = absurd (cc)
+same-are_same (x ∷ xs) (y ∷ ys) e =
+    let parts = and_parts (eqb x y) (are_same xs ys) e in
+    ap (λ n. n ∷ xs) (eqb-true x y parts.0) ∙ ap (λ ns. y ∷ ns) (same-are_same xs ys parts.1)
+
+-- there are no more domains than numbers
+pub domains_of-few : (servers : List ServerRow) → length (domains_of servers) ≤ MAX_DOMAIN + 1
+unfolding domains_of
+domains_of-few servers = below (MAX_DOMAIN + 1)
+  where
+    below : (n : ℕ) → length (domains_from 0 n servers) ≤ n
+    below n =
+        let numbers = range_with_len 0 (n - 0) in
+        omega (arith, length-filter (is_used servers) numbers, count_by-le-length (is_used servers) numbers, length-range_with_len 0 (n - 0))
+
+-- domains that pass keep their rules
+pub AreDomains-are_domains : (servers : List ServerRow) (rows : List DomainRow) → are_domains servers rows ≡ true → AreDomains servers rows
+AreDomains-are_domains servers rows e =
+    let tests = and_parts (are_same (map (λ row. row.domain) rows) (domains_of servers)) (list_all is_domain_row rows) e in
+    record {
+      those_of_servers = same-are_same (map (λ row. row.domain) rows) (domains_of servers) tests.0;
+      domains = All-list_all (λ row. row.domain ≤ MAX_DOMAIN) is_domain_row
+          (λ row t. (is_within-true 0 MAX_DOMAIN row.domain (parts row t).0).1) rows tests.1;
+      downs = All-list_all (λ row. row.down ≤ MAX_DOMAIN_DOWN) is_domain_row
+          (λ row t. (is_within-true 0 MAX_DOMAIN_DOWN row.down (parts row t).1).1) rows tests.1;
+    }
+  where
+    parts : (row : DomainRow) → is_domain_row row ≡ true
+        → (is_within 0 MAX_DOMAIN row.domain ≡ true) × (is_within 0 MAX_DOMAIN_DOWN row.down ≡ true)
+    parts row t = and_parts (is_within 0 MAX_DOMAIN row.domain) (is_within 0 MAX_DOMAIN_DOWN row.down) t
