@@ -11,8 +11,18 @@ TOP = pathlib.Path(__file__).resolve().parent.parent
 PROGRAM = str(TOP / "crates" / "sm_cli" / "out" / "sm_cli")
 EXAMPLES = sorted((TOP / "examples").glob("*.in"))
 
+SECONDS = 60
 # What a run left: its exit status, what it wrote, and whether it met the failure that it was asked to meet.
 Run = namedtuple("Run", "status output complaint has_failed")
+
+
+def finished(command, **how):
+    """Runs a command to its end; one that takes too long has no status."""
+    try:
+        run = subprocess.run(command, capture_output=True, timeout=SECONDS, **how)
+    except subprocess.TimeoutExpired as late:
+        return Run(f"none in {SECONDS} seconds", late.stdout or b"", late.stderr or b"", False)
+    return Run(run.returncode, run.stdout, run.stderr, False)
 
 
 def loaded(name):
@@ -38,18 +48,17 @@ class Faults:
         names = {f"FAULT_{name.upper()}": str(value) for name, value in faults.items() if value is not None}
         with open(script, "rb") as stream:
             try:
-                run = subprocess.run([program, *arguments], stdin=stream, capture_output=True, timeout=60, pass_fds=[tells],
-                                     env={"LD_PRELOAD": self.library, "FAULT_TOLD": str(tells), **names})  # fmt: skip
+                environment = {"LD_PRELOAD": self.library, "FAULT_TOLD": str(tells), **names}
+                run = finished([program, *arguments], stdin=stream, pass_fds=[tells], env=environment)
             finally:
                 os.close(tells)
         with open(told, "rb") as failures:
-            return Run(run.returncode, run.stdout, run.stderr, bool(failures.read()))
+            return run._replace(has_failed=bool(failures.read()))
 
 
 def plain(program, arguments, script):
     """Runs the program on bytes, and nothing fails."""
-    run = subprocess.run([program, *arguments], input=script, capture_output=True, timeout=60)
-    return Run(run.returncode, run.stdout, run.stderr, False)
+    return finished([program, *arguments], input=script)
 
 
 def is_same(run, other):
