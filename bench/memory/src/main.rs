@@ -1,5 +1,6 @@
 //! Times whole runs of crates/bench_map against the same runs over Rust's own memory and maps, in turn, and compares the answers. Each
-//! line names a run, and has the nanoseconds of an operation on both sides in one round.
+//! line names a run, and has the nanoseconds of an operation on both sides in one round. With three arguments it only fills a map, so
+//! that a heap profiler sees what that takes: whose (`none`, `ours`, `rebuilt` or `theirs`), how many keys, and in which order.
 
 mod ours;
 mod theirs;
@@ -100,18 +101,45 @@ fn map_runs(round: usize, count: u32) {
         ("put of a new key", ours::insert, theirs::insert, shuffled(count)),
     ];
     for (name, ours, theirs, order) in runs {
-        let operations = order.len();
-        let rows = Rows { order, ..rows_of(count) };
-        compare(&format!("{name}, {count} keys"), round, operations, || timed(ours, &rows, &empty), || timed(theirs, &rows, &empty));
+        map_run(name, round, &empty, ours, theirs, order);
     }
 }
 
+fn map_run(name: &str, round: usize, empty: &Rows, ours: Run, theirs: Run, order: Vec<u32>) {
+    let operations = order.len();
+    let name = format!("{name}, {} keys", empty.keys.len() / KEY_BYTES);
+    let rows = Rows { order, keys: empty.keys.clone(), texts: empty.texts.clone() };
+    compare(&name, round, operations, || timed(ours, &rows, empty), || timed(theirs, &rows, empty));
+}
+
+fn put_runs(round: usize, count: u32) {
+    map_run("put of a new key", round, &rows_of(count), ours::insert, theirs::insert, shuffled(count));
+}
+
+/// Fills a map with so many keys.
+fn fill(whose: &str, count: u32, order: &str) {
+    let order = if order == "rising" { (0..count).collect() } else { shuffled(count) };
+    let rows = Rows { order, ..rows_of(count) };
+    let answer = match whose {
+        "none" => count.into(),
+        "ours" => ours::insert(&rows),
+        "rebuilt" => ours::rebuild(&rows),
+        _ => theirs::insert(&rows),
+    };
+    assert_eq!(answer, u64::from(count), "{whose}: keys are missing");
+}
+
 fn main() {
+    let words: Vec<String> = std::env::args().skip(1).collect();
+    if let [whose, count, order] = words.as_slice() {
+        return fill(whose, count.parse().expect("a number of keys"), order);
+    }
     let rounds = std::env::args().nth(1).map_or(9, |word| word.parse().expect("a number of rounds"));
     for round in 0..rounds {
         place(round, 64);
         place(round, 65_535);
         map_runs(round, 1_000);
         map_runs(round, 10_000);
+        put_runs(round, 100_000);
     }
 }

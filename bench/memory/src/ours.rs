@@ -10,6 +10,7 @@ unsafe extern "C" {
     ) -> u64;
     fn bench_map_append(keys: *const u8, keys_length: usize, texts: *const u8, texts_length: usize, order: *const u32, turns: usize) -> u64;
     fn bench_map_scan(keys: *const u8, keys_length: usize, texts: *const u8, texts_length: usize, order: *const u32, turns: usize) -> u64;
+    fn bench_map_rebuild(keys: *const u8, keys_length: usize, texts: *const u8, texts_length: usize, order: *const u32, turns: usize) -> u64;
     fn bench_map_insert(keys: *const u8, keys_length: usize, texts: *const u8, texts_length: usize, order: *const u32, turns: usize) -> u64;
 }
 
@@ -50,6 +51,10 @@ pub fn append(rows: &Rows) -> u64 {
 
 pub fn scan(rows: &Rows) -> u64 {
     done(bench_map_scan, rows)
+}
+
+pub fn rebuild(rows: &Rows) -> u64 {
+    done(bench_map_rebuild, rows)
 }
 
 pub fn insert(rows: &Rows) -> u64 {

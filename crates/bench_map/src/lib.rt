@@ -117,13 +117,26 @@ fn scanned(alloc: Global, keys: &[u8], texts: &[u8], order: &[u32]) -> Result<u6
     Ok(sum)
 }
 
-/// Puts the keys into an empty map in turn.
-fn inserted(alloc: Global, keys: &[u8], texts: &[u8], order: &[u32]) -> Result<u64, AllocError> {
+/// A map into which the keys were put in turn.
+fn filled(alloc: Global, keys: &[u8], texts: &[u8], order: &[u32]) -> Result<ArenaMap, AllocError> {
     let mut map = ArenaMap::new(alloc);
     for at in order {
         let text = row(texts, TEXT_BYTES, *at);
         map.put(row(keys, KEY_BYTES, *at), Val::Text(text))?;
     }
+    Ok(map)
+}
+
+/// How many pairs such a map has.
+fn inserted(alloc: Global, keys: &[u8], texts: &[u8], order: &[u32]) -> Result<u64, AllocError> {
+    let map = filled(alloc, keys, texts, order)?;
+    Ok(u64::try_from(map.len()).unwrap_or(u64::MAX))
+}
+
+/// How many such a map has once it was rebuilt.
+fn rebuilt(alloc: Global, keys: &[u8], texts: &[u8], order: &[u32]) -> Result<u64, AllocError> {
+    let map = filled(alloc, keys, texts, order)?;
+    let map = map.rebuild().map_err(|refused| refused.1)?;
     Ok(u64::try_from(map.len()).unwrap_or(u64::MAX))
 }
 
@@ -161,6 +174,17 @@ pub extern "C" fn bench_map_append(alloc: Global, keys: &[u8], texts: &[u8], ord
 #[unsafe(no_mangle)]
 pub extern "C" fn bench_map_scan(alloc: Global, keys: &[u8], texts: &[u8], order: &[u32]) -> u64 {
     scanned(alloc, keys, texts, order).unwrap_or(u64::MAX)
+}
+
+/// Puts the keys into an empty map in turn, and rebuilds it.
+#[unsafe(no_mangle)]
+pub extern "C" fn bench_map_rebuild(
+    alloc: Global,
+    keys: &[u8],
+    texts: &[u8],
+    order: &[u32],
+) -> u64 {
+    rebuilt(alloc, keys, texts, order).unwrap_or(u64::MAX)
 }
 
 /// Puts the keys into an empty map in turn.

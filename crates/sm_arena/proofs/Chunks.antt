@@ -212,13 +212,13 @@ module _ (old now : List Block) (place : ℕ) (span : Span) (copied count : ℕ)
 pub pushed : (bs : List Block) (block : Block) → block.chunk.bytes ≡ [] → chunks_in (bs ++ block ∷ []) ≡ chunks_in bs ++ replicate 1 []
 pushed bs block none = map-append (λ (b : Block). b.chunk.bytes) bs (block ∷ []) ∙ ap (λ (l : List ℕ). chunks_in bs ++ l ∷ []) none
 
-chunk_fits : (bs : List Block) (i : ℕ) → length (get_or (chunks_in bs) i []) < 2 ^ 63
+chunk_fits : (bs : List Block) (i : ℕ) → length (get_or (chunks_in bs) i []) < 2 ^ 32
 chunk_fits [] i = omega arith
-chunk_fits (b ∷ bs) zero = omega (arith, b.chunk.fits.0, b.chunk.fits.1, b.chunk.fits.2)
+chunk_fits (b ∷ bs) zero = omega (arith, b.chunk.fits.0, b.chunk.fits.1, b.tied.1, b.small)
 chunk_fits (b ∷ bs) (suc i) = chunk_fits bs i
 
 -- a span of bytes ends where a number still says it
-pub span_fits : (bs : List Block) (span : Span) → length (bytes_at (chunks_in bs) span) ≡ span.length → 0 < span.length → span.start + span.length < 2 ^ 63
+pub span_fits : (bs : List Block) (span : Span) → length (bytes_at (chunks_in bs) span) ≡ span.length → 0 < span.length → span.start + span.length < 2 ^ 32
 span_fits bs span full some =
     let x : List ℕ = get_or (chunks_in bs) span.chunk [] in
     omega (arith, full, some, length-take span.length (drop span.start x), length-drop span.start x, chunk_fits bs span.chunk)

@@ -10,9 +10,6 @@ use Rattle.sm_arena.specs.declared.blocks.Blocks.{Blocks}
 use Rattle.sm_arena.specs.Blocks.{chunks_in, total, HasSpace}
 use Rattle.sm_arena.specs.Sizes.{next_size, least_after, sizes_in}
 
-pub next_le : (sizes : List ℕ) → next_size sizes ≤ 65536
-next_le sizes = omega arith
-
 last_pushed : (o : Option ℕ) (xs : List ℕ) (x : ℕ) → last_or o (xs ++ x ∷ []) ≡ Some x
 last_pushed o [] x = refl
 last_pushed o (y ∷ xs) x = last_pushed (Some y) xs x

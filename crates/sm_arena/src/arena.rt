@@ -13,7 +13,8 @@ use std::marker::Model;
 ///
 /// Contracts see an arena as the pieces that were placed, by their spans, the list of the spans that were forgotten, and the
 /// sizes of its chunks. The first chunk has 1,024 bytes, and each next one twice as many, up to 65,536; a size that doesn't hold
-/// the piece, or the pair, is skipped. A piece or a pair of more than 65,536 bytes has a chunk of just its size.
+/// the piece, or the pair, is skipped. A piece or a pair of more than 65,536 bytes has a chunk of just its size. What would need a
+/// chunk of 2^32 bytes or more, or more than 2^32 chunks, is refused as memory is.
 #[derive(Drop)]
 pub struct Arena {
     blocks: Blocks,
@@ -55,7 +56,7 @@ impl Arena {
     ///
     /// # Errors
     ///
-    /// `AllocError` where memory is refused; the arena is then as it was.
+    /// `AllocError` where memory is refused, or the piece has 2^32 bytes or more; the arena is then as it was.
     pub fn place(&mut self, piece: &[u8]) -> Result<Span, AllocError>
         ensures placed { IfOk result (λ span. IsPlacing self.old piece.now span self.new) }
         ensures sizes { OnOk result (HasGrown self.old.sizes (length piece.now) self.new.sizes) }
@@ -71,7 +72,7 @@ impl Arena {
     ///
     /// # Errors
     ///
-    /// `AllocError` where memory is refused; the arena is then as it was.
+    /// `AllocError` where memory is refused, or both have 2^32 bytes or more together; the arena is then as it was.
     pub fn place_pair(&mut self, first: &[u8], second: &[u8]) -> Result<(Span, Span), AllocError>
         ensures placed { IfOk result (λ spans. IsPlacingPair self.old first.now second.now spans self.new) }
         ensures sizes { OnOk result (HasGrown self.old.sizes (length first.now + length second.now) self.new.sizes) }
@@ -90,7 +91,7 @@ impl Arena {
     ///
     /// # Errors
     ///
-    /// `AllocError` where memory is refused; the arena is then as it was.
+    /// `AllocError` where memory is refused, or the whole has 2^32 bytes or more; the arena is then as it was.
     pub fn concat(&mut self, head: Span, tail: &[u8]) -> Result<Span, AllocError>
         requires { IsPlaced self.old.placed head }
         ensures placed { IfOk result (λ span. IsPlacing self.old (bytes_of self.old.placed head ++ tail.now) span self.new) }

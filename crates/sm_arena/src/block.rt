@@ -6,9 +6,10 @@ use std::alloc::{AllocError, Global};
 /// A chunk with the allocator that frees it when it is dropped.
 pub(crate) struct Block {
     alloc: Global,
-    size: usize,
+    size: u32,
     chunk: Chunk<Global>,
     ghost tied: { (chunk.alloc ≡ alloc) × (chunk.size ≡ size) },
+    ghost small: { size < 2 ^ 32 },
 }
 
 impl Drop for Block {
@@ -24,11 +25,10 @@ impl Drop for Block {
 
 impl Block {
     /// A block of so many bytes with nothing written.
-    pub(crate) fn new(alloc: Global, size: usize) -> Result<Block, AllocError>
-        requires { size < 2 ^ 63 }
+    pub(crate) fn new(alloc: Global, size: u32) -> Result<Block, AllocError>
         ensures { IfOk result (λ block. (block.size ≡ size) × (block.chunk.bytes ≡ [])) }
     {
-        let chunk = Chunk::make(&alloc, size).ok_or(AllocError)?;
+        let chunk = Chunk::make(&alloc, size as usize).ok_or(AllocError)?;
         Ok(Block { alloc, size, chunk })
     }
 
@@ -39,19 +39,29 @@ impl Block {
         self.chunk.bytes()
     }
 
+    /// How many bytes are written so far.
+    pub(crate) fn written(&self) -> u32
+        ensures { result ≡ length self.now.chunk.bytes }
+    {
+        self.bytes().len() as u32
+    }
+
     /// How many bytes can still be written.
     pub(crate) fn room(&self) -> usize
         ensures { length self.now.chunk.bytes + result ≡ self.now.size }
     {
-        self.size - self.bytes().len()
+        self.size as usize - self.bytes().len()
     }
 
-    /// Writes the piece after what is written so far.
-    pub(crate) fn write(&mut self, piece: &[u8])
+    /// Writes the piece after what is written so far, and answers its length.
+    pub(crate) fn write(&mut self, piece: &[u8]) -> u32
         requires { length self.old.chunk.bytes + length piece.now ≤ self.old.size }
         ensures bytes { self.new.chunk.bytes ≡ self.old.chunk.bytes ++ piece.now }
         ensures same { self.new.size ≡ self.old.size }
+        ensures length { result ≡ length piece.now }
     {
+        let length = piece.len() as u32;
         self.chunk.write(piece);
+        length
     }
 }

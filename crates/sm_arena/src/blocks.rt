@@ -12,21 +12,18 @@ pub(crate) struct Blocks {
     alloc: Global,
     pub(crate) blocks: Vec<Block>,
     // The place of the block that short pieces are written into.
-    filling: usize,
+    filling: u32,
     // The least size of the next block.
-    least: usize,
+    least: u32,
     // The sum of the blocks' sizes.
     held: u128,
     ghost tied: { (least ≡ next_size (sizes_in blocks.items)) × (held ≡ sum (sizes_in blocks.items)) },
 }
 
-const FIRST_BYTES: usize = 1_024;
+const FIRST_BYTES: u32 = 1_024;
 
 // A longer piece, or a longer pair, has a block of its own.
-const BLOCK_BYTES: usize = 65_536;
-
-// No memory is longer.
-const MOST_BYTES: usize = isize::MAX as usize;
+const BLOCK_BYTES: u32 = 65_536;
 
 // How many bytes are copied at once inside the blocks.
 const PART_BYTES: usize = 1_024;
@@ -113,8 +110,11 @@ impl Blocks {
         if head.length == 0 {
             return self.write(tail);
         }
-        let length = head.length.checked_add(tail.len()).ok_or(AllocError)?;
-        let chunk = self.block_for(length)?;
+        let Ok(rest) = u32::try_from(tail.len()) else {
+            return Err(AllocError);
+        };
+        let length = head.length.checked_add(rest).ok_or(AllocError)?;
+        let chunk = self.block_for(length as usize)?;
         let start = self.written(chunk);
         self.copy(head, chunk);
         self.fill(chunk, tail);
@@ -133,35 +133,36 @@ impl Blocks {
         if span.length == 0 {
             return &[];
         }
-        &self.blocks[span.chunk].bytes()[span.start..span.start + span.length]
+        let start = span.start as usize;
+        &self.blocks[span.chunk as usize].bytes()[start..start + span.length as usize]
     }
 
     // How many bytes are written in a block.
-    fn written(&self, place: usize) -> usize
+    fn written(&self, place: u32) -> u32
         requires { place < length self.now.blocks.items }
         ensures { result ≡ length (slice_index_or (chunks_in self.now.blocks.items) place []) }
     {
-        self.blocks[place].bytes().len()
+        self.blocks[place as usize].written()
     }
 
     // Writes the piece into a block that has room for it, and answers where it lies.
-    fn fill(&mut self, place: usize, piece: &[u8]) -> Span
+    fn fill(&mut self, place: u32, piece: &[u8]) -> Span
         requires { HasSpace self.old.blocks.items place (length piece.now) }
         ensures span { result ≡ next_span (chunks_in self.old.blocks.items) place (length piece.now) }
         ensures filled { IsFilled self.old.blocks.items place piece.now self.new.blocks.items }
     {
         let start = self.written(place);
-        self.blocks[place].write(piece);
+        let length = self.blocks[place as usize].write(piece);
         Span {
             chunk: place,
             start,
-            length: piece.len(),
+            length,
         }
     }
 
     // Writes the bytes at a span once more, into a block that has room for them: part by part, as the span may lie in
     // that very block.
-    fn copy(&mut self, span: Span, place: usize)
+    fn copy(&mut self, span: Span, place: u32)
         requires inside { length (bytes_at (chunks_in self.old.blocks.items) span) ≡ span.length }
         requires room { HasSpace self.old.blocks.items place span.length }
         ensures { IsFilled self.old.blocks.items place (bytes_at (chunks_in self.old.blocks.items) span) self.new.blocks.items }
@@ -171,7 +172,7 @@ impl Blocks {
             let part = Span {
                 chunk: span.chunk,
                 start: span.start + copied,
-                length: PART_BYTES.min(span.length - copied),
+                length: (PART_BYTES as u32).min(span.length - copied),
             };
             self.copy_part(part, place);
             copied += part.length;
@@ -179,14 +180,14 @@ impl Blocks {
     }
 
     // The same of a short span, by a buffer.
-    fn copy_part(&mut self, part: Span, place: usize)
+    fn copy_part(&mut self, part: Span, place: u32)
         requires inside { length (bytes_at (chunks_in self.old.blocks.items) part) ≡ part.length }
         requires room { HasSpace self.old.blocks.items place part.length }
         requires short { part.length ≤ 1024 }
         ensures { IsFilled self.old.blocks.items place (bytes_at (chunks_in self.old.blocks.items) part) self.new.blocks.items }
     {
         let mut buffer = [0; PART_BYTES];
-        let bytes = &mut buffer[..part.length];
+        let bytes = &mut buffer[..part.length as usize];
         bytes.copy_from_slice(self.piece(part));
         self.fill(place, bytes);
     }
@@ -195,14 +196,14 @@ impl Blocks {
     fn has_room(&self, count: usize) -> bool
         ensures { IsTrue result → HasSpace self.now.blocks.items self.now.filling count }
     {
-        match self.blocks.get(self.filling) {
+        match self.blocks.get(self.filling as usize) {
             Some(block) => count <= block.room(),
             None => false,
         }
     }
 
     // The place of a block into which so many bytes can be written: the one that is being filled, or a new one.
-    fn block_for(&mut self, count: usize) -> Result<usize, AllocError>
+    fn block_for(&mut self, count: usize) -> Result<u32, AllocError>
         requires { 0 < count }
         ensures room { IfOk result (λ place. HasSpace self.new.blocks.items place count) }
         ensures grown { IsGrown (chunks_in self.old.blocks.items) (chunks_in self.new.blocks.items) }
@@ -213,10 +214,9 @@ impl Blocks {
         if self.has_room(count) {
             return Ok(self.filling);
         }
-        if count > MOST_BYTES {
+        let (Ok(place), Ok(count)) = (u32::try_from(self.blocks.len()), u32::try_from(count)) else {
             return Err(AllocError);
-        }
-        let place = self.blocks.len();
+        };
         self.grow(block_size(self.least.max(count)))?;
         if count <= BLOCK_BYTES {
             self.filling = place;
@@ -225,8 +225,7 @@ impl Blocks {
     }
 
     // Makes one more block, of so many bytes.
-    fn grow(&mut self, size: usize) -> Result<(), AllocError>
-        requires { size < 2 ^ 63 }
+    fn grow(&mut self, size: u32) -> Result<(), AllocError>
         ensures room { OnOk result (HasSpace self.new.blocks.items (length self.old.blocks.items) size) }
         ensures chunks { OnOk result (chunks_in self.new.blocks.items ≡ chunks_in self.old.blocks.items ++ replicate 1 []) }
         ensures sizes { OnOk result (sizes_in self.new.blocks.items ≡ sizes_in self.old.blocks.items ++ size ∷ []) }
@@ -242,7 +241,7 @@ impl Blocks {
 }
 
 // The least of the sizes of blocks that holds so many bytes, or just so many where none does.
-fn block_size(count: usize) -> usize
+fn block_size(count: u32) -> u32
     ensures value { result ≡ size_holding count }
     ensures holds { (count ≤ result) × (result ≤ max 65536 count) }
 {
@@ -259,7 +258,7 @@ fn block_size(count: usize) -> usize
 }
 
 // The least size of the block after one of this size, where it was `least` for that one.
-fn next_least(least: usize, size: usize) -> usize
+fn next_least(least: u32, size: u32) -> u32
     ensures { result ≡ least_after least size }
 {
     if size <= BLOCK_BYTES {

@@ -1,7 +1,7 @@
-/// Where a piece lies in the arena that placed it.
+/// Where a piece lies in the arena that placed it. It takes 12 bytes.
 #[derive(Clone, Copy, PartialEq, Eq, Debug)]
 pub struct Span {
-    pub(crate) chunk: usize,
-    pub(crate) start: usize,
-    pub(crate) length: usize,
+    pub(crate) chunk: u32,
+    pub(crate) start: u32,
+    pub(crate) length: u32,
 }

@@ -180,6 +180,10 @@ stop_inside lengths place (inr end) less = absurd (omega (arith, ap sum (take_al
 pub entry_read : (blocks : List BlockValue) (place : Place) (block : BlockValue) → HasEntry (lengths_in blocks) place → block ≡ get_or blocks place.block block → (e d : Entry) → e ≡ get_or block.entries place.offset d → e ≡ get_or (entries_in blocks) (number_of (lengths_in blocks) place) d
 entry_read blocks place block has read e d is = is ∙ (ap (λ (x : BlockValue). get_or x.entries place.offset d) read ∙ sym (entry_there blocks place block has d))
 
+-- behind all blocks stand all entries before
+pub past_number : (blocks : List BlockValue) (place : Place) → place.block ≡ length blocks → place.offset ≡ 0 → number_of (lengths_in blocks) place ≡ length (entries_in blocks)
+past_number blocks place past first = omega (arith, first, ap sum (take_all place.block (lengths_in blocks) (omega (arith, past, blocks_counted blocks))), all_entries blocks)
+
 pub end_number : (blocks : List BlockValue) (b : ℕ) (block : BlockValue) → b + 1 ≡ length blocks → block ≡ get_or blocks b block → (size : ℕ) → size ≡ length block.entries → sum (take b (lengths_in blocks)) + size ≡ length (entries_in blocks)
 end_number blocks b block last read size is =
     let next = next_block blocks b block (omega arith) in

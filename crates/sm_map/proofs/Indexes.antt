@@ -4,8 +4,8 @@ use Rattle.std.specs.Prelude.{All}
 use Rattle.std.specs.List.{insert, remove, sum_by}
 use Rattle.std.proofs.lemmas.Bool.{cases_lt}
 use Rattle.std.proofs.lemmas.List.{length-set, get_or-set_same, nil_from_length, length-append, take-set, drop-set-lt}
-use Rattle.std.proofs.lemmas.List.Concat.{length-flat_map}
-use Rattle.std.proofs.lemmas.List.Edits.{length-insert, length-remove}
+use Rattle.std.proofs.lemmas.List.Concat.{flat_map-append, length-flat_map}
+use Rattle.std.proofs.lemmas.List.Edits.{insert_end, length-insert, length-remove}
 use Rattle.std.proofs.lemmas.List.Elements.{All-set, All-take, All-drop, All-append, All-cons}
 use Rattle.std.proofs.lemmas.List.Sums.{sum_by-le}
 use Rattle.sm_map.specs.Block.{BlockValue}
@@ -14,7 +14,7 @@ use Rattle.sm_map.specs.Index.{IndexValue, IsIndex, IsReady}
 use Rattle.sm_map.specs.declared.entry.Entry.{Entry}
 use Rattle.sm_map.specs.declared.place.Place.{Place}
 use Rattle.sm_map.specs.declared.room.Room.{Room}
-use Rattle.sm_map.proofs.Blocks.{inserted, written, taken, unchanged, same_lengths, halved, dropped, number_inside, blocks_counted, length_there, before_block, parts}
+use Rattle.sm_map.proofs.Blocks.{inserted, written, taken, unchanged, same_lengths, halved, dropped, number_inside, past_number, blocks_counted, length_there, before_block, parts}
 
 -- a number of entries is far from overflow
 pub entries_bounded : (blocks : List BlockValue) → All IsFilled blocks → length (entries_in blocks) ≤ length blocks * 64
@@ -35,9 +35,9 @@ small_offset blocks len kept place has =
     let lt : place.block < length blocks = omega (arith, has.0, blocks_counted blocks) in
     omega (arith, has.1, length_there blocks place.block none lt, (kept.filled place.block none lt).1)
 
-pub gap_block : (blocks : List BlockValue) (place : Place) → IsGap (lengths_in blocks) place → (length blocks ≡ 0 → ⊥) → place.block < length blocks
+pub gap_block : (blocks : List BlockValue) (place : Place) → IsGap (lengths_in blocks) place → (place.block ≡ length blocks → ⊥) → place.block < length blocks
 gap_block blocks place (inl has) some = omega (arith, has.0, blocks_counted blocks)
-gap_block blocks place (inr none) some = absurd (some (omega (arith, none.0, blocks_counted blocks)))
+gap_block blocks place (inr end) some = absurd (some (omega (arith, end.0, blocks_counted blocks)))
 
 -- the place after the last one in a block
 pub stop_next : (blocks : List BlockValue) (len : ℕ) → IsIndex blocks len → (b : ℕ) → b < length blocks → (d : BlockValue) → IsStop (lengths_in blocks) (record { block = b + 1; offset = 0 })
@@ -156,6 +156,24 @@ module _ (blocks : List BlockValue) (len : ℕ) (kept : IsIndex blocks len) (pla
             (subst (λ (l : List BlockValue). All IsFilled l) (sym (drop-set-lt (suc place.block) blocks place.block new (omega arith))) (All-drop IsFilled (suc place.block) blocks kept.filled));
         counted = omega (arith, fewer, ap length gone_entries);
       }
+
+-- a block with one entry comes behind the others
+module _ (blocks : List BlockValue) (len : ℕ) (kept : IsIndex blocks len) (place : Place) (last : BlockValue) (e : Entry) (past : place.block ≡ length blocks) (first : place.offset ≡ 0) (one : last.entries ≡ e ∷ []) where
+  number : number_of (lengths_in blocks) place ≡ length (entries_in blocks)
+  number = past_number blocks place past first
+
+  pub behind_entries : entries_in (insert blocks place.block last) ≡ insert (entries_in blocks) (number_of (lengths_in blocks) place) e
+  behind_entries =
+      ap entries_in (ap (λ (n : ℕ). insert blocks n last) past ∙ insert_end blocks last)
+      ∙ (flat_map-append (λ (b : BlockValue). b.entries) blocks (last ∷ [])
+      ∙ (ap (λ (l : List Entry). entries_in blocks ++ (l ++ [])) one
+      ∙ sym (ap (λ (n : ℕ). insert (entries_in blocks) n e) number ∙ insert_end (entries_in blocks) e)))
+
+  pub behind_kept : IsIndex (insert blocks place.block last) (len + 1)
+  behind_kept = record {
+    filled = All-append IsFilled (take place.block blocks) _ (All-take IsFilled place.block blocks kept.filled) (All-cons IsFilled last (drop place.block blocks) (omega (arith, ap length one), omega (arith, ap length one)) (All-drop IsFilled place.block blocks kept.filled));
+    counted = omega (arith, kept.counted, ap length behind_entries, length-insert (entries_in blocks) (number_of (lengths_in blocks) place) e (omega (arith, number)));
+  }
 
 -- the room that was made, as it is known in a branch
 pub ready_as : (index seen : IndexValue) (place : Place) (room known : Room) → index ≡ seen → room ≡ known → IsReady seen place room → IsReady index place known

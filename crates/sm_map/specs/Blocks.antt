@@ -34,11 +34,11 @@ number_of lengths place = sum (take place.block lengths) + place.offset
 abbrev pub HasEntry : List ℕ → Place → Type 0
 HasEntry lengths place = (place.block < length lengths) × (place.offset < slice_index lengths place.block)
 
--- an entry can go there
+-- an entry can go there: into a block, or behind the last one
 abbrev pub IsGap : List ℕ → Place → Type 0
 IsGap lengths place =
     ((place.block < length lengths) × (place.offset ≤ slice_index lengths place.block)) ⊎
-    ((length lengths ≡ 0) × (place.block ≡ 0) × (place.offset ≡ 0))
+    ((place.block ≡ length lengths) × (place.offset ≡ 0))
 
 -- an entry stands there, or it is the end
 abbrev pub IsStop : List ℕ → Place → Type 0

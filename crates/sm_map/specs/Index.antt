@@ -6,7 +6,7 @@ use Rattle.sm_map.specs.Blocks.{entries_in, lengths_in, IsFilled}
 use Rattle.sm_map.specs.declared.block.TheConstants.{MOST_ENTRIES}
 use Rattle.sm_map.specs.declared.place.Place.{Place}
 use Rattle.sm_map.specs.declared.room.Room.{Room}
-use Rattle.sm_map.specs.declared.room.Room.TheVariants.{Inside, Beside, First}
+use Rattle.sm_map.specs.declared.room.Room.TheVariants.{Inside, Beside, Behind}
 
 -- the blocks in order, and how many more it takes in without growing
 pub record IndexValue : Type 0 where
@@ -27,5 +27,5 @@ IsReady index place (Beside upper) =
     (place.block < length index.blocks) ×
     HoldsAt (λ block. (place.offset ≤ length block.entries) × (length block.entries ≡ MOST_ENTRIES)) index.blocks place.block ×
     (0 < index.room) × (upper.entries ≡ []) × (MOST_ENTRIES ≤ upper.room)
-IsReady index place (First first) =
-    (index.blocks ≡ []) × (place.block ≡ 0) × (place.offset ≡ 0) × (0 < index.room) × (first.entries ≡ []) × (0 < first.room)
+IsReady index place (Behind last) =
+    (place.block ≡ length index.blocks) × (place.offset ≡ 0) × (0 < index.room) × (last.entries ≡ []) × (0 < last.room)

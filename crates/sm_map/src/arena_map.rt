@@ -106,7 +106,7 @@ impl ArenaMap {
     ///
     /// # Errors
     ///
-    /// `AllocError` where memory is refused; the map is then as it was.
+    /// `AllocError` where memory is refused, or key and text have 2^32 bytes or more; the map is then as it was.
     pub fn put(&mut self, key: &[u8], value: Val<'_>) -> Result<(), AllocError>
         ensures ok { OnOk result (self.new.pairs ≡ holding self.old.pairs key.now (held_of value.entry)) }
         ensures dead { OnOk result (self.new.dead ≡ self.old.dead + length (text_at self.old.pairs key.now)) }
@@ -122,7 +122,7 @@ impl ArenaMap {
     ///
     /// # Errors
     ///
-    /// `AllocError` where memory is refused; the map is then as it was.
+    /// `AllocError` where memory is refused, or the whole text has 2^32 bytes or more; the map is then as it was.
     pub fn append(&mut self, key: &[u8], tail: &[u8]) -> Result<(), AllocError>
         requires { HoldsText self.old.pairs key.now }
         ensures ok { OnOk result (self.new.pairs ≡ holding self.old.pairs key.now (HeldText (text_at self.old.pairs key.now ++ tail.now))) }
@@ -173,7 +173,7 @@ impl ArenaMap {
         Ok(rows)
     }
 
-    /// A second map of the same pairs, in fresh memory, where nothing is dead.
+    /// A second map of the same pairs, in fresh memory, where nothing is dead and each block but the last is full.
     ///
     /// # Errors
     ///

@@ -149,19 +149,24 @@ impl Index {
         })
     }
 
-    // Where an entry goes after all others.
+    // Where an entry goes after all others: into the last block, or behind it where it is full.
     pub(crate) fn end(&self) -> Place
         ensures gap { IsGap (lengths_in self.now.blocks) result }
         ensures end { number_of (lengths_in self.now.blocks) result ≡ length (entries_in self.now.blocks) }
     {
         let count = self.blocks.len();
-        if count == 0 {
-            return Place::FIRST;
+        if count > 0 {
+            let offset = self.blocks[count - 1].len();
+            if offset < MOST_ENTRIES {
+                return Place {
+                    block: count - 1,
+                    offset,
+                };
+            }
         }
-        let block = count - 1;
         Place {
-            block,
-            offset: self.blocks[block].len(),
+            block: count,
+            offset: 0,
         }
     }
 
@@ -180,9 +185,10 @@ impl Index {
         ensures lengths { lengths_in self.new.blocks ≡ lengths_in self.old.blocks }
         ensures ready { IfOk result (IsReady self.new place) }
     {
-        if self.blocks.len() == 0 {
+        if place.block == self.blocks.len() {
             self.blocks.reserve(1)?;
-            return Ok(Room::First(Block::with_room(self.alloc, 1)?));
+            let most = if place.block == 0 { 1 } else { MOST_ENTRIES };
+            return Ok(Room::Behind(Block::with_room(self.alloc, most)?));
         }
         if self.blocks[place.block].len() < MOST_ENTRIES {
             self.blocks[place.block].reserve()?;
@@ -204,10 +210,10 @@ impl Index {
                 let upper = self.blocks[place.block].insert_in_half(place.offset, entry, upper);
                 add(&mut self.blocks, place.block + 1, upper);
             }
-            Room::First(first) => {
-                let mut first = first;
-                first.insert(0, entry);
-                add(&mut self.blocks, 0, first);
+            Room::Behind(last) => {
+                let mut last = last;
+                last.insert(0, entry);
+                add(&mut self.blocks, place.block, last);
             }
         }
     }

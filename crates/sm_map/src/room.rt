@@ -7,6 +7,6 @@ pub(crate) enum Room {
     Inside,
     // The block is full, and this one has no entries.
     Beside(Block),
-    // There is no block, and this one has no entries.
-    First(Block),
+    // The place is behind the last block, and this one has no entries.
+    Behind(Block),
 }

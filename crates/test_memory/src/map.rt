@@ -1,3 +1,4 @@
+mod blocks;
 mod limits;
 mod numbers;
 mod plain;

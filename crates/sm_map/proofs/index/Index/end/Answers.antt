@@ -1,8 +1,11 @@
-use Rattle.std.proofs.Common.{◌≡◌, ◌-◌, length, subst, arith}
+use Rattle.std.proofs.Common.{◌≡◌, ◌-◌, length, refl, subst, arith}
 use Rattle.sm_map.specs.Index.{IndexValue}
 use Rattle.sm_map.specs.Blocks.{entries_in, lengths_in, number_of}
-use Rattle.sm_map.proofs.Blocks.{end_number}
+use Rattle.sm_map.proofs.Blocks.{end_number, past_number}
 use Rattle.sm_map.proofs.index.Index.end.Goals as goal
 
-pub returns-clause-end : goal.returns-clause-end
-returns-clause-end c = subst (λ (x : IndexValue). number_of (lengths_in x.blocks) (record { block = c.len-count.result - 1; offset = c.len.result }) ≡ length (entries_in x.blocks)) c.self.view_is (end_number c.self.inside.blocks.items (c.len-count.result - 1) c.index.result.now (omega (arith, c.if-count-eq0.false, c.len-count.ensures, c.self.inside.blocks.ok.0)) c.index.ensures c.len.result c.len.ensures)
+pub returns-then-offset-lt-MOST_ENTRIES-clause-end : goal.returns-then-offset-lt-MOST_ENTRIES-clause-end
+returns-then-offset-lt-MOST_ENTRIES-clause-end c = subst (λ (x : IndexValue). number_of (lengths_in x.blocks) (record { block = c.len-count.result - 1; offset = c.len-offset.result }) ≡ length (entries_in x.blocks)) c.self.view_is (end_number c.self.inside.blocks.items (c.len-count.result - 1) c.index.result.now (omega (arith, c.if-count-gt0.true, c.len-count.ensures, c.self.inside.blocks.ok.0)) c.index.ensures c.len-offset.result c.len-offset.ensures)
+
+pub returns-else-offset-lt-MOST_ENTRIES-clause-end : goal.returns-else-offset-lt-MOST_ENTRIES-clause-end
+returns-else-offset-lt-MOST_ENTRIES-clause-end c = subst (λ (x : IndexValue). number_of (lengths_in x.blocks) (record { block = c.len-count.result; offset = 0 }) ≡ length (entries_in x.blocks)) c.self.view_is (past_number c.self.inside.blocks.items (record { block = c.len-count.result; offset = 0 }) (omega (arith, c.len-count.ensures, c.self.inside.blocks.ok.0)) refl)
