@@ -1,5 +1,5 @@
 -- Settings that a line gives keep every rule, and no line gives out of memory.
-use Rattle.std.proofs.Common.{◌≡◌, ◌≢◌, ◌≤◌, ◌<◌, ◌+◌, ◌^◌, ◌&&◌, ℕ, zero, suc, List, [], ◌∷◌, length, map, refl, subst, Option, Some, None, Ok, Err, Bool, true, false, ◌==◌, if◌then◌else◌, get_or, arith, lit<, nat_le, nat_lt}
+use Rattle.std.proofs.Common.{◌≡◌, ◌≢◌, ◌≤◌, ◌<◌, ◌+◌, ◌^◌, ◌&&◌, ℕ, zero, suc, List, [], ◌∷◌, ◌++◌, length, map, refl, ap, sym, ◌∙◌, subst, Option, Some, None, Ok, Err, Bool, true, false, ◌==◌, if◌then◌else◌, get_or, arith, lit<, nat_le, nat_lt}
 use Rattle.std.specs.Prelude.{All, is_none}
 use Rattle.std.specs.List.{list_all}
 use Rattle.std.specs.List.Sorted.{IsStrictlyIncreasing}
@@ -10,16 +10,19 @@ use Rattle.std.proofs.lemmas.List.Recursion.{and_at}
 use Rattle.serde_json.specs.Data.{Data}
 use Rattle.sm_ranges.specs.LayoutFault.{first_layout_fault}
 use Rattle.sm_ranges.specs.lemmas.Layouts.{no_fault-layout}
-use Rattle.sm_rows.specs.Kept.{AreServers, AreGroups, AreShards}
+use Rattle.sm_rows.specs.Kept.{AreServers, AreGroups, AreShards, AreDomains}
 use Rattle.sm_rows.specs.Rows.{are_shards}
+use Rattle.sm_rows.specs.declared.domain_row.DomainRow.{DomainRow}
 use Rattle.sm_rows.specs.declared.group_row.GroupRow.{GroupRow}
 use Rattle.sm_rows.specs.declared.server_row.ServerRow.{ServerRow}
 use Rattle.sm_rows.specs.declared.shard_row.ShardRow.{ShardRow}
-use Rattle.sm_rows.specs.lemmas.Keeping.{is_within-true, AreServers-are_servers, AreGroups-are_groups, AreShards-are_shards}
-use Rattle.sm_settings.specs.declared.settings_fault.SettingsFault.TheVariants.{BadJson, NoMemory}
+use Rattle.sm_rows.specs.lemmas.Keeping.{is_within-true, AreServers-are_servers, AreGroups-are_groups, AreShards-are_shards, AreDomains-are_domains}
+use Rattle.sm_settings.specs.declared.settings_fault.SettingsFault.TheVariants.{BadDomains, BadJson, NoMemory}
+use Rattle.sm_settings.specs.declared.settings_fault.SettingsFault.{SettingsFault}
 use Rattle.sm_settings.specs.declared.settings.TheConstants.{MAX_OPS, MAX_KEPT, MIN_CEILING, MAX_CEILING, MAX_WORKERS}
-use Rattle.sm_settings.specs.SettingsLine.{SettingsValues, values_in, rules, value_or_fault, verdict_of}
-use Rattle.sm_settings.specs.SettingsRows.{rule_of_servers, rule_of_groups, rule_of_shards}
+use Rattle.sm_settings.specs.Members.{when}
+use Rattle.sm_settings.specs.SettingsLine.{SettingsValues, values_in, base_rules, base_verdict, rules, value_or_fault, verdict_of, with_domains}
+use Rattle.sm_settings.specs.SettingsRows.{rule_of_servers, rule_of_groups, rule_of_shards, rule_of_domains}
 use Rattle.sm_settings.specs.SettingsRules.{KeepsRules}
 
 -- where a value is given, all tests passed and it is the one to give
@@ -47,9 +50,13 @@ shards_kept bounds groups rows h =
     let parts = and_parts (length rows == bounds) (are_shards groups rows) h in
     (eqb-true (length rows) bounds parts.0, AreShards-are_shards groups rows parts.1)
 
+domains_kept : (servers : List ServerRow) (rows : List DomainRow) → rule_of_domains servers rows ≡ true → AreDomains servers rows
+unfolding rule_of_domains
+domains_kept servers rows h = AreDomains-are_domains servers rows h
+
 keeps_rules : (s : SettingsValues) (d : Data) → list_all (λ r. r.0) (rules d s) ≡ true → KeepsRules s
 keeps_rules s d all =
-    let holds : (i : ℕ) → i < 10 → (get_or (rules d s) i (true, BadJson)).0 ≡ true =
+    let holds : (i : ℕ) → i < 11 → (get_or (rules d s) i (true, BadJson)).0 ≡ true =
     λ i within. and_at (list_all (λ r. r.0)) (λ r. r.0) refl (λ _ _. refl) (rules d s) i (true, BadJson) within all in
     let shards = shards_kept (length s.bounds) (length s.groups) s.shards (holds 5 (lit< tt)) in
     let kept = is_within-true 1 MAX_KEPT s.kept (holds 7 (lit< tt)) in
@@ -68,6 +75,7 @@ keeps_rules s d all =
       ceiling_fits = omega arith;
       some_workers = workers.0;
       few_workers = workers.1;
+      domains = domains_kept s.servers s.domains (holds 10 (lit< tt));
     }
 
 -- what is verdict_of good keeps every rule
@@ -91,4 +99,62 @@ pub verdict_decides : (o : Option Data) → verdict_of o ≢ Err NoMemory
 verdict_decides None h = cc
 verdict_decides (Some d) h =
     other_fault (rules d (values_in d)) (values_in d) NoMemory
-    (λ e. cc, (λ e. cc, (λ e. cc, (λ e. cc, (λ e. cc, (λ e. cc, (λ e. cc, (λ e. cc, (λ e. cc, (λ e. cc, tt)))))))))) h
+    (λ e. cc, (λ e. cc, (λ e. cc, (λ e. cc, (λ e. cc, (λ e. cc, (λ e. cc, (λ e. cc, (λ e. cc, (λ e. cc, (λ e. cc, tt))))))))))) h
+
+-- where a value is given the later rules decide, and else its fault is that of all rules
+pub later_rules : {V W F : Type 0} (rs qs : List (Bool × F)) (s v : V) (w : W) → value_or_fault rs s ≡ Ok v
+    → value_or_fault (rs ++ qs) w ≡ value_or_fault qs w
+later_rules [] qs s v w h = refl
+later_rules (r ∷ rs) qs s v w h =
+    elim r.0 as (λ b. (if b then value_or_fault rs s else Err r.1) ≡ Ok v → (if b then value_or_fault (rs ++ qs) w else Err r.1) ≡ value_or_fault qs w)
+    [ true ↦ λ h. later_rules rs qs s v w h | false ↦ λ h. cc ] h
+
+pub earlier_fault : {V W F : Type 0} (rs qs : List (Bool × F)) (s : V) (w : W) (e : F) → value_or_fault rs s ≡ Err e
+    → value_or_fault (rs ++ qs) w ≡ Err e
+earlier_fault [] qs s w e h = cc
+earlier_fault (r ∷ rs) qs s w e h =
+    elim r.0 as (λ b. (if b then value_or_fault rs s else Err r.1) ≡ Err e → (if b then value_or_fault (rs ++ qs) w else Err r.1) ≡ Err e)
+    [ true ↦ λ h. earlier_fault rs qs s w e h | false ↦ λ h. cc ] h
+
+-- where all rules but that of domains hold, it decides
+pub domains_decide : (d : Data) (v : SettingsValues) → base_verdict d ≡ Ok v
+    → verdict_of (Some d) ≡ value_or_fault ((rule_of_domains (values_in d).servers (values_in d).domains, BadDomains) ∷ []) (values_in d)
+domains_decide d v h =
+    later_rules (base_rules d (values_in d)) ((rule_of_domains (values_in d).servers (values_in d).domains, BadDomains) ∷ [])
+    (with_domains (values_in d) []) v (values_in d) h
+
+pub base_fault : (d : Data) (fault : SettingsFault) → base_verdict d ≡ Err fault → verdict_of (Some d) ≡ Err fault
+base_fault d fault h =
+    earlier_fault (base_rules d (values_in d)) ((rule_of_domains (values_in d).servers (values_in d).domains, BadDomains) ∷ [])
+    (with_domains (values_in d) []) (values_in d) fault h
+
+-- the values of all rules but that of domains are those of the line
+base_values : (d : Data) (v : SettingsValues) → base_verdict d ≡ Ok v → with_domains (values_in d) [] ≡ v
+base_values d v h = (all_hold (base_rules d (values_in d)) (with_domains (values_in d) []) v h).1
+
+pub servers_judged : (d : Data) (v : SettingsValues) → base_verdict d ≡ Ok v → v.servers ≡ (values_in d).servers
+servers_judged d v h = ap (λ (s : SettingsValues). s.servers) (sym (base_values d v h))
+
+pub domains_kept_verdict : (d : Data) (v : SettingsValues) (domains : List DomainRow) → base_verdict d ≡ Ok v
+    → Some domains ≡ when (rule_of_domains (values_in d).servers (values_in d).domains) (values_in d).domains
+    → verdict_of (Some d) ≡ Ok (with_domains v domains)
+domains_kept_verdict d v domains h some =
+    domains_decide d v h ∙ by (rule_of_domains (values_in d).servers (values_in d).domains) some
+  where
+    by : (keeps : Bool) → Some domains ≡ when keeps (values_in d).domains
+        → value_or_fault {V = SettingsValues} ((keeps, BadDomains) ∷ []) (values_in d) ≡ Ok (with_domains v domains)
+    by true some =
+        let same : domains ≡ (values_in d).domains = cc in
+        ap (λ (s : SettingsValues). Ok (with_domains s (values_in d).domains)) (base_values d v h) ∙ ap (λ ds. Ok (with_domains v ds)) (sym same)
+    by false some = absurd (cc)
+
+pub domains_broken_verdict : (d : Data) (v : SettingsValues) → base_verdict d ≡ Ok v
+    → None ≡ when (rule_of_domains (values_in d).servers (values_in d).domains) (values_in d).domains
+    → verdict_of (Some d) ≡ Err BadDomains
+domains_broken_verdict d v h none =
+    domains_decide d v h ∙ by (rule_of_domains (values_in d).servers (values_in d).domains) none
+  where
+    by : (keeps : Bool) → None ≡ when keeps (values_in d).domains
+        → value_or_fault {V = SettingsValues} ((keeps, BadDomains) ∷ []) (values_in d) ≡ Err BadDomains
+    by true none = absurd (cc)
+    by false none = refl

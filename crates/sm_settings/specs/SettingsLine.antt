@@ -1,23 +1,34 @@
 -- What a settings line gives: its values, or the first rule that it breaks.
-use Rattle.std.specs.Prelude.{◌≡◌, ℕ, ◌<◌, ◌==◌, List, [], ◌∷◌, length, map, is_none, Bool, nat_le, if◌then◌else◌, Option, None, Some, Result, Ok, Err, codes}
+use Rattle.std.specs.Prelude.{◌≡◌, ℕ, ◌<◌, ◌==◌, ◌||◌, List, [], ◌∷◌, ◌++◌, length, map, is_none, Bool, nat_le, if◌then◌else◌, Option, None, Some, Result, Ok, Err, codes}
 use Rattle.std.specs.Str.{is_utf8}
 use Rattle.serde_json.specs.Data.{Data}
 use Rattle.serde_json.specs.Read.{read}
 use Rattle.sm_ranges.specs.LayoutFault.{first_layout_fault}
+use Rattle.sm_rows.specs.declared.domain_row.DomainRow.{DomainRow}
 use Rattle.sm_rows.specs.declared.group_row.GroupRow.{GroupRow}
 use Rattle.sm_rows.specs.declared.server_row.ServerRow.{ServerRow}
 use Rattle.sm_rows.specs.declared.shard_row.ShardRow.{ShardRow}
+use Rattle.sm_rows.specs.declared.limits.TheConstants.{MAX_DOMAIN_DOWN}
+use Rattle.sm_rows.specs.Domains.{equal_domains}
 use Rattle.sm_rows.specs.Rows.{is_within}
 use Rattle.sm_settings.specs.declared.settings.Settings.{Settings}
 use Rattle.sm_settings.specs.declared.settings.TheConstants.{MAX_SETTINGS, MAX_OPS, MAX_KEPT, MIN_CEILING, MAX_CEILING, MAX_WORKERS}
 use Rattle.sm_settings.specs.declared.settings_fault.SettingsFault.{SettingsFault}
-use Rattle.sm_settings.specs.declared.settings_fault.SettingsFault.TheVariants.{TooLong, BadJson, BadVersion, BadShape, BadLayout, BadServers, BadGroups, BadShards, BadOps, BadKept, BadCeiling, BadWorkers}
+use Rattle.sm_settings.specs.declared.settings_fault.SettingsFault.TheVariants.{TooLong, BadJson, BadVersion, BadShape, BadLayout, BadServers, BadGroups, BadShards, BadOps, BadKept, BadCeiling, BadWorkers, BadDomains}
 use Rattle.sm_settings.specs.Members.{number_at, string_of, items_at, is_whole, is_string, is_array_of, is_object_of}
-use Rattle.sm_settings.specs.SettingsRows.{is_server_object, server_row_of, is_group_object, group_row_of, is_shard_object, shard_row_of, rule_of_servers, rule_of_groups, rule_of_shards}
+use Rattle.sm_settings.specs.SettingsRows.{is_server_object, server_row_of, is_group_object, group_row_of, is_shard_object, shard_row_of, is_domain_object, domain_row_of, rule_of_servers, rule_of_groups, rule_of_shards, rule_of_domains}
 
--- exactly the members of settings, each of its type
-unfoldable pub is_settings_object : Data → Bool
-is_settings_object d = is_object_of (
+-- whether the settings are of version 2, which has the member `domains`
+abbrev pub has_domains : Data → Bool
+has_domains d = number_at (codes "version") d == 2
+
+-- whether the settings are of a version that there is
+unfoldable pub has_version : Data → Bool
+has_version d = number_at (codes "version") d == 1 || has_domains d
+
+-- the members of settings of both versions, each with the test of its type
+abbrev pub settings_members : List (List ℕ × (Data → Bool))
+settings_members =
     (codes "version", is_whole) ∷
     (codes "bounds", is_array_of is_string) ∷
     (codes "servers", is_array_of is_server_object) ∷
@@ -26,7 +37,13 @@ is_settings_object d = is_object_of (
     (codes "ops", is_whole) ∷
     (codes "kept", is_whole) ∷
     (codes "ceiling", is_whole) ∷
-    (codes "workers", is_whole) ∷ []) d
+    (codes "workers", is_whole) ∷ []
+
+-- exactly the members of settings of the version, each of its type
+unfoldable pub is_settings_object : Data → Bool
+is_settings_object d =
+    if has_domains d then is_object_of ((codes "domains", is_array_of is_domain_object) ∷ settings_members) d
+    else is_object_of settings_members d
 
 -- what settings say: the bounds of the layout, the rows, and the limits
 pub record SettingsValues : Type 0 where
@@ -38,6 +55,13 @@ pub record SettingsValues : Type 0 where
   pub kept : ℕ
   pub ceiling : ℕ
   pub workers : ℕ
+  pub domains : List DomainRow
+
+-- the rows of domains that an object says, where these are the servers: in version 1 each domain has a row that lets all of
+-- its servers be down
+unfoldable pub domains_in : List ServerRow → Data → List DomainRow
+domains_in servers d =
+    if has_domains d then map domain_row_of (items_at (codes "domains") d) else equal_domains MAX_DOMAIN_DOWN servers
 
 -- the values that an object says
 abbrev pub values_in : Data → SettingsValues
@@ -50,12 +74,13 @@ values_in d = record {
   kept = number_at (codes "kept") d;
   ceiling = number_at (codes "ceiling") d;
   workers = number_at (codes "workers") d;
+  domains = domains_in (map server_row_of (items_at (codes "servers") d)) d;
 }
 
--- the rules of settings in the order of the checks, each with the fault of a line that breaks it
-abbrev pub rules : Data → SettingsValues → List (Bool × SettingsFault)
-rules d v =
-    (number_at (codes "version") d == 1, BadVersion) ∷
+-- the rules of settings but for that of domains, in the order of the checks, each with the fault of a line that breaks it
+abbrev pub base_rules : Data → SettingsValues → List (Bool × SettingsFault)
+base_rules d v =
+    (has_version d, BadVersion) ∷
     (is_settings_object d, BadShape) ∷
     (is_none (first_layout_fault v.bounds), BadLayout) ∷
     (rule_of_servers v.servers, BadServers) ∷
@@ -66,10 +91,22 @@ rules d v =
     (is_within MIN_CEILING MAX_CEILING v.ceiling, BadCeiling) ∷
     (is_within 1 MAX_WORKERS v.workers, BadWorkers) ∷ []
 
+-- all rules of settings, in the order of the checks
+abbrev pub rules : Data → SettingsValues → List (Bool × SettingsFault)
+rules d v = base_rules d v ++ (rule_of_domains v.servers v.domains, BadDomains) ∷ []
+
 -- the value where all rules hold, and else the fault of the first that doesn't
 abbrev pub value_or_fault : {V F : Type 0} → List (Bool × F) → V → Result V F
 value_or_fault [] v = Ok v
 value_or_fault (r ∷ rs) v = if r.0 then value_or_fault rs v else Err r.1
+
+-- the values with these rows of domains
+abbrev pub with_domains : SettingsValues → List DomainRow → SettingsValues
+with_domains v domains = record v { domains = domains }
+
+-- what JSON data gives as settings, but for domains
+abbrev pub base_verdict : Data → Result SettingsValues SettingsFault
+base_verdict d = value_or_fault (base_rules d (values_in d)) (with_domains (values_in d) [])
 
 -- what JSON data gives as settings: its values, or the fault of the first rule that it breaks; none was read of what is no JSON
 abbrev pub verdict_of : Option Data → Result SettingsValues SettingsFault
@@ -91,4 +128,5 @@ values_of s = record {
   kept = s.kept;
   ceiling = s.ceiling;
   workers = s.workers;
+  domains = s.domains.items;
 }

@@ -4,7 +4,9 @@ use Rattle.serde_json.specs.Data.{Data}
 use Rattle.sm_rows.specs.declared.group_row.GroupRow.{GroupRow}
 use Rattle.sm_rows.specs.declared.server_row.ServerRow.{ServerRow}
 use Rattle.sm_rows.specs.declared.shard_row.ShardRow.{ShardRow}
+use Rattle.sm_rows.specs.declared.domain_row.DomainRow.{DomainRow}
 use Rattle.sm_rows.specs.Rows.{are_servers, are_groups, are_shards}
+use Rattle.sm_rows.specs.Domains.{are_domains}
 use Rattle.sm_settings.specs.Members.{number_at, is_whole, is_object_of}
 
 -- an object with exactly the members of a server's row, each a number
@@ -31,6 +33,14 @@ is_shard_object = is_object_of ((codes "group", is_whole) ∷ (codes "load", is_
 abbrev pub shard_row_of : Data → ShardRow
 shard_row_of d = record { group = number_at (codes "group") d; load = number_at (codes "load") d; cap = number_at (codes "cap") d }
 
+-- an object with exactly the members of a domain's row, each a number
+abbrev pub is_domain_object : Data → Bool
+is_domain_object = is_object_of ((codes "domain", is_whole) ∷ (codes "down", is_whole) ∷ [])
+
+-- the row that an object says
+abbrev pub domain_row_of : Data → DomainRow
+domain_row_of d = record { domain = number_at (codes "domain") d; down = number_at (codes "down") d }
+
 -- ---- the rules on rows
 
 -- servers keep their rules
@@ -44,3 +54,7 @@ rule_of_groups rows = are_groups rows
 -- there is a shard for each of so many bounds, and they keep their rules, where there are so many groups
 unfoldable pub rule_of_shards : ℕ → ℕ → List ShardRow → Bool
 rule_of_shards bounds groups rows = length rows == bounds && are_shards groups rows
+
+-- domains keep their rules, where these are the servers
+unfoldable pub rule_of_domains : List ServerRow → List DomainRow → Bool
+rule_of_domains servers rows = are_domains servers rows

@@ -1,7 +1,7 @@
 -- The rules that settings keep, as facts about their values.
 use Rattle.std.specs.Prelude.{◌≡◌, ◌≤◌, ◌<◌, ◌^◌, length}
 use Rattle.sm_ranges.specs.Ranges.{IsLayout}
-use Rattle.sm_rows.specs.Kept.{AreServers, AreGroups, AreShards}
+use Rattle.sm_rows.specs.Kept.{AreServers, AreGroups, AreShards, AreDomains}
 use Rattle.sm_settings.specs.declared.settings.TheConstants.{MAX_OPS, MAX_KEPT, MIN_CEILING, MAX_WORKERS}
 use Rattle.sm_settings.specs.SettingsLine.{SettingsValues}
 
@@ -19,3 +19,4 @@ pub record KeepsRules (s : SettingsValues) : Type 0 where
   pub ceiling_fits : s.ceiling < 2 ^ 36
   pub some_workers : 1 ≤ s.workers
   pub few_workers : s.workers ≤ MAX_WORKERS
+  pub domains : AreDomains s.servers s.domains

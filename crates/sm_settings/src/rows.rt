@@ -8,8 +8,10 @@ use crate::members::{array, has_number, has_size, number_within};
 use serde_json::Value;
 use sm_ranges::limits::{MAX_SERVER, MAX_SHARDS};
 use sm_ranges::server_id::ServerId;
-use sm_rows::limits::{MAX_CAP, MAX_DOMAIN, MAX_LIMIT};
-use sm_rows::{GroupRow, ServerRow, ShardRow, are_groups, are_servers, are_shards};
+use sm_rows::limits::{MAX_CAP, MAX_DOMAIN, MAX_DOMAIN_DOWN, MAX_LIMIT};
+use sm_rows::{
+    DomainRow, GroupRow, ServerRow, ShardRow, are_domains, are_groups, are_servers, are_shards,
+};
 use std::alloc::{AllocError, Global};
 
 /// A row that settings write as an object of numbers.
@@ -19,6 +21,7 @@ pub(crate) trait Row: Copy + Drop {
     ghost use Rattle.serde_json.specs.Data.{Data};
     ghost use Rattle.serde_json.specs.View.{view};
     ghost use Rattle.sm_ranges.specs.declared.limits.TheConstants.{MAX_SHARDS as MOST_ROWS};
+    ghost use Rattle.sm_rows.specs.declared.server_row.ServerRow.{ServerRow as Server};
     ghost use Rattle.sm_settings.specs.Members.{when};
 
     /// Whether data is an object with exactly the row's members.
@@ -30,8 +33,8 @@ pub(crate) trait Row: Copy + Drop {
     /// Whether each number of a row is in its range, where there are so many groups.
     ghost is_row: { ℕ → Self → Bool };
 
-    /// Whether rows keep their rules, where there are so many bounds and groups.
-    ghost rule: { ℕ → ℕ → List Self → Bool };
+    /// Whether rows keep their rules, where there are so many bounds and groups, and these servers.
+    ghost rule: { ℕ → ℕ → List Server → List Self → Bool };
 
     /// Whether the value has exactly the members of a row, each a number.
     fn has_shape(value: &Value) -> bool
@@ -41,16 +44,17 @@ pub(crate) trait Row: Copy + Drop {
     fn from_value(value: &Value, groups: u16) -> Option<Self>
         ensures { result ≡ when (is_row groups (row_of (view value.now))) (row_of (view value.now)) };
 
-    /// Whether the rows keep their rules, where there are so many bounds and groups.
-    fn keep_rule(rows: &[Self], bounds: usize, groups: u16) -> bool
-        ensures { result ≡ rule bounds groups rows.now };
+    /// Whether the rows keep their rules, where there are so many bounds and groups, and these servers.
+    fn keep_rule(rows: &[Self], bounds: usize, groups: u16, servers: &[ServerRow]) -> bool
+        ensures { result ≡ rule bounds groups servers.now rows.now };
 
     // A number out of its range breaks the rule.
-    ghost refused: { (bounds groups : ℕ) (rows : List Self)
-        → list_all (is_row groups) rows ≡ false → rule bounds groups rows ≡ false };
+    ghost refused: { (bounds groups : ℕ) (servers : List Server) (rows : List Self)
+        → list_all (is_row groups) rows ≡ false → rule bounds groups servers rows ≡ false };
 
     // No kind has more rows than there may be shards.
-    ghost few: { (bounds groups : ℕ) (rows : List Self) → rule bounds groups rows ≡ true → length rows ≤ MOST_ROWS };
+    ghost few: { (bounds groups : ℕ) (servers : List Server) (rows : List Self)
+        → rule bounds groups servers rows ≡ true → length rows ≤ MOST_ROWS };
 }
 
 impl Row for ServerRow {
@@ -64,11 +68,11 @@ impl Row for ServerRow {
 
     ghost is_row = { λ _ row. is_server_row row };
 
-    ghost rule = { λ _ _ rows. rule_of_servers rows };
+    ghost rule = { λ _ _ _ rows. rule_of_servers rows };
 
-    ghost refused = { λ _ _ rows out. servers_refused rows out };
+    ghost refused = { λ _ _ _ rows out. servers_refused rows out };
 
-    ghost few = { λ _ _ rows kept. servers_few rows kept };
+    ghost few = { λ _ _ _ rows kept. servers_few rows kept };
 
     fn has_shape(value: &Value) -> bool {
         has_size(value, 3)
@@ -90,7 +94,7 @@ impl Row for ServerRow {
     }
 
     #[tactic(auto, unfolding(crate::specs::SettingsRows::rule_of_servers))]
-    fn keep_rule(rows: &[ServerRow], _bounds: usize, _groups: u16) -> bool {
+    fn keep_rule(rows: &[ServerRow], _bounds: usize, _groups: u16, _servers: &[ServerRow]) -> bool {
         are_servers(rows)
     }
 }
@@ -106,11 +110,11 @@ impl Row for GroupRow {
 
     ghost is_row = { λ _ row. is_group_row row };
 
-    ghost rule = { λ _ _ rows. rule_of_groups rows };
+    ghost rule = { λ _ _ _ rows. rule_of_groups rows };
 
-    ghost refused = { λ _ _ rows out. groups_refused rows out };
+    ghost refused = { λ _ _ _ rows out. groups_refused rows out };
 
-    ghost few = { λ _ _ rows kept. groups_few rows kept };
+    ghost few = { λ _ _ _ rows kept. groups_few rows kept };
 
     fn has_shape(value: &Value) -> bool {
         has_size(value, 2) && has_number(value, "limit") && has_number(value, "down")
@@ -126,7 +130,7 @@ impl Row for GroupRow {
     }
 
     #[tactic(auto, unfolding(crate::specs::SettingsRows::rule_of_groups))]
-    fn keep_rule(rows: &[GroupRow], _bounds: usize, _groups: u16) -> bool {
+    fn keep_rule(rows: &[GroupRow], _bounds: usize, _groups: u16, _servers: &[ServerRow]) -> bool {
         are_groups(rows)
     }
 }
@@ -142,11 +146,11 @@ impl Row for ShardRow {
 
     ghost is_row = { is_shard_row };
 
-    ghost rule = { rule_of_shards };
+    ghost rule = { λ bounds groups _ rows. rule_of_shards bounds groups rows };
 
-    ghost refused = { shards_refused };
+    ghost refused = { λ bounds groups _ rows out. shards_refused bounds groups rows out };
 
-    ghost few = { shards_few };
+    ghost few = { λ bounds groups _ rows kept. shards_few bounds groups rows kept };
 
     fn has_shape(value: &Value) -> bool {
         has_size(value, 3)
@@ -168,8 +172,44 @@ impl Row for ShardRow {
     }
 
     #[tactic(auto, unfolding(crate::specs::SettingsRows::rule_of_shards))]
-    fn keep_rule(rows: &[ShardRow], bounds: usize, groups: u16) -> bool {
+    fn keep_rule(rows: &[ShardRow], bounds: usize, groups: u16, _servers: &[ServerRow]) -> bool {
         rows.len() == bounds && are_shards(usize::from(groups), rows)
+    }
+}
+
+impl Row for DomainRow {
+    ghost use Rattle.sm_rows.specs.Domains.{is_domain_row};
+    ghost use Rattle.sm_settings.specs.SettingsRows.{is_domain_object, domain_row_of, rule_of_domains};
+    ghost use Rattle.sm_settings.specs.lemmas.RuledRows.{domains_few, domains_refused};
+
+    ghost is_object = { is_domain_object };
+
+    ghost row_of = { domain_row_of };
+
+    ghost is_row = { λ _ row. is_domain_row row };
+
+    ghost rule = { λ _ _ servers rows. rule_of_domains servers rows };
+
+    ghost refused = { λ _ _ servers rows out. domains_refused servers rows out };
+
+    ghost few = { λ _ _ servers rows kept. domains_few servers rows kept };
+
+    fn has_shape(value: &Value) -> bool {
+        has_size(value, 2) && has_number(value, "domain") && has_number(value, "down")
+    }
+
+    fn from_value(value: &Value, _groups: u16) -> Option<DomainRow> {
+        let domain = number_within(value, "domain", 0, u64::from(MAX_DOMAIN))?;
+        let down = number_within(value, "down", 0, u64::from(MAX_DOMAIN_DOWN))?;
+        Some(DomainRow {
+            domain: domain as u16,
+            down: down as u16,
+        })
+    }
+
+    #[tactic(auto, unfolding(crate::specs::SettingsRows::rule_of_domains))]
+    fn keep_rule(rows: &[DomainRow], _bounds: usize, _groups: u16, servers: &[ServerRow]) -> bool {
+        are_domains(servers, rows)
     }
 }
 
@@ -210,21 +250,22 @@ fn rows_of<T: Row>(
     Ok(Some(rows))
 }
 
-/// The rows that the values say, where they keep their rules for so many bounds and groups.
+/// The rows that the values say, where they keep their rules for so many bounds and groups, and these servers.
 pub(crate) fn rows_from<T: Row>(
     alloc: Global,
     values: &[Value],
     bounds: usize,
     groups: u16,
+    servers: &[ServerRow],
 ) -> Result<Option<Vec<T>>, AllocError>
     ensures rows { let rows = map T.row_of (map view values.now) in
-        IfOk result (λ found. option_map (λ list. list.items) found ≡ when (T.rule bounds groups rows) rows) }
+        IfOk result (λ found. option_map (λ list. list.items) found ≡ when (T.rule bounds groups servers.now rows) rows) }
     ensures few { IfOk result (λ found. IfSome found (λ list. vec_len list ≤ MAX_SHARDS)) }
 {
     let Some(rows) = rows_of::<T>(alloc, values, groups)? else {
         return Ok(None);
     };
-    if T::keep_rule(&rows, bounds, groups) {
+    if T::keep_rule(&rows, bounds, groups, servers) {
         Ok(Some(rows))
     } else {
         Ok(None)

@@ -1,17 +1,21 @@
-ghost use Rattle.std.specs.Prelude.{◌≡◌, ◌≢◌, ◌<◌, ◌≤◌, [], length, if◌then◌else◌, IfOk, IfErr};
+ghost use Rattle.std.specs.Prelude.{◌≡◌, ◌≢◌, ◌<◌, ◌≤◌, [], length, if◌then◌else◌, IfOk, IfErr, option_map};
+ghost use Rattle.std.specs.List.{list_all};
+ghost use Rattle.serde_json.specs.Find.{get};
 ghost use Rattle.serde_json.specs.View.{view};
-ghost use Rattle.sm_settings.specs.Members.{number_at};
+ghost use Rattle.sm_settings.specs.Members.{holds_of, number_at, when};
+ghost use Rattle.sm_settings.specs.SettingsRows.{rule_of_domains};
 ghost use Rattle.sm_rows.specs.Rows.{is_within};
-ghost use Rattle.sm_settings.specs.SettingsLine.{is_settings_object, verdict_of, values_of, settings_of};
+ghost use Rattle.sm_settings.specs.SettingsLine.{base_verdict, has_domains, has_version, is_settings_object, settings_members, verdict_of, values_in, values_of, settings_of};
 ghost use Rattle.sm_settings.specs.SettingsRules.{KeepsRules};
 
 use crate::bounds::{has_texts, layout_from};
 use crate::members::{has_number, has_size, items, number, number_within};
-use crate::rows::{has_rows, rows_from};
+use crate::rows::{Row, has_rows, rows_from};
 use crate::settings_fault::SettingsFault;
 use serde_json::Value;
 use sm_ranges::layout::Layout;
-use sm_rows::{GroupRow, ServerRow, ShardRow};
+use sm_rows::limits::MAX_DOMAIN_DOWN;
+use sm_rows::{DomainRow, GroupRow, ServerRow, ShardRow, equal_domains};
 use std::alloc::{AllocError, Global};
 
 /// The most bytes that a settings line may have, without its line feed.
@@ -48,6 +52,8 @@ pub struct Settings {
     pub ceiling: u64,
     /// How many workers a server has: 1 to 8.
     pub workers: u8,
+    /// A row for each domain of the servers. Settings of version 1 have none, and let all servers of a domain be down.
+    pub domains: Vec<DomainRow>,
 }
 
 impl Settings {
@@ -82,7 +88,30 @@ fn judge(alloc: Global, value: &Value) -> Result<Settings, SettingsFault>
     ensures ok { IfOk result (λ settings. verdict_of (Some (view value.now)) ≡ Ok (values_of settings)) }
     ensures err { IfErr result (λ fault. fault ≢ SettingsFault.NoMemory → verdict_of (Some (view value.now)) ≡ Err fault) }
 {
-    if number(value, "version") != 1 {
+    let settings = judge_base(alloc, value)?;
+    add_domains(alloc, value, settings)
+}
+
+// The settings with the rows of domains that the value says, where they keep their rules.
+fn add_domains(alloc: Global, value: &Value, settings: Settings) -> Result<Settings, SettingsFault>
+    requires { base_verdict (view value.now) ≡ Ok (values_of settings) }
+    ensures ok { IfOk result (λ settings. verdict_of (Some (view value.now)) ≡ Ok (values_of settings)) }
+    ensures err { IfErr result (λ fault. fault ≢ SettingsFault.NoMemory → verdict_of (Some (view value.now)) ≡ Err fault) }
+{
+    let mut whole = settings;
+    match domains_from(alloc, value, &whole.servers)? {
+        Some(domains) => whole.domains = domains,
+        None => return Err(SettingsFault::BadDomains),
+    }
+    Ok(whole)
+}
+
+// The settings that a JSON value says, without rows of domains, or the fault of the first rule that it breaks.
+fn judge_base(alloc: Global, value: &Value) -> Result<Settings, SettingsFault>
+    ensures ok { IfOk result (λ settings. base_verdict (view value.now) ≡ Ok (values_of settings)) }
+    ensures err { IfErr result (λ fault. fault ≢ SettingsFault.NoMemory → base_verdict (view value.now) ≡ Err fault) }
+{
+    if !has_version(value) {
         return Err(SettingsFault::BadVersion);
     }
     if !has_shape(value) {
@@ -91,14 +120,20 @@ fn judge(alloc: Global, value: &Value) -> Result<Settings, SettingsFault>
     let Some(layout) = layout_from(alloc, items(value, "bounds"))? else {
         return Err(SettingsFault::BadLayout);
     };
-    let Some(servers) = rows_from::<ServerRow>(alloc, items(value, "servers"), 0, 0)? else {
+    let Some(servers) = rows_from::<ServerRow>(alloc, items(value, "servers"), 0, 0, &[])? else {
         return Err(SettingsFault::BadServers);
     };
-    let Some(groups) = rows_from::<GroupRow>(alloc, items(value, "groups"), 0, 0)? else {
+    let Some(groups) = rows_from::<GroupRow>(alloc, items(value, "groups"), 0, 0, &[])? else {
         return Err(SettingsFault::BadGroups);
     };
     let (bounds, group_count) = (layout.count(), groups.len() as u16);
-    let Some(shards) = rows_from::<ShardRow>(alloc, items(value, "shards"), bounds, group_count)?
+    let Some(shards) = rows_from::<ShardRow>(
+        alloc,
+        items(value, "shards"),
+        bounds,
+        group_count,
+        &[],
+    )?
     else {
         return Err(SettingsFault::BadShards);
     };
@@ -121,6 +156,7 @@ fn judge(alloc: Global, value: &Value) -> Result<Settings, SettingsFault>
         kept: kept as u32,
         ceiling,
         workers: workers as u8,
+        domains: Vec::new(alloc),
     })
 }
 
@@ -142,13 +178,60 @@ fn limit(
     }
 }
 
-// Whether the value has exactly the members of settings, each of its type.
+// The rows of domains that the value says, where these are its servers and the rows keep their rules.
+#[tactic(auto, unfolding(crate::specs::SettingsLine::domains_in))]
+fn domains_from(
+    alloc: Global,
+    value: &Value,
+    servers: &[ServerRow],
+) -> Result<Option<Vec<DomainRow>>, AllocError>
+    requires { servers.now ≡ (values_in (view value.now)).servers }
+    ensures { let v = values_in (view value.now) in
+        IfOk result (λ found. option_map (λ list. list.items) found ≡ when (rule_of_domains v.servers v.domains) v.domains) }
+{
+    if has_domains(value) {
+        return rows_from::<DomainRow>(alloc, items(value, "domains"), 0, 0, servers);
+    }
+    let rows = equal_domains(alloc, servers, MAX_DOMAIN_DOWN)?;
+    if DomainRow::keep_rule(&rows, 0, 0, servers) {
+        Ok(Some(rows))
+    } else {
+        Ok(None)
+    }
+}
+
+// Whether the settings are of a version that there is.
+#[tactic(auto, unfolding(crate::specs::SettingsLine::has_version))]
+fn has_version(value: &Value) -> bool
+    ensures { result ≡ has_version (view value.now) }
+{
+    number(value, "version") == 1 || has_domains(value)
+}
+
+// Whether the settings are of version 2.
+fn has_domains(value: &Value) -> bool
+    ensures { result ≡ has_domains (view value.now) }
+{
+    number(value, "version") == 2
+}
+
+// Whether the value has exactly the members of settings of its version, each of its type.
 #[tactic(auto, unfolding(crate::specs::SettingsLine::is_settings_object))]
 fn has_shape(value: &Value) -> bool
     ensures { result ≡ is_settings_object (view value.now) }
 {
-    has_size(value, 9)
-        && has_number(value, "version")
+    if has_domains(value) {
+        has_size(value, 10) && has_rows::<DomainRow>(value, "domains") && has_members(value)
+    } else {
+        has_size(value, 9) && has_members(value)
+    }
+}
+
+// Whether the value has the members of settings of both versions, each of its type.
+fn has_members(value: &Value) -> bool
+    ensures { result ≡ list_all (λ m. holds_of m.1 (get m.0 (view value.now))) settings_members }
+{
+    has_number(value, "version")
         && has_texts(value, "bounds")
         && has_rows::<ServerRow>(value, "servers")
         && has_rows::<GroupRow>(value, "groups")

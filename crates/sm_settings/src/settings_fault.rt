@@ -9,7 +9,7 @@ pub enum SettingsFault {
     TooLong,
     /// The line is not one JSON value in UTF-8, nests deeper than 127, or holds a number too large for a float.
     BadJson,
-    /// The value is no object with the number 1 as its member `version`.
+    /// The value is no object with the number 1 or 2 as its member `version`.
     BadVersion,
     /// A member is missing, unknown or of another type, here or in a row.
     BadShape,
@@ -29,6 +29,8 @@ pub enum SettingsFault {
     BadCeiling,
     /// `workers` is not 1 to 8.
     BadWorkers,
+    /// The domains break a rule.
+    BadDomains,
     /// Memory was refused: the line isn't too long, and whether it has another fault is not known.
     NoMemory,
 }
@@ -54,6 +56,7 @@ impl SettingsFault {
             SettingsFault::BadKept => "BadKept",
             SettingsFault::BadCeiling => "BadCeiling",
             SettingsFault::BadWorkers => "BadWorkers",
+            SettingsFault::BadDomains => "BadDomains",
             SettingsFault::NoMemory => "NoMemory",
         }
     }

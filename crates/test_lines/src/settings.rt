@@ -1,6 +1,6 @@
 //! Settings lines.
 
-use sm_rows::{GroupRow, ShardRow};
+use sm_rows::{DomainRow, GroupRow, ShardRow};
 use sm_settings::{MAX_SETTINGS, Settings, SettingsFault};
 use std::alloc::Global;
 use std::process::Abort;
@@ -88,6 +88,7 @@ fn each_rule_has_its_fault(rt: HostRuntime) -> Result<(), Fail> {
         ("\"kept\":100", "\"kept\":0", "BadKept"),
         ("\"ceiling\":1000", "\"ceiling\":68719476736", "BadCeiling"),
         ("\"workers\":2", "\"workers\":9", "BadWorkers"),
+        ("\"version\":1", "\"version\":2", "BadShape"),
     ];
     refuses(&rt, rt.alloc(), &cases)?;
     assert_eq!(rt; fault_of(rt.alloc(), b""), Some(SettingsFault::BadJson));
@@ -99,7 +100,7 @@ fn first_fault_is_told(rt: HostRuntime) -> Result<(), Fail> {
     let cases = [
         (
             "\"version\":1,\"bounds\"",
-            "\"version\":2,\"limits\"",
+            "\"version\":3,\"limits\"",
             "BadVersion",
         ),
         ("\"\",\"m\"],", "\"m\"],\"rest\":0,", "BadShape"),
@@ -143,6 +144,49 @@ fn first_fault_is_told(rt: HostRuntime) -> Result<(), Fail> {
     Ok(())
 }
 
+// The plain line as version 2, with these rows of domains.
+fn with_domains(alloc: Global, domains: &str) -> Result<Vec<u8>, Fail> {
+    let (_, rest) = PLAIN
+        .split_once("\"version\":1")
+        .ok_or("not in the plain line")?;
+    Ok(format!(in alloc; "{{\"domains\":{domains},\"version\":2{rest}")?.into_bytes())
+}
+
+#[test]
+fn domains_come_with_version_2(rt: HostRuntime) -> Result<(), Fail> {
+    let alloc = rt.alloc();
+    let line = with_domains(
+        alloc,
+        "[{\"domain\":0,\"down\":1},{\"domain\":1,\"down\":2}]",
+    )?;
+    let rows = [domain_row(0, 1), domain_row(1, 2)];
+    assert!(rt; Settings::read(alloc, &line)?.domains.as_slice() == rows.as_slice());
+    let rows = [domain_row(0, 4095), domain_row(1, 4095)];
+    assert!(rt; Settings::read(alloc, PLAIN.as_bytes())?.domains.as_slice() == rows.as_slice());
+    Ok(())
+}
+
+fn domain_row(domain: u16, down: u16) -> DomainRow {
+    DomainRow { domain, down }
+}
+
+#[test]
+fn domains_keep_their_rule(rt: HostRuntime) -> Result<(), Fail> {
+    let cases = [
+        ("[{\"domain\":1,\"down\":1}]", SettingsFault::BadDomains),
+        (
+            "[{\"domain\":0,\"down\":1},{\"domain\":1,\"down\":4096}]",
+            SettingsFault::BadDomains,
+        ),
+        ("[{\"domain\":0}]", SettingsFault::BadShape),
+    ];
+    for (domains, fault) in cases {
+        let line = with_domains(rt.alloc(), domains)?;
+        assert_eq!(rt; fault_of(rt.alloc(), &line), Some(fault), "at {domains}");
+    }
+    Ok(())
+}
+
 #[test]
 fn numbers_are_digits_alone(rt: HostRuntime) -> Result<(), Fail> {
     let cases = [
@@ -169,7 +213,7 @@ fn numbers_are_digits_alone(rt: HostRuntime) -> Result<(), Fail> {
 fn last_of_equal_members_counts(rt: HostRuntime) -> Result<(), Fail> {
     let line = changed(rt.alloc(), "\"ops\":1", "\"ops\":true,\"ops\":3")?;
     assert_eq!(rt; Settings::read(rt.alloc(), &line)?.ops, 3);
-    let line = changed(rt.alloc(), "\"version\":1", "\"version\":1,\"version\":2")?;
+    let line = changed(rt.alloc(), "\"version\":1", "\"version\":1,\"version\":3")?;
     assert_eq!(rt;
         fault_of(rt.alloc(), &line),
         Some(SettingsFault::BadVersion)

@@ -9,12 +9,12 @@ pub returns-in_default-clause-rows : goal.returns-in_default-clause-rows
 returns-in_default-clause-rows g c =
     let rows = map g.T.Row.row_of (map view c.args.values.now) in
     let none : None ≡ when (list_all (g.T.Row.is_row c.args.groups) rows) rows = search (rules, tests) in
-    refused_rows _ _ rows none (g.met.T.Row.refused c.args.bounds c.args.groups rows)
+    refused_rows _ _ rows none (g.met.T.Row.refused c.args.bounds c.args.groups c.args.servers.now rows)
 
 pub returns-then-keep_rule-clause-rows : goal.returns-then-keep_rule-clause-rows
 returns-then-keep_rule-clause-rows g c =
     let rows = map g.T.Row.row_of (map view c.args.values.now) in
-    let rule = g.T.Row.rule c.args.bounds c.args.groups in
+    let rule = g.T.Row.rule c.args.bounds c.args.groups c.args.servers.now in
     let some : Some c.in-Some.rows.items ≡ when (list_all (g.T.Row.is_row c.args.groups) rows) rows = search (rules, tests) in
     let keeps : rule c.in-Some.rows.items ≡ true = search (rules, tests) in
     kept_rows rule (list_all (g.T.Row.is_row c.args.groups) rows) c.in-Some.rows.items rows some keeps
@@ -22,14 +22,14 @@ returns-then-keep_rule-clause-rows g c =
 pub returns-else-keep_rule-clause-rows : goal.returns-else-keep_rule-clause-rows
 returns-else-keep_rule-clause-rows g c =
     let rows = map g.T.Row.row_of (map view c.args.values.now) in
-    let rule = g.T.Row.rule c.args.bounds c.args.groups in
+    let rule = g.T.Row.rule c.args.bounds c.args.groups c.args.servers.now in
     let some : Some c.in-Some.rows.items ≡ when (list_all (g.T.Row.is_row c.args.groups) rows) rows = search (rules, tests) in
     let breaks : rule c.in-Some.rows.items ≡ false = search (rules, tests) in
     broken_rows rule (list_all (g.T.Row.is_row c.args.groups) rows) c.in-Some.rows.items rows some breaks
 
 pub returns-then-keep_rule-clause-few : goal.returns-then-keep_rule-clause-few
 returns-then-keep_rule-clause-few g c =
-    let keeps : g.T.Row.rule c.args.bounds c.args.groups c.deref.result.now ≡ true = search (rules, tests) in
-    let few = g.met.T.Row.few c.args.bounds c.args.groups c.deref.result.now keeps in
+    let keeps : g.T.Row.rule c.args.bounds c.args.groups c.args.servers.now c.deref.result.now ≡ true = search (rules, tests) in
+    let few = g.met.T.Row.few c.args.bounds c.args.groups c.args.servers.now c.deref.result.now keeps in
     let len = c.deref.ensures.len in
     omega (arith, few, len)
