@@ -1,5 +1,5 @@
 //! What the tests of several services do on a board.
-ghost use Rattle.std.specs.Prelude.{◌≡◌, ◌<◌, None, IsTrue};
+ghost use Rattle.std.specs.Prelude.{◌≡◌, ◌<◌, [], All, length, None, IsTrue, IfSome};
 ghost use Rattle.sm_ownership.specs.Rules.{phase_fault};
 
 use sm_body::service::Service;
@@ -11,9 +11,39 @@ use sm_ranges::stand::Stand;
 use sm_rule::board::Board;
 use sm_rule::chair::Chair;
 use sm_rule::pass::Pass;
+use std::alloc::Global;
+
+// The only shard of a board with one body.
+pub(crate) fn first_shard() -> ShardId
+    ensures { result ≡ 0 }
+{
+    let Some(k) = ShardId::new(0) else {
+        unreachable!()
+    };
+    k
+}
+
+// A board with one body, whose shard server 1 owns; none where there is no such board.
+pub(crate) fn board_of_one<S: Service>(
+    alloc: Global,
+    bodies: Vec<S>,
+) -> Option<(Board<S>, Chair<S>)>
+    requires one { length bodies.items ≡ 1 }
+    requires empty { All (λ body. S.requests body ≡ []) bodies.items }
+    ensures count { IfSome result (λ made. made.0.limits.count ≡ 1) }
+    ensures chair { IfSome result (λ made. made.1.board ≡ made.0) }
+{
+    let (board, mut chair) = Board::make(alloc, bodies, 1_000_000).ok()?;
+    let owner = Change::Assign(ServerId::of(1));
+    if changed(&board, &mut chair, first_shard(), owner) {
+        Some((board, chair))
+    } else {
+        None
+    }
+}
 
 // What the shard's body replies under an admission of the pass; none where the pass isn't admitted, or the request not applied.
-pub fn served<S: Service>(
+pub(crate) fn served<S: Service>(
     board: &Board<S>,
     pass: &mut Pass<S>,
     k: ShardId,
@@ -33,7 +63,7 @@ pub fn served<S: Service>(
 }
 
 // The same, where the body first settles for the pass's server; none also where the pass has no server.
-pub fn adopted<S: Service>(
+pub(crate) fn adopted<S: Service>(
     board: &Board<S>,
     pass: &mut Pass<S>,
     k: ShardId,
@@ -65,7 +95,7 @@ fn allows(stand: Stand, change: &Change) -> bool
 }
 
 // Makes the change where the shard's stand allows it, and whether it was made.
-pub fn changed<S: Service>(
+pub(crate) fn changed<S: Service>(
     board: &Board<S>,
     chair: &mut Chair<S>,
     k: ShardId,
@@ -79,7 +109,7 @@ pub fn changed<S: Service>(
 }
 
 // Migrates the shard to this server, and whether each step was made.
-pub fn migrated<S: Service>(
+pub(crate) fn migrated<S: Service>(
     board: &Board<S>,
     chair: &mut Chair<S>,
     k: ShardId,

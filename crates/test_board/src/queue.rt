@@ -1,15 +1,12 @@
 ghost use Rattle.std.specs.Arc.{arc_value};
-ghost use Rattle.std.specs.Prelude.{◌≡◌, None, IfSome};
+ghost use Rattle.std.specs.Prelude.{◌≡◌, None};
 
-use crate::calls::{changed, migrated, served};
+use crate::calls::{board_of_one, first_shard, migrated, served};
 use sm_body::bytes::Bytes;
 use sm_body::service::Service;
-use sm_ownership::change::Change;
 use sm_queue::{Job, JobQueue, Reply, Request};
 use sm_ranges::server_id::ServerId;
-use sm_ranges::shard_id::ShardId;
 use sm_rule::board::Board;
-use sm_rule::chair::Chair;
 use sm_rule::pass::Pass;
 use std::alloc::{AllocError, Global};
 use std::sync::Arc;
@@ -69,30 +66,6 @@ fn gives(
     }
 }
 
-fn first_shard() -> ShardId
-    ensures { result ≡ 0 }
-{
-    let Some(k) = ShardId::new(0) else {
-        unreachable!()
-    };
-    k
-}
-
-// A board with one queue, which server 1 owns; none where there is no such board.
-fn board_of_one(alloc: Global) -> Option<(Board<JobQueue>, Chair<JobQueue>)>
-    ensures count { IfSome result (λ made. made.0.limits.count ≡ 1) }
-    ensures chair { IfSome result (λ made. made.1.board ≡ made.0) }
-{
-    let bodies = vec![in alloc; JobQueue::new(alloc, 1_000)].ok()?;
-    let (board, mut chair) = Board::make(alloc, bodies, 1_000_000).ok()?;
-    let owner = Change::Assign(ServerId::of(1));
-    if changed(&board, &mut chair, first_shard(), owner) {
-        Some((board, chair))
-    } else {
-        None
-    }
-}
-
 #[test]
 fn job_comes_back(rt: HostRuntime) -> Result<(), Fail> {
     let alloc = rt.alloc();
@@ -111,7 +84,8 @@ fn job_comes_back(rt: HostRuntime) -> Result<(), Fail> {
 #[test]
 fn keys_have_their_jobs(rt: HostRuntime) -> Result<(), Fail> {
     let alloc = rt.alloc();
-    let (board, _) = board_of_one(alloc).ok_or("a board")?;
+    let queues = vec![in alloc; JobQueue::new(alloc, 1_000)]?;
+    let (board, _) = board_of_one(alloc, queues).ok_or("a board")?;
     let mut pass = board.pass(Some(ServerId::of(1)));
     assert!(rt; pushes(&board, &mut pass, alloc, b"oven", b"bake"));
     assert!(rt; pushes(&board, &mut pass, alloc, b"oven", b"cool"));
@@ -124,7 +98,8 @@ fn keys_have_their_jobs(rt: HostRuntime) -> Result<(), Fail> {
 #[test]
 fn jobs_migrate(rt: HostRuntime) -> Result<(), Fail> {
     let (alloc, next) = (rt.alloc(), ServerId::of(2));
-    let (board, mut chair) = board_of_one(alloc).ok_or("a board")?;
+    let queues = vec![in alloc; JobQueue::new(alloc, 1_000)]?;
+    let (board, mut chair) = board_of_one(alloc, queues).ok_or("a board")?;
     let mut first = board.pass(Some(ServerId::of(1)));
     assert!(rt; pushes(&board, &mut first, alloc, b"oven", b"bake"));
     assert!(rt; migrated(&board, &mut chair, first_shard(), next));
@@ -175,7 +150,8 @@ fn new_worker(board: &Arc<Board<JobQueue>>) -> Result<Worker, AllocError> {
 #[test]
 fn two_threads_push(rt: HostRuntime) -> Result<(), Fail> {
     let alloc = rt.alloc();
-    let (board, chair) = board_of_one(alloc).ok_or("a board")?;
+    let queues = vec![in alloc; JobQueue::new(alloc, 1_000)]?;
+    let (board, chair) = board_of_one(alloc, queues).ok_or("a board")?;
     let board = Arc::new(alloc, board)?;
     let (first, second) = (new_worker(&board)?, new_worker(&board)?);
     let one_thread = thread::spawn(&rt, move || first.pushes(alloc, 100))
