@@ -19,3 +19,5 @@ mod queue;
 mod rule;
 #[cfg(test)]
 mod service;
+#[cfg(test)]
+mod stale;

@@ -14,7 +14,7 @@ use std::test::Fail;
 use std::thread;
 
 // What a new pass without a server sees of the shard, once it has met the note.
-fn record_told(board: &Board<CounterText>, note: Note<CounterText>, k: ShardId) -> Record
+pub(crate) fn record_told(board: &Board<CounterText>, note: Note<CounterText>, k: ShardId) -> Record
     requires note { note.board ≡ board.now }
     requires shard { k < board.now.limits.count }
 {
