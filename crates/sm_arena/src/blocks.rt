@@ -218,9 +218,11 @@ impl Blocks {
             return Err(AllocError);
         };
         self.grow(block_size(self.least.max(count)))?;
-        if count <= BLOCK_BYTES {
-            self.filling = place;
-        }
+        self.filling = if count <= BLOCK_BYTES {
+            place
+        } else {
+            self.filling
+        };
         Ok(place)
     }
 

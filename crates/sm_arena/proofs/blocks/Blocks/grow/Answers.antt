@@ -1,5 +1,5 @@
-use Rattle.std.proofs.Common.{rules, ◌≡◌, ◌+◌, [], ◌∷◌, ◌++◌, ℕ, sum, ap, sym, ◌∙◌, arith}
-use Rattle.sm_arena.specs.Sizes.{sizes_in, next_size, least_after}
+use Rattle.std.proofs.Common.{rules, ◌≡◌, ◌+◌, [], ◌∷◌, ◌++◌, sym, ◌∙◌, arith}
+use Rattle.sm_arena.specs.Sizes.{least_after}
 use Rattle.sm_arena.proofs.Sizes.{next_pushed, sum_pushed, held_fits}
 use Rattle.sm_arena.proofs.blocks.Blocks.grow.Goals as goal
 

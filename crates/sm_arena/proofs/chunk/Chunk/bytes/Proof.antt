@@ -1,6 +1,6 @@
 -- `bytes` reads the pointer and the count through the `&`, and hands out what the `&` lends. Assumes `Logic`.
 use Rattle.std.proofs.Common.{◌≡◌, ℕ, ◌+◌, ◌*◌, ◌^◌, List, [], ◌∷◌, ◌++◌, length, refl, ap, arith}
-use mir.Syntax.{Fn, Args, a_type, dcons, dnil}
+use mir.Syntax.{Fn}
 use mir.Val.{Val, vptr}
 use mir.MapTy.{inst_fn}
 use base.Logic.{SProp, emp}
@@ -8,7 +8,6 @@ use base.Fml.{Lft, Share, ftrue, flft, fhide}
 use prog.Wp.{Env, WpFn}
 use contract.BorrowLft.{◌⊑◌}
 use contract.Monad.{fact, fact_i}
-use contract.Running.{tables}
 use types.Kit.{‵, raw, ◌⊛◌, prop, at_ret, ◌$◌, ◌∵◌, !, qed, by, move, keep, drop, use0, use1, split, join, regoal, fsplit, fjoin, feq_i, flt_i}
 use types.Part.{agg}
 use types.Run.{stop, fld, load, look, of_opd, no_more, and_then, first, blocks, exec, returns, enter}
@@ -18,7 +17,7 @@ use denote.Builtin.{RawPtr}
 use denote.Memory.{hidden_shr}
 use denote.Opens.{unhide, hide}
 use denote.RawPtr.{block_of, count_of, InBlock}
-use denote.Param.{param, bounded}
+use denote.Param.{param}
 use denote.Signature.{types_at}
 use denote.Slice.{slice_val}
 use denote.Steps.{nothing, heard}
@@ -27,7 +26,7 @@ use denote.Triple.Walked.{Stays, stay_dropped, walk_of, Goes-dropped}
 use Rattle.core.specs.contracts.marker.PhantomData as marker
 use Rattle.core.proofs.alloc.Shapes.{after}
 use Rattle.std.proofs.raw_atomic.Walks.{proved_at, leaves}
-use Rattle.sm_arena.proofs.Following.{slot_at}
+use Rattle.sm_arena.proofs.Following.{args_of, calls_of, loops_of, slot_at}
 use Rattle.sm_arena.proofs.Reading.{Fields, fields_of, shows_at, shows_used, opens_number, shuts_number, opens_pointer, shuts_pointer}
 use Rattle.sm_arena.specs.contracts.chunk.Chunk as chunk
 use Rattle.sm_arena.specs.contracts.chunk.Chunk.bytes.{ended, clauses}
@@ -40,15 +39,13 @@ bytes_spec 𝓤 𝓛 𝓜 𝓡 wired A L g d dd met md =
     let H = 𝓛.H in
     let T = ended A g d dd in
     let c = clauses A g d dd 𝓛 𝓜.mem 𝓡.returns in
-    let args : Args = bounded (a_type ∷ []) (A, tt) (dcons d (dcons dd dnil)) in
-    let fn : Fn = inst_fn args compiled.function in
+    let fn : Fn = inst_fn (args_of A d dd) compiled.function in
     let hs : Stays T.signature.params T.kept = (stay_dropped (slot_at 0 T.signature.params) T.kept.0, tt) in
-    let C = (tables 𝓤 H 𝓜 𝓡 𝓡.env).C in
-    let Λ = (tables 𝓤 H 𝓜 𝓡 𝓡.env).Λ in
-    proved_at 𝓛 T hs c 𝓜 𝓡 (Goes-dropped 𝓛 2 (slot_at 0 T.signature.params) T.kept.0 (λ κs x f. refl), tt) (#self args) fn (compiled.unfolded 𝓤 H 𝓜 𝓡 wired (A, tt) d dd) (λ z are.
+    let C = calls_of 𝓛 𝓜 𝓡 in
+    let Λ = loops_of 𝓛 𝓜 𝓡 in
+    proved_at 𝓛 T hs c 𝓜 𝓡 (Goes-dropped 𝓛 2 (slot_at 0 T.signature.params) T.kept.0 (λ κs x f. refl), tt) (#self (args_of A d dd)) fn (compiled.unfolded 𝓤 H 𝓜 𝓡 wired (A, tt) d dd) (λ z are.
     let Post : Val → SProp 𝓤 = (walk_of 𝓛 T hs c).post z in
     let a = z.0.3 in
-    let vss = z.0.4 in
     let κ : Lft = z.0.0.0 in
     let q : Share = z.0.1.0 in
     let P : RattleType = param 0 A in
@@ -60,7 +57,7 @@ bytes_spec 𝓤 𝓛 𝓜 𝓡 wired A L g d dd met md =
     let long = x.fits.0 in
     let inside = x.fits.1 in
     let room = x.fits.2 in
-    qed 𝓛 (((‵ (flft κ q) ⊛ ‵ (flft z.0.0.1.0 z.0.1.1.0) ⊛ ‵ ftrue) ⊛ ‵ (owns (types_at T.signature.params z.0.0) a vss)) ∷ (raw (fact 𝓤 (z.0.0.1.0 ⊑ A.lives)) ⊛ ‵ ftrue) ∷ []) ∵
+    qed 𝓛 (((‵ (flft κ q) ⊛ ‵ (flft z.0.0.1.0 z.0.1.1.0) ⊛ ‵ ftrue) ⊛ ‵ (owns (types_at T.signature.params z.0.0) a z.0.4)) ∷ (raw (fact 𝓤 (z.0.0.1.0 ⊑ A.lives)) ⊛ ‵ ftrue) ∷ []) ∵
     split ! $ move ! (1 ∷ []) $ fsplit ! $ fsplit ! $ drop ! $ move ! (0 ∷ 2 ∷ []) $
     use1 𝓛 (‵ (hidden_shr (Fields A g) κ (fields_of A g x) b o) ⊛ ‵ (fhide (chunk.the_lent P g x x.at κ)))
     (lent_out 𝓛 (chunk.struct P g) (chunk.the_codes P.Denot P.coded (marker.the_row RawPtr).coded) (chunk.the_heap P g) (chunk.the_lent P g) κ x b o) $ split ! $

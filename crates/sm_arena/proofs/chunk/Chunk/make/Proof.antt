@@ -1,6 +1,6 @@
 -- `make` asks the allocator for the bytes, and makes a chunk of them with nothing written, or answers `None`. Assumes `Logic`.
 use Rattle.std.proofs.Common.{◌≡◌, ◌+◌, ◌-◌, ◌^◌, ◌<◌, List, [], ◌∷◌, ◌++◌, refl, arith, lit<, w64, Some, None}
-use mir.Syntax.{Ty, Fn, Args, a_type, dcons, dnil}
+use mir.Syntax.{Ty, Fn}
 use mir.Val.{Val, vint, vptr, vcons, vnil}
 use mir.MapTy.{inst_fn}
 use base.Fraction.{full_share}
@@ -9,8 +9,7 @@ use base.Fml.{Lft, Share, ftrue, flft, froom}
 use prog.Wp.{Env, WpFn}
 use contract.BorrowLft.{◌⊑◌, ⊑_trans}
 use contract.Monad.{fact, fact_i}
-use contract.Running.{tables}
-use types.Kit.{‵, raw, ◌⊛◌, later, prop, at_ret, ◌$◌, ◌∵◌, !, qed, by, move, drop, use0, use1, use2, split, join, regoal, fsplit, fjoin, await}
+use types.Kit.{Item, ‵, raw, ◌⊛◌, later, prop, at_ret, ◌$◌, ◌∵◌, !, qed, by, move, drop, use0, use1, use2, split, join, regoal, fsplit, fjoin, await}
 use types.Part.{whole, agg}
 use types.Match.{live, vrt, in_variant}
 use types.Run.{stop, fld, lit, of_opd, no_more, and_then, first, switches_on, exec, returns, enter}
@@ -20,7 +19,7 @@ use denote.Array.{Array}
 use denote.Builtin.{u8}
 use denote.Memory.{part_at}
 use denote.RawPtr.{Ptr, block_ptr}
-use denote.Param.{param, bounded}
+use denote.Param.{param}
 use denote.Signature.{types_at, type_at}
 use denote.Steps.{nothing, heard}
 use denote.Triple.Entry.{alive}
@@ -31,7 +30,7 @@ use Rattle.core.proofs.alloc.Shapes.{after, head, arm_body}
 use Rattle.core.proofs.atomic.Steps.{fm}
 use Rattle.core.proofs.option.Made.{Some-of, none_of}
 use Rattle.std.proofs.raw_atomic.Walks.{proved_at, leaves}
-use Rattle.sm_arena.proofs.Following.{slot_at, then_runs}
+use Rattle.sm_arena.proofs.Following.{args_of, calls_of, loops_of, slot_at, then_runs}
 use Rattle.sm_arena.proofs.Fields.{fields_val, fields_own, fields_made}
 use Rattle.sm_arena.proofs.Rooms.{chunk_size, nothing_written}
 use Rattle.sm_arena.specs.Ownership.{chunk_type}
@@ -46,12 +45,11 @@ make_spec 𝓤 𝓛 𝓜 𝓡 wired A L g d dd met md =
     let H = 𝓛.H in
     let T = ended A g d dd in
     let c = clauses A g d dd 𝓛 𝓜.mem 𝓡.returns in
-    let args : Args = bounded (a_type ∷ []) (A, tt) (dcons d (dcons dd dnil)) in
-    let fn : Fn = inst_fn args compiled.function in
+    let fn : Fn = inst_fn (args_of A d dd) compiled.function in
     let hs : Stays T.signature.params T.kept = (stay_dropped (slot_at 0 T.signature.params) T.kept.0, (stay_dropped (slot_at 1 T.signature.params) T.kept.1.0, tt)) in
-    let C = (tables 𝓤 H 𝓜 𝓡 𝓡.env).C in
-    let Λ = (tables 𝓤 H 𝓜 𝓡 𝓡.env).Λ in
-    proved_at 𝓛 T hs c 𝓜 𝓡 (Goes-dropped 𝓛 2 (slot_at 0 T.signature.params) T.kept.0 (λ κs x f. refl), (Goes-dropped 𝓛 2 (slot_at 1 T.signature.params) T.kept.1.0 (λ κs x f. refl), tt)) (#self args) fn (compiled.unfolded 𝓤 H 𝓜 𝓡 wired (A, tt) d dd) (λ z are.
+    let C = calls_of 𝓛 𝓜 𝓡 in
+    let Λ = loops_of 𝓛 𝓜 𝓡 in
+    proved_at 𝓛 T hs c 𝓜 𝓡 (Goes-dropped 𝓛 2 (slot_at 0 T.signature.params) T.kept.0 (λ κs x f. refl), (Goes-dropped 𝓛 2 (slot_at 1 T.signature.params) T.kept.1.0 (λ κs x f. refl), tt)) (#self (args_of A d dd)) fn (compiled.unfolded 𝓤 H 𝓜 𝓡 wired (A, tt) d dd) (λ z are.
     let Post : Val → SProp 𝓤 = (walk_of 𝓛 T hs c).post z in
     let a = z.0.3 in
     let vss = z.0.4 in
@@ -65,6 +63,7 @@ make_spec 𝓤 𝓛 𝓜 𝓡 wired A L g d dd met md =
     let y = at_takes Y 𝓛 𝓜.mem 𝓡.returns κ q place handle size 1 τ in
     let Out : RattleType = type_at T.signature.result z.0.0 in
     let Asked : Type 0 = size < 2 ^ 63 in
+    let Tokens : List (Item 𝓤) = (‵ (flft κ q) ⊛ ‵ (flft z.0.0.1.0 z.0.1.1.0) ⊛ ‵ ftrue) ∷ [] in
     qed 𝓛 ((raw (alive 𝓛 T.signature z.0.0 z.0.1) ⊛ ‵ (owns (types_at T.signature.params z.0.0) a vss)) ∷ (raw (fact 𝓤 (z.0.0.1.0 ⊑ A.lives)) ⊛ raw (fact 𝓤 Asked)) ∷ []) ∵
     move ! (1 ∷ []) $ split ! $ heard ! (z.0.0.1.0 ⊑ A.lives) (λ le. heard ! Asked (λ asked. split ! $ move ! (1 ∷ []) $
     fsplit ! $ fsplit ! $ drop ! $ move ! (1 ∷ []) $ drop ! $ use1 𝓛 (‵ (seen Y κ place handle)) (id⊢ 𝓤 _) $ move ! (1 ∷ []) $
@@ -92,7 +91,7 @@ make_spec 𝓤 𝓛 𝓜 𝓡 wired A L g d dd met md =
     sets ! (of_opd ! (get ! refl)) refl (tt, (record { fits = lit< tt }, ((tt, (record { fits = are.1.0.1 }, (record { fits = lit< tt }, (tt, tt)))), tt))) $
     returns ! (look_at ! 0 refl) $ free_all ! refl $
     use0 𝓛 (‵ (fields_own p size 0 (fields_val p size 0 ∷ []))) (fields_made 𝓛 p size 0 are.1.0.1 (lit< tt)) $ fjoin ! $
-    use1 𝓛 (‵ (Out.own_val (Some made) (live 1 (vcons (fields_val p size 0) vnil) ∷ []))) (Some-of 𝓛 (chunk.the_row (param 0 A) g) made (fields_val p size 0)) $
+    use1 𝓛 {Γ = Tokens} (‵ (Out.own_val (Some made) (live 1 (vcons (fields_val p size 0) vnil) ∷ []))) (Some-of 𝓛 (chunk.the_row (param 0 A) g) made (fields_val p size 0)) $
     use0 𝓛 (raw (fact 𝓤 Good)) (fact_i 𝓤 Good (emp 𝓤) (refl, refl, refl)) $ nothing ! $ nothing ! $ fjoin ! $ nothing ! $ fjoin ! $ move ! (3 ∷ 0 ∷ 2 ∷ 1 ∷ []) $
     by ! (leaves 𝓛 T hs c z (live 1 (vcons (fields_val p size 0) vnil)) (Some made) (tt, (tt, tt)) (tt, (tt, tt))))
     (λ e. join ! $ lands_as ! (e) refl (tt, (record { fits = lit< tt }, (tt, tt))) $

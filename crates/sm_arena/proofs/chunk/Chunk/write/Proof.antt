@@ -9,7 +9,7 @@ use base.Fraction.{full_share}
 use base.Logic.{SProp, emp, never, fst∗}
 use base.Fml.{Share, ftrue, fsep, fat, froom, flft, fobs, fauth, fobor}
 use base.Stored.{Gv}
-use mir.Syntax.{Fn, Body, Args, Dict, a_type, dcons, dnil, named, ty_int}
+use mir.Syntax.{Fn, Body, Dict, named, ty_int}
 use mir.MapTy.{inst_fn}
 use mir.Val.{Val, vint, vptr, vunit}
 use prog.Wp.{Env, Out, Wp, Tables, at_return, after_seq, after_block, after_turn}
@@ -30,7 +30,7 @@ use denote.Laws.{Is, shows}
 use denote.Memory.{cell_at, part_at, mem}
 use denote.Opens.{Shut}
 use types.SemTy.{Body as Borrowed}
-use denote.Param.{param, bounded}
+use denote.Param.{param}
 use denote.Plain.{uint_in, uint_vals, uint_Tells}
 use denote.RattleType.{RattleType, owns}
 use denote.RawPtr.{Ptr, block_ptr, null_ptr, room_for, in_a_block, ◌+ₚ◌}
@@ -42,6 +42,7 @@ use denote.Triple.Walked.{Stays, stay_dropped, stay_ref, walk_of, Goes-dropped, 
 use Rattle.core.proofs.alloc.Shapes.{after, head, inside}
 use Rattle.core.proofs.ptr.Rows.{take_all}
 use Rattle.std.proofs.raw_atomic.Walks.{proved, leaves}
+use Rattle.sm_arena.proofs.Following.{args_of}
 use Rattle.sm_arena.proofs.Fields.{fields_val, fields_own, fields_told, fields_made}
 use Rattle.sm_arena.proofs.Rooms.{byte, spare, snoc}
 use Rattle.sm_arena.specs.Ownership.{chunk_type, chunk_owns}
@@ -52,11 +53,8 @@ use Rattle.sm_arena.proofs.chunk.Chunk.write.Statement.{statement}
 use Rattle.sm_arena.proofs.chunk.Chunk.write.Code as compiled
 
 module _ (A : RattleType) (d dd : Dict) where
-  abbrev args : Args
-  args = bounded (a_type ∷ []) (A, tt) (dcons d (dcons dd dnil))
-
   abbrev fn : Fn
-  fn = inst_fn args compiled.function
+  fn = inst_fn (args_of A d dd) compiled.function
 
   abbrev turn : Body
   turn = inside (inside (after 3 (inside (head (after 3 fn.body)))))
@@ -150,7 +148,7 @@ write_spec 𝓤 𝓛 𝓜 𝓡 wired A L g d dd met md =
     let W = walk_of 𝓛 T hs c in
     let 𝓣 : Tables 𝓤 𝓛.H = tables_of 𝓤 𝓛.H 𝓜 (tables 𝓤 𝓛.H 𝓜 𝓡 𝓡.env) in
     proved 𝓛 T hs c 𝓜 𝓡 (Goes-ref 𝓛 3 0 tt (plain (λ _. R)), (Goes-dropped 𝓛 3 P yes (λ κs x w. refl), tt))
-    (#self (args A d dd)) (fn A d dd) (compiled.unfolded 𝓤 H 𝓜 𝓡 wired (A, tt) d dd)
+    (#self (args_of A d dd)) (fn A d dd) (compiled.unfolded 𝓤 H 𝓜 𝓡 wired (A, tt) d dd)
     (λ κs. (mut_vals, (shr_slice_vals, tt))) (λ κs. (mut_Tells (named 0) κs.0 R, (shr_slice_Tells (named 1) κs.1.0 u8, tt))) (λ κs qs bounds a _ are.
     let y : W.Ghost = ((κs, qs, bounds, a, (mut_vals a.0, (shr_slice_vals a.1.0, tt))), tt) in
     let Post : Val → SProp 𝓤 = W.post y in
