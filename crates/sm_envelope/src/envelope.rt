@@ -12,37 +12,43 @@ use std::marker::Model;
 /// How often a request is forwarded at most.
 pub const MOST_HOPS: u8 = 4;
 
-/// A request on its way to a shard: its number, its shard, how it came, and how often it was forwarded.
+/// A request on its way to a shard: its number, its shard, how it came, how often it was forwarded, and a note that goes with it.
 #[derive(Debug, Drop)]
-pub struct Envelope<Q: Drop> {
+pub struct Envelope<Q: Drop, N: Drop> {
     shell: Shell,
     request: Q,
+    note: N,
 }
 
-impl<Q: Drop> Model for Envelope<Q> {
+impl<Q: Drop, N: Drop> Model for Envelope<Q, N> {
     ghost use Rattle.sm_envelope.specs.Envelope.{EnvelopeView, whole};
 
-    ghost Value = { EnvelopeView Q };
+    ghost Value = { EnvelopeView Q N };
 
-    ghost view = { λ envelope. whole envelope.shell envelope.request };
+    ghost view = { λ envelope. whole envelope.shell envelope.request envelope.note };
 }
 
-impl<Q: Drop> Envelope<Q> {
-    /// A direct request, not forwarded yet.
-    pub fn new(number: u64, shard: ShardId, request: Q) -> Envelope<Q>
-        ensures { result ≡ record { number = number; shard = shard; mode = Direct; hops = 0; request = request } }
+impl<Q: Drop, N: Drop> Envelope<Q, N> {
+    /// A direct request, not forwarded yet, with this note.
+    pub fn new(number: u64, shard: ShardId, request: Q, note: N) -> Envelope<Q, N>
+        ensures { result ≡ record { number = number; shard = shard; mode = Direct; hops = 0; request = request; note = note } }
     {
         Envelope {
             shell: Shell::direct(number, shard),
             request,
+            note,
         }
     }
 
     // The envelope of these parts.
-    pub(crate) fn of_parts(shell: Shell, request: Q) -> Envelope<Q>
-        ensures { result ≡ whole shell request }
+    pub(crate) fn of_parts(shell: Shell, request: Q, note: N) -> Envelope<Q, N>
+        ensures { result ≡ whole shell request note }
     {
-        Envelope { shell, request }
+        Envelope {
+            shell,
+            request,
+            note,
+        }
     }
 
     /// The number that the sender gave it.
@@ -80,33 +86,50 @@ impl<Q: Drop> Envelope<Q> {
         &self.request
     }
 
+    /// The note that goes with it.
+    pub fn note(&self) -> &N
+        ensures { result.now ≡ self.now.note }
+    {
+        &self.note
+    }
+
     /// The envelope as the server `at` forwards it, and the server that it goes to. Where the record lets `at` forward
     /// nothing, or the request was forwarded as often as it may be, the envelope comes back as it was.
     pub fn forwarded(
         self,
         state: &Record,
         at: ServerId,
-    ) -> Result<(ServerId, Envelope<Q>), Envelope<Q>>
+    ) -> Result<(ServerId, Envelope<Q, N>), Envelope<Q, N>>
         ensures { result ≡ forwarded self state.now at }
     {
-        let Envelope { shell, request } = self;
+        let Envelope {
+            shell,
+            request,
+            note,
+        } = self;
         match state.forward_to(at) {
             Some(to) if shell.hops() < MOST_HOPS => Ok((
                 to,
                 Envelope {
                     shell: shell.forwarded(at),
                     request,
+                    note,
                 },
             )),
-            _ => Err(Envelope { shell, request }),
+            _ => Err(Envelope {
+                shell,
+                request,
+                note,
+            }),
         }
     }
 
-    /// The request, and the envelope but for it.
-    pub fn parts(self) -> (Q, Shell)
+    /// The request, the note, and the envelope but for them.
+    pub fn parts(self) -> (Q, N, Shell)
         ensures request { result.0 ≡ self.request }
-        ensures shell { result.1 ≡ shell_of self }
+        ensures note { result.1 ≡ self.note }
+        ensures shell { result.2 ≡ shell_of self }
     {
-        (self.request, self.shell)
+        (self.request, self.note, self.shell)
     }
 }

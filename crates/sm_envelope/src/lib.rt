@@ -3,7 +3,7 @@
 //! A server that forwards requests on a shard sends an envelope on to the shard's other server, up to [`MOST_HOPS`] times:
 //!
 //! ```rust
-//! let envelope = Envelope::new(7, k, b'a');
+//! let envelope = Envelope::new(7, k, b'a', b'n');
 //! let (to, envelope) = match envelope.forwarded(&state, owner) {
 //!     Ok(forwarded) => forwarded,
 //!     Err(_) => return Err("not forwarded by the owner".into()),

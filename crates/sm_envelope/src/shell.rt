@@ -9,7 +9,7 @@ use sm_ranges::server_id::ServerId;
 use sm_ranges::shard_id::ShardId;
 use std::marker::Model;
 
-/// An envelope but for its request. Only `Envelope::parts` gives one.
+/// An envelope but for its request and its note. Only `Envelope::parts` gives one.
 #[derive(Debug, Drop)]
 pub struct Shell {
     number: u64,
@@ -84,10 +84,10 @@ impl Shell {
         self.hops
     }
 
-    /// The envelope of this shell and the request.
-    pub fn whole<Q: Drop>(self, request: Q) -> Envelope<Q>
-        ensures { result ≡ whole self request }
+    /// The envelope of this shell, the request and the note.
+    pub fn whole<Q: Drop, N: Drop>(self, request: Q, note: N) -> Envelope<Q, N>
+        ensures { result ≡ whole self request note }
     {
-        Envelope::of_parts(self, request)
+        Envelope::of_parts(self, request, note)
     }
 }

@@ -52,7 +52,7 @@ worked_settles w shard server work rest = room (nat_lt (length (kept w.history s
     room false = record { answers = refl; rest = rest }
 
 -- a server that began an envelope finishes its request
-begun_settles : (w : WorldState Request) (to : ℕ) (envelope : EnvelopeView Request) → envelope.shard < length w.in_hand → w.in_flight ≡ []
+begun_settles : (w : WorldState Request) (to : ℕ) (envelope : EnvelopeView Request (Unit {0})) → envelope.shard < length w.in_hand → w.in_flight ≡ []
     → Settles (let went = reached {R = Reply} w to envelope None in after_arrival envelope.shard went.0 went.1)
 begun_settles w to envelope within rest =
     let after = (reached {R = Reply} w to envelope None).1 in
@@ -83,7 +83,7 @@ continues left shard went = let whole = continued left went in after_arrival sha
 stays_settles : (left shard : ℕ) (went : Stepped) → is_forwarded went.0 ≡ false → Settles (after_arrival shard went.0 went.1) → Settles (continues left shard went)
 stays_settles left shard went stays settles = let P : Stepped → Type 0 = λ s. Settles (after_arrival shard s.0 s.1) in subst P (sym (after_hops_there left went stays)) settles
 
-reached_settles : (left : ℕ) (w : WorldState Request) (to : ℕ) (envelope : EnvelopeView Request) (fault : Option AdmitFault) → envelope.shard < length w.in_hand → w.in_flight ≡ []
+reached_settles : (left : ℕ) (w : WorldState Request) (to : ℕ) (envelope : EnvelopeView Request (Unit {0})) (fault : Option AdmitFault) → envelope.shard < length w.in_hand → w.in_flight ≡ []
     → Settles (continues left envelope.shard (reached w to envelope fault))
 reached_settles left w to envelope (Some fault) within rest = stays_settles left envelope.shard (reached w to envelope (Some fault)) refl (record { answers = refl; rest = rest })
 reached_settles left w to envelope None within rest = stays_settles left envelope.shard (reached w to envelope None) refl (begun_settles w to envelope within rest)
@@ -113,7 +113,7 @@ arrives_settles (suc left) w flight hops within =
 
 -- the envelope of a request to this server
 abbrev flight_of : WorldState Request → Request → ℕ → Flight Request
-flight_of w request to = record { to = to; envelope = record { number = 0; shard = shard_for w request; mode = Direct; hops = 0; request = request } }
+flight_of w request to = record { to = to; envelope = record { number = 0; shard = shard_for w request; mode = Direct; hops = 0; request = request; note = tt } }
 
 -- a request is refused where the server is unknown, and else sent, and arrives
 sent_settles : (w : WorldState Request) (in_flight : List (Flight Request)) (request : Request) (server : ℕ) (known : Bool) → in_flight ≡ [] → shard_for w request < length w.in_hand

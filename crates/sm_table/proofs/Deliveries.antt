@@ -45,7 +45,7 @@ module _ {Q R : Type 0} (service : Service Q R) {bounds : List (List ℕ)} {desk
       Follows-unchanged service w Plain (Deliver place) now now (Err NoEnvelope) given (rw none refl) refl
 
 -- a hop is a plain step
-plain_hop : {Q : Type 0} (R : Type 0) (in_flight : List (Flight Q)) (sent : Result (ℕ × EnvelopeView Q) (EnvelopeView Q)) → mark_of (Ok (after_hop {R = R} in_flight sent).0) ≡ Plain
+plain_hop : {Q : Type 0} (R : Type 0) (in_flight : List (Flight Q)) (sent : Result (ℕ × EnvelopeView Q (Unit {0})) (EnvelopeView Q (Unit {0}))) → mark_of (Ok (after_hop {R = R} in_flight sent).0) ≡ Plain
 plain_hop R in_flight (Ok hop) = refl
 plain_hop R in_flight (Err envelope) = refl
 
@@ -76,7 +76,7 @@ module _ {Q R : Type 0} (service : Service Q R) {bounds : List (List ℕ)} {desk
 
   follows_hop : (to : ℕ) → forward_to state flight.to ≡ Some to → FollowsHop (after_hop in_flight (sent_on flight.envelope flight.to (Some to)))
   follows_hop to forwards =
-      let sent : Result (ℕ × EnvelopeView Q) (EnvelopeView Q) = sent_on flight.envelope flight.to (Some to) in
+      let sent : Result (ℕ × EnvelopeView Q (Unit {0})) (EnvelopeView Q (Unit {0})) = sent_on flight.envelope flight.to (Some to) in
       let left : in_flight ≡ remove w.in_flight place = gone ∙ ap (λ flights. remove flights place) stands.in_flight in
       let onward : forward_to (world_record w flight.envelope.shard) flight.to ≡ Some to = ap (λ (s : Record). forward_to s flight.to) state_of_world ∙ forwards in
       let hop : WorldAnswer R × List (Flight Q) = after_hop (remove w.in_flight place) sent in

@@ -47,11 +47,11 @@ module _ {Q : Type 0} (R : Type 0) (w : WorldState Q) where
   extends_flights : (in_flight : List (Flight Q)) → Extends w (record w { in_flight = in_flight })
   extends_flights in_flight = record { frame = refl; added = []; history = sym (append-nil w.history) }
 
-  extends_reached : (place to : ℕ) (envelope : EnvelopeView Q) (fault : Option AdmitFault) → LeavesExtended (reached (without_flight w place) to envelope fault)
+  extends_reached : (place to : ℕ) (envelope : EnvelopeView Q (Unit {0})) (fault : Option AdmitFault) → LeavesExtended (reached (without_flight w place) to envelope fault)
   extends_reached place to envelope None = record { frame = refl; added = _; history = refl }
   extends_reached place to envelope (Some fault) = extends_flights (remove w.in_flight place)
 
-  extends_arrived : (place at : ℕ) (envelope : EnvelopeView Q) (to : Option ℕ) → LeavesExtended (arrived (without_flight w place) at envelope to)
+  extends_arrived : (place at : ℕ) (envelope : EnvelopeView Q (Unit {0})) (to : Option ℕ) → LeavesExtended (arrived (without_flight w place) at envelope to)
   extends_arrived place at envelope None = extends_reached place at envelope _
   extends_arrived place at envelope (Some to) = extends_flights _
 

@@ -24,8 +24,8 @@ use Rattle.sm_envelope.specs.declared.envelope.TheConstants.{MOST_HOPS}
 use Rattle.sm_table.specs.World.{after_hop, flight_to}
 
 -- a direct envelope that wasn't forwarded
-abbrev pub direct : {Q : Type 0} → ℕ → ℕ → Q → EnvelopeView Q
-direct number shard request = record { number = number; shard = shard; mode = Direct; hops = 0; request = request }
+abbrev pub direct : {Q : Type 0} → ℕ → ℕ → Q → EnvelopeView Q (Unit {0})
+direct number shard request = record { number = number; shard = shard; mode = Direct; hops = 0; request = request; note = tt }
 
 module _ {Q : Type 0} {bounds : List (List ℕ)} {desk : DeskView} {table : TableView} {bodies : BodiesView Q} {in_flight : List (Flight Q)} {in_hand : List (Option (InHand Q))} (whole : IsTogether (view_of bounds desk table bodies in_flight in_hand)) where
   abbrev IsShardThere : Flight Q → Type 0
@@ -79,9 +79,9 @@ module _ {Q : Type 0} {bounds : List (List ℕ)} {desk : DeskView} {table : Tabl
   IsTogether-in_flight flights all = record { layout = whole.layout; table = whole.table; bodies = whole.bodies; flights = all; admitted = whole.admitted }
 
   -- with one more, for a shard that is there
-  pub IsTogether-sent : (shard to number : ℕ) (request : Q) (envelope : EnvelopeView Q) (flights : List (Flight Q)) → shard < length bounds → envelope ≡ direct number shard request → flights ≡ in_flight ++ flight_to to envelope ∷ [] → IsTogether (view_of bounds desk table bodies flights in_hand)
+  pub IsTogether-sent : (shard to number : ℕ) (request : Q) (envelope : EnvelopeView Q (Unit {0})) (flights : List (Flight Q)) → shard < length bounds → envelope ≡ direct number shard request → flights ≡ in_flight ++ flight_to to envelope ∷ [] → IsTogether (view_of bounds desk table bodies flights in_hand)
   IsTogether-sent shard to number request envelope flights within is flights_are =
-      let its_shard : envelope.shard ≡ shard = ap (λ (e : EnvelopeView Q). e.shard) is in
+      let its_shard : envelope.shard ≡ shard = ap (λ (e : EnvelopeView Q (Unit {0})). e.shard) is in
       let there : envelope.shard < length in_hand = omega (arith, whole.layout) in
       IsTogether-in_flight flights (subst (All IsShardThere) (sym flights_are) (All-push IsShardThere in_flight (flight_to to envelope) whole.flights there))
 
@@ -89,15 +89,15 @@ module _ {Q : Type 0} {bounds : List (List ℕ)} {desk : DeskView} {table : Tabl
   flights-remove place = All-append IsShardThere _ _ (All-take IsShardThere place in_flight whole.flights) (All-drop IsShardThere (suc place) in_flight whole.flights)
 
   -- an envelope that is forwarded stays with its shard
-  flights-hop : (R : Type 0) (flights : List (Flight Q)) (envelope : EnvelopeView Q) (from : ℕ) (to : Option ℕ) → All IsShardThere flights → envelope.shard < length in_hand → All IsShardThere (after_hop {R = R} flights (sent_on envelope from to)).1
+  flights-hop : (R : Type 0) (flights : List (Flight Q)) (envelope : EnvelopeView Q (Unit {0})) (from : ℕ) (to : Option ℕ) → All IsShardThere flights → envelope.shard < length in_hand → All IsShardThere (after_hop {R = R} flights (sent_on envelope from to)).1
   flights-hop R flights envelope from None all there = all
   flights-hop R flights envelope from (Some to) all there =
-      cond_both (nat_lt envelope.hops MOST_HOPS) _ _ (λ (sent : Result (ℕ × EnvelopeView Q) (EnvelopeView Q)). All IsShardThere (after_hop {R = R} flights sent).1)
+      cond_both (nat_lt envelope.hops MOST_HOPS) _ _ (λ (sent : Result (ℕ × EnvelopeView Q (Unit {0})) (EnvelopeView Q (Unit {0}))). All IsShardThere (after_hop {R = R} flights sent).1)
       (λ _. All-push IsShardThere flights (flight_to to (one_hop_more envelope from)) all there)
       (λ _. all)
 
   -- an envelope that came off the flights is forwarded, or refused
-  pub IsTogether-hop : {R : Type 0} (place : ℕ) (envelope : EnvelopeView Q) (state : Record) (from : ℕ) (left flights : List (Flight Q)) (answer : WorldAnswer R) → left ≡ remove in_flight place → envelope.shard < length table.records → (answer, flights) ≡ after_hop left (forwarded envelope state from) → IsTogether (view_of bounds desk table bodies flights in_hand)
+  pub IsTogether-hop : {R : Type 0} (place : ℕ) (envelope : EnvelopeView Q (Unit {0})) (state : Record) (from : ℕ) (left flights : List (Flight Q)) (answer : WorldAnswer R) → left ≡ remove in_flight place → envelope.shard < length table.records → (answer, flights) ≡ after_hop left (forwarded envelope state from) → IsTogether (view_of bounds desk table bodies flights in_hand)
   IsTogether-hop {R = R} place envelope state from left flights answer left_is there hop =
       let all : All IsShardThere left = subst (All IsShardThere) (sym left_is) (flights-remove place) in
       let onward = flights-hop R left envelope from (forward_to state from) all (omega (arith, there, whole.table)) in

@@ -69,15 +69,15 @@ module _ {Q R : Type 0} (service : Service Q R) (w : WorldState Q) (number serve
   never_controlled shard change None answered = cc
   never_controlled shard change (Some fault) answered = cc
 
-  never_reached : (before : WorldState Q) (to : ℕ) (envelope : EnvelopeView Q) (fault : Option AdmitFault) → NeverReplied (reached before to envelope fault)
+  never_reached : (before : WorldState Q) (to : ℕ) (envelope : EnvelopeView Q (Unit {0})) (fault : Option AdmitFault) → NeverReplied (reached before to envelope fault)
   never_reached before to envelope None answered = cc
   never_reached before to envelope (Some fault) answered = cc
 
-  never_hopped : (before : WorldState Q) (in_flight : List (Flight Q)) (sent : Result (ℕ × EnvelopeView Q) (EnvelopeView Q)) → NeverReplied (hopped before (after_hop in_flight sent))
+  never_hopped : (before : WorldState Q) (in_flight : List (Flight Q)) (sent : Result (ℕ × EnvelopeView Q (Unit {0})) (EnvelopeView Q (Unit {0}))) → NeverReplied (hopped before (after_hop in_flight sent))
   never_hopped before in_flight (Ok hop) answered = cc
   never_hopped before in_flight (Err envelope) answered = cc
 
-  never_arrived : (before : WorldState Q) (at : ℕ) (envelope : EnvelopeView Q) (to : Option ℕ) → NeverReplied (arrived before at envelope to)
+  never_arrived : (before : WorldState Q) (at : ℕ) (envelope : EnvelopeView Q (Unit {0})) (to : Option ℕ) → NeverReplied (arrived before at envelope to)
   never_arrived before at envelope None answered = never_reached before at envelope _ answered
   never_arrived before at envelope (Some to) answered = never_hopped before before.in_flight _ answered
 

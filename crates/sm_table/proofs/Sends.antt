@@ -29,11 +29,11 @@ module _ {Q R : Type 0} (service : Service Q R) {bounds : List (List ℕ)} {desk
   not_sent in_flight is = Follows-unchanged service w Unmade (Send to number request) (record v { in_flight = in_flight }) v (Err NoMemory) stands refl (ap (λ flights. record v { in_flight = flights }) is)
 
   -- the request is in flight
-  pub sent : (shard : ℕ) (envelope : EnvelopeView Q) (in_flight : List (Flight Q)) → is_known v.desk.servers to ≡ true → shard ≡ shard_of now.bounds (service.key_of request) → envelope ≡ direct number shard request → in_flight ≡ v.in_flight ++ flight_to to envelope ∷ [] → Follows (record v { in_flight = in_flight }) (Ok Sent) (outcome service w Plain (Send to number request))
+  pub sent : (shard : ℕ) (envelope : EnvelopeView Q (Unit {0})) (in_flight : List (Flight Q)) → is_known v.desk.servers to ≡ true → shard ≡ shard_of now.bounds (service.key_of request) → envelope ≡ direct number shard request → in_flight ≡ v.in_flight ++ flight_to to envelope ∷ [] → Follows (record v { in_flight = in_flight }) (Ok Sent) (outcome service w Plain (Send to number request))
   sent shard envelope in_flight known by_key envelope_is is =
       let knows : is_known w.frame.servers to ≡ true = ap (λ desk. is_known desk.servers to) (sym stands.desk) ∙ known in
       let of_world : shard ≡ shard_of w.frame.bounds (service.key_of request) = by_key ∙ ap (λ bounds. shard_of bounds (service.key_of request)) given.bounds in
-      let last : EnvelopeView Q = direct number (shard_of w.frame.bounds (service.key_of request)) request in
+      let last : EnvelopeView Q (Unit {0}) = direct number (shard_of w.frame.bounds (service.key_of request)) request in
       let last_is : envelope ≡ last = envelope_is ∙ ap (λ k. direct number k request) of_world in
       Follows-changed service w Plain (Send to number request) (record v { in_flight = in_flight }) (Ok Sent) (record w { in_flight = w.in_flight ++ flight_to to last ∷ [] }) v.pasts stands.sound (rw knows refl)
       (λ _. ap (λ all. record v { in_flight = all }) is

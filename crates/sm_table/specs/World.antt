@@ -102,24 +102,24 @@ after_look w shard = if nat_lt shard (count_of w) then (Ok (Seen (world_record w
 abbrev pub after_send : {Q R : Type 0} → Service Q R → WorldState Q → ℕ → ℕ → Q → Outcome Q R
 after_send service w to number request =
     if is_known w.frame.servers to
-    then (Ok Sent, record w { in_flight = w.in_flight ++ record { to = to; envelope = record { number = number; shard = shard_of w.frame.bounds (service.key_of request); mode = Direct; hops = 0; request = request } } ∷ [] })
+    then (Ok Sent, record w { in_flight = w.in_flight ++ record { to = to; envelope = record { number = number; shard = shard_of w.frame.bounds (service.key_of request); mode = Direct; hops = 0; request = request; note = tt } } ∷ [] })
     else (Err UnknownServer, w)
 
 -- an envelope in flight to a server
-abbrev pub flight_to : {Q : Type 0} → ℕ → EnvelopeView Q → Flight Q
+abbrev pub flight_to : {Q : Type 0} → ℕ → EnvelopeView Q (Unit {0}) → Flight Q
 flight_to to envelope = record { to = to; envelope = envelope }
 
 -- the request of an envelope, as the server that begins it has it in hand
-abbrev pub hand_of : {Q : Type 0} → ℕ → EnvelopeView Q → InHand Q
+abbrev pub hand_of : {Q : Type 0} → ℕ → EnvelopeView Q (Unit {0}) → InHand Q
 hand_of server envelope = record { server = server; work = Some (record { number = envelope.number; request = envelope.request }) }
 
 -- the server is admitted for the envelope and has its request in hand, or refuses it
-abbrev pub reached : {Q R : Type 0} → WorldState Q → ℕ → EnvelopeView Q → Option AdmitFault → Outcome Q R
+abbrev pub reached : {Q R : Type 0} → WorldState Q → ℕ → EnvelopeView Q (Unit {0}) → Option AdmitFault → Outcome Q R
 reached w to envelope (Some fault) = (Ok (Refused (NotAdmitted fault)), w)
 reached w to envelope None = (Ok (Began to), with_hand (with_entry w to envelope.shard (Admit to envelope.mode)) envelope.shard (Some (hand_of to envelope)))
 
 -- a hop puts the envelope last in flight; where none is left the request is refused
-abbrev pub after_hop : {Q R : Type 0} → List (Flight Q) → Result (ℕ × EnvelopeView Q) (EnvelopeView Q) → WorldAnswer R × List (Flight Q)
+abbrev pub after_hop : {Q R : Type 0} → List (Flight Q) → Result (ℕ × EnvelopeView Q (Unit {0})) (EnvelopeView Q (Unit {0})) → WorldAnswer R × List (Flight Q)
 after_hop in_flight (Ok hop) = (Forwarded hop.0, in_flight ++ flight_to hop.0 hop.1 ∷ [])
 after_hop in_flight (Err envelope) = (Refused TooManyHops, in_flight)
 
@@ -127,7 +127,7 @@ abbrev pub hopped : {Q R : Type 0} → WorldState Q → WorldAnswer R × List (F
 hopped w hop = (Ok hop.0, record w { in_flight = hop.1 })
 
 -- a server that forwards requests on the shard forwards the envelope; any other begins it or refuses it
-abbrev pub arrived : {Q R : Type 0} → WorldState Q → ℕ → EnvelopeView Q → Option ℕ → Outcome Q R
+abbrev pub arrived : {Q R : Type 0} → WorldState Q → ℕ → EnvelopeView Q (Unit {0}) → Option ℕ → Outcome Q R
 arrived w at envelope None = reached w at envelope (admit_fault w.frame.ceiling (world_record w envelope.shard) at envelope.mode)
 arrived w at envelope (Some to) = hopped w (after_hop w.in_flight (sent_on envelope at (Some to)))
 

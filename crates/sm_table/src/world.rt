@@ -47,7 +47,7 @@ pub struct Setup {
 #[derive(Debug, Drop)]
 pub struct Flight<Q: Drop> {
     pub to: ServerId,
-    pub envelope: Envelope<Q>,
+    pub envelope: Envelope<Q, ()>,
 }
 
 /// All shards and servers, and the requests on their way, as one thread runs them. Plans, restarts and published routes are no
@@ -200,7 +200,7 @@ impl<S: Service> World<S> {
         }
         let flight = Flight {
             to,
-            envelope: Envelope::new(number, k, request),
+            envelope: Envelope::new(number, k, request, ()),
         };
         if self.in_flight.push(flight).is_err() {
             return Err(WorldFault::NoMemory);
@@ -225,7 +225,7 @@ impl<S: Service> World<S> {
         }
         let number = envelope.number();
         let mode = envelope.mode();
-        let (request, _) = envelope.parts();
+        let (request, _, _) = envelope.parts();
         if let Err(fault) = self.admit(k, to, mode, Some(Work { number, request })) {
             return Ok(WorldAnswer::Refused(Refusal::Admit(fault)));
         }
@@ -329,7 +329,7 @@ fn send_on<Q: Drop, R>(
     in_flight: &mut Vec<Flight<Q>>,
     state: &Record,
     at: ServerId,
-    envelope: Envelope<Q>,
+    envelope: Envelope<Q, ()>,
 ) -> WorldAnswer<R>
     requires room { vec_len in_flight.old < vec_capacity in_flight.old }
     ensures hop { (result, in_flight.new.items) ≡ after_hop in_flight.old.items (forwarded envelope state.now at) }

@@ -103,17 +103,17 @@ module _ {Q : Type 0} (R : Type 0) (w : WorldState Q) (sound : IsSound w) where
       (λ known. sound_flights w _ sound (All-push (IsFlight w.frame) w.in_flight _ sound.flights (record { shard = shard_within w.frame.bounds (service.key_of request) sound.frame.layout; server = known })))
       (λ _. sound)
 
-  sound_reached : (to : ℕ) (envelope : EnvelopeView Q) (fault : Option AdmitFault) → envelope.shard < count_of w → IsServer to → admit_fault w.frame.ceiling (world_record w envelope.shard) to envelope.mode ≡ fault → LeavesSound (reached w to envelope fault)
+  sound_reached : (to : ℕ) (envelope : EnvelopeView Q (Unit {0})) (fault : Option AdmitFault) → envelope.shard < count_of w → IsServer to → admit_fault w.frame.ceiling (world_record w envelope.shard) to envelope.mode ≡ fault → LeavesSound (reached w to envelope fault)
   sound_reached to envelope (Some fault) within is none = sound
   sound_reached to envelope None within is none = sound_admit w sound to envelope.shard envelope.mode _ within is refl none
 
   -- an envelope goes on to a server that is known
-  sound_hopped : (from to : ℕ) (envelope : EnvelopeView Q) → envelope.shard < count_of w → is_known w.frame.servers to ≡ true → LeavesSound (hopped w (after_hop w.in_flight (sent_on envelope from (Some to))))
-  sound_hopped from to envelope within known = cond_both (nat_lt envelope.hops MOST_HOPS) _ _ (λ (sent : Result (ℕ × EnvelopeView Q) (EnvelopeView Q)). LeavesSound (hopped w (after_hop w.in_flight sent)))
+  sound_hopped : (from to : ℕ) (envelope : EnvelopeView Q (Unit {0})) → envelope.shard < count_of w → is_known w.frame.servers to ≡ true → LeavesSound (hopped w (after_hop w.in_flight (sent_on envelope from (Some to))))
+  sound_hopped from to envelope within known = cond_both (nat_lt envelope.hops MOST_HOPS) _ _ (λ (sent : Result (ℕ × EnvelopeView Q (Unit {0})) (EnvelopeView Q (Unit {0}))). LeavesSound (hopped w (after_hop w.in_flight sent)))
       (λ _. sound_flights w _ sound (All-push (IsFlight w.frame) w.in_flight (flight_to to (one_hop_more envelope from)) sound.flights (record { shard = within; server = known })))
       (λ _. sound)
 
-  sound_arrived : (at : ℕ) (envelope : EnvelopeView Q) (to : Option ℕ) → envelope.shard < count_of w → is_known w.frame.servers at ≡ true → forward_to (world_record w envelope.shard) at ≡ to → LeavesSound (arrived w at envelope to)
+  sound_arrived : (at : ℕ) (envelope : EnvelopeView Q (Unit {0})) (to : Option ℕ) → envelope.shard < count_of w → is_known w.frame.servers at ≡ true → forward_to (world_record w envelope.shard) at ≡ to → LeavesSound (arrived w at envelope to)
   sound_arrived at envelope None within known is = sound_reached at envelope _ within (known_server w.frame.servers at sound.frame.servers known) refl
   sound_arrived at envelope (Some to) within known is = sound_hopped at to envelope within (known_forward w.frame.servers (world_record w envelope.shard).stand at to (sound.named envelope.shard within) is)
 
