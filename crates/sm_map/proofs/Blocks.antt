@@ -1,19 +1,18 @@
 -- What blocks hold: the entry at a place, what an edit of one block leaves, and how places count.
-use Rattle.std.proofs.Common.{◌≡◌, true, false, ℕ, zero, suc, ◌<◌, ◌≤◌, ◌+◌, ◌-◌, ◌*◌, min, List, [], ◌∷◌, ◌++◌, length, map, sum, get_or, set, take, drop, refl, sym, ap, subst, ◌∙◌, arith, inl, inr, ◌⊎◌, length-append, append_assoc}
-use Rattle.std.specs.Prelude.{All}
-use Rattle.std.specs.List.{flat_map, sum_by, insert, remove, HoldsAt}
+use Rattle.std.proofs.Common.{◌≡◌, true, false, ℕ, zero, suc, ◌<◌, ◌≤◌, ◌+◌, ◌-◌, List, [], ◌∷◌, ◌++◌, length, sum, get_or, set, take, drop, refl, sym, ap, ◌∙◌, arith, inl, inr, ◌⊎◌, append_assoc}
+use Rattle.std.specs.List.{insert, remove}
 use Rattle.std.proofs.lemmas.Bool.{cases_lt}
-use Rattle.std.proofs.lemmas.List.{length-map, length-take, length-drop, length-set, take-append-drop, take-take, get_or-map, get_or-set_same, get_or-set_other, get_or_default, take-map, take_all, take_more, append-nil, set_split, set-get_or, set-append_left, set-append_right, map-append, map-set}
+use Rattle.std.proofs.lemmas.List.{length-map, length-take, length-drop, take-append-drop, take-take, get_or-map, take-map, take_all, set_split, set-get_or, set-append_left, set-append_right, map-append, map-set}
 use Rattle.std.proofs.lemmas.List.Concat.{flat_map-append, length-flat_map, get_or-flat_map}
 use Rattle.std.proofs.lemmas.List.Edits.{length-insert, insert-append_left, insert-append_right, remove-append_left, remove-append_right}
-use Rattle.std.proofs.lemmas.List.Sums.{sum-map, sum_by_more, sum_by-take-le, sum_by-le}
+use Rattle.std.proofs.lemmas.List.Sums.{sum-map, sum_by_more, sum_by-take-le}
 use Rattle.sm_arena.specs.Pieces.{Places}
 use Rattle.sm_map.specs.KeyMap.{Pair}
 use Rattle.sm_map.specs.Entry.{pair_of, pairs_of}
 use Rattle.sm_map.specs.Block.{BlockValue}
 use Rattle.std.proofs.lemmas.Bool.Decides.{nat_tests}
 use Rattle.sm_map.specs.Places.{precedes}
-use Rattle.sm_map.specs.Blocks.{entries_in, lengths_in, number_of, HasEntry, IsGap, IsStop, IsFilled, IsCut}
+use Rattle.sm_map.specs.Blocks.{entries_in, lengths_in, number_of, HasEntry, IsStop, IsCut}
 use Rattle.sm_map.specs.declared.entry.Entry.{Entry}
 use Rattle.sm_map.specs.declared.place.Place.{Place}
 

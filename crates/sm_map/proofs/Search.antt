@@ -1,5 +1,5 @@
 -- What the first entries of blocks tell of a key, and the one block that can have it.
-use Rattle.std.proofs.Common.{◌≡◌, ℕ, ◌<◌, ◌≤◌, ◌+◌, ◌-◌, List, ◌++◌, length, map, sum, get_or, take, drop, suc, refl, sym, ap, subst, ◌∙◌, arith}
+use Rattle.std.proofs.Common.{◌≡◌, ℕ, ◌<◌, ◌+◌, ◌-◌, List, ◌++◌, length, sum, get_or, take, drop, suc, sym, ap, subst, ◌∙◌, arith}
 use Rattle.std.specs.List.{AllWithin, HoldsAt}
 use Rattle.std.specs.declared.cmp.Ordering.TheVariants.{Less, Equal, Greater}
 use Rattle.std.proofs.lemmas.List.{take_all}
@@ -14,7 +14,7 @@ use Rattle.sm_map.specs.declared.entry.Entry.{Entry}
 use Rattle.sm_map.specs.declared.place.Place.{Place}
 use Rattle.sm_map.proofs.Entries.{length-pairs, read_less, read_equal, read_greater}
 use Rattle.sm_map.proofs.Parts.{part_rises, place_in_part, gap_in_part}
-use Rattle.sm_map.proofs.Blocks.{all_entries, before_block, blocks_counted, length_there, pair_parts, parts, front_pairs, next_block, number_inside, entry_there}
+use Rattle.sm_map.proofs.Blocks.{all_entries, blocks_counted, length_there, pair_parts, front_pairs, next_block, number_inside, entry_there}
 
 -- no entry stands after all blocks
 pub none_after : (placed : Places) (blocks : List BlockValue) (key : List ℕ) → AllWithin (λ (pair : Pair). key_cmp pair.key key ≡ Greater) (pairs_of placed (entries_in blocks)) (sum (take (length blocks) (lengths_in blocks))) (length (pairs_of placed (entries_in blocks)))

@@ -1,8 +1,8 @@
 -- What a contract sees of an Index, and what it keeps.
-use Rattle.std.specs.Prelude.{◌≡◌, ◌<◌, ◌≤◌, ◌⊎◌, ℕ, List, [], All, length}
+use Rattle.std.specs.Prelude.{◌≡◌, ◌<◌, ◌≤◌, ℕ, List, [], All, length}
 use Rattle.std.specs.List.{HoldsAt}
 use Rattle.sm_map.specs.Block.{BlockValue}
-use Rattle.sm_map.specs.Blocks.{entries_in, lengths_in, IsFilled}
+use Rattle.sm_map.specs.Blocks.{entries_in, IsFilled}
 use Rattle.sm_map.specs.declared.block.TheConstants.{MOST_ENTRIES}
 use Rattle.sm_map.specs.declared.place.Place.{Place}
 use Rattle.sm_map.specs.declared.room.Room.{Room}

@@ -1,7 +1,6 @@
-use Rattle.std.proofs.Common.{◌≡◌, ℕ, ◌+◌, ◌-◌, ◌/◌, ◌<◌, List, length, sum, take, refl, sym, subst, arith}
+use Rattle.std.proofs.Common.{◌≡◌, ℕ, ◌+◌, ◌-◌, ◌/◌, ◌<◌, length, sum, take, refl, sym, subst, arith}
 use Rattle.std.specs.List.{AllWithin}
 use Rattle.std.specs.declared.cmp.Ordering.TheVariants.{Less, Greater}
-use Rattle.sm_arena.specs.Pieces.{bytes_of}
 use Rattle.sm_ranges.specs.KeyOrder.{key_cmp}
 use Rattle.sm_map.specs.KeyMap.{Pair}
 use Rattle.sm_map.specs.Entry.{pairs_of}

@@ -1,7 +1,7 @@
 use Rattle.std.proofs.Common.{◌≡◌, ℕ, subst, sym}
 use Rattle.sm_map.specs.KeyMap.{IsEdgeOf}
 use Rattle.sm_map.specs.ArenaMap.{MapValue}
-use Rattle.sm_map.specs.Blocks.{number_of, IsStop}
+use Rattle.sm_map.specs.Blocks.{number_of}
 use Rattle.sm_map.proofs.KeyMaps.{edge_here, edge_gap}
 use Rattle.sm_map.proofs.arena_map.ArenaMap.edge.Goals as goal
 

@@ -3,7 +3,7 @@ use Rattle.std.specs.List.{between}
 use Rattle.std.specs.Borrow.{Bor}
 use Rattle.std.proofs.lemmas.List.{length_push}
 use Rattle.sm_map.specs.ArenaMap.{MapValue}
-use Rattle.sm_map.specs.Blocks.{number_of, HasEntry, IsStop}
+use Rattle.sm_map.specs.Blocks.{number_of, IsStop}
 use Rattle.sm_map.specs.Val.{row_of}
 use Rattle.sm_map.specs.declared.val.Val.{Val}
 use Rattle.sm_map.proofs.Blocks.{has_within, precedes_has, precedes_less, not_before}

@@ -1,4 +1,4 @@
-use Rattle.std.proofs.Common.{◌≡◌, ◌-◌, ◌≤◌, Bool, cond, List, [], ◌++◌, length, take, drop, Result, Ok, Err, is_ok, vec_len, sym, ap, subst, ◌∙◌, arith}
+use Rattle.std.proofs.Common.{◌≡◌, ◌-◌, ◌≤◌, cond, List, [], ◌++◌, length, take, drop, Result, Ok, Err, is_ok, vec_len, sym, ap, subst, ◌∙◌, arith}
 use Rattle.std.specs.Result.{IsOk}
 use Rattle.std.specs.Vec.{vec_capacity}
 use Rattle.std.proofs.lemmas.List.{length-take, length-drop, take_rest}

@@ -1,5 +1,4 @@
-use Rattle.std.proofs.Common.{◌<◌, [], length, subst, sym, arith}
-use Rattle.sm_map.specs.Block.{BlockValue}
+use Rattle.std.proofs.Common.{subst, sym, arith}
 use Rattle.sm_map.specs.Index.{IndexValue}
 use Rattle.sm_map.specs.Blocks.{lengths_in, HasEntry}
 use Rattle.sm_map.proofs.Indexes.{small_offset}

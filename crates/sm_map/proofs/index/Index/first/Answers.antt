@@ -1,6 +1,6 @@
-use Rattle.std.proofs.Common.{◌≡◌, ℕ, sum, take, refl, subst}
+use Rattle.std.proofs.Common.{subst}
 use Rattle.sm_map.specs.Index.{IndexValue}
-use Rattle.sm_map.specs.Blocks.{lengths_in, number_of, IsStop}
+use Rattle.sm_map.specs.Blocks.{lengths_in, IsStop}
 use Rattle.sm_map.proofs.Indexes.{stop_first}
 use Rattle.sm_map.proofs.index.Index.first.Goals as goal
 

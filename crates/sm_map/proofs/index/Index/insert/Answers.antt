@@ -1,12 +1,10 @@
 use Rattle.std.specs.Vec.{vec_capacity}
 use Rattle.sm_map.specs.Block.{BlockValue}
-use Rattle.std.proofs.Common.{◌≡◌, ◌<◌, ◌≤◌, vec_len, List, ◌+◌, ◌-◌, length, get_or, set, subst, sym, ap, ◌∙◌, arith}
-use Rattle.std.specs.List.{insert, remove}
+use Rattle.std.proofs.Common.{◌≡◌, ◌<◌, ◌≤◌, vec_len, List, ◌+◌, ◌-◌, length, set, subst, sym, ap, ◌∙◌, arith}
+use Rattle.std.specs.List.{insert}
 use Rattle.sm_map.specs.Index.{IndexValue, IsIndex, IsReady}
-use Rattle.sm_map.specs.Blocks.{entries_in, lengths_in, number_of, HasEntry}
-use Rattle.sm_map.proofs.Blocks.{blocks_counted, entry_read}
+use Rattle.sm_map.specs.Blocks.{entries_in, lengths_in, number_of}
 use Rattle.sm_map.specs.declared.entry.Entry.{Entry}
-use Rattle.sm_map.specs.declared.room.Room.{Room}
 use Rattle.sm_map.specs.declared.room.Room.TheVariants.{Inside, Beside, Behind}
 use Rattle.sm_map.proofs.Indexes.{entries_bounded, ready_as, insert_entries, insert_kept, half_entries, half_kept, behind_entries, behind_kept}
 use Rattle.sm_map.proofs.index.Index.insert.Goals as goal

@@ -1,8 +1,7 @@
-use Rattle.std.proofs.Common.{◌≡◌, ◌+◌, ◌-◌, length, get_or, set, subst, sym, ap, ◌∙◌, arith}
-use Rattle.std.specs.List.{insert, remove}
+use Rattle.std.proofs.Common.{◌≡◌, set, subst, sym, arith}
 use Rattle.sm_map.specs.Index.{IndexValue}
 use Rattle.sm_map.specs.Blocks.{entries_in, lengths_in, number_of, HasEntry}
-use Rattle.sm_map.proofs.Blocks.{blocks_counted, entry_read}
+use Rattle.sm_map.proofs.Blocks.{blocks_counted}
 use Rattle.sm_map.proofs.Indexes.{has_in, set_entries, set_kept}
 use Rattle.sm_map.proofs.index.Index.set.Goals as goal
 
