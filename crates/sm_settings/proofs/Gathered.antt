@@ -27,13 +27,8 @@ gathered_rows : {R : Type 0} (gathered : Bool) (found rows : R) → Some found �
 gathered_rows true found rows some = cc
 gathered_rows false found rows some = cc
 
--- and are given where they keep the rule
-pub kept_rows : {R : Type 0} (rule : R → Bool) (gathered : Bool) (found rows : R) → Some found ≡ when gathered rows → rule found ≡ true → Some found ≡ when (rule rows) rows
-kept_rows rule gathered found rows some keeps =
+-- and are given where they keep the rule, and only there
+pub judged_rows : {R : Type 0} (rule : R → Bool) (gathered keeps : Bool) (found rows : R) → Some found ≡ when gathered rows → rule found ≡ keeps → when keeps found ≡ when (rule rows) rows
+judged_rows rule gathered keeps found rows some judged =
     let same = gathered_rows gathered found rows some in
-    ap Some same ∙ sym (ap (λ b. when b rows) (sym (ap rule same) ∙ keeps))
-
-pub broken_rows : {R : Type 0} (rule : R → Bool) (gathered : Bool) (found rows : R) → Some found ≡ when gathered rows → rule found ≡ false → None ≡ when (rule rows) rows
-broken_rows rule gathered found rows some breaks =
-    let same = gathered_rows gathered found rows some in
-    sym (ap (λ b. when b rows) (sym (ap rule same) ∙ breaks))
+    ap (when keeps) same ∙ ap (λ b. when b rows) (sym judged ∙ ap rule same)

@@ -19,18 +19,8 @@ load_others servers shards k a place own loads shard inside known has here is ta
 
 pub overflow_sub-result : goal.overflow_sub-result
 overflow_sub-result c =
-    omega (
-      arith,
-      load_others c.args.roster.now c.args.shards.now c.args.at c.args.a c.place-place.result c.load_by.result c.args.loads.now
-          c.shard_at.result.now c.requires.shard c.requires.known c.requires.loads c.place-place.ensures c.shard_at.ensures
-          c.load_by.ensures,
-    )
+    omega (arith, load_others _ _ _ _ _ _ _ _ c.requires.shard c.requires.known c.requires.loads c.place-place.ensures c.shard_at.ensures c.load_by.ensures)
 
 pub returns : goal.returns
 returns c =
-    omega (
-      arith,
-      load_others c.args.roster.now c.args.shards.now c.args.at c.args.a c.place-place.result c.load_by.result c.args.loads.now
-          c.shard_at.result.now c.requires.shard c.requires.known c.requires.loads c.place-place.ensures c.shard_at.ensures
-          c.load_by.ensures,
-    )
+    omega (arith, load_others _ _ _ _ _ _ _ _ c.requires.shard c.requires.known c.requires.loads c.place-place.ensures c.shard_at.ensures c.load_by.ensures)

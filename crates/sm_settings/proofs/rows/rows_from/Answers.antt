@@ -2,7 +2,7 @@ use Rattle.std.proofs.Common.{◌≡◌, arith, rules, tests, map, Some, None, t
 use Rattle.std.specs.List.{list_all}
 use Rattle.serde_json.specs.View.{view}
 use Rattle.sm_settings.specs.Members.{when}
-use Rattle.sm_settings.proofs.Gathered.{refused_rows, kept_rows, broken_rows}
+use Rattle.sm_settings.proofs.Gathered.{judged_rows, refused_rows}
 use Rattle.sm_settings.proofs.rows.rows_from.Goals as goal
 
 pub returns-in_default-clause-rows : goal.returns-in_default-clause-rows
@@ -14,18 +14,14 @@ returns-in_default-clause-rows g c =
 pub returns-then-keep_rule-clause-rows : goal.returns-then-keep_rule-clause-rows
 returns-then-keep_rule-clause-rows g c =
     let rows = map g.T.Row.row_of (map view c.args.values.now) in
-    let rule = g.T.Row.rule c.args.bounds c.args.groups c.args.servers.now in
     let some : Some c.in-Some.rows.items ≡ when (list_all (g.T.Row.is_row c.args.groups) rows) rows = search (rules, tests) in
-    let keeps : rule c.in-Some.rows.items ≡ true = search (rules, tests) in
-    kept_rows rule (list_all (g.T.Row.is_row c.args.groups) rows) c.in-Some.rows.items rows some keeps
+    judged_rows (g.T.Row.rule c.args.bounds c.args.groups c.args.servers.now) _ true _ rows some (search (rules, tests))
 
 pub returns-else-keep_rule-clause-rows : goal.returns-else-keep_rule-clause-rows
 returns-else-keep_rule-clause-rows g c =
     let rows = map g.T.Row.row_of (map view c.args.values.now) in
-    let rule = g.T.Row.rule c.args.bounds c.args.groups c.args.servers.now in
     let some : Some c.in-Some.rows.items ≡ when (list_all (g.T.Row.is_row c.args.groups) rows) rows = search (rules, tests) in
-    let breaks : rule c.in-Some.rows.items ≡ false = search (rules, tests) in
-    broken_rows rule (list_all (g.T.Row.is_row c.args.groups) rows) c.in-Some.rows.items rows some breaks
+    judged_rows (g.T.Row.rule c.args.bounds c.args.groups c.args.servers.now) _ false _ rows some (search (rules, tests))
 
 pub returns-then-keep_rule-clause-few : goal.returns-then-keep_rule-clause-few
 returns-then-keep_rule-clause-few g c =
