@@ -7,17 +7,13 @@ use Rattle.sm_lines.proofs.line_reader.LineReader.next_line.Goals as goal
 
 pub returns-in-Some-clause-line : goal.returns-in-Some-clause-line
 returns-in-Some-clause-line g c = λ is.
-    let feed = c.in-Some.ensures.some in
-    let ended = c.in_ok-end_line-in-Some.ensures in
-    took_line c.pieces.self c.end_line.new.self (g.R.Read.remaining c.pieces.reader.inner) c.in-Some.n c.pieces.invariant.so_far
-    feed.0 feed.1 feed.2 ended.ok (ended.line is)
+    took_line c.pieces.self c.end_line.new.self _ c.in-Some.n c.pieces.invariant.so_far c.in-Some.ensures.some.0 c.in-Some.ensures.some.1
+    c.in-Some.ensures.some.2 c.in_ok-end_line-in-Some.ensures.ok (c.in_ok-end_line-in-Some.ensures.line is)
 
 pub returns-in-Some-clause-long_line : goal.returns-in-Some-clause-long_line
 returns-in-Some-clause-long_line g c = λ is.
-    let feed = c.in-Some.ensures.some in
-    let ended = c.in_ok-end_line-in-Some.ensures in
-    took_long_line c.pieces.self c.end_line.new.self (g.R.Read.remaining c.pieces.reader.inner) c.in-Some.n c.pieces.invariant.so_far
-    feed.0 feed.1 feed.2 ended.ok (ended.long_line is)
+    took_long_line c.pieces.self c.end_line.new.self _ c.in-Some.n c.pieces.invariant.so_far c.in-Some.ensures.some.0 c.in-Some.ensures.some.1
+    c.in-Some.ensures.some.2 c.in_ok-end_line-in-Some.ensures.ok (c.in_ok-end_line-in-Some.ensures.long_line is)
 
 pub returns-in-Ok-false-clause-line : goal.returns-in-Ok-false-clause-line
 returns-in-Ok-false-clause-line g c = λ is.
