@@ -1,18 +1,24 @@
 //! The program sm_cli: runs a script of the shard manager, one command at a time.
 #![tactic(auto)]
 
-use clap::Command;
 use clap::error::ErrorKind;
+use clap::{Arg, ArgAction, Command};
+use sm_explain::{Beginning, Console, Explained};
 use sm_lines::Watched;
-use sm_model::run_model;
-use sm_run::{RunFault, Status};
+use sm_model::{ModelEngine, run_model};
+use sm_run::{RunFault, Status, run};
 use std::alloc::Global;
 use std::process::ExitCode;
 use std::{env, io};
 
+/// What `--version` prints after the program's name; docs and CHANGELOG.md tell it too.
+const VERSION: &str = "0.1";
+
 const SCRIPT_HELP: &str = "\
 The script comes on standard input: a line of settings, and then a command a line.
+K is a shard's number, and A and B are servers' numbers.
 
+Migrations, as prepare_add 0 2, prepare_drop 0, add 0, drop 0:
   assign K A        the vacant shard K gets the owner A
   prepare_add K B   a migration of shard K to server B begins
   prepare_drop K    the owner forwards what comes to it to server B
@@ -22,8 +28,8 @@ The script comes on standard input: a line of settings, and then a command a lin
   pause K           nobody executes on shard K
   resume K          its owner does again
   reassign K B      the paused shard K gets the owner B
-  look K            the record of shard K
-  hold K A, free K  server A is admitted to shard K without a request; its end
+
+Requests, as put m hello, and at 1 get m:
   get KEY           what the key holds
   put KEY TEXT      the key holds the text
   append KEY TEXT   the key holds its text followed by this one
@@ -31,6 +37,10 @@ The script comes on standard input: a line of settings, and then a command a lin
   del KEY           the key holds nothing
   scan LOW HIGH MAX the first MAX pairs of LOW's shard with keys from LOW on and below HIGH, at most 100
   at A REQUEST      a request to server A, where the others go to the owner
+
+Looking and holding, as look 0:
+  look K            the record of shard K
+  hold K A, free K  server A is admitted to shard K without a request; its end
 
 Each command has one answer line. An empty line and a line that begins with # have none.
 
@@ -49,9 +59,15 @@ answers
 
 docs/SCRIPT.md of the repository has all settings, commands and answers.";
 
+/// The exit status of an explained run in which a line was answered by `error`.
+const WITH_ERRORS: u8 = 3;
+
 /// What the command line asks for.
 enum Choice {
+    /// A script on the model.
     Model,
+    /// The same, and sentences on standard error about lines that are refused.
+    ExplainedModel,
 }
 
 /// The words of the command line, the program's name first; an error is a word that is not UTF-8, or want of memory.
@@ -62,18 +78,29 @@ fn command_line(rt: &HostRuntime) -> io::Result<Vec<String>> {
 
 /// The choice that the words name; an error is a refusal, help that was asked for, or want of memory.
 fn choose(alloc: Global, words: &[String]) -> Result<Choice, clap::Error> {
+    let explain = Arg::new(alloc, "explain")
+        .long("explain")
+        .action(ArgAction::SetTrue)
+        .help(
+            "Tells on standard error why a line is answered by error or refused; the exit status is 3 where one is by error",
+        );
     let model = Command::new(alloc, "model")
         .about(
             "Runs the script of standard input on the model: shards, their changes and requests, on one thread",
         )
-        .after_help(SCRIPT_HELP);
+        .after_help(SCRIPT_HELP)
+        .arg(explain)?;
     let command = Command::new(alloc, "sm_cli")
         .about("Runs a script of a shard manager")
+        .version(VERSION)
         .after_help(SCRIPT_HELP)
         .subcommand_required(true)
         .subcommand(model)?;
-    command.try_get_matches_from(words)?;
-    Ok(Choice::Model)
+    let matches = command.try_get_matches_from(words)?;
+    match matches.subcommand_matches("model") {
+        Some(model) if model.get_flag("explain") => Ok(Choice::ExplainedModel),
+        _ => Ok(Choice::Model),
+    }
 }
 
 /// Tells on standard error why the program ends early.
@@ -82,8 +109,39 @@ fn end_early(rt: &HostRuntime, fault: RunFault) -> anyhow::Result<ExitCode> {
     Ok(ExitCode::FAILURE)
 }
 
-fn main(rt: HostRuntime) -> anyhow::Result<ExitCode> {
+/// Runs the script of standard input.
+fn run_plain(rt: &HostRuntime) -> anyhow::Result<ExitCode> {
+    let mut reader = Watched::new(rt.reader());
+    let mut writer = Watched::new(io::writer(rt));
+    match run_model(rt.alloc(), &mut reader, &mut writer) {
+        Ok(Status::Ran) => Ok(ExitCode::SUCCESS),
+        Ok(Status::BadSettings) => Ok(ExitCode::FAILURE),
+        Err(fault) => end_early(rt, fault),
+    }
+}
+
+/// Runs the script of standard input, and tells on standard error why lines or settings are refused.
+fn run_explained(rt: &HostRuntime) -> anyhow::Result<ExitCode> {
     let alloc = rt.alloc();
+    let console = Console::new(rt);
+    let mut output = Beginning::new(alloc, io::writer(rt));
+    let mut reader = Watched::new(rt.reader());
+    let mut writer = Watched::new(&mut output);
+    let mut engine = Explained::new(ModelEngine::new(alloc), &console);
+    match run(alloc, &mut reader, &mut writer, &mut engine) {
+        Ok(Status::Ran) if console.has_heard_error() => Ok(ExitCode::from(WITH_ERRORS)),
+        Ok(Status::Ran) => Ok(ExitCode::SUCCESS),
+        Ok(Status::BadSettings) => {
+            if let Some(name) = output.settings_fault() {
+                console.tell_settings(name);
+            }
+            Ok(ExitCode::FAILURE)
+        }
+        Err(fault) => end_early(rt, fault),
+    }
+}
+
+fn main(rt: HostRuntime) -> anyhow::Result<ExitCode> {
     let words = match command_line(&rt) {
         Ok(words) => words,
         Err(error) if error.kind() == io::ErrorKind::OutOfMemory => {
@@ -94,21 +152,15 @@ fn main(rt: HostRuntime) -> anyhow::Result<ExitCode> {
             return Ok(ExitCode::from(2));
         }
     };
-    match choose(alloc, &words) {
-        Ok(Choice::Model) => {}
+    match choose(rt.alloc(), &words) {
+        Ok(Choice::Model) => run_plain(&rt),
+        Ok(Choice::ExplainedModel) => run_explained(&rt),
         Err(error) if error.kind() == ErrorKind::OutOfMemory => {
-            return end_early(&rt, RunFault::NoMemory);
+            end_early(&rt, RunFault::NoMemory)
         }
         Err(error) => {
             error.print(&rt)?;
-            return Ok(ExitCode::from(error.exit_code() as u8));
+            Ok(ExitCode::from(error.exit_code() as u8))
         }
-    }
-    let mut reader = Watched::new(rt.reader());
-    let mut writer = Watched::new(io::writer(&rt));
-    match run_model(alloc, &mut reader, &mut writer) {
-        Ok(Status::Ran) => Ok(ExitCode::SUCCESS),
-        Ok(Status::BadSettings) => Ok(ExitCode::FAILURE),
-        Err(fault) => end_early(&rt, fault),
     }
 }

@@ -1,6 +1,8 @@
-//! Tests of reading and answering lines, of settings, and of running scripts.
+//! Tests of reading and answering lines, of settings, of running scripts, and of telling why lines are refused.
 #![tactic(auto)]
 
+#[cfg(test)]
+mod explain;
 pub mod fakes;
 #[cfg(test)]
 mod lines;

@@ -37,7 +37,7 @@ const LINES: &[u8] = b"one\n\nthree\nend\n";
 const ANSWERS: &[u8] = b"one\n\nlong thre\nend\n";
 
 /// The settings, and these lines after them.
-fn script_of(alloc: Global, lines: &[u8]) -> Result<Vec<u8>, AllocError> {
+pub(crate) fn script_of(alloc: Global, lines: &[u8]) -> Result<Vec<u8>, AllocError> {
     let mut script = Vec::from_slice(alloc, PLAIN.as_bytes())?;
     script.push(b'\n')?;
     script.extend_from_slice(lines)?;

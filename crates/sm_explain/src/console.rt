@@ -1,0 +1,43 @@
+use crate::listener::Listener;
+use crate::sentences::settings_sentence;
+use std::cell::Cell;
+use std::io::Eprint;
+
+/// A listener that writes what it hears to standard error, a line each. A failure to write there changes nothing.
+#[derive(Drop)]
+pub struct Console<'a, R> {
+    rt: &'a R,
+    has_heard_error: Cell<bool>,
+}
+
+impl<'a, R> Console<'a, R> {
+    /// A listener that has heard nothing, and writes to the standard error of `rt`.
+    pub fn new(rt: &'a R) -> Console<'a, R> {
+        Console {
+            rt,
+            has_heard_error: Cell::new(false),
+        }
+    }
+
+    /// Whether a line was answered by `error`.
+    pub fn has_heard_error(&self) -> bool {
+        self.has_heard_error.get()
+    }
+}
+
+impl<'a, R: Eprint> Console<'a, R> {
+    /// Writes why settings are answered by this name.
+    pub fn tell_settings(&self, name: &str) {
+        let sentence = settings_sentence(name);
+        let _told = eprintln!(self.rt; "settings: {name}: {sentence}").is_ok();
+    }
+}
+
+impl<'a, R: Eprint> Listener for Console<'a, R> {
+    fn hear(&self, line: u64, answer: &str, sentence: &str) {
+        if answer.starts_with("error ") {
+            self.has_heard_error.set(true);
+        }
+        let _told = eprintln!(self.rt; "line {line}: {answer}: {sentence}").is_ok();
+    }
+}

@@ -1,0 +1,46 @@
+use crate::explained_session::ExplainedSession;
+use crate::listener::Listener;
+use sm_run::Engine;
+use sm_settings::Settings;
+use std::alloc::AllocError;
+use std::marker::Model;
+
+/// An engine whose sessions answer as those of another do, and tell a listener why lines were refused. Contracts see it as that
+/// other engine.
+#[derive(Drop)]
+pub struct Explained<E, L> {
+    engine: E,
+    listener: L,
+}
+
+impl<E, L> Model for Explained<E, L> {
+    ghost Value = { E };
+
+    ghost view = { λ explained. explained.engine };
+}
+
+impl<E, L> Explained<E, L> {
+    ghost use Rattle.std.specs.Prelude.{◌≡◌};
+
+    /// The engine, whose sessions tell this listener.
+    pub fn new(engine: E, listener: L) -> Explained<E, L>
+        ensures { result ≡ engine }
+    {
+        Explained { engine, listener }
+    }
+}
+
+impl<E: Engine, L: Listener + Copy + Drop> Engine for Explained<E, L> {
+    type Session = ExplainedSession<E::Session, L>;
+
+    const MAX_LINE: usize = E::MAX_LINE;
+
+    ghost MAX_LINE = { E.MAX_LINE };
+
+    ghost begins = { λ values session. E.begins values session };
+
+    fn begin(&mut self, settings: Settings) -> Result<Self::Session, AllocError> {
+        let inner = self.engine.begin(settings)?;
+        Ok(ExplainedSession::new(inner, self.listener))
+    }
+}

@@ -1,0 +1,24 @@
+//! Tells beside a run why lines were answered by `error` or `refused`, and why settings weren't accepted. What the run reads and
+//! writes stays what it is.
+//!
+//! ```rust
+//! let console = Console::new(&rt);
+//! let mut engine = Explained::new(Repeating, &console);
+//! let status = run(alloc, &mut reader, &mut writer, &mut engine)?;
+//! assert!(rt; status == Status::Ran);
+//! assert!(rt; console.has_heard_error());
+//! ```
+#![tactic(auto)]
+
+mod beginning;
+mod console;
+mod explained;
+mod explained_session;
+mod listener;
+mod sentences;
+
+pub use beginning::Beginning;
+pub use console::Console;
+pub use explained::Explained;
+pub use explained_session::ExplainedSession;
+pub use listener::Listener;
