@@ -1,8 +1,8 @@
 ghost use Rattle.std.specs.Prelude.{◌≡◌};
 
 use std::alloc::Global;
+use std::io;
 use std::io::Write;
-use std::{fmt, io};
 
 /// How many bytes are kept: more than any answer to settings has.
 const KEPT: usize = 64;

@@ -154,7 +154,7 @@ const SETTINGS: [Entry; 13] = [
     ),
     (
         "BadShape",
-        "a member is missing, unknown or of another type, here or in a row",
+        "a member is missing, unknown or of another type, here or in a row: ./sm check tells which",
     ),
     (
         "BadLayout",
