@@ -1,11 +1,8 @@
 -- Settings that a line gives keep every rule, and no line gives out of memory.
-use Rattle.std.proofs.Common.{◌≡◌, ◌≢◌, ◌≤◌, ◌<◌, ◌+◌, ◌^◌, ◌&&◌, ℕ, zero, suc, List, [], ◌∷◌, ◌++◌, length, map, refl, ap, sym, ◌∙◌, subst, Option, Some, None, Ok, Err, Bool, true, false, ◌==◌, if◌then◌else◌, get_or, arith, lit<, nat_le, nat_lt}
-use Rattle.std.specs.Prelude.{All, is_none}
+use Rattle.std.proofs.Common.{◌≡◌, ◌≢◌, ◌<◌, ◌&&◌, ℕ, List, [], ◌∷◌, ◌++◌, length, refl, ap, sym, ◌∙◌, subst, Option, Some, None, Ok, Err, Bool, true, false, ◌==◌, if◌then◌else◌, get_or, arith, lit<}
+use Rattle.std.specs.Prelude.{is_none}
 use Rattle.std.specs.List.{list_all}
-use Rattle.std.specs.List.Sorted.{IsStrictlyIncreasing}
 use Rattle.std.proofs.lemmas.Bool.{and_parts, eqb-true}
-use Rattle.std.proofs.lemmas.Bool.Decides.{nat_tests}
-use Rattle.std.proofs.lemmas.List.Elements.{All-nil, All-cons}
 use Rattle.std.proofs.lemmas.List.Recursion.{and_at}
 use Rattle.serde_json.specs.Data.{Data}
 use Rattle.sm_ranges.specs.LayoutFault.{first_layout_fault}

@@ -1,13 +1,14 @@
 -- What the clauses of `Value` say, in the words of Members.
-use Rattle.std.proofs.Common.{◌≡◌, ◌==◌, nat_eq, ℕ, suc, List, [], ◌∷◌, length, map, refl, ap, ◌∙◌, sym, Option, Some, None, option_map, String, Global, Bool}
+use Rattle.std.proofs.Common.{◌≡◌, ◌==◌, nat_eq, ℕ, suc, List, [], ◌∷◌, length, map, refl, ap, ◌∙◌, sym, Option, Some, None, option_map, String, Global, Bool, ◌&&◌}
 use Rattle.serde_json.specs.Data.{Data, Members}
 use Rattle.serde_json.specs.View.{view, items_view, members_view}
 use Rattle.serde_json.specs.declared.value.Value.{Value}
 use Rattle.std.specs.List.{list_all}
 use Rattle.std.proofs.lemmas.List.Folds.{list_all-map}
 use Rattle.std.specs.Prelude.{option_and_then}
-use Rattle.serde_json.specs.Find.{as_array}
-use Rattle.sm_settings.specs.Members.{member_count, holds_of, list_of, array_of, is_array_of}
+use Rattle.std.proofs.lemmas.List.{length-map}
+use Rattle.serde_json.specs.Find.{as_array, get}
+use Rattle.sm_settings.specs.Members.{member_count, holds_of, list_of, array_of, has_size, is_array_of, is_object_of, is_whole}
 
 member_count-members_view : (ms : List (String Global × Value)) → member_count (members_view ms) ≡ length ms
 member_count-members_view [] = refl
@@ -37,3 +38,12 @@ pub all_viewed : (test : Data → Bool) (values : List Value) (o : Option Data) 
     → list_all (λ value. test (view value)) values ≡ holds_of (is_array_of test) o
 all_viewed test values o items =
     sym (list_all-map test view values) ∙ ap (holds_of (list_all test)) items ∙ sym (holds_of_array test o)
+
+-- an object's members are numbers where each of their names has one
+pub named_numbers : {N : Type 0} (of : N → List ℕ) (names : List N) (d : Data) (sized each : Bool) → sized ≡ has_size (length names) d
+    → each ≡ list_all (λ name. holds_of is_whole (get (of name) d)) names → (sized && each) ≡ is_object_of (map (λ name. (of name, is_whole)) names) d
+named_numbers {N} of names d sized each is all =
+    let member : N → List ℕ × (Data → Bool) = λ name. (of name, is_whole) in
+    let holds : List ℕ × (Data → Bool) → Bool = λ m. holds_of m.1 (get m.0 d) in
+    (λ i. is i && all i) ∙ sym (ap (λ n. has_size n d && list_all holds (map member names)) (length-map names member)
+    ∙ ap (λ b. has_size (length names) d && b) (list_all-map holds member names))

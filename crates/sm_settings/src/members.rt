@@ -1,7 +1,8 @@
 ghost use Rattle.std.specs.Prelude.{◌≡◌, ◌≤◌, IfSome, map, option_map, option_and_then};
+ghost use Rattle.std.specs.List.{list_all};
 ghost use Rattle.serde_json.specs.Find.{get};
 ghost use Rattle.serde_json.specs.View.{view};
-ghost use Rattle.sm_settings.specs.Members.{number_at, array_of, items_at, is_whole, holds_of, has_size, when};
+ghost use Rattle.sm_settings.specs.Members.{number_at, array_of, items_at, is_whole, holds_of, has_size, is_object_of, when};
 ghost use Rattle.sm_rows.specs.Rows.{is_within};
 
 use serde_json::Value;
@@ -42,6 +43,20 @@ pub fn has_size(value: &Value, size: usize) -> bool
         Some(members) => members.len() == size,
         None => false,
     }
+}
+
+/// Whether the value is an object with exactly these members, each a number.
+pub fn has_numbers(value: &Value, names: &[&str]) -> bool
+    ensures { result ≡ is_object_of (map (λ name. (name.now, is_whole)) names.now) (view value.now) }
+{
+    has_size(value, names.len()) && have_numbers(value, names)
+}
+
+// Whether a number is at each of the members.
+fn have_numbers(value: &Value, names: &[&str]) -> bool
+    ensures { result ≡ list_all (λ name. holds_of is_whole (get name.now (view value.now))) names.now }
+{
+    names.iter().all(|name| has_number(value, name))
 }
 
 /// The items of the array at a member, if there is one.

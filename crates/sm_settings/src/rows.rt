@@ -4,7 +4,7 @@ ghost use Rattle.serde_json.specs.Find.{get};
 ghost use Rattle.serde_json.specs.View.{view};
 ghost use Rattle.sm_settings.specs.Members.{holds_of, is_array_of, when};
 
-use crate::members::{array, has_number, has_size, number_within};
+use crate::members::{array, has_numbers, number_within};
 use serde_json::Value;
 use sm_ranges::limits::{MAX_SERVER, MAX_SHARDS};
 use sm_ranges::server_id::ServerId;
@@ -75,10 +75,7 @@ impl Row for ServerRow {
     ghost few = { λ _ _ _ rows kept. servers_few rows kept };
 
     fn has_shape(value: &Value) -> bool {
-        has_size(value, 3)
-            && has_number(value, "id")
-            && has_number(value, "domain")
-            && has_number(value, "capacity")
+        has_numbers(value, &["id", "domain", "capacity"])
     }
 
     fn from_value(value: &Value, _groups: u16) -> Option<ServerRow> {
@@ -117,7 +114,7 @@ impl Row for GroupRow {
     ghost few = { λ _ _ _ rows kept. groups_few rows kept };
 
     fn has_shape(value: &Value) -> bool {
-        has_size(value, 2) && has_number(value, "limit") && has_number(value, "down")
+        has_numbers(value, &["limit", "down"])
     }
 
     fn from_value(value: &Value, _groups: u16) -> Option<GroupRow> {
@@ -153,10 +150,7 @@ impl Row for ShardRow {
     ghost few = { λ bounds groups _ rows kept. shards_few bounds groups rows kept };
 
     fn has_shape(value: &Value) -> bool {
-        has_size(value, 3)
-            && has_number(value, "group")
-            && has_number(value, "load")
-            && has_number(value, "cap")
+        has_numbers(value, &["group", "load", "cap"])
     }
 
     fn from_value(value: &Value, groups: u16) -> Option<ShardRow> {
@@ -195,7 +189,7 @@ impl Row for DomainRow {
     ghost few = { λ _ _ servers rows kept. domains_few servers rows kept };
 
     fn has_shape(value: &Value) -> bool {
-        has_size(value, 2) && has_number(value, "domain") && has_number(value, "down")
+        has_numbers(value, &["domain", "down"])
     }
 
     fn from_value(value: &Value, _groups: u16) -> Option<DomainRow> {

@@ -1,5 +1,5 @@
 -- What the rules on rows say: a number out of its range breaks them, and rows that keep them are few.
-use Rattle.std.proofs.Common.{◌≡◌, ℕ, ◌≤◌, ◌&&◌, ◌==◌, List, length, map, refl, ap, sym, ◌∙◌, true, false, Bool, arith}
+use Rattle.std.proofs.Common.{◌≡◌, ℕ, ◌≤◌, ◌&&◌, ◌==◌, List, length, map, refl, ap, ◌∙◌, true, false, Bool, arith}
 use Rattle.std.specs.List.{list_all}
 use Rattle.std.proofs.lemmas.Bool.{and_parts}
 use Rattle.std.proofs.lemmas.List.{length-map}
@@ -9,7 +9,7 @@ use Rattle.sm_rows.specs.lemmas.Keeping.{AreServers-are_servers, AreGroups-are_g
 use Rattle.sm_rows.specs.declared.domain_row.DomainRow.{DomainRow}
 use Rattle.sm_rows.specs.declared.group_row.GroupRow.{GroupRow}
 use Rattle.sm_ranges.specs.declared.limits.TheConstants.{MAX_SERVER, MAX_SHARDS}
-use Rattle.sm_rows.specs.declared.limits.TheConstants.{MAX_DOMAIN, MAX_GROUPS}
+use Rattle.sm_rows.specs.declared.limits.TheConstants.{MAX_GROUPS}
 use Rattle.sm_rows.specs.declared.server_row.ServerRow.{ServerRow}
 use Rattle.sm_rows.specs.declared.shard_row.ShardRow.{ShardRow}
 use Rattle.sm_settings.specs.SettingsRows.{rule_of_servers, rule_of_groups, rule_of_shards, rule_of_domains}

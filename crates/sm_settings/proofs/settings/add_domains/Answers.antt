@@ -1,4 +1,4 @@
-use Rattle.std.proofs.Common.{◌≡◌, ◌∙◌, None, Some}
+use Rattle.std.proofs.Common.{◌∙◌}
 use Rattle.serde_json.specs.View.{view}
 use Rattle.sm_settings.specs.SettingsLine.{values_of}
 use Rattle.sm_settings.proofs.Rules.{servers_judged, domains_kept_verdict, domains_broken_verdict}
