@@ -28,21 +28,18 @@ pub returns-clause-read : goal.returns-clause-read
 returns-clause-read g c = λ is.
     let limit : c.MAX_LINE.result ≡ g.E.Engine.MAX_LINE = cc in
     let answered = rw limit at c.in-Err.ensures.answered in
-    let fault : c.in-Err.fault ≡ Read = cc in
-    let stop = answered.read (ap Err fault) in
+    let stop = answered.read (ap Err cc) in
     (stop.0, record { begun = c.in_ok-session.session; ended = _; began = c.in_ok-session.ensures; ran = stop.1 }, stop.2)
 
 pub returns-clause-no_memory : goal.returns-clause-no_memory
 returns-clause-no_memory g c = λ is.
     let limit : c.MAX_LINE.result ≡ g.E.Engine.MAX_LINE = cc in
     let answered = rw limit at c.in-Err.ensures.answered in
-    let fault : c.in-Err.fault ≡ NoMemory = cc in
-    let stop = answered.no_memory (ap Err fault) in
+    let stop = answered.no_memory (ap Err cc) in
     inr (stop.0, record { begun = c.in_ok-session.session; ended = stop.1; began = c.in_ok-session.ensures; ran = stop.3 }, stop.2)
 
 pub returns-clause-write : goal.returns-clause-write
 returns-clause-write g c = λ is.
     let limit : c.MAX_LINE.result ≡ g.E.Engine.MAX_LINE = cc in
     let answered = rw limit at c.in-Err.ensures.answered in
-    let fault : c.in-Err.fault ≡ Write = cc in
-    record { begun = c.in_ok-session.session; began = c.in_ok-session.ensures; ran = answered.write (ap Err fault) }
+    record { begun = c.in_ok-session.session; began = c.in_ok-session.ensures; ran = answered.write (ap Err cc) }
