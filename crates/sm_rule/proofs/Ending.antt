@@ -9,7 +9,7 @@ use Rattle.atomic_table.specs.Seated.{TableId}
 use Rattle.atomic_table.specs.Table.{Final, Seen}
 use Rattle.sm_ownership.specs.declared.entry.Entry.{Entry}
 use Rattle.sm_ownership.specs.declared.record.Record.{Record}
-use Rattle.sm_ownership.specs.History.{IsLegal, kept, record_at, NoneBy}
+use Rattle.sm_ownership.specs.History.{IsLegal, all_of, first_of, record_at, NoneBy}
 use Rattle.sm_word.specs.lemmas.Histories.{well_formed}
 use Rattle.sm_word.specs.Word.{IsWellFormed, word_of}
 use Rattle.sm_word.specs.lemmas.Words.{word_once}
@@ -58,11 +58,11 @@ unset [] (suc at) = refl
 unset (one ∷ marks) zero = refl
 unset (one ∷ marks) (suc at) = unset marks at
 
-module _ {S Q : Type 0} (requests : S → List Q) (limit : S → ℕ) (limits : Limits) (id : ℕ) (view : View Q) (words : List ℕ) (slots : List (Option S)) (low : limits.ceiling < 2 ^ 36) (last : Final (Seen (Rule requests limit limits) id view) words slots) where
+module _ {S Q : Type 0} (rests : S → ℕ → List Q → Type 0) (limit : S → ℕ) (limits : Limits) (id : ℕ) (view : View Q) (words : List ℕ) (slots : List (Option S)) (low : limits.ceiling < 2 ^ 36) (last : Final (Seen (Rule rests limit limits) id view) words slots) where
   abbrev history : List (Entry Q)
   history = last.1.0.0
 
-  abbrev holds : Holds requests limit limits last.0.words last.0.homes last.0.views history
+  abbrev holds : Holds rests limit limits last.0.words last.0.homes last.0.views history
   holds = last.1.0.1
 
   -- the word of a shard is that of its record
@@ -82,7 +82,7 @@ module _ {S Q : Type 0} (requests : S → List Q) (limit : S → ℕ) (limits : 
 
   -- a row that was taken is what is left of its shard
   row_left : (rows : List (Record × Option S)) → AreTaken words slots rows → (shard : ℕ) (row : Record × Option S) → get_elem? rows shard ≡ some row
-      → (row.0 ≡ record_at (table_in limits history) shard) × (row.0.admitted ≡ true → row.1 ≡ None) × (row.0.admitted ≡ false → (body : S) × (row.1 ≡ Some body) × (requests body ≡ kept (reverse history) shard) × (limit body ≡ limit_at limits shard))
+      → (row.0 ≡ record_at (table_in limits history) shard) × (row.0.admitted ≡ true → row.1 ≡ None) × (row.0.admitted ≡ false → (body : S) × (row.1 ≡ Some body) × rests body (first_of (reverse history) shard) (all_of (reverse history) shard) × (limit body ≡ limit_at limits shard))
   row_left rows taken shard row at =
       let is = taken shard row at in
       let same : row.0 ≡ record_at (table_in limits history) shard = word_once row.0 (record_at (table_in limits history) shard) is.0 (formed_left shard) (sym (word_left shard (word_of row.0) is.1)) in
@@ -104,7 +104,7 @@ module _ {S Q : Type 0} (requests : S → List Q) (limit : S → ℕ) (limits : 
     whole : reverse history ≡ view.seen ++ reverse fit.later
     whole = in_order fit.later view.seen history fit.seen
 
-    all_left : (rows : List (Record × Option S)) → AreTaken words slots rows → length rows ≡ limits.count → AreLeft requests limit view.limits (reverse history) rows
+    all_left : (rows : List (Record × Option S)) → AreTaken words slots rows → length rows ≡ limits.count → AreLeft rests limit view.limits (reverse history) rows
     all_left rows taken many = (
       many ∙ ap (λ (its : Limits). its.count) (sym fit.limits_are),
       λ shard row at.
@@ -124,7 +124,7 @@ module _ {S Q : Type 0} (requests : S → List Q) (limit : S → ℕ) (limits : 
       same : view.limits ≡ first.limits
       same = ap (λ (one : View Q). one.limits) looked.1
 
-      closed_after : (board : TableId) (rows : List (Record × Option S)) → AreTaken words slots rows → length rows ≡ limits.count → WasClosed requests limit (chair_value board first) pass rows
+      closed_after : (board : TableId) (rows : List (Record × Option S)) → AreTaken words slots rows → length rows ≡ limits.count → WasClosed rests limit (chair_value board first) pass rows
       closed_after board rows taken many =
           let legal : IsLegal view.limits.count view.limits.ceiling (reverse history) = legal_all limits id view history fit holds.legal in
           let none : NoneBy 0 (reverse fit.later) = subst (λ n. NoneBy n (reverse fit.later)) chair (others_all limits id view history fit) in
@@ -133,10 +133,10 @@ module _ {S Q : Type 0} (requests : S → List Q) (limit : S → ℕ) (limits : 
             subst (λ (pair : Limits × List (Entry Q)). IsLegal pair.0.count pair.0.ceiling pair.1) (λ i. (same i, after_first i)) legal,
             All-append (λ entry. entry.actor ≢ 0) looked.0.0 (reverse fit.later) others none,
             (met.0 ++ reverse fit.later, sym after_first ∙ after_pass),
-            subst (λ (pair : Limits × List (Entry Q)). AreLeft requests limit pair.0 pair.1 rows) (λ i. (same i, after_first i)) (all_left rows taken many),
+            subst (λ (pair : Limits × List (Entry Q)). AreLeft rests limit pair.0 pair.1 rows) (λ i. (same i, after_first i)) (all_left rows taken many),
           )
 
   -- the same of a chair that acts, and has taken in the pass's seat
-  pub was_closed : (first : View Q) (pass : PassValue Q) → Looks first view → first.stage ≡ Acting → first.number ≡ 0 → IsMet pass.number pass.seen view.seen → (board : TableId) (rows : List (Record × Option S)) → AreTaken words slots rows → length rows ≡ limits.count → WasClosed requests limit (chair_value board first) pass rows
+  pub was_closed : (first : View Q) (pass : PassValue Q) → Looks first view → first.stage ≡ Acting → first.number ≡ 0 → IsMet pass.number pass.seen view.seen → (board : TableId) (rows : List (Record × Option S)) → AreTaken words slots rows → length rows ≡ limits.count → WasClosed rests limit (chair_value board first) pass rows
   was_closed first pass looked live chair met board rows taken many =
       closed_after (ap (λ (one : View Q). one.stage) looked.1 ∙ live) (ap (λ (one : View Q). one.number) looked.1 ∙ chair) first pass looked met board rows taken many

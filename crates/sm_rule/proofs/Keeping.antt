@@ -16,14 +16,14 @@ use Rattle.atomic_table.specs.Seated.{TableId}
 use Rattle.atomic_table.proofs.Lists.{at_longer, at_set, exchanged, set_else, set_here}
 use Rattle.sm_ownership.specs.declared.change.Change.{Change}
 use Rattle.sm_ownership.specs.declared.entry.Ending.{Ending}
+use Rattle.sm_ownership.specs.declared.entry.Ending.TheVariants.{Nothing}
 use Rattle.sm_ownership.specs.declared.entry.Entry.{Entry}
 use Rattle.sm_ownership.specs.declared.entry.Kind.{Kind}
 use Rattle.sm_ownership.specs.declared.entry.Kind.TheVariants.{Change as Changed, Admit, Done}
 use Rattle.sm_ownership.specs.declared.mode.Mode.{Mode}
 use Rattle.sm_ownership.specs.declared.record.Record.{Record}
-use Rattle.sm_ownership.specs.lemmas.Requests.{kept-push, kept-push_other}
 use Rattle.sm_ownership.specs.lemmas.Growth.{length-table_of, record_at-latest, record_at-latest_other}
-use Rattle.sm_ownership.specs.History.{IsLegal, IsLegalLatest, acts_as, admit_fits, admits_only, after_done, after_kind, change_fits, ending_of, fits, is_admission_of, kept, kept_after, kind_fits, latest_of, record_at, table_of_latest, vacant, NoneBy}
+use Rattle.sm_ownership.specs.History.{IsLegal, IsLegalLatest, acts_as, admit_fits, admits_only, after_done, after_kind, all_of, change_fits, ending_of, first_of, fits, is_admission_of, kind_fits, latest_of, record_at, table_of_latest, vacant, NoneBy}
 use Rattle.sm_ownership.specs.lemmas.Lasting.{NoneBy-reverse, acts_as-none, acts_as-other, acts_as-own, admission_excludes, latest_of-other, next_record}
 use Rattle.sm_word.specs.lemmas.Histories.{well_formed}
 use Rattle.sm_word.specs.Known.{AreKnown, KnownKind}
@@ -35,12 +35,15 @@ use Rattle.sm_rule.specs.declared.view.Stage.{Stage}
 use Rattle.sm_rule.specs.declared.view.Stage.TheVariants.{Acting, Cut, Joined}
 use Rattle.sm_rule.specs.declared.view.Told.{Told}
 use Rattle.sm_rule.specs.declared.view.View.{View}
-use Rattle.sm_rule.specs.Admissions.{HoldsPermit, PermitValue, beyond}
+use Rattle.sm_rule.specs.Admissions.{HoldsPermit, PermitValue}
 use Rattle.sm_rule.specs.Boards.{limit_at}
-use Rattle.sm_rule.specs.Passes.{PassValue, pass_value, slots_of}
+use Rattle.sm_rule.specs.Bodies.{all_after, first_after}
+use Rattle.sm_rule.specs.Passes.{IsHeldOf, PassValue, pass_value, slots_of}
 use Rattle.sm_rule.specs.Rule.{AreHome, AreTold, Fits, Holds, HoldsShard, IsCut, Rule, IsTold, table_in}
 use Rattle.sm_rule.specs.Steps.{Entered, Exchanged, IsFree, IsWordOf, Loaded, MayAdd, Stored, TakesBody, is_end}
-use Rattle.sm_rule.specs.Views.{Adds, Looks, adding, entry_of, held_after, ending_with, left_behind, list_held, list_with, newcomer, record_in, seeing}
+use Rattle.sm_rule.specs.Views.{Adds, EndsWith, Looks, adding, all_held, entry_of, first_held, held_after, left_behind, newcomer, record_in, seeing}
+use Rattle.sm_rule.proofs.Bodies.{held_bounds, rests_after, rests_at}
+use Rattle.sm_rule.proofs.Requests.{all_here, all_there, first_here, first_there}
 
 -- the ceiling of a board's key is that of its origin
 pub low_ceiling : (key origin : ℕ) → key ≡ origin → origin < 2 ^ 36 → key < 2 ^ 36
@@ -172,8 +175,8 @@ word_seen limits history its shard word same is low legal known = (
 )
 
 -- a look changes the looking seat's view alone
-pub look_keeps : {S Q : Type 0} (requests : S → List Q) (limit : S → ℕ) (limits : Limits) (id word : ℕ) (words : List ℕ) (homes : List (math.Option (Option S))) (views : List (View Q)) (history : List (Entry Q)) (view : View Q) → Holds requests limit limits words homes views history → get_elem? views id ≡ some view → view.stage ≡ Acting → Holds requests limit limits (slice_set words word (slice_index words word)) homes (slice_set views id (seeing view (reverse history))) history
-look_keeps requests limit limits id word words homes views history view holds at live =
+pub look_keeps : {S Q : Type 0} (rests : S → ℕ → List Q → Type 0) (limit : S → ℕ) (limits : Limits) (id word : ℕ) (words : List ℕ) (homes : List (math.Option (Option S))) (views : List (View Q)) (history : List (Entry Q)) (view : View Q) → Holds rests limit limits words homes views history → get_elem? views id ≡ some view → view.stage ≡ Acting → Holds rests limit limits (slice_set words word (slice_index words word)) homes (slice_set views id (seeing view (reverse history))) history
+look_keeps rests limit limits id word words homes views history view holds at live =
     let long = length-set views id (seeing view (reverse history)) in
     record {
       legal = holds.legal;
@@ -189,16 +192,16 @@ look_keeps requests limit limits id word words homes views history view holds at
     }
 
 -- a load keeps the rule
-pub loads : {S Q : Type 0} (requests : S → List Q) (limit : S → ℕ) (limits : Limits) (slots id word : ℕ) (me : Me (Option S) (View Q)) → limits.ceiling < 2 ^ 36 → me.0.stage ≡ Acting
-    → Allows (Rule requests limit limits) slots id me word (λ n. n) (Loaded (step {S = Option S} slots word 0 0 none) me)
-loads requests limit limits slots id word me low live table rule size at small =
+pub loads : {S Q : Type 0} (rests : S → ℕ → List Q → Type 0) (limit : S → ℕ) (limits : Limits) (slots id word : ℕ) (me : Me (Option S) (View Q)) → limits.ceiling < 2 ^ 36 → me.0.stage ≡ Acting
+    → Allows (Rule rests limit limits) slots id me word (λ n. n) (Loaded (step {S = Option S} slots word 0 0 none) me)
+loads rests limit limits slots id word me low live table rule size at small =
     let history = rule.0 in
     let holds = rule.1 in
     let fit = holds.fit id me.0 at live in (
       seeing me.0 (reverse history),
       keeps,
       tt,
-      (history, look_keeps requests limit limits id word table.words table.homes table.views history me.0 holds at live),
+      (history, look_keeps rests limit limits id word table.words table.homes table.views history me.0 holds at live),
       (
         looks_all limits id me.0 history fit holds.legal,
         word_seen limits history me.0.limits word _ (sees limits id me.0 history fit word) (word_at table.words (table_in limits history) word holds.words_are) low holds.legal holds.known,
@@ -230,13 +233,13 @@ held_stays limits number held entry history legal apart is =
     (λ (other : (held.shard ≢ entry.shard) × (record_at (table_in limits (entry ∷ history)) held.shard ≡ record_at (table_in limits history) held.shard)). other.1)
     (λ (here : (held.shard ≡ entry.shard) × (record_at (table_in limits (entry ∷ history)) held.shard ≡ after_kind (record_at (table_in limits history) held.shard) entry.kind)). absurd (apart here.0))
     (next_record limits.count limits.ceiling entry history held.shard legal.0) in
-    let differs : (entry.shard == held.shard) ≡ false = ne_eqb entry.shard held.shard (λ equal. apart (sym equal)) in
     record {
       known = is.known;
       state = same ∙ is.state;
       admitted = is.admitted;
       own = ap (is_admission_of number) (latest_of-other entry history held.shard apart) ∙ is.own;
-      list = ap (λ entries. kept entries held.shard) (reverse-append (entry ∷ []) history) ∙ (kept-push_other (reverse history) entry held.shard differs ∙ is.list);
+      first = first_there entry history held.shard apart ∙ is.first;
+      all = all_there entry history held.shard apart ∙ is.all;
     }
 
 -- another's view after an entry
@@ -270,7 +273,7 @@ same_some x y is = cc
 
 -- what is held of a shard after these entries, the latest first, which are this history
 abbrev held_now : {Q : Type 0} → Limits → ℕ → List (Entry Q) → List (Entry Q) → Held Q
-held_now limits shard entries history = record { shard = shard; state = record_at (table_in limits entries) shard; list = kept history shard }
+held_now limits shard entries history = record { shard = shard; state = record_at (table_in limits entries) shard; first = first_of history shard; all = all_of history shard }
 
 admits_here : {Q : Type 0} (limits : Limits) (number shard server : ℕ) (mode : Mode) (history : List (Entry Q)) → fits limits.ceiling history (table_in limits history) (entry_of number shard (Admit server mode)) ≡ true → shard < limits.count
     → HoldsShard limits number (held_now limits shard (entry_of number shard (Admit server mode) ∷ history) (reverse (entry_of number shard (Admit server mode) ∷ history))) (entry_of number shard (Admit server mode) ∷ history)
@@ -282,7 +285,8 @@ admits_here limits number shard server mode history fit known =
       state = refl;
       admitted = ap (λ (state : Record). state.admitted) (record_adds limits (entry_of number shard (Admit server mode)) history fit);
       own = rw (here, mine) refl;
-      list = refl;
+      first = refl;
+      all = refl;
     }
 
 -- the view of the one who adds an entry
@@ -337,21 +341,30 @@ module _ {Q : Type 0} (limits : Limits) (number shard : ℕ) (view : View Q) (hi
       ∙ ap (λ entries. record_at (table_of_latest limits.count limits.ceiling entries) shard) (reverse-reverse (longer kind))
 
 -- the bodies of the other shards stay at home
-home_other : {S Q : Type 0} (requests : S → List Q) (limit : S → ℕ) (limits : Limits) (homes : List (math.Option (Option S))) (slot : math.Option (Option S)) (entry : Entry Q) (history : List (Entry Q))
-    → AreHome requests limit limits homes history → fits limits.ceiling history (table_in limits history) entry ≡ true
+home_other : {S Q : Type 0} (rests : S → ℕ → List Q → Type 0) (limit : S → ℕ) (limits : Limits) (homes : List (math.Option (Option S))) (slot : math.Option (Option S)) (entry : Entry Q) (history : List (Entry Q))
+    → AreHome rests limit limits homes history → fits limits.ceiling history (table_in limits history) entry ≡ true
     → (shard : ℕ) → shard < limits.count → shard ≢ entry.shard → (record_at (table_in limits (entry ∷ history)) shard).admitted ≡ false
-    → (body : S) × (get_elem? (slice_set homes entry.shard slot) shard ≡ some (some (Some body))) × (requests body ≡ kept (reverse (entry ∷ history)) shard) × (limit body ≡ limit_at limits shard)
-home_other requests limit limits homes slot entry history home fit shard within apart idle =
+    → (body : S) × (get_elem? (slice_set homes entry.shard slot) shard ≡ some (some (Some body))) × rests body (first_of (reverse (entry ∷ history)) shard) (all_of (reverse (entry ∷ history)) shard) × (limit body ≡ limit_at limits shard)
+home_other rests limit limits homes slot entry history home fit shard within apart idle =
     let same : record_at (table_in limits (entry ∷ history)) shard ≡ record_at (table_in limits history) shard = record_at-latest_other limits.count limits.ceiling entry history shard apart fit in
     let before = home shard within (ap (λ (state : Record). state.admitted) (sym same) ∙ idle) in
-    let differs : (entry.shard == shard) ≡ false = ne_eqb entry.shard shard (λ equal. apart (sym equal)) in
-    let list : kept (reverse (entry ∷ history)) shard ≡ kept (reverse history) shard =
-    ap (λ entries. kept entries shard) (reverse-append (entry ∷ []) history) ∙ kept-push_other (reverse history) entry shard differs in
-    (before.0, set_else homes entry.shard shard slot apart ∙ before.1, before.2 ∙ sym list, before.3)
+    let stays = rests_at rests before.0 (first_of (reverse history) shard) (first_of (reverse (entry ∷ history)) shard) (all_of (reverse history) shard) (all_of (reverse (entry ∷ history)) shard)
+    (sym (first_there entry history shard apart)) (sym (all_there entry history shard apart)) before.2 in
+    (before.0, set_else homes entry.shard shard slot apart ∙ before.1, stays, before.3)
 
--- what the requests of a shard become by an entry of it
-list_here : {Q : Type 0} (entry : Entry Q) (history : List (Entry Q)) → kept (reverse (entry ∷ history)) entry.shard ≡ kept_after (kept (reverse history) entry.shard) (ending_of entry.kind)
-list_here entry history = ap (λ entries. kept entries entry.shard) (reverse-append (entry ∷ []) history) ∙ kept-push (reverse history) entry
+-- a body that rests on what an entry makes of its shard's requests
+rests_here : {S Q : Type 0} (rests : S → ℕ → List Q → Type 0) (body : S) (entry : Entry Q) (history : List (Entry Q)) (ending : Ending Q) → ending_of entry.kind ≡ ending
+    → rests body (first_after (first_of (reverse history) entry.shard) (all_of (reverse history) entry.shard) ending) (all_after (all_of (reverse history) entry.shard) ending)
+    → rests body (first_of (reverse (entry ∷ history)) entry.shard) (all_of (reverse (entry ∷ history)) entry.shard)
+rests_here rests body entry history ending ends is =
+    let first = first_of (reverse history) entry.shard in
+    let all = all_of (reverse history) entry.shard in
+    rests_at rests body (first_after first all ending) (first_of (reverse (entry ∷ history)) entry.shard) (all_after all ending) (all_of (reverse (entry ∷ history)) entry.shard)
+    (sym (first_here entry history ∙ ap (first_after first all) ends)) (sym (all_here entry history ∙ ap (all_after all) ends)) is
+
+-- the same where the shard is called otherwise
+rests_named : {S Q : Type 0} (rests : S → ℕ → List Q → Type 0) (body : S) (history : List (Entry Q)) (shard name : ℕ) → shard ≡ name → rests body (first_of history shard) (all_of history shard) → rests body (first_of history name) (all_of history name)
+rests_named rests body history shard name same is = subst (λ k. rests body (first_of history k) (all_of history k)) same is
 
 -- a change and an admission fit an idle record alone
 idle_changed : (ceiling : ℕ) (state : Record) (number : ℕ) (change : Change) → change_fits ceiling state number change ≡ true → state.admitted ≡ false
@@ -362,9 +375,9 @@ idle_admitted ceiling earlier state number server mode fit =
     not-true state.admitted (and_parts (not state.admitted) _ (and_parts (acts_as earlier number server) _ (and_parts (not (number == 0)) _ fit).1).1).0
 
 -- an admission takes its shard's body from home
-module _ {S Q : Type 0} (requests : S → List Q) (limit : S → ℕ) (limits : Limits) (homes : List (math.Option (Option S))) (history : List (Entry Q)) (home : AreHome requests limit limits homes history) where
+module _ {S Q : Type 0} (rests : S → ℕ → List Q → Type 0) (limit : S → ℕ) (limits : Limits) (homes : List (math.Option (Option S))) (history : List (Entry Q)) (home : AreHome rests limit limits homes history) where
   abbrev at_home_after : Entry Q → List (math.Option (Option S)) → Type 0
-  at_home_after entry later = AreHome requests limit limits later (entry ∷ history)
+  at_home_after entry later = AreHome rests limit limits later (entry ∷ history)
 
   home_admitted : (entry : Entry Q) (server : ℕ) (mode : Mode) → entry.kind ≡ Admit server mode → fits limits.ceiling history (table_in limits history) entry ≡ true → at_home_after entry (slice_set homes entry.shard none)
   home_admitted entry server mode admits fit shard within idle =
@@ -373,7 +386,7 @@ module _ {S Q : Type 0} (requests : S → List Q) (limit : S → ℕ) (limits : 
       let busy : (record_at (table_in limits (entry ∷ history)) entry.shard).admitted ≡ true =
       ap (λ (state : Record). state.admitted) (record_at-latest limits.count limits.ceiling entry history fit) ∙ ap (λ kind. (after_kind (record_at (table_in limits history) entry.shard) kind).admitted) admits in
       absurd (true≢false (sym busy ∙ subst (λ k. (record_at (table_in limits (entry ∷ history)) k).admitted ≡ false) same idle)))
-      (λ (apart : shard ≢ entry.shard). home_other requests limit limits homes none entry history home fit shard within apart idle)
+      (λ (apart : shard ≢ entry.shard). home_other rests limit limits homes none entry history home fit shard within apart idle)
       (cases_eq shard entry.shard)
 
   -- a change moves no body
@@ -382,36 +395,36 @@ module _ {S Q : Type 0} (requests : S → List Q) (limit : S → ℕ) (limits : 
       ⊎_elim
       (λ (same : shard ≡ entry.shard).
       let before = home shard within (subst (λ k. (record_at (table_in limits history) k).admitted ≡ false) (sym same) free) in
-      let list : kept (reverse (entry ∷ history)) entry.shard ≡ kept (reverse history) entry.shard = list_here entry history ∙ ap (λ kind. kept_after (kept (reverse history) entry.shard) (ending_of kind)) changes in
-      (before.0, before.1, before.2 ∙ subst (λ k. kept (reverse history) k ≡ kept (reverse (entry ∷ history)) k) (sym same) (sym list), before.3))
+      let here = rests_here rests before.0 entry history Nothing (ap ending_of changes) (rests_named rests before.0 (reverse history) shard entry.shard same before.2) in
+      (before.0, before.1, rests_named rests before.0 (reverse (entry ∷ history)) entry.shard shard (sym same) here, before.3))
       (λ (apart : shard ≢ entry.shard).
-      let there = home_other requests limit limits homes none entry history home fit shard within apart idle in
+      let there = home_other rests limit limits homes none entry history home fit shard within apart idle in
       (there.0, sym (set_else homes entry.shard shard none apart) ∙ there.1, there.2, there.3))
       (cases_eq shard entry.shard)
 
   -- the end of an admission brings the body home, with what it has gained
-  home_ended : (entry : Entry Q) (ending : Ending Q) (body : S) → entry.kind ≡ Done ending → entry.shard < length homes → requests body ≡ kept_after (kept (reverse history) entry.shard) ending → limit body ≡ limit_at limits entry.shard → fits limits.ceiling history (table_in limits history) entry ≡ true → at_home_after entry (slice_set homes entry.shard (some (Some body)))
+  home_ended : (entry : Entry Q) (ending : Ending Q) (body : S) → entry.kind ≡ Done ending → entry.shard < length homes → rests body (first_after (first_of (reverse history) entry.shard) (all_of (reverse history) entry.shard) ending) (all_after (all_of (reverse history) entry.shard) ending) → limit body ≡ limit_at limits entry.shard → fits limits.ceiling history (table_in limits history) entry ≡ true → at_home_after entry (slice_set homes entry.shard (some (Some body)))
   home_ended entry ending body ends within_homes gains size fit shard within idle =
       ⊎_elim
       (λ (same : shard ≡ entry.shard).
-      let list : requests body ≡ kept (reverse (entry ∷ history)) entry.shard = gains ∙ (ap (λ kind. kept_after (kept (reverse history) entry.shard) (ending_of kind)) (sym ends) ∙ sym (list_here entry history)) in (
+      let here = rests_here rests body entry history ending (ap ending_of ends) gains in (
         body,
         subst (λ k. get_elem? (slice_set homes entry.shard (some (Some body))) k ≡ some (some (Some body))) (sym same) (set_here homes entry.shard (some (Some body)) within_homes),
-        list ∙ ap (kept (reverse (entry ∷ history))) (sym same),
+        rests_named rests body (reverse (entry ∷ history)) entry.shard shard (sym same) here,
         size ∙ ap (limit_at limits) (sym same),
       ))
-      (λ (apart : shard ≢ entry.shard). home_other requests limit limits homes (some (Some body)) entry history home fit shard within apart idle)
+      (λ (apart : shard ≢ entry.shard). home_other rests limit limits homes (some (Some body)) entry history home fit shard within apart idle)
       (cases_eq shard entry.shard)
 
 -- the whole board after an entry
-adds_keep : {S Q : Type 0} (requests : S → List Q) (limit : S → ℕ) (limits : Limits) (id word new : ℕ) (words : List ℕ) (homes later : List (math.Option (Option S))) (views : List (View Q)) (history : List (Entry Q)) (view : View Q) (kind : Kind Q)
-    → Holds requests limit limits words homes views history → word < limits.count → get_elem? views id ≡ some view → view.stage ≡ Acting
-    → length later ≡ limits.count → AreHome requests limit limits later (entry_of id word kind ∷ history)
+adds_keep : {S Q : Type 0} (rests : S → ℕ → List Q → Type 0) (limit : S → ℕ) (limits : Limits) (id word new : ℕ) (words : List ℕ) (homes later : List (math.Option (Option S))) (views : List (View Q)) (history : List (Entry Q)) (view : View Q) (kind : Kind Q)
+    → Holds rests limit limits words homes views history → word < limits.count → get_elem? views id ≡ some view → view.stage ≡ Acting
+    → length later ≡ limits.count → AreHome rests limit limits later (entry_of id word kind ∷ history)
     → IsFree view kind → ((server : ℕ) → view.server ≡ Some server → admits_only server kind ≡ true) → KnownKind kind
     → fits limits.ceiling history (table_in limits history) (entry_of id word kind) ≡ true
     → new ≡ word_of (after_kind (record_at (table_in limits history) word) kind)
-    → Holds requests limit limits (slice_set words word new) later (slice_set views id (adding view word kind (reverse (entry_of id word kind ∷ history)))) (entry_of id word kind ∷ history)
-adds_keep requests limit limits id word new words homes later views history view kind holds within at live many home free only known fit is =
+    → Holds rests limit limits (slice_set words word new) later (slice_set views id (adding view word kind (reverse (entry_of id word kind ∷ history)))) (entry_of id word kind ∷ history)
+adds_keep rests limit limits id word new words homes later views history view kind holds within at live many home free only known fit is =
     let entry = entry_of id word kind in
     let mine = adding view word kind (reverse (entry ∷ history)) in
     let legal : IsLegalLatest limits.count limits.ceiling (entry ∷ history) = (fit, holds.legal) in
@@ -442,20 +455,20 @@ fits_kind limits id word history kind within fit =
     and_from _ _ (lt-ltb word (length (table_in limits history)) (let long = length-table limits history in omega arith)) fit
 
 -- an entry that may come by an exchange, and the record that it is made of
-module _ {S Q : Type 0} (requests : S → List Q) (limit : S → ℕ) (limits : Limits) (homes : List (math.Option (Option S))) (history : List (Entry Q)) (number word : ℕ) (view : View Q) (carried : List (ℕ × Option S)) (within : word < limits.count) (limits_are : view.limits ≡ limits) (long : length homes ≡ limits.count) (home : AreHome requests limit limits homes history) where
+module _ {S Q : Type 0} (rests : S → ℕ → List Q → Type 0) (limit : S → ℕ) (limits : Limits) (homes : List (math.Option (Option S))) (history : List (Entry Q)) (number word : ℕ) (view : View Q) (carried : List (ℕ × Option S)) (within : word < limits.count) (limits_are : view.limits ≡ limits) (long : length homes ≡ limits.count) (home : AreHome rests limit limits homes history) where
   -- what the slots become by it
   pub record Moves (kind : Kind Q) : Type 0 where
     pub act : Act (Option S)
     pub valid : Valid homes carried act
     pub slots : length (homes_after homes carried act) ≡ limits.count
-    pub at_home : AreHome requests limit limits (homes_after homes carried act) (entry_of number word kind ∷ history)
-    pub takes : TakesBody requests limit kind word carried (adding view word kind (reverse (entry_of number word kind ∷ history))) (carried_after carried act)
+    pub at_home : AreHome rests limit limits (homes_after homes carried act) (entry_of number word kind ∷ history)
+    pub takes : TakesBody rests limit kind word carried (adding view word kind (reverse (entry_of number word kind ∷ history))) (carried_after carried act)
 
   moves : (kind : Kind Q) → is_end kind ≡ false → kind_fits limits.ceiling history (record_at (table_in limits history) word) number word kind ≡ true → fits limits.ceiling history (table_in limits history) (entry_of number word kind) ≡ true → Moves kind
   moves (Changed change) begins fit fitting =
       let entry : Entry Q = entry_of number word (Changed change) in
       let free = idle_changed limits.ceiling (record_at (table_in limits history) word) number change fit in
-      record { act = keeps; valid = tt; slots = long; at_home = home_changed requests limit limits homes history home entry change refl free fitting; takes = refl }
+      record { act = keeps; valid = tt; slots = long; at_home = home_changed rests limit limits homes history home entry change refl free fitting; takes = refl }
   moves (Admit server mode) begins fit fitting =
       let entry : Entry Q = entry_of number word (Admit server mode) in
       let free = idle_admitted limits.ceiling history (record_at (table_in limits history) word) number server mode fit in
@@ -464,17 +477,17 @@ module _ {S Q : Type 0} (requests : S → List Q) (limit : S → ℕ) (limits : 
         act = takes word (Some body.0);
         valid = body.1;
         slots = length-set homes word none ∙ long;
-        at_home = home_admitted requests limit limits homes history home entry server mode refl fitting;
-        takes = (body.0, refl, body.2 ∙ sym (list_here entry history), body.3 ∙ ap (λ (its : Limits). limit_at its word) (sym limits_are));
+        at_home = home_admitted rests limit limits homes history home entry server mode refl fitting;
+        takes = (body.0, refl, rests_here rests body.0 entry history Nothing refl body.2, body.3 ∙ ap (λ (its : Limits). limit_at its word) (sym limits_are));
       }
   moves (Done ending) begins fit fitting = absurd (true≢false begins)
 
 -- an exchange of a seat's, which adds an entry where it finds the word expected, and else looks
-module _ {S Q : Type 0} (requests : S → List Q) (limit : S → ℕ) (limits : Limits) (slots id word old new : ℕ) (me : Me (Option S) (View Q)) (kind : Kind Q) where
+module _ {S Q : Type 0} (rests : S → ℕ → List Q → Type 0) (limit : S → ℕ) (limits : Limits) (slots id word old new : ℕ) (me : Me (Option S) (View Q)) (kind : Kind Q) where
   abbrev Tells : ℕ → Me (Option S) (View Q) → Type 0
-  Tells found after = Exchanged requests limit kind (step {S = Option S} slots word old new none) me found after
+  Tells found after = Exchanged rests limit kind (step {S = Option S} slots word old new none) me found after
 
-  won_tells : (found : ℕ) (after : Me (Option S) (View Q)) → found ≡ old → Adds me.0 word kind after.0 × IsWordOf new after.0 word × TakesBody requests limit kind word me.1 after.0 after.1 → Tells found after
+  won_tells : (found : ℕ) (after : Me (Option S) (View Q)) → found ≡ old → Adds me.0 word kind after.0 × IsWordOf new after.0 word × TakesBody rests limit kind word me.1 after.0 after.1 → Tells found after
   won_tells found later hit won = ((λ _. won), (λ miss. absurd (miss hit)))
 
   lost_tells : (found : ℕ) (after : Me (Option S) (View Q)) → found ≢ old → Loaded (step {S = Option S} slots word old new none) me found after → Tells found after
@@ -483,9 +496,9 @@ module _ {S Q : Type 0} (requests : S → List Q) (limit : S → ℕ) (limits : 
   -- what it leaves of a table, where the word becomes n
   abbrev Leaves : State (Option S) (View Q) → ℕ → Type 0
   Leaves table n =
-      (view : View Q) × (act : Act (Option S)) × Valid table.homes me.1 act × Rule requests limit limits (stepped table word n id me.1 view act) × Tells (slice_index table.words word) (view, carried_after me.1 act)
+      (view : View Q) × (act : Act (Option S)) × Valid table.homes me.1 act × Rule rests limit limits (stepped table word n id me.1 view act) × Tells (slice_index table.words word) (view, carried_after me.1 act)
 
-  module _ (low : limits.ceiling < 2 ^ 36) (within : word < limits.count) (live : me.0.stage ≡ Acting) (table : State (Option S) (View Q)) (history : List (Entry Q)) (holds : Holds requests limit limits table.words table.homes table.views history) (at : get_elem? table.views id ≡ some me.0) where
+  module _ (low : limits.ceiling < 2 ^ 36) (within : word < limits.count) (live : me.0.stage ≡ Acting) (table : State (Option S) (View Q)) (history : List (Entry Q)) (holds : Holds rests limit limits table.words table.homes table.views history) (at : get_elem? table.views id ≡ some me.0) where
     abbrev here : Record
     here = record_at (table_in limits history) word
 
@@ -504,7 +517,7 @@ module _ {S Q : Type 0} (requests : S → List Q) (limit : S → ℕ) (limits : 
           seeing me.0 (reverse history),
           keeps,
           tt,
-          (history, look_keeps requests limit limits id word table.words table.homes table.views history me.0 holds at live),
+          (history, look_keeps rests limit limits id word table.words table.homes table.views history me.0 holds at live),
           lost_tells (slice_index table.words word) (seeing me.0 (reverse history), me.1) miss (looks_all limits id me.0 history fit holds.legal, word_is, refl),
         )
 
@@ -535,41 +548,41 @@ module _ {S Q : Type 0} (requests : S → List Q) (limit : S → ℕ) (limits : 
       word_made =
           word_seen limits (entry ∷ history) me.0.limits word new (sees_own limits id word me.0 history fit within kind) (made ∙ ap word_of (sym (record_adds limits entry history fitting))) low legal known
 
-      move : Moves requests limit limits table.homes history id word me.0 me.1 within fit.limits_are holds.slots holds.home kind
-      move = moves requests limit limits table.homes history id word me.0 me.1 within fit.limits_are holds.slots holds.home kind may.begins fits_here fitting
+      move : Moves rests limit limits table.homes history id word me.0 me.1 within fit.limits_are holds.slots holds.home kind
+      move = moves rests limit limits table.homes history id word me.0 me.1 within fit.limits_are holds.slots holds.home kind may.begins fits_here fitting
 
       wins : Leaves table new
       wins = (
         adding me.0 word kind (reverse (entry ∷ history)),
         move.act,
         move.valid,
-        (entry ∷ history, adds_keep requests limit limits id word new table.words table.homes (homes_after table.homes me.1 move.act) table.views history me.0 kind holds within at live move.slots move.at_home may.free may.own_server may.known fitting made),
+        (entry ∷ history, adds_keep rests limit limits id word new table.words table.homes (homes_after table.homes me.1 move.act) table.views history me.0 kind holds within at live move.slots move.at_home may.free may.own_server may.known fitting made),
         won_tells (slice_index table.words word) (adding me.0 word kind (reverse (entry ∷ history)), carried_after me.1 move.act) hit (adds_all limits id word me.0 history fit within kind legal, word_made, move.takes),
       )
 
-exchanges : {S Q : Type 0} (requests : S → List Q) (limit : S → ℕ) (limits : Limits) (slots id word old new : ℕ) (me : Me (Option S) (View Q)) (read : Record) (kind : Kind Q)
+exchanges : {S Q : Type 0} (rests : S → ℕ → List Q → Type 0) (limit : S → ℕ) (limits : Limits) (slots id word old new : ℕ) (me : Me (Option S) (View Q)) (read : Record) (kind : Kind Q)
     → limits.ceiling < 2 ^ 36 → word < limits.count → me.0.stage ≡ Acting → IsWellFormed read → old ≡ word_of read → new ≡ word_of (after_kind read kind)
     → MayAdd me.0 word read kind
-    → Allows (Rule requests limit limits) slots id me word (λ n. either (n == old) new n) (Exchanged requests limit kind (step {S = Option S} slots word old new none) me)
-exchanges requests limit limits slots id word old new me read kind low within live formed packed written may table rule size at small =
-    exchanged (slice_index table.words word) old new (Leaves requests limit limits slots id word old new me kind table)
-    (wins requests limit limits slots id word old new me kind low within live table rule.0 rule.1 at read formed packed written may)
-    (loses requests limit limits slots id word old new me kind low within live table rule.0 rule.1 at)
+    → Allows (Rule rests limit limits) slots id me word (λ n. either (n == old) new n) (Exchanged rests limit kind (step {S = Option S} slots word old new none) me)
+exchanges rests limit limits slots id word old new me read kind low within live formed packed written may table rule size at small =
+    exchanged (slice_index table.words word) old new (Leaves rests limit limits slots id word old new me kind table)
+    (wins rests limit limits slots id word old new me kind low within live table rule.0 rule.1 at read formed packed written may)
+    (loses rests limit limits slots id word old new me kind low within live table rule.0 rule.1 at)
 
-pub exchange_allowed : {S Q : Type 0} (requests : S → List Q) (limit : S → ℕ) (limits : Limits) (slots id shard word old new : ℕ) (me : Me (Option S) (View Q)) (read : Record) (kind : Kind Q)
+pub exchange_allowed : {S Q : Type 0} (rests : S → ℕ → List Q → Type 0) (limit : S → ℕ) (limits : Limits) (slots id shard word old new : ℕ) (me : Me (Option S) (View Q)) (read : Record) (kind : Kind Q)
     → word ≡ shard → limits.ceiling < 2 ^ 36 → shard < limits.count → me.0.stage ≡ Acting → IsWellFormed read → old ≡ word_of read → new ≡ word_of (after_kind read kind)
     → MayAdd me.0 shard read kind
-    → Allows (Rule requests limit limits) slots id me word (λ n. either (n == old) new n) (Exchanged requests limit kind (step {S = Option S} slots word old new none) me)
-exchange_allowed requests limit limits slots id shard word old new me read kind at low within live formed packed written may =
-    exchanges requests limit limits slots id word old new me read kind low (subst (λ k. k < limits.count) (sym at) within) live formed packed written (subst (λ k. MayAdd me.0 k read kind) (sym at) may)
+    → Allows (Rule rests limit limits) slots id me word (λ n. either (n == old) new n) (Exchanged rests limit kind (step {S = Option S} slots word old new none) me)
+exchange_allowed rests limit limits slots id shard word old new me read kind at low within live formed packed written may =
+    exchanges rests limit limits slots id word old new me read kind low (subst (λ k. k < limits.count) (sym at) within) live formed packed written (subst (λ k. MayAdd me.0 k read kind) (sym at) may)
 
 -- the store of the one who holds the shard, whose body has come back to the slot that it carries
-pub stores : {S Q : Type 0} (requests : S → List Q) (limit : S → ℕ) (limits : Limits) (slots id word new : ℕ) (view : View Q) (body : S) (held : Held Q) (ending : Ending Q)
-    → limits.ceiling < 2 ^ 36 → view.stage ≡ Acting → view.held ≡ Some held → held.shard ≡ word → new ≡ word_of (after_done held.state) → requests body ≡ kept_after held.list ending → limit body ≡ limit_at limits word
-    → Allows (Rule requests limit limits) slots id (view, (word, Some body) ∷ []) word (λ _. new) (λ _. Stored (Done ending) (step {S = Option S} slots word new 0 none) (view, (word, Some body) ∷ []) new)
-stores {S} {Q} requests limit limits slots id word new view body held ending low live holding shard written gains same_limit table rule size at small =
+pub stores : {S Q : Type 0} (rests : S → ℕ → List Q → Type 0) (limit : S → ℕ) (limits : Limits) (slots id word new : ℕ) (view : View Q) (body : S) (held : Held Q) (ending : Ending Q)
+    → limits.ceiling < 2 ^ 36 → view.stage ≡ Acting → view.held ≡ Some held → held.shard ≡ word → new ≡ word_of (after_done held.state) → rests body (first_after held.first held.all ending) (all_after held.all ending) → limit body ≡ limit_at limits word
+    → Allows (Rule rests limit limits) slots id (view, (word, Some body) ∷ []) word (λ _. new) (λ _. Stored (Done ending) (step {S = Option S} slots word new 0 none) (view, (word, Some body) ∷ []) new)
+stores {S} {Q} rests limit limits slots id word new view body held ending low live holding shard written gains same_limit table rule size at small =
     let history = rule.0 in
-    let holds : Holds requests limit limits table.words table.homes table.views history = rule.1 in
+    let holds : Holds rests limit limits table.words table.homes table.views history = rule.1 in
     let fit = holds.fit id view at live in
     let is = fit.held held holding in
     let kind : Kind Q = Done ending in
@@ -582,17 +595,20 @@ stores {S} {Q} requests limit limits slots id word new view body held ending low
     let legal : IsLegalLatest limits.count limits.ceiling (entry ∷ history) = (fitting, holds.legal) in
     let known = All-cons (λ one. KnownKind one.kind) entry history tt holds.known in
     let made : new ≡ word_of (after_kind here kind) = written ∙ ap (λ (one : Record). word_of (after_done one)) (sym state) in
-    let list : kept (reverse history) word ≡ held.list = subst (λ k. kept (reverse history) k ≡ held.list) shard is.list in
-    let gained : requests body ≡ kept_after (kept (reverse history) word) ending = gains ∙ ap (λ entries. kept_after entries ending) (sym list) in
-    let at_home = home_ended requests limit limits table.homes history holds.home entry ending body refl (subst (λ many. word < many) (sym holds.slots) within) gained same_limit fitting in (
+    let first : first_of (reverse history) word ≡ held.first = subst (λ k. first_of (reverse history) k ≡ held.first) shard is.first in
+    let all : all_of (reverse history) word ≡ held.all = subst (λ k. all_of (reverse history) k ≡ held.all) shard is.all in
+    let gained = rests_at rests body (first_after held.first held.all ending) (first_after (first_of (reverse history) word) (all_of (reverse history) word) ending) (all_after held.all ending) (all_after (all_of (reverse history) word) ending)
+    (λ i. first_after (sym first i) (sym all i) ending) (λ i. all_after (sym all i) ending) gains in
+    let at_home = home_ended rests limit limits table.homes history holds.home entry ending body refl (subst (λ many. word < many) (sym holds.slots) within) gained same_limit fitting in (
       adding view word kind (reverse (entry ∷ history)),
       gives,
       tt,
-      (entry ∷ history, adds_keep requests limit limits id word new table.words table.homes (slice_set table.homes word (some (Some body))) table.views history view kind holds within at live (length-set table.homes word (some (Some body)) ∙ holds.slots) at_home tt (λ server _. refl) tt fitting made),
+      (entry ∷ history, adds_keep rests limit limits id word new table.words table.homes (slice_set table.homes word (some (Some body))) table.views history view kind holds within at live (length-set table.homes word (some (Some body)) ∙ holds.slots) at_home tt (λ server _. refl) tt fitting made),
       (
         adds_all limits id word view history fit within kind legal,
         word_seen limits (entry ∷ history) view.limits word new (sees_own limits id word view history fit within kind) (made ∙ ap word_of (sym (record_adds limits entry history fitting))) low legal known,
-        list_here entry history ∙ ap (λ entries. kept_after entries ending) (list ∙ sym (ap list_held holding)),
+        all_here entry history ∙ ap (λ requests. all_after requests ending) (all ∙ sym (ap all_held holding)),
+        first_here entry history ∙ (λ i. first_after ((first ∙ sym (ap first_held holding)) i) ((all ∙ sym (ap all_held holding)) i) ending),
         refl,
       ),
     )
@@ -601,11 +617,11 @@ above : (n : ℕ) → 0 < n → n ≢ 0
 above n more is = omega arith
 
 -- the first load of a new seat
-pub enters : {S Q : Type 0} (requests : S → List Q) (limit : S → ℕ) (limits : Limits) (slots word : ℕ) (server : Option ℕ) (first : Me (Option S) (View Q)) → first.0.limits ≡ limits
-    → Enters {S = Option S} (Rule requests limit limits) slots word (λ n view. Entered server (step {S = Option S} slots word 0 0 none) first n (view, []))
-enters {S} {Q} requests limit limits slots word server first same table rule size small =
+pub enters : {S Q : Type 0} (rests : S → ℕ → List Q → Type 0) (limit : S → ℕ) (limits : Limits) (slots word : ℕ) (server : Option ℕ) (first : Me (Option S) (View Q)) → first.0.limits ≡ limits
+    → Enters {S = Option S} (Rule rests limit limits) slots word (λ n view. Entered server (step {S = Option S} slots word 0 0 none) first n (view, []))
+enters {S} {Q} rests limit limits slots word server first same table rule size small =
     let history = rule.0 in
-    let holds : Holds requests limit limits table.words table.homes table.views history = rule.1 in
+    let holds : Holds rests limit limits table.words table.homes table.views history = rule.1 in
     let n = length table.views in
     let nobody : NoneBy n history = holds.unused n (le_refl n) in
     let mine : View Q = newcomer limits n server (reverse history) in
@@ -657,9 +673,9 @@ all_at P [] shard body all at = absurd (some-ne-none body (sym at))
 all_at P (one ∷ bodies) zero body all at = subst P (some-injective one body at) (All-head P one bodies all)
 all_at P (one ∷ bodies) (suc shard) body all at = all_at P bodies shard body (All-tail P one bodies all) at
 
--- a board to which nothing has happened, with bodies that keep nothing
-pub begins : {S Q : Type 0} (requests : S → List Q) (limit : S → ℕ) (limits : Limits) (words : List ℕ) (bodies : List S) (slots : List (Option S)) → words ≡ replicate limits.count 0 → limits.count ≡ length bodies → limits.bodies ≡ map limit bodies → slots ≡ map Some bodies → All (λ body. requests body ≡ []) bodies → Rule requests limit limits (opening words slots (newcomer limits 0 None []))
-begins {S} {Q} requests limit limits words bodies slots are many sizes put empty = (
+-- a board to which nothing has happened, with bodies that have applied nothing
+pub begins : {S Q : Type 0} (rests : S → ℕ → List Q → Type 0) (limit : S → ℕ) (limits : Limits) (words : List ℕ) (bodies : List S) (slots : List (Option S)) → words ≡ replicate limits.count 0 → limits.count ≡ length bodies → limits.bodies ≡ map limit bodies → slots ≡ map Some bodies → All (λ body. rests body 0 []) bodies → Rule rests limit limits (opening words slots (newcomer limits 0 None []))
+begins {S} {Q} rests limit limits words bodies slots are many sizes put empty = (
   [],
   record {
     legal = tt;
@@ -668,7 +684,7 @@ begins {S} {Q} requests limit limits words bodies slots are many sizes put empty
     slots = length-map slots some ∙ (ap length put ∙ (length-map bodies Some ∙ sym many));
     home = λ shard within idle.
         let body = nth limit bodies shard (subst (λ n. shard < n) many within) in
-        (body.0, ap (λ (all : List (Option S)). get_elem? (map some all) shard) put ∙ body.1, all_at (λ one. requests one ≡ []) bodies shard body.0 empty body.2, body.3 ∙ ap (λ all. slice_index_or all shard 0) (sym sizes));
+        (body.0, ap (λ (all : List (Option S)). get_elem? (map some all) shard) put ∙ body.1, all_at (λ one. rests one 0 []) bodies shard body.0 empty body.2, body.3 ∙ ap (λ all. slice_index_or all shard 0) (sym sizes));
     fit = λ n view at live. first n view at;
     cut = λ n view at is. absurd (acting_uncut view.stage (ap (λ (one : View Q). one.stage) (only n view at)) is);
     told = λ n view at told is. absurd (none_some told (sym (ap (λ (one : View Q). one.told) (only n view at)) ∙ is));
@@ -693,24 +709,6 @@ begins {S} {Q} requests limit limits words bodies slots are many sizes put empty
     })
     first (suc n) view at = absurd (some-ne-none view (sym at))
 
--- the request that a list has beyond another is the one that it has gained
-pub beyond_with : {Q : Type 0} (list : List Q) (request : Option Q) → beyond list (list_with list request) ≡ request
-beyond_with [] None = refl
-beyond_with [] (Some request) = refl
-beyond_with (one ∷ list) None = beyond_with list None
-beyond_with (one ∷ list) (Some request) = beyond_with list (Some request)
-
--- a list that has at most one request more is the first with that
-pub beyond_with_gained : {Q : Type 0} (list longer : List Q) → ((request : Option Q) × (longer ≡ list_with list request)) → list_with list (beyond list longer) ≡ longer
-beyond_with_gained list longer gains =
-    let same : beyond list longer ≡ gains.0 = ap (beyond list) gains.1 ∙ beyond_with list gains.0 in
-    ap (list_with list) same ∙ sym gains.1
-
--- what is kept after an end with a request, or with none
-pub kept_after-ending_with : {Q : Type 0} (list : List Q) (request : Option Q) → kept_after list (ending_with request) ≡ list_with list request
-kept_after-ending_with list None = refl
-kept_after-ending_with list (Some request) = refl
-
 -- the slot that is carried, once its body is back
 pub carries_body : {S Q : Type 0} (me : Me (Option S) (View Q)) (view : View Q) (carried : List (ℕ × Option S)) (at shard : ℕ) (body : S) → me ≡ (view, (at, Some body) ∷ rest carried) → carried ≡ (shard, None) ∷ [] → me ≡ (view, (at, Some body) ∷ [])
 carries_body {S} {Q} me view carried at shard body out slots = out ∙ ap (λ (all : List (ℕ × Option S)). (view, (at, Some body) ∷ rest all)) slots
@@ -728,11 +726,18 @@ module _ {S Q : Type 0} (id : TableId) (view : View Q) (pass : PassValue Q) (per
       let is = held_some pass.held permit.shard permit.state holds.1 in
       (is.0, ap (λ (it : PassValue Q). it.held) of_pass ∙ is.1, is.2, is.3)
 
-  pub held_within : IfSome view.held (λ held. held.shard < view.limits.count) → permit.shard < view.limits.count
+  pub held_within : IfSome view.held (IsHeldOf view.limits) → permit.shard < view.limits.count
   held_within within =
       let is = held_view in
-      let at : is.0.shard < view.limits.count = subst (λ (held : Option (Held Q)). IfSome held (λ one. one.shard < view.limits.count)) is.1 within in
-      subst (λ shard. shard < view.limits.count) is.2 at
+      let at : IsHeldOf view.limits is.0 = subst (λ (held : Option (Held Q)). IfSome held (IsHeldOf view.limits)) is.1 within in
+      subst (λ shard. shard < view.limits.count) is.2 at.0
+
+  same_held : view.held ≡ pass.held
+  same_held = ap (λ (it : PassValue Q). it.held) of_pass
+
+  pub bounds : IfSome view.held (IsHeldOf view.limits) → (first_held pass.held ≤ length (all_held pass.held)) × (length (all_held pass.held) ≤ view.limits.ceiling)
+  bounds within =
+      held_bounds view.limits pass.held (subst (λ (held : Option (Held Q)). IfSome held (IsHeldOf view.limits)) same_held within)
 
   -- the slot that the pass carries is that of the permit's shard, and empty
   pub slot_held : slots_of {S = S} view.held ≡ (permit.shard, None) ∷ []
@@ -740,19 +745,19 @@ module _ {S Q : Type 0} (id : TableId) (view : View Q) (pass : PassValue Q) (per
       let is = held_view in
       ap slots_of is.1 ∙ ap (λ shard. (shard, None) ∷ []) is.2
 
-  pub list_is : list_held view.held ≡ list_held pass.held
-  list_is = ap (λ (it : PassValue Q). list_held it.held) of_pass
+  pub all_is : all_held view.held ≡ all_held pass.held
+  all_is = ap all_held same_held
 
-  pub store_allowed : (requests : S → List Q) (limit : S → ℕ) (limits : Limits) (slots seat word new : ℕ) (body : S) (me : Me (Option S) (View Q))
+  pub first_is : first_held view.held ≡ first_held pass.held
+  first_is = ap first_held same_held
+
+  pub store_allowed : (rests : S → ℕ → List Q → Type 0) (limit : S → ℕ) (limits : Limits) (slots seat word new : ℕ) (body : S) (me : Me (Option S) (View Q)) (ending : Ending Q)
       → me ≡ (view, (word, Some body) ∷ []) → limits.ceiling < 2 ^ 36 → view.stage ≡ Acting → permit.shard ≡ word → new ≡ word_of (after_done permit.state)
-      → ((request : Option Q) × (requests body ≡ list_with (list_held pass.held) request))
+      → EndsWith rests pass.held body ending
       → limit body ≡ limit_at limits word
-      → Allows (Rule requests limit limits) slots seat me word (λ _. new) (λ _. Stored (Done (ending_with (beyond (list_held pass.held) (requests body)))) (step {S = Option S} slots word new 0 none) me new)
-  store_allowed requests limit limits slots seat word new body me carries low live shard written gains same_limit =
+      → Allows (Rule rests limit limits) slots seat me word (λ _. new) (λ _. Stored (Done ending) (step {S = Option S} slots word new 0 none) me new)
+  store_allowed rests limit limits slots seat word new body me ending carries low live shard written gains same_limit =
       let is = held_view in
-      let request = gains.0 in
-      let list : is.0.list ≡ list_held pass.held = sym (ap list_held is.1) ∙ list_is in
-      let kept_list : requests body ≡ kept_after is.0.list (ending_with request) = gains.1 ∙ (ap (λ entries. list_with entries request) (sym list) ∙ sym (kept_after-ending_with is.0.list request)) in
-      let done : request ≡ beyond (list_held pass.held) (requests body) = sym (ap (beyond (list_held pass.held)) gains.1 ∙ beyond_with (list_held pass.held) request) in
-      let allowed = stores requests limit limits slots seat word new view body is.0 (ending_with request) low live is.1 (is.2 ∙ shard) (written ∙ ap (λ (state : Record). word_of (after_done state)) (sym is.3)) kept_list same_limit in
-      subst (λ (pair : Option Q × Me (Option S) (View Q)). Allows (Rule requests limit limits) slots seat pair.1 word (λ _. new) (λ _. Stored (Done (ending_with pair.0)) (step {S = Option S} slots word new 0 none) pair.1 new)) (λ i. (done i, sym carries i)) allowed
+      let ends : EndsWith rests (Some is.0) body ending = subst (λ (held : Option (Held Q)). EndsWith rests held body ending) (sym same_held ∙ is.1) gains in
+      let allowed = stores rests limit limits slots seat word new view body is.0 ending low live is.1 (is.2 ∙ shard) (written ∙ ap (λ (state : Record). word_of (after_done state)) (sym is.3)) (rests_after rests (Some is.0) body ending ends) same_limit in
+      subst (λ (my : Me (Option S) (View Q)). Allows (Rule rests limit limits) slots seat my word (λ _. new) (λ _. Stored (Done ending) (step {S = Option S} slots word new 0 none) my new)) (sym carries) allowed

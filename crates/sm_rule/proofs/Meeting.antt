@@ -31,7 +31,7 @@ below_end (one ∷ views) zero view at = omega arith
 below_end (one ∷ views) (suc n) view at = let below = below_end views n view at in omega arith
 
 -- a seat that acts takes in another
-module _ {S Q : Type 0} (requests : S → List Q) (limit : S → ℕ) (limits : Limits) (words : List ℕ) (homes : List (math.Option (Option S))) (views : List (View Q)) (history : List (Entry Q)) (holds : Holds requests limit limits words homes views history)
+module _ {S Q : Type 0} (rests : S → ℕ → List Q → Type 0) (limit : S → ℕ) (limits : Limits) (words : List ℕ) (homes : List (math.Option (Option S))) (views : List (View Q)) (history : List (Entry Q)) (holds : Holds rests limit limits words homes views history)
     (id other : ℕ) (view one : View Q) (live : view.stage ≡ Acting) (alive : one.stage ≡ Acting) (at : get_elem? views id ≡ some view) (apart : other ≢ id) (there : get_elem? views other ≡ some one) where
   abbrev both : View Q
   both = informed view one
@@ -80,7 +80,7 @@ module _ {S Q : Type 0} (requests : S → List Q) (limit : S → ℕ) (limits : 
       n it at_first)
       (λ told is. absurd (cc))
 
-  joined : Holds requests limit limits words homes last history
+  joined : Holds rests limit limits words homes last history
   joined =
       let long = length-set first other left_behind ∙ length-set views id both in
       record {
@@ -100,21 +100,21 @@ module _ {S Q : Type 0} (requests : S → List Q) (limit : S → ℕ) (limits : 
         chaired = subst (λ many. 0 < many) (sym long) holds.chaired;
       }
 
-pub joins : {S Q : Type 0} (requests : S → List Q) (limit : S → ℕ) (limits : Limits) (id other : ℕ) (view one : View Q) → view.stage ≡ Acting → one.stage ≡ Acting → Joins {S = Option S} (Rule requests limit limits) id view other one (informed view one) left_behind
-joins requests limit limits id other view one live alive table rule at apart there =
-    (rule.0, joined requests limit limits table.words table.homes table.views rule.0 rule.1 id other view one live alive at apart (sym (set_else table.views id other (informed view one) apart) ∙ there))
+pub joins : {S Q : Type 0} (rests : S → ℕ → List Q → Type 0) (limit : S → ℕ) (limits : Limits) (id other : ℕ) (view one : View Q) → view.stage ≡ Acting → one.stage ≡ Acting → Joins {S = Option S} (Rule rests limit limits) id view other one (informed view one) left_behind
+joins rests limit limits id other view one live alive table rule at apart there =
+    (rule.0, joined rests limit limits table.words table.homes table.views rule.0 rule.1 id other view one live alive at apart (sym (set_else table.views id other (informed view one) apart) ∙ there))
 
 -- the load after it
-pub meets : {S Q : Type 0} (requests : S → List Q) (limit : S → ℕ) (limits : Limits) (slots id word : ℕ) (me : Me (Option S) (View Q)) → me.0.stage ≡ Acting
-    → Allows (Rule requests limit limits) slots id me word (λ n. n) (Met (step {S = Option S} slots word 0 0 none) me)
-meets requests limit limits slots id word me live table rule size at small =
+pub meets : {S Q : Type 0} (rests : S → ℕ → List Q → Type 0) (limit : S → ℕ) (limits : Limits) (slots id word : ℕ) (me : Me (Option S) (View Q)) → me.0.stage ≡ Acting
+    → Allows (Rule rests limit limits) slots id me word (λ n. n) (Met (step {S = Option S} slots word 0 0 none) me)
+meets rests limit limits slots id word me live table rule size at small =
     let history = rule.0 in
     let holds = rule.1 in
     let fit = holds.fit id me.0 at live in (
       seeing me.0 (reverse history),
       keeps,
       tt,
-      (history, look_keeps requests limit limits id word table.words table.homes table.views history me.0 holds at live),
+      (history, look_keeps rests limit limits id word table.words table.homes table.views history me.0 holds at live),
       (
         looks_all limits id me.0 history fit holds.legal,
         (λ told is.

@@ -19,7 +19,8 @@ use Rattle.sm_ownership.specs.declared.record.Record.{Record}
 use Rattle.sm_ownership.specs.lemmas.Ceilings.{within_ceiling}
 use Rattle.sm_ownership.specs.lemmas.Faults.{admit_fault-none, phase_fault-none}
 use Rattle.sm_ownership.specs.lemmas.Growth.{fits-push, legal_prefix, record_at-push_other}
-use Rattle.sm_ownership.specs.History.{IsLegal, after_admit, after_change, after_done, kept, IsSameOrLater, NoneBy}
+use Rattle.sm_ownership.specs.History.{IsLegal, after_admit, after_change, after_done, all_of, first_of, IsSameOrLater, NoneBy}
+use Rattle.sm_ownership.specs.lemmas.Requests.{first_of-within}
 use Rattle.sm_ownership.specs.lemmas.Lasting.{same_or_later, stand_stays}
 use Rattle.sm_ownership.specs.Rules.{accepts, admit_fault, fault_at, phase_fault, stand_after}
 use Rattle.sm_word.specs.lemmas.Histories.{formed_admit, formed_change, formed_done}
@@ -32,11 +33,12 @@ use Rattle.sm_rule.specs.Admissions.{PassAdmitted, Races, RefusedBy, fault_for}
 use Rattle.sm_rule.specs.Boards.{BoardValue, limit_at}
 use Rattle.sm_rule.specs.declared.change_refusal.ChangeRefusal.TheVariants.{Raced}
 use Rattle.sm_rule.specs.Changes.{ChairAdds, ChairLooks, ChairValue, IsChairView, NotMade, chair_value, record_at_chair}
-use Rattle.sm_rule.specs.Passes.{IsPassView, PassAdds, PassLooks, PassValue, pass_value, slots_of}
+use Rattle.sm_rule.specs.Passes.{IsHeldOf, IsPassView, PassAdds, PassLooks, PassValue, pass_value, slots_of}
 use Rattle.sm_rule.specs.lemmas.Passing.{grows_on}
 use Rattle.sm_rule.specs.Steps.{IsWordOf, MayAdd, TakesBody}
-use Rattle.sm_rule.specs.Views.{Adds, Grows, Looks, adding, entry_of, held_after, record_in, seeing}
+use Rattle.sm_rule.specs.Views.{Adds, Grows, Looks, adding, all_held, entry_of, first_held, held_after, record_in, seeing}
 use Rattle.sm_rule.proofs.Keeping.{same_some}
+use Rattle.sm_rule.proofs.Requests.{all_within}
 
 abbrev board_with : TableId → Limits → BoardValue
 board_with id limits = record { id = id; limits = limits }
@@ -167,14 +169,14 @@ module _ {Q : Type 0} (server : Option ℕ) (u w : View Q) where
   pub pass_looks : Looks u w → IsPassView server u → IsPassView server w
   pass_looks looked is = subst (IsPassView server) (sym looked.1) (is.0, is.1, is.2, is.3, looked.0.3)
 
-  held_added : (shard : ℕ) (kind : Kind Q) (history : List (Entry Q)) → shard < u.limits.count → IsPassView server u → IfSome (held_after u.limits shard kind history u.held) (λ held. held.shard < u.limits.count)
-  held_added shard (Changed change) history within is = is.3
-  held_added shard (Admit server mode) history within is = within
-  held_added shard (Done ending) history within is = tt
+  held_added : (shard : ℕ) (kind : Kind Q) (history : List (Entry Q)) → IsLegal u.limits.count u.limits.ceiling history → shard < u.limits.count → IsPassView server u → IfSome (held_after u.limits shard kind history u.held) (IsHeldOf u.limits)
+  held_added shard (Changed change) history legal within is = is.3
+  held_added shard (Admit server mode) history legal within is = (within, first_of-within history shard, all_within u.limits.count u.limits.ceiling history shard legal)
+  held_added shard (Done ending) history legal within is = tt
 
   -- and one that has added an entry
   pub pass_adds : (shard : ℕ) (kind : Kind Q) → Adds u shard kind w → shard < u.limits.count → IsPassView server u → IsPassView server w
-  pass_adds shard kind added within is = subst (IsPassView server) (sym added.1) (is.0, is.1, is.2, held_added shard kind w.seen within is, added.0.3)
+  pass_adds shard kind added within is = subst (IsPassView server) (sym added.1) (is.0, is.1, is.2, held_added shard kind w.seen added.0.3 within is, added.0.3)
 
   -- one that was admitted, and whose body is out
   pub pass_holds : {S : Type 0} (shard one : ℕ) (mode : Mode) (me : View Q × List (ℕ × Option S)) → Adds u shard (Admit one mode) w → shard < u.limits.count → IsPassView server u → me ≡ (w, (shard, None) ∷ [])
@@ -192,14 +194,14 @@ room_adds u v w looked shard change added room enough =
     subst (λ (its : Limits). its.count ≤ room) (sym (ap (λ (view : View _). view.limits) added.1 ∙ ap (λ (view : View _). view.limits) looked.1)) enough
 
 -- a change takes no slot
-pub changed_slots : {S Q : Type 0} (requests : S → List Q) (limit : S → ℕ) (kind : Kind Q) (change : Change) (shard : ℕ) (before after : List (ℕ × Option S)) (view : View Q) → kind ≡ Changed change → TakesBody requests limit kind shard before view after → after ≡ before
-changed_slots requests limit kind change shard before after view is takes = subst (λ (one : Kind _). TakesBody requests limit one shard before view after) is takes
+pub changed_slots : {S Q : Type 0} (rests : S → ℕ → List Q → Type 0) (limit : S → ℕ) (kind : Kind Q) (change : Change) (shard : ℕ) (before after : List (ℕ × Option S)) (view : View Q) → kind ≡ Changed change → TakesBody rests limit kind shard before view after → after ≡ before
+changed_slots rests limit kind change shard before after view is takes = subst (λ (one : Kind _). TakesBody rests limit one shard before view after) is takes
 
 -- an admission takes its shard's slot, which is then the only one
-pub admitted_slots : {S Q : Type 0} (requests : S → List Q) (limit : S → ℕ) (kind : Kind Q) (server : ℕ) (mode : Mode) (shard : ℕ) (before after : List (ℕ × Option S)) (view : View Q) → kind ≡ Admit server mode → before ≡ [] → TakesBody requests limit kind shard before view after
-    → (body : S) × (after ≡ (shard, Some body) ∷ []) × (requests body ≡ kept view.seen shard) × (limit body ≡ limit_at view.limits shard)
-admitted_slots {S} {Q} requests limit kind server mode shard before after view is none takes =
-    let here : TakesBody requests limit (Admit server mode) shard before view after = subst (λ (one : Kind Q). TakesBody requests limit one shard before view after) is takes in
+pub admitted_slots : {S Q : Type 0} (rests : S → ℕ → List Q → Type 0) (limit : S → ℕ) (kind : Kind Q) (server : ℕ) (mode : Mode) (shard : ℕ) (before after : List (ℕ × Option S)) (view : View Q) → kind ≡ Admit server mode → before ≡ [] → TakesBody rests limit kind shard before view after
+    → (body : S) × (after ≡ (shard, Some body) ∷ []) × rests body (first_of view.seen shard) (all_of view.seen shard) × (limit body ≡ limit_at view.limits shard)
+admitted_slots {S} {Q} rests limit kind server mode shard before after view is none takes =
+    let here : TakesBody rests limit (Admit server mode) shard before view after = subst (λ (one : Kind Q). TakesBody rests limit one shard before view after) is takes in
     (here.0, here.1 ∙ ap (λ carried. (shard, Some here.0) ∷ carried) none, here.2, here.3)
 
 -- the slots of a pass that holds nothing
@@ -333,16 +335,16 @@ module _ {Q : Type 0} (stands : List Stand) (u w : View Q) (is : IsChairView sta
         subst (MayAdd w shard read) (sym is_change) (may_read known fits idle below_seat)
 
 -- what a won exchange leaves of the chair
-pub chair_made : {S Q : Type 0} (requests : S → List Q) (limit : S → ℕ) (stands : List Stand) (u v w : View Q) (id : TableId) (value : ChairValue Q) (board : BoardValue) (kind : Kind Q) (change : Change) (shard at room : ℕ) (next : Record) (one two three : List (ℕ × Option S))
+pub chair_made : {S Q : Type 0} (rests : S → ℕ → List Q → Type 0) (limit : S → ℕ) (stands : List Stand) (u v w : View Q) (id : TableId) (value : ChairValue Q) (board : BoardValue) (kind : Kind Q) (change : Change) (shard at room : ℕ) (next : Record) (one two three : List (ℕ × Option S))
     → IsChairView stands u → Looks u v → Adds v shard kind w → kind ≡ Changed change → chair_value id u ≡ value → value.board ≡ board → shard < board.limits.count → at ≡ shard
-    → next ≡ record_in w.limits w.seen shard → TakesBody requests limit kind shard two w three → two ≡ one → one ≡ [] → u.limits.count ≤ room
+    → next ≡ record_in w.limits w.seen shard → TakesBody rests limit kind shard two w three → two ≡ one → one ≡ [] → u.limits.count ≤ room
     → IsChairView (slice_set stands at next.stand) w × (three ≡ []) × (w.limits.count ≤ room)
-chair_made {S} {Q} requests limit stands u v w id value board kind change shard at room next one two three is looked added is_change of_chair on within place next_is takes same none enough =
+chair_made {S} {Q} rests limit stands u v w id value board kind change shard at room next one two three is looked added is_change of_chair on within place next_is takes same none enough =
     let limits : v.limits ≡ board.limits = ap (λ (view : View Q). view.limits) looked.1 ∙ (ap (λ (it : ChairValue Q). it.board.limits) of_chair ∙ ap (λ (b : BoardValue). b.limits) on) in
     let there : shard < v.limits.count = subst (λ (its : Limits). shard < its.count) (sym limits) within in
     let changed : Adds v shard (Changed change) w = subst (λ (k : Kind Q). Adds v shard k w) is_change added in (
       subst (λ k. IsChairView (slice_set stands k next.stand) w) (sym place) (chair_adds stands v w (chair_looks stands u v is looked) shard change next there changed next_is),
-      changed_slots requests limit kind change shard two three w is_change takes ∙ (same ∙ none),
+      changed_slots rests limit kind change shard two three w is_change takes ∙ (same ∙ none),
       room_adds u v w looked shard change changed room enough,
     )
 
@@ -392,21 +394,37 @@ module _ {Q : Type 0} (u : View Q) (server : Option ℕ) (value : PassValue Q) (
       (free.0, own_server ∙ free.1, subst (λ (pair : Kind Q × PassValue Q). PassAdds value shard pair.0 pair.1) (λ i. (admits kind kind_is i, pass_value (sym same_last i) (sym out i).0)) adds)
 
   -- and has taken the shard's slot
-  pub slot_taken : {S : Type 0} (w : View Q) (requests : S → List Q) (limit : S → ℕ) (kind : Kind Q) (shard : ℕ) (one two three : List (ℕ × Option S)) → kind ≡ Admit (unwrap_or value.server 0) mode → value.held ≡ None → one ≡ slots_of u.held → two ≡ one → TakesBody requests limit kind shard two w three
-      → (body : S) × (three ≡ (shard, Some body) ∷ []) × (requests body ≡ kept w.seen shard) × (limit body ≡ limit_at w.limits shard)
-  slot_taken w requests limit kind shard one two three kind_is holds_none slots same takes =
-      admitted_slots requests limit kind free.0 mode shard two three w (admits kind kind_is) (same ∙ no_slots id u value one of_pass holds_none slots) takes
+  pub slot_taken : {S : Type 0} (w : View Q) (rests : S → ℕ → List Q → Type 0) (limit : S → ℕ) (kind : Kind Q) (shard : ℕ) (one two three : List (ℕ × Option S)) → kind ≡ Admit (unwrap_or value.server 0) mode → value.held ≡ None → one ≡ slots_of u.held → two ≡ one → TakesBody rests limit kind shard two w three
+      → (body : S) × (three ≡ (shard, Some body) ∷ []) × rests body (first_of w.seen shard) (all_of w.seen shard) × (limit body ≡ limit_at w.limits shard)
+  slot_taken w rests limit kind shard one two three kind_is holds_none slots same takes =
+      admitted_slots rests limit kind free.0 mode shard two three w (admits kind kind_is) (same ∙ no_slots id u value one of_pass holds_none slots) takes
 
   -- with the shard's body
-  pub body_taken : {S : Type 0} (v w : View Q) (requests : S → List Q) (limit : S → ℕ) (kind : Kind Q) (shard : ℕ) (one two three carried : List (ℕ × Option S)) (me : View Q × List (ℕ × Option S)) (body : S) → kind ≡ Admit (unwrap_or value.server 0) mode → value.held ≡ None → one ≡ slots_of u.held → two ≡ one → TakesBody requests limit kind shard two w three
-      → Looks u v → Adds v shard kind w → three ≡ (shard, Some body) ∷ [] → me ≡ (w, carried) → (requests body ≡ kept me.0.seen shard) × (limit body ≡ limit_at board.limits shard)
-  body_taken {S} v w requests limit kind shard one two three carried me body kind_is holds_none slots same takes looked added out after =
-      let slot = slot_taken w requests limit kind shard one two three kind_is holds_none slots same takes in
+  pub body_taken : {S : Type 0} (v w : View Q) (rests : S → ℕ → List Q → Type 0) (limit : S → ℕ) (kind : Kind Q) (shard : ℕ) (one two three carried : List (ℕ × Option S)) (me : View Q × List (ℕ × Option S)) (body : S) → kind ≡ Admit (unwrap_or value.server 0) mode → value.held ≡ None → one ≡ slots_of u.held → two ≡ one → TakesBody rests limit kind shard two w three
+      → Looks u v → Adds v shard kind w → three ≡ (shard, Some body) ∷ [] → me ≡ (w, carried) → rests body (first_of me.0.seen shard) (all_of me.0.seen shard) × (limit body ≡ limit_at board.limits shard)
+  body_taken {S} v w rests limit kind shard one two three carried me body kind_is holds_none slots same takes looked added out after =
+      let slot = slot_taken w rests limit kind shard one two three kind_is holds_none slots same takes in
       let same_one : slot.0 ≡ body = same_body shard slot.0 body (sym slot.1 ∙ out) in
       let limits : w.limits ≡ board.limits = ap (λ (view : View Q). view.limits) added.1 ∙ (ap (λ (view : View Q). view.limits) looked.1 ∙ (ap (λ (pass : PassValue Q). pass.board.limits) of_pass ∙ ap (λ (b : BoardValue). b.limits) on)) in (
-        ap requests (sym same_one) ∙ (slot.2 ∙ ap (λ (it : View Q × List (ℕ × Option S)). kept it.0.seen shard) (sym after)),
+        subst (λ (pair : S × List (Entry Q)). rests pair.0 (first_of pair.1 shard) (all_of pair.1 shard)) (λ i. (same_one i, (sym after i).0.seen)) slot.2,
         ap limit (sym same_one) ∙ (slot.3 ∙ ap (λ (its : Limits). limit_at its shard) limits),
       )
+
+  -- the pass is one that holds the shard
+  pub pass_stays : {S : Type 0} (v w : View Q) (kind : Kind Q) (shard : ℕ) (me : View Q × List (ℕ × Option S)) → kind ≡ Admit (unwrap_or value.server 0) mode → Looks u v → Adds v shard kind w → shard < board.limits.count → me ≡ (w, (shard, None) ∷ [])
+      → IsPassView server me.0 × (me.1 ≡ slots_of me.0.held)
+  pass_stays {S} v w kind shard me kind_is looked added within out =
+      let admitted : Adds v shard (Admit free.0 mode) w = subst (λ (one : Kind Q). Adds v shard one w) (admits kind kind_is) added in
+      let limits : v.limits ≡ board.limits = ap (λ (view : View Q). view.limits) looked.1 ∙ (ap (λ (pass : PassValue Q). pass.board.limits) of_pass ∙ ap (λ (b : BoardValue). b.limits) on) in
+      pass_holds server v w shard free.0 mode me admitted (subst (λ (its : Limits). shard < its.count) (sym limits) within) (pass_looks server u v looked is) out
+
+  -- what the pass then holds
+  pub held_taken : {S : Type 0} (v w : View Q) (kind : Kind Q) (shard : ℕ) (me : View Q × List (ℕ × Option S)) (carried : List (ℕ × Option S)) → kind ≡ Admit (unwrap_or value.server 0) mode → Adds v shard kind w → me ≡ (w, carried)
+      → (first_held me.0.held ≡ first_of me.0.seen shard) × (all_held me.0.held ≡ all_of me.0.seen shard)
+  held_taken {S} v w kind shard me carried kind_is added out =
+      let admitted : Adds v shard (Admit free.0 mode) w = subst (λ (one : Kind Q). Adds v shard one w) (admits kind kind_is) added in
+      let holds : w.held ≡ held_after v.limits shard (Admit free.0 mode) w.seen v.held = ap (λ (view : View Q). view.held) admitted.1 in
+      subst (λ (it : View Q × List (ℕ × Option S)). (first_held it.0.held ≡ first_of it.0.seen shard) × (all_held it.0.held ≡ all_of it.0.seen shard)) (sym out) (ap first_held holds, ap all_held holds)
 
   -- the pass has looked, and was then overtaken
   pub pass_raced : (v w : View Q) (later : TableId) (shard : ℕ) (found : Record) → later ≡ id → Looks u v → Looks v w → state ≡ record_in v.limits v.seen shard → found ≡ record_in w.limits w.seen shard → found ≢ state

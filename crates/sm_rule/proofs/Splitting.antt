@@ -17,10 +17,10 @@ use Rattle.sm_rule.specs.Views.{cut_off, newcomer}
 use Rattle.sm_rule.proofs.Keeping.{acting_uncut, at_end, in_order, told_pushed, told_set, views_pushed, views_set}
 
 -- a seat that acts is cut in two
-pub splits : {S Q : Type 0} (requests : S → List Q) (limit : S → ℕ) (limits : Limits) (id : ℕ) (view : View Q) → view.stage ≡ Acting → Splits {S = Option S} (Rule requests limit limits) id view view (cut_off view)
-splits {S} {Q} requests limit limits id view live table rule at =
+pub splits : {S Q : Type 0} (rests : S → ℕ → List Q → Type 0) (limit : S → ℕ) (limits : Limits) (id : ℕ) (view : View Q) → view.stage ≡ Acting → Splits {S = Option S} (Rule rests limit limits) id view view (cut_off view)
+splits {S} {Q} rests limit limits id view live table rule at =
     let history = rule.0 in
-    let holds : Holds requests limit limits table.words table.homes table.views history = rule.1 in
+    let holds : Holds rests limit limits table.words table.homes table.views history = rule.1 in
     let fit = holds.fit id view at live in
     let mine : View Q = cut_off view in
     let n = length table.views in
@@ -35,7 +35,7 @@ splits {S} {Q} requests limit limits id view live table rule at =
       seen = fit.seen;
       unused = holds.unused n (le_refl n);
     } in
-    let all : Holds requests limit limits table.words table.homes (table.views ++ mine ∷ []) history = record {
+    let all : Holds rests limit limits table.words table.homes (table.views ++ mine ∷ []) history = record {
       legal = holds.legal;
       known = holds.known;
       words_are = holds.words_are;
@@ -47,7 +47,7 @@ splits {S} {Q} requests limit limits id view live table rule at =
       unused = λ m past. holds.unused m (omega arith);
       chaired = omega arith;
     } in
-    subst (λ views. Rule requests limit limits (record { words = table.words; homes = table.homes; views = views ++ mine ∷ [] })) (sym (set_again table.views id view at)) (history, all)
+    subst (λ views. Rule rests limit limits (record { words = table.words; homes = table.homes; views = views ++ mine ∷ [] })) (sym (set_again table.views id view at)) (history, all)
   where
     above : (n : ℕ) → 0 < n → n ≡ 0 → ⊥
     above n more is = omega arith
@@ -56,11 +56,11 @@ cut_unjoined : {Q : Type 0} (view : View Q) → view.stage ≡ Cut → view.stag
 cut_unjoined view off joined = let same : Cut ≡ Joined = sym off ∙ joined in absurd (cc)
 
 -- the first load of a seat that was cut from another gives it its number
-pub enrolls : {S Q : Type 0} (requests : S → List Q) (limit : S → ℕ) (limits : Limits) (slots id word : ℕ) (me : Me (Option S) (View Q)) → me.0.stage ≡ Cut
-    → Allows (Rule requests limit limits) slots id me word (λ n. n) (Enrolled (step {S = Option S} slots word 0 0 none) me)
-enrolls {S} {Q} requests limit limits slots id word me off table rule size at small =
+pub enrolls : {S Q : Type 0} (rests : S → ℕ → List Q → Type 0) (limit : S → ℕ) (limits : Limits) (slots id word : ℕ) (me : Me (Option S) (View Q)) → me.0.stage ≡ Cut
+    → Allows (Rule rests limit limits) slots id me word (λ n. n) (Enrolled (step {S = Option S} slots word 0 0 none) me)
+enrolls {S} {Q} rests limit limits slots id word me off table rule size at small =
     let history = rule.0 in
-    let holds : Holds requests limit limits table.words table.homes table.views history = rule.1 in
+    let holds : Holds rests limit limits table.words table.homes table.views history = rule.1 in
     let view = me.0 in
     let is = holds.cut id view at off in
     let mine : View Q = newcomer limits id view.server (reverse history) in
@@ -74,7 +74,7 @@ enrolls {S} {Q} requests limit limits slots id word me off table rule size at sm
       server = λ server its. acts_as-none history id server is.unused;
       held = λ held its. absurd (cc);
     } in
-    let kept : Holds requests limit limits (slice_set table.words word (slice_index table.words word)) table.homes (slice_set table.views id mine) history = record {
+    let kept : Holds rests limit limits (slice_set table.words word (slice_index table.words word)) table.homes (slice_set table.views id mine) history = record {
       legal = holds.legal;
       known = holds.known;
       words_are = set-get_or table.words word 0 ∙ holds.words_are;

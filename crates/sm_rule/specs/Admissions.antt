@@ -1,5 +1,5 @@
 -- What an admission on a board is refused for.
-use Rattle.std.specs.Prelude.{ℕ, ◌≡◌, ◌<◌, List, [], ◌∷◌, Option, Some, None}
+use Rattle.std.specs.Prelude.{ℕ, ◌≡◌, ◌<◌, List, Option, Some, None}
 use Rattle.std.specs.Option.{option_map}
 use Rattle.sm_ownership.specs.declared.admit_fault.AdmitFault.{AdmitFault}
 use Rattle.sm_ownership.specs.declared.admit_fault.AdmitFault.TheVariants.{NotExecutor}
@@ -57,10 +57,3 @@ held_admission pass = option_map (λ held. (held.shard, held.state)) pass.held
 -- the permit is the one that the pass holds
 abbrev pub HoldsPermit : {S Q : Type 0} → PassValue Q → PermitValue S → Type 0
 HoldsPermit pass permit = (permit.board ≡ pass.board) × (held_admission pass ≡ Some (permit.shard, permit.state))
-
--- the request that a list has beyond another, if any
-abbrev pub beyond : {Q : Type 0} → List Q → List Q → Option Q
-beyond [] [] = None
-beyond [] (request ∷ more) = Some request
-beyond (one ∷ list) [] = None
-beyond (one ∷ list) (other ∷ more) = beyond list more

@@ -4,7 +4,7 @@ use mathlib.Core.Option.{some}
 use lib.ListN.{get_elem?}
 use Rattle.sm_ownership.specs.declared.entry.Entry.{Entry}
 use Rattle.sm_ownership.specs.declared.record.Record.{Record}
-use Rattle.sm_ownership.specs.History.{IsLegal, kept, NoneBy}
+use Rattle.sm_ownership.specs.History.{IsLegal, all_of, first_of, NoneBy}
 use Rattle.sm_word.specs.Word.{IsWellFormed, word_of}
 use Rattle.sm_rule.specs.declared.limits.Limits.{Limits}
 use Rattle.sm_rule.specs.Boards.{limit_at}
@@ -12,28 +12,29 @@ use Rattle.sm_rule.specs.Changes.{ChairValue}
 use Rattle.sm_rule.specs.Passes.{PassValue}
 use Rattle.sm_rule.specs.Views.{Begins, record_in}
 
--- what is left of a shard after a history: its record, and its body where it isn't admitted, of its limit and with what was kept for it
-abbrev pub IsLeft : {S Q : Type 0} → (S → List Q) → (S → ℕ) → Limits → List (Entry Q) → ℕ → Record × Option S → Type 0
-IsLeft {S} requests limit limits history shard row =
+-- what is left of a shard after a history: its record, and its body where it isn't admitted, of its limit and resting on
+-- all requests that the history has for it
+abbrev pub IsLeft : {S Q : Type 0} → (S → ℕ → List Q → Type 0) → (S → ℕ) → Limits → List (Entry Q) → ℕ → Record × Option S → Type 0
+IsLeft {S} keeps limit limits history shard row =
     (row.0 ≡ record_in limits history shard)
     × (row.0.admitted ≡ true → row.1 ≡ None)
-    × (row.0.admitted ≡ false → (body : S) × (row.1 ≡ Some body) × (requests body ≡ kept history shard) × (limit body ≡ limit_at limits shard))
+    × (row.0.admitted ≡ false → (body : S) × (row.1 ≡ Some body) × keeps body (first_of history shard) (all_of history shard) × (limit body ≡ limit_at limits shard))
 
 -- the rows are those of all shards after a history
-abbrev pub AreLeft : {S Q : Type 0} → (S → List Q) → (S → ℕ) → Limits → List (Entry Q) → List (Record × Option S) → Type 0
-AreLeft {S} requests limit limits history rows =
+abbrev pub AreLeft : {S Q : Type 0} → (S → ℕ → List Q → Type 0) → (S → ℕ) → Limits → List (Entry Q) → List (Record × Option S) → Type 0
+AreLeft {S} keeps limit limits history rows =
     (length rows ≡ limits.count)
-    × ((shard : ℕ) (row : Record × Option S) → get_elem? rows shard ≡ some row → IsLeft requests limit limits history shard row)
+    × ((shard : ℕ) (row : Record × Option S) → get_elem? rows shard ≡ some row → IsLeft keeps limit limits history shard row)
 
 -- the rows are those of all shards after one legal history, to which passes alone have added since the chair last looked, and
 -- which extends what the pass had seen
-abbrev pub WasClosed : {S Q : Type 0} → (S → List Q) → (S → ℕ) → ChairValue Q → PassValue Q → List (Record × Option S) → Type 0
-WasClosed {S} {Q} requests limit chair pass rows =
+abbrev pub WasClosed : {S Q : Type 0} → (S → ℕ → List Q → Type 0) → (S → ℕ) → ChairValue Q → PassValue Q → List (Record × Option S) → Type 0
+WasClosed {S} {Q} keeps limit chair pass rows =
     (later : List (Entry Q))
     × IsLegal chair.board.limits.count chair.board.limits.ceiling (chair.seen ++ later)
     × NoneBy 0 later
     × Begins pass.seen (chair.seen ++ later)
-    × AreLeft requests limit chair.board.limits (chair.seen ++ later) rows
+    × AreLeft keeps limit chair.board.limits (chair.seen ++ later) rows
 
 -- each word is that of a record
 abbrev pub AreWords : List ℕ → Type 0

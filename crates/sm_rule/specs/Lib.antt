@@ -1,5 +1,6 @@
 pub mod Admissions
 pub mod Boards
+pub mod Bodies
 pub mod Changes
 pub mod Closing
 pub mod Passes

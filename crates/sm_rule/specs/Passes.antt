@@ -1,9 +1,10 @@
 -- Passes as contracts see them, and what looking and acting does to one.
-use Rattle.std.specs.Prelude.{ℕ, ◌≡◌, ◌≢◌, ◌<◌, ◌==◌, filter, IfSome, List, [], ◌∷◌, Option, Some, None}
+use Rattle.std.specs.Prelude.{ℕ, ◌≡◌, ◌≢◌, ◌<◌, ◌≤◌, ◌==◌, filter, length, IfSome, List, [], ◌∷◌, Option, Some, None}
 use Rattle.atomic_table.specs.Seated.{TableId}
 use Rattle.sm_ownership.specs.declared.entry.Entry.{Entry}
 use Rattle.sm_ownership.specs.declared.entry.Kind.{Kind}
 use Rattle.sm_ownership.specs.declared.record.Record.{Record}
+use Rattle.sm_rule.specs.declared.limits.Limits.{Limits}
 use Rattle.sm_rule.specs.declared.view.Held.{Held}
 use Rattle.sm_rule.specs.declared.view.Stage.TheVariants.{Acting}
 use Rattle.sm_rule.specs.declared.view.View.{View}
@@ -29,10 +30,14 @@ abbrev pub slots_of : {S Q : Type 0} → Option (Held Q) → List (ℕ × Option
 slots_of None = []
 slots_of (Some held) = (held.shard, None) ∷ []
 
+-- what a pass on a board with these limits may hold: one of its shards, which has had no more requests than entries
+abbrev pub IsHeldOf : {Q : Type 0} → Limits → Held Q → Type 0
+IsHeldOf limits held = (held.shard < limits.count) × (held.first ≤ length held.all) × (length held.all ≤ limits.ceiling)
+
 -- the view of a pass with this server
 abbrev pub IsPassView : {Q : Type 0} → Option ℕ → View Q → Type 0
 IsPassView server view =
-    (view.stage ≡ Acting) × (view.number ≢ 0) × (view.server ≡ server) × IfSome view.held (λ held. held.shard < view.limits.count)
+    (view.stage ≡ Acting) × (view.number ≢ 0) × (view.server ≡ server) × IfSome view.held (IsHeldOf view.limits)
     × HasSeenLegal view
 
 -- the view of a note, which is that of a pass which holds nothing

@@ -5,14 +5,15 @@ use Rattle.sm_ownership.specs.declared.entry.Entry.{Entry}
 use Rattle.sm_ownership.specs.declared.entry.Kind.{Kind}
 use Rattle.sm_ownership.specs.declared.entry.Kind.TheVariants.{Change as Changed, Admit, Done}
 use Rattle.sm_ownership.specs.declared.record.Record.{Record}
-use Rattle.sm_ownership.specs.History.{IsLegal, admits_only, ending_of, kept, kept_after, kind_fits, NoneBy}
+use Rattle.sm_ownership.specs.History.{IsLegal, admits_only, all_of, ending_of, first_of, kind_fits, NoneBy}
 use Rattle.sm_word.specs.Known.{KnownKind}
 use Rattle.sm_word.specs.Word.{IsWellFormed, word_of}
 use Rattle.sm_rule.specs.declared.view.Told.{Told}
 use Rattle.sm_rule.specs.declared.view.View.{View}
 use Rattle.sm_rule.specs.Boards.{limit_at}
+use Rattle.sm_rule.specs.Bodies.{all_after, first_after}
 use Rattle.sm_rule.specs.Rule.{Fits}
-use Rattle.sm_rule.specs.Views.{Adds, Begins, IsMet, Looks, list_held, newcomer, record_in}
+use Rattle.sm_rule.specs.Views.{Adds, Begins, IsMet, Looks, all_held, first_held, newcomer, record_in}
 
 -- the word is that of the shard's record in all that the view has seen
 abbrev pub IsWordOf : {Q : Type 0} → ℕ → View Q → ℕ → Type 0
@@ -53,25 +54,26 @@ Met step before found after =
     × ((told : Told _) → before.0.told ≡ Some told → IsMet told.by told.seen after.0.seen)
     × (after.1 ≡ before.1)
 
--- an admission takes the shard's slot, with a body of its limit that keeps what was kept for the shard; a change takes none
-abbrev pub TakesBody : {S Q : Type 0} → (S → List Q) → (S → ℕ) → Kind Q → ℕ → List (ℕ × Option S) → View Q → List (ℕ × Option S) → Type 0
-TakesBody {S} requests limit (Admit server mode) shard before view after =
-    (body : S) × (after ≡ (shard, Some body) ∷ before) × (requests body ≡ kept view.seen shard) × (limit body ≡ limit_at view.limits shard)
-TakesBody requests limit _ shard before view after = after ≡ before
+-- an admission takes the shard's slot, with a body of its limit that rests on all requests of the shard; a change takes none
+abbrev pub TakesBody : {S Q : Type 0} → (S → ℕ → List Q → Type 0) → (S → ℕ) → Kind Q → ℕ → List (ℕ × Option S) → View Q → List (ℕ × Option S) → Type 0
+TakesBody {S} keeps limit (Admit server mode) shard before view after =
+    (body : S) × (after ≡ (shard, Some body) ∷ before) × keeps body (first_of view.seen shard) (all_of view.seen shard) × (limit body ≡ limit_at view.limits shard)
+TakesBody keeps limit _ shard before view after = after ≡ before
 
 -- an exchange that is won adds an admission or a change to all that was seen; one that is lost is a load
-abbrev pub Exchanged : {S Q : Type 0} → (S → List Q) → (S → ℕ) → Kind Q → Step (Option S) → Me (Option S) (View Q) → ℕ → Me (Option S) (View Q) → Type 0
-Exchanged requests limit kind step before found after =
-    (found ≡ step.first → Adds before.0 step.word kind after.0 × IsWordOf step.second after.0 step.word × TakesBody requests limit kind step.word before.1 after.0 after.1)
+abbrev pub Exchanged : {S Q : Type 0} → (S → ℕ → List Q → Type 0) → (S → ℕ) → Kind Q → Step (Option S) → Me (Option S) (View Q) → ℕ → Me (Option S) (View Q) → Type 0
+Exchanged keeps limit kind step before found after =
+    (found ≡ step.first → Adds before.0 step.word kind after.0 × IsWordOf step.second after.0 step.word × TakesBody keeps limit kind step.word before.1 after.0 after.1)
     × (found ≢ step.first → Loaded step before found after)
 
--- a store adds the end of an admission to all that was seen, which then keeps what such an end leaves of what was kept at the
--- admission, and gives the slot back that was taken last
+-- a store adds the end of an admission to all that was seen, which then has for the shard what such an end makes of its requests
+-- at the admission, and gives the slot back that was taken last
 abbrev pub Stored : {S Q : Type 0} → Kind Q → Step S → Me S (View Q) → ℕ → Me S (View Q) → Type 0
 Stored kind step before found after =
     Adds before.0 step.word kind after.0
     × IsWordOf found after.0 step.word
-    × (kept after.0.seen step.word ≡ kept_after (list_held before.0.held) (ending_of kind))
+    × (all_of after.0.seen step.word ≡ all_after (all_held before.0.held) (ending_of kind))
+    × (first_of after.0.seen step.word ≡ first_after (first_held before.0.held) (all_held before.0.held) (ending_of kind))
     × (after.1 ≡ rest before.1)
 
 -- the control holds nothing when it changes a stand

@@ -1,12 +1,12 @@
 -- What the view of a seat becomes, and how what was seen grows.
-use Rattle.std.specs.Prelude.{ℕ, ◌≡◌, List, [], ◌∷◌, ◌++◌, Option, Some, None}
+use Rattle.std.specs.Prelude.{ℕ, ◌≡◌, ◌<◌, List, [], ◌∷◌, ◌++◌, Option, Some, None, drop, length}
 use Rattle.sm_ownership.specs.declared.entry.Ending.{Ending}
-use Rattle.sm_ownership.specs.declared.entry.Ending.TheVariants.{Nothing, Request}
+use Rattle.sm_ownership.specs.declared.entry.Ending.TheVariants.{Nothing, Request, Checkpoint}
 use Rattle.sm_ownership.specs.declared.entry.Entry.{Entry}
 use Rattle.sm_ownership.specs.declared.entry.Kind.{Kind}
 use Rattle.sm_ownership.specs.declared.entry.Kind.TheVariants.{Change as Changed, Admit, Done}
 use Rattle.sm_ownership.specs.declared.record.Record.{Record}
-use Rattle.sm_ownership.specs.History.{IsLegal, kept, record_at, table_of, NoneBy}
+use Rattle.sm_ownership.specs.History.{IsLegal, all_of, first_of, record_at, table_of, NoneBy}
 use Rattle.sm_rule.specs.declared.limits.Limits.{Limits}
 use Rattle.sm_rule.specs.declared.view.Held.{Held}
 use Rattle.sm_rule.specs.declared.view.Stage.TheVariants.{Acting, Cut, Joined}
@@ -36,23 +36,29 @@ Grows limits number before after added =
 abbrev pub held_after : {Q : Type 0} → Limits → ℕ → Kind Q → List (Entry Q) → Option (Held Q) → Option (Held Q)
 held_after limits shard (Changed change) history held = held
 held_after limits shard (Admit server mode) history held =
-    Some (record { shard = shard; state = record_in limits history shard; list = kept history shard })
+    Some (record { shard = shard; state = record_in limits history shard; first = first_of history shard; all = all_of history shard })
 held_after limits shard (Done ending) history held = None
 
--- what the body of the shard that is held kept at the admission
+-- all requests of the shard that is held, at the admission
+abbrev pub all_held : {Q : Type 0} → Option (Held Q) → List Q
+all_held None = []
+all_held (Some held) = held.all
+
+-- how many of them came before the base of its body
+abbrev pub first_held : {Q : Type 0} → Option (Held Q) → ℕ
+first_held None = 0
+first_held (Some held) = held.first
+
+-- those that its body kept
 abbrev pub list_held : {Q : Type 0} → Option (Held Q) → List Q
-list_held None = []
-list_held (Some held) = held.list
+list_held held = drop (first_held held) (all_held held)
 
--- a list of requests, and one more or none
-abbrev pub list_with : {Q : Type 0} → List Q → Option Q → List Q
-list_with list None = list
-list_with list (Some request) = list ++ request ∷ []
-
--- how an admission ends with this request, or with none
-abbrev pub ending_with : {Q : Type 0} → Option Q → Ending Q
-ending_with None = Nothing
-ending_with (Some request) = Request request
+-- what has become of the body since the admission: it rests on the same requests, on one more, or is the checkpoint of what it
+-- kept, where it kept anything
+abbrev pub EndsWith : {S Q : Type 0} → (S → ℕ → List Q → Type 0) → Option (Held Q) → S → Ending Q → Type 0
+EndsWith keeps held body Nothing = keeps body (first_held held) (all_held held)
+EndsWith keeps held body (Request request) = keeps body (first_held held) (all_held held ++ request ∷ [])
+EndsWith keeps held body Checkpoint = (first_held held < length (all_held held)) × keeps body (length (all_held held)) (all_held held)
 
 -- the view of a new seat
 abbrev pub newcomer : {Q : Type 0} → Limits → ℕ → Option ℕ → List (Entry Q) → View Q

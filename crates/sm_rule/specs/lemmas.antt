@@ -1,2 +1,3 @@
 -- Lemmas that the proofs of crates above cite.
 pub mod Passing
+pub mod Resting

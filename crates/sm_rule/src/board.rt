@@ -2,6 +2,7 @@ ghost use Rattle.std.specs.Prelude.{◌≡◌, ◌≢◌, ◌<◌, ◌^◌, None
 ghost use Rattle.sm_ownership.specs.History.{IsLegal, NoneBy, after_kind};
 ghost use Rattle.sm_word.specs.Word.{IsWellFormed, word_of};
 ghost use Rattle.sm_rule.specs.declared.view.Stage.TheVariants.{Acting};
+ghost use Rattle.sm_rule.specs.Bodies.{Keeps};
 ghost use Rattle.sm_rule.specs.Changes.{ChairLooks, record_at_chair};
 ghost use Rattle.sm_rule.specs.Passes.{PassLooks, record_of};
 ghost use Rattle.sm_rule.specs.Steps.{MayAdd, TakesBody};
@@ -29,8 +30,8 @@ use std::alloc::Global;
 use std::marker::{Brand, Model};
 
 /// One word and one body for each shard, shared by threads. By the board's rule each word is that of the shard's record in one
-/// history that all steps make, and the body of each idle shard is in its slot, has the shard's limit and keeps what that history
-/// kept for it.
+/// history that all steps make, and the body of each idle shard is in its slot, has the shard's limit and rests on all requests
+/// that the history has for it.
 #[derive(Drop)]
 pub struct Board<S: Service> {
     table: Table<Option<S>, View<S::Request>, Origin<S>, BoardRule<Kept<S>>, Global>,
@@ -128,7 +129,7 @@ impl<S: Service> Board<S> {
         requires may { MayAdd seat.old.me.0 k read.now B.kind }
         ensures table { seat.new.table_id ≡ seat.old.table_id }
         ensures made { OnOk result (Adds seat.old.me.0 k B.kind seat.new.me.0) }
-        ensures slots { OnOk result (TakesBody S.requests S.limit B.kind k seat.old.me.1 seat.new.me.0 seat.new.me.1) }
+        ensures slots { OnOk result (TakesBody (Keeps S.initial S.next S.base S.before S.requests) S.limit B.kind k seat.old.me.1 seat.new.me.0 seat.new.me.1) }
         ensures next { OnOk result (next.now ≡ record_in seat.new.me.0.limits seat.new.me.0.seen k) }
         ensures lost { OnErr result (Looks seat.old.me.0 seat.new.me.0) }
         ensures unchanged { OnErr result (seat.new.me.1 ≡ seat.old.me.1) }

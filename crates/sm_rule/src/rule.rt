@@ -6,11 +6,12 @@ use atomic_table::{Join, Play, Split, TableRule};
 use sm_body::service::Service;
 use std::marker::{Brand, PhantomData};
 
-/// What the rule asks of bodies: the requests that each keeps, and the most that it keeps.
+/// What the rule asks of bodies: that each rests on the requests of its shard, so many of which came before its base, and the
+/// most that it keeps.
 pub trait Keeping<S, Q> {
     ghost use Rattle.std.specs.Prelude.{ℕ, List};
 
-    ghost requests: { S → List Q };
+    ghost keeps: { S → ℕ → List Q → Type 0 };
 
     ghost limit: { S → ℕ };
 }
@@ -21,7 +22,9 @@ pub struct Kept<S> {
 }
 
 impl<S: Service> Keeping<S, S::Request> for Kept<S> {
-    ghost requests = { S.requests };
+    ghost use Rattle.sm_rule.specs.Bodies.{Keeps};
+
+    ghost keeps = { Keeps S.initial S.next S.base S.before S.requests };
 
     ghost limit = { S.limit };
 }
@@ -39,7 +42,7 @@ impl<S, Q, P: Keeping<S, Q>> TableRule<Option<S>, View<Q>, Origin<S>> for BoardR
     ghost use Rattle.sm_rule.specs.Views.{newcomer};
 
     ghost holds = { λ origin table.
-        Rule P.requests P.limit (limits_of P.limit origin.count origin.ceiling origin.bodies.value.items) table };
+        Rule P.keeps P.limit (limits_of P.limit origin.count origin.ceiling origin.bodies.value.items) table };
 
     // The chair's.
     ghost first = { λ origin.
@@ -104,7 +107,7 @@ pub struct Exchange<P, B> {
 impl<S, Q, P: Keeping<S, Q>, B: Asks<Q>> Play<Option<S>, View<Q>> for Exchange<P, B> {
     ghost use Rattle.sm_rule.specs.Steps.{Exchanged};
 
-    ghost then = { Exchanged P.requests P.limit B.kind };
+    ghost then = { Exchanged P.keeps P.limit B.kind };
 }
 
 /// The store that ends an admission, and gives the slot back.

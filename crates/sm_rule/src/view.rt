@@ -29,11 +29,12 @@ pub enum Stage {
     Joined,
 }
 
-/// The shard that a seat is admitted to, its record since then, and what it had kept.
+/// The shard that a seat is admitted to, its record since then, all its requests, and how many came before its body's base.
 pub struct Held<Q> {
     pub shard: ShardId,
     pub state: Record,
-    pub list: LinkedList<Q>,
+    pub first: u64,
+    pub all: LinkedList<Q>,
 }
 
 /// What a seat that was taken in had seen, and its number.

@@ -29,6 +29,8 @@ pub(crate) fn board_of_one<S: Service>(
     bodies: Vec<S>,
 ) -> Option<(Board<S>, Chair<S>)>
     requires one { length bodies.items ≡ 1 }
+    requires initial { All (λ body. S.base body ≡ S.initial) bodies.items }
+    requires before { All (λ body. S.before body ≡ 0) bodies.items }
     requires empty { All (λ body. S.requests body ≡ []) bodies.items }
     ensures count { IfSome result (λ made. made.0.limits.count ≡ 1) }
     ensures chair { IfSome result (λ made. made.1.board ≡ made.0) }
@@ -62,7 +64,50 @@ pub(crate) fn served<S: Service>(
     applied.ok()
 }
 
-// The same, where the body first settles for the pass's server; none also where the pass has no server.
+// Has the shard's body make a checkpoint under an admission of the pass, and whether it was made.
+pub(crate) fn based<S: Service>(board: &Board<S>, pass: &mut Pass<S>, k: ShardId) -> bool
+    requires board { pass.old.board ≡ board.now }
+    requires shard { k < board.now.limits.count }
+    requires free { pass.old.held ≡ None }
+    ensures board { pass.new.board ≡ board.now }
+    ensures free { pass.new.held ≡ None }
+{
+    let Ok(permit) = board.admit(pass, k, Mode::Direct) else {
+        return false;
+    };
+    let (made, _) = board.checkpoint(pass, permit);
+    made.is_ok()
+}
+
+// What the shard's body replies, as `served` says, where it applies the request before the admission is finished.
+pub(crate) fn applied<S: Service>(
+    board: &Board<S>,
+    pass: &mut Pass<S>,
+    k: ShardId,
+    request: S::Request,
+) -> Option<S::Reply>
+    requires board { pass.old.board ≡ board.now }
+    requires shard { k < board.now.limits.count }
+    requires free { pass.old.held ≡ None }
+    ensures board { pass.new.board ≡ board.now }
+    ensures free { pass.new.held ≡ None }
+{
+    let Ok(mut permit) = board.admit(pass, k, Mode::Direct) else {
+        return None;
+    };
+    match permit.body().apply(request) {
+        Ok(reply) => {
+            board.finish(pass, permit);
+            Some(reply)
+        }
+        Err(_) => {
+            board.finish(pass, permit);
+            None
+        }
+    }
+}
+
+// The same as `served`, where the body first settles for the pass's server; none also where the pass has no server.
 pub(crate) fn adopted<S: Service>(
     board: &Board<S>,
     pass: &mut Pass<S>,

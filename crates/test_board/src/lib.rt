@@ -4,6 +4,8 @@
 #[cfg(test)]
 mod adopting;
 #[cfg(test)]
+mod based;
+#[cfg(test)]
 mod calls;
 #[cfg(test)]
 mod checkpoints;

@@ -27,9 +27,11 @@ pub(crate) fn shard(number: u16) -> ShardId
     k
 }
 
-// So many bodies that keep nothing yet.
+// So many bodies that have applied nothing yet.
 fn bodies(alloc: Global, count: usize, limit: usize) -> Result<Vec<CounterText>, AllocError>
     ensures length { IfOk result (λ bodies. length bodies.items ≡ count) }
+    ensures initial { IfOk result (λ bodies. All (λ body. body.base ≡ []) bodies.items) }
+    ensures before { IfOk result (λ bodies. All (λ body. body.before ≡ 0) bodies.items) }
     ensures empty { IfOk result (λ bodies. All (λ body. body.requests ≡ []) bodies.items) }
 {
     let mut bodies = Vec::with_capacity(alloc, count)?;
@@ -39,9 +41,11 @@ fn bodies(alloc: Global, count: usize, limit: usize) -> Result<Vec<CounterText>,
     Ok(bodies)
 }
 
-// So many bodies that keep nothing yet, each of which may keep as many requests as its place in the list says.
+// So many bodies that have applied nothing yet, each of which may keep as many requests as its place in the list says.
 fn bodies_by_place(alloc: Global, count: usize) -> Result<Vec<CounterText>, AllocError>
     ensures length { IfOk result (λ bodies. length bodies.items ≡ count) }
+    ensures initial { IfOk result (λ bodies. All (λ body. body.base ≡ []) bodies.items) }
+    ensures before { IfOk result (λ bodies. All (λ body. body.before ≡ 0) bodies.items) }
     ensures empty { IfOk result (λ bodies. All (λ body. body.requests ≡ []) bodies.items) }
 {
     let mut bodies = Vec::with_capacity(alloc, count)?;
@@ -57,6 +61,8 @@ fn board_over(
     bodies: Vec<CounterText>,
     ceiling: u64,
 ) -> Option<(Board<CounterText>, Chair<CounterText>)>
+    requires initial { All (λ body. body.base ≡ []) bodies.items }
+    requires before { All (λ body. body.before ≡ 0) bodies.items }
     requires empty { All (λ body. body.requests ≡ []) bodies.items }
     ensures count { IfSome result (λ made. made.0.limits.count ≡ length bodies.items) }
     ensures chair { IfSome result (λ made. made.1.board ≡ made.0) }
@@ -185,16 +191,11 @@ pub(crate) fn put(
     ensures free { pass.new.held ≡ None }
 {
     let request = put_of(alloc)?;
-    let Ok(mut permit) = board.admit(pass, k, Mode::Direct) else {
+    let Ok(permit) = board.admit(pass, k, Mode::Direct) else {
         return None;
     };
-    match permit.body().apply(request) {
-        Ok(_) => Some(board.finish(pass, permit)),
-        Err(_) => {
-            board.finish(pass, permit);
-            None
-        }
-    }
+    let (applied, front) = board.execute(pass, permit, request);
+    if applied.is_ok() { Some(front) } else { None }
 }
 
 pub(crate) fn serving(owner: ServerId, admitted: bool, generation: u64) -> Record {

@@ -1,11 +1,13 @@
 //! Admissions of passes to shards, and their ends.
-ghost use Rattle.std.specs.Prelude.{◌≡◌, ◌<◌, Option, Some, None, IfErr, IfOk, OnOk, [], ◌∷◌, unwrap_or};
+ghost use Rattle.std.specs.Prelude.{◌≡◌, ◌<◌, Some, None, IfErr, IfOk, OnOk, [], ◌∷◌, unwrap_or};
+ghost use Rattle.sm_ownership.specs.declared.entry.Ending.{Ending};
 ghost use Rattle.sm_ownership.specs.declared.entry.Kind.TheVariants.{Admit, Done};
-ghost use Rattle.sm_ownership.specs.History.{kept};
-ghost use Rattle.sm_rule.specs.Admissions.{HoldsPermit, PassAdmitted, RefusedBy, beyond, fault_for};
+ghost use Rattle.sm_ownership.specs.History.{all_of, first_of, kept};
+ghost use Rattle.sm_rule.specs.Admissions.{HoldsPermit, PassAdmitted, RefusedBy, fault_for};
 ghost use Rattle.sm_rule.specs.Boards.{limit_at};
+ghost use Rattle.sm_rule.specs.Bodies.{Keeps, all_after, ending_between};
 ghost use Rattle.sm_rule.specs.Passes.{PassAdds, PassLooks, record_of};
-ghost use Rattle.sm_rule.specs.Views.{ending_with, list_held, list_with};
+ghost use Rattle.sm_rule.specs.Views.{EndsWith, all_held, first_held, list_held};
 
 use super::Board;
 use crate::admit_refusal::AdmitRefusal;
@@ -47,8 +49,9 @@ impl<S: Service> Board<S> {
     }
 
     /// Admits the pass to the shard, for a request that came to its server so, and gives the permit with the shard's body,
-    /// which has the shard's limit and keeps what was kept for the shard; or answers the first fault that applies to the record
-    /// read, or that it was overtaken. A refusal adds no entry of the pass. That a call adds none of other actors no clause says.
+    /// which has the shard's limit and rests on all requests that the pass has then seen of the shard; or answers the first
+    /// fault that applies to the record read, or that it was overtaken. A refusal adds no entry of the pass. That a call adds
+    /// none of other actors no clause says.
     #[inline(always)]
     pub fn admit(
         &self,
@@ -61,8 +64,13 @@ impl<S: Service> Board<S> {
         requires free { pass.old.held ≡ None }
         ensures admitted { OnOk result (PassAdmitted pass.old k mode pass.new) }
         ensures permit { IfOk result (λ permit. (permit.shard ≡ k) × HoldsPermit pass.new permit) }
-        ensures body { IfOk result (λ permit. S.requests permit.body ≡ kept pass.new.seen k) }
-        ensures held { IfOk result (λ permit. S.requests permit.body ≡ list_held pass.new.held) }
+        ensures body { IfOk result (λ permit.
+            Keeps S.initial S.next S.base S.before S.requests permit.body (first_of pass.new.seen k) (all_of pass.new.seen k)) }
+        ensures kept { IfOk result (λ permit. S.requests permit.body ≡ kept pass.new.seen k) }
+        ensures held { IfOk result (λ permit.
+            Keeps S.initial S.next S.base S.before S.requests permit.body (first_held pass.new.held) (all_held pass.new.held)) }
+        ensures all { OnOk result (all_held pass.new.held ≡ all_of pass.new.seen k) }
+        ensures first { OnOk result (first_held pass.new.held ≡ first_of pass.new.seen k) }
         ensures limit { IfOk result (λ permit. S.limit permit.body ≡ limit_at self.now.limits permit.shard) }
         ensures refused { IfErr result (λ refusal. PassLooks pass.old pass.new × RefusedBy pass.old pass.new k mode refusal) }
     {
@@ -83,8 +91,13 @@ impl<S: Service> Board<S> {
         requires kind { B.kind ≡ Admit (unwrap_or pass.old.server 0) mode }
         ensures admitted { OnOk result (PassAdmitted pass.old k mode pass.new) }
         ensures permit { IfOk result (λ permit. (permit.shard ≡ k) × HoldsPermit pass.new permit) }
-        ensures body { IfOk result (λ permit. S.requests permit.body ≡ kept pass.new.seen k) }
-        ensures held { IfOk result (λ permit. S.requests permit.body ≡ list_held pass.new.held) }
+        ensures body { IfOk result (λ permit.
+            Keeps S.initial S.next S.base S.before S.requests permit.body (first_of pass.new.seen k) (all_of pass.new.seen k)) }
+        ensures kept { IfOk result (λ permit. S.requests permit.body ≡ kept pass.new.seen k) }
+        ensures held { IfOk result (λ permit.
+            Keeps S.initial S.next S.base S.before S.requests permit.body (first_held pass.new.held) (all_held pass.new.held)) }
+        ensures all { OnOk result (all_held pass.new.held ≡ all_of pass.new.seen k) }
+        ensures first { OnOk result (first_held pass.new.held ≡ first_of pass.new.seen k) }
         ensures limit { IfOk result (λ permit. S.limit permit.body ≡ limit_at self.now.limits permit.shard) }
         ensures refused { IfErr result (λ refusal. PassLooks pass.old pass.new × RefusedBy pass.old pass.new k mode refusal) }
     {
@@ -127,15 +140,22 @@ impl<S: Service> Board<S> {
         body
     }
 
-    /// Ends the admission of the permit, and gives its body back. The entry keeps the request that the body has gained
-    /// since the admission, or none; the body may have gained one at most, and has the limit of its shard. It can't be refused.
+    /// Ends the admission of the permit, and gives its body back. Since the admission the body has gained one request, or none,
+    /// or has made a checkpoint of what it kept, and the entry says which; it has the limit of its shard. It can't be refused.
     pub fn finish(&self, pass: &mut Pass<S>, permit: Permit<S>) -> Front
         requires board { pass.old.board ≡ self.now }
         requires permit { HoldsPermit pass.old permit }
-        requires body { (request : Option S.Request) × (S.requests permit.body ≡ list_with (list_held pass.old.held) request) }
+        requires body { (ending : Ending S.Request)
+            × EndsWith (Keeps S.initial S.next S.base S.before S.requests) pass.old.held permit.body ending }
         requires limit { S.limit permit.body ≡ limit_at self.now.limits permit.shard }
-        ensures done { (request : Option S.Request) → S.requests permit.body ≡ list_with (list_held pass.old.held) request
-            → PassAdds pass.old permit.shard (Done (ending_with request)) pass.new }
+        ensures done { (ending : Ending S.Request)
+            → EndsWith (Keeps S.initial S.next S.base S.before S.requests) pass.old.held permit.body ending
+            → PassAdds pass.old permit.shard (Done ending) pass.new }
+        ensures body { Keeps S.initial S.next S.base S.before S.requests permit.body
+            (first_of pass.new.seen permit.shard) (all_of pass.new.seen permit.shard) }
+        ensures all { (ending : Ending S.Request)
+            → EndsWith (Keeps S.initial S.next S.base S.before S.requests) pass.old.held permit.body ending
+            → all_of pass.new.seen permit.shard ≡ all_after (all_held pass.old.held) ending }
         ensures kept { kept pass.new.seen permit.shard ≡ S.requests permit.body }
         ensures board { pass.new.board ≡ pass.old.board }
         ensures free { pass.new.held ≡ None }
@@ -148,10 +168,18 @@ impl<S: Service> Board<S> {
     fn finish_as<B: Asks<S::Request>>(&self, pass: &mut Pass<S>, permit: Permit<S>) -> Front
         requires board { pass.old.board ≡ self.now }
         requires permit { HoldsPermit pass.old permit }
-        requires body { (request : Option S.Request) × (S.requests permit.body ≡ list_with (list_held pass.old.held) request) }
+        requires body { (ending : Ending S.Request)
+            × EndsWith (Keeps S.initial S.next S.base S.before S.requests) pass.old.held permit.body ending }
         requires limit { S.limit permit.body ≡ limit_at self.now.limits permit.shard }
-        requires kind { B.kind ≡ Done (ending_with (beyond (list_held pass.old.held) (S.requests permit.body))) }
-        ensures done { PassAdds pass.old permit.shard (Done (ending_with (beyond (list_held pass.old.held) (S.requests permit.body)))) pass.new }
+        requires kind { B.kind ≡ Done (ending_between (list_held pass.old.held) (S.requests permit.body)) }
+        ensures done { (ending : Ending S.Request)
+            → EndsWith (Keeps S.initial S.next S.base S.before S.requests) pass.old.held permit.body ending
+            → PassAdds pass.old permit.shard (Done ending) pass.new }
+        ensures body { Keeps S.initial S.next S.base S.before S.requests permit.body
+            (first_of pass.new.seen permit.shard) (all_of pass.new.seen permit.shard) }
+        ensures all { (ending : Ending S.Request)
+            → EndsWith (Keeps S.initial S.next S.base S.before S.requests) pass.old.held permit.body ending
+            → all_of pass.new.seen permit.shard ≡ all_after (all_held pass.old.held) ending }
         ensures kept { kept pass.new.seen permit.shard ≡ S.requests permit.body }
         ensures shard { result.shard ≡ permit.shard }
         ensures generation { result.generation ≡ (record_of pass.new permit.shard).generation }

@@ -1,6 +1,7 @@
 //! The end of a board.
 ghost use Rattle.core.specs.Mem.Slots.{IsFull, slots_items, slots_len};
 ghost use Rattle.std.specs.Prelude.{◌≡◌, ◌≤◌, [], None, length, vec_capacity, if◌then◌else◌};
+ghost use Rattle.sm_rule.specs.Bodies.{Keeps};
 ghost use Rattle.sm_rule.specs.Closing.{AreTaken, AreWords, WasClosed};
 
 use super::Board;
@@ -13,14 +14,14 @@ use sm_word::word::record_of_word;
 use std::alloc::Global;
 
 impl<S: Service> Board<S> {
-    /// Ends the board: each shard's record, and the body of each idle one, of its limit and with what was kept for it, after one
-    /// legal history that extends what the chair had seen by entries of passes, and extends what the pass had seen. The body of
-    /// a shard whose permit was never spent isn't there.
+    /// Ends the board: each shard's record, and the body of each idle one, of its limit and resting on all its requests, after
+    /// one legal history that extends what the chair had seen by entries of passes, and extends what the pass had seen. The
+    /// body of a shard whose permit was never spent isn't there.
     pub fn close(self, chair: Chair<S>, pass: Pass<S>) -> Vec<(Record, Option<S>)>
         requires board { chair.board ≡ self }
         requires pass { pass.board ≡ self }
         requires free { pass.held ≡ None }
-        ensures { WasClosed S.requests S.limit chair pass result.items }
+        ensures { WasClosed (Keeps S.initial S.next S.base S.before S.requests) S.limit chair pass result.items }
     {
         let Chair {
             mut seat,

@@ -1,17 +1,19 @@
-//! Requests that the body of an admitted shard applies.
-ghost use Rattle.std.specs.Prelude.{◌≡◌, ◌<◌, ◌≤◌, ◌++◌, ◌∷◌, [], None, IfErr, IfOk, OnErr, OnOk, fold, length};
+//! Requests that the body of an admitted shard applies, and its checkpoints.
+ghost use Rattle.std.specs.Prelude.{◌≡◌, ◌<◌, ◌≤◌, ◌^◌, ◌++◌, ◌∷◌, [], None, IfErr, IfOk, OnErr, OnOk, fold, length};
 ghost use Rattle.sm_ownership.specs.declared.entry.Ending.TheVariants.{Nothing, Request as Requested};
 ghost use Rattle.sm_ownership.specs.declared.entry.Kind.TheVariants.{Done};
-ghost use Rattle.sm_ownership.specs.History.{kept};
+ghost use Rattle.sm_ownership.specs.History.{all_of, first_of, kept};
 ghost use Rattle.sm_rule.specs.Admissions.{HoldsPermit};
 ghost use Rattle.sm_rule.specs.Boards.{limit_at};
+ghost use Rattle.sm_rule.specs.Bodies.{Keeps, checkpoint_ending};
 ghost use Rattle.sm_rule.specs.Passes.{PassAdds, record_of};
-ghost use Rattle.sm_rule.specs.Views.{list_held};
+ghost use Rattle.sm_rule.specs.Views.{all_held, first_held, list_held};
 
 use super::Board;
 use crate::pass::Pass;
 use crate::permit::{Front, Permit};
 use sm_body::service::{ApplyFault, Service};
+use std::alloc::AllocError;
 
 impl<S: Service> Board<S> {
     /// Has the permit's body, as the admission gave it, apply the request, and ends the admission. The entry keeps the
@@ -25,14 +27,15 @@ impl<S: Service> Board<S> {
     ) -> (Result<S::Reply, (S::Request, ApplyFault)>, Front)
         requires board { pass.old.board ≡ self.now }
         requires permit { HoldsPermit pass.old permit }
-        requires body { S.requests permit.body ≡ list_held pass.old.held }
+        requires body { Keeps S.initial S.next S.base S.before S.requests permit.body (first_held pass.old.held) (all_held pass.old.held) }
         requires limit { S.limit permit.body ≡ limit_at self.now.limits permit.shard }
 
-        // An applied request is the last one kept for the shard, and its reply is that of the state after those before it.
+        // An applied request is the shard's last one, and its reply is that of the state after all those before it.
         ensures applied { OnOk result.0 (PassAdds pass.old permit.shard (Done (Requested request)) pass.new) }
+        ensures all { OnOk result.0 (all_of pass.new.seen permit.shard ≡ all_held pass.old.held ++ request ∷ []) }
         ensures kept { OnOk result.0 (kept pass.new.seen permit.shard ≡ S.requests permit.body ++ request ∷ []) }
         ensures reply { IfOk result.0 (λ reply.
-            reply ≡ S.answer (fold S.next (S.base permit.body) (S.requests permit.body)) request) }
+            reply ≡ S.answer (fold S.next S.initial (all_held pass.old.held)) request) }
         ensures room { OnOk result.0 (length (S.requests permit.body) < S.limit permit.body) }
 
         // A refused one comes back, as the body refuses it, and the entry keeps none.
@@ -59,5 +62,51 @@ impl<S: Service> Board<S> {
                 (Err(back), front)
             }
         }
+    }
+
+    /// Has the permit's body, as the admission gave it, make a checkpoint, and ends the admission. The entry is that checkpoint,
+    /// or nothing where the body kept no request, and then the shard keeps none. Where memory is refused it is nothing, and the
+    /// shard keeps what it kept.
+    pub fn checkpoint(
+        &self,
+        pass: &mut Pass<S>,
+        mut permit: Permit<S>,
+    ) -> (Result<(), AllocError>, Front)
+        requires board { pass.old.board ≡ self.now }
+        requires permit { HoldsPermit pass.old permit }
+        requires body { Keeps S.initial S.next S.base S.before S.requests permit.body (first_held pass.old.held) (all_held pass.old.held) }
+        requires limit { S.limit permit.body ≡ limit_at self.now.limits permit.shard }
+        ensures made { OnOk result.0
+            (PassAdds pass.old permit.shard (Done (checkpoint_ending (list_held pass.old.held))) pass.new) }
+        ensures kept { OnOk result.0 (kept pass.new.seen permit.shard ≡ []) }
+        ensures refused { OnErr result.0 (PassAdds pass.old permit.shard (Done Nothing) pass.new) }
+        ensures unchanged { OnErr result.0 (kept pass.new.seen permit.shard ≡ S.requests permit.body) }
+        ensures all { all_of pass.new.seen permit.shard ≡ all_held pass.old.held }
+        ensures board { pass.new.board ≡ pass.old.board }
+        ensures free { pass.new.held ≡ None }
+        ensures shard { result.1.shard ≡ permit.shard }
+        ensures generation { result.1.generation ≡ (record_of pass.new permit.shard).generation }
+    {
+        self.bounds(pass);
+        match permit.body().checkpoint() {
+            Ok(()) => {
+                let front = self.finish(pass, permit);
+                (Ok(()), front)
+            }
+            Err(fault) => {
+                let front = self.finish(pass, permit);
+                (Err(fault), front)
+            }
+        }
+    }
+
+    // Says, for proofs alone, how many requests the shard had that the pass holds. It does nothing.
+    fn bounds(&self, pass: &Pass<S>)
+        requires board { pass.now.board ≡ self.now }
+        ensures { length (all_held pass.now.held) < 2 ^ 36 }
+    {
+        // These open the values, whose invariants the proof cites.
+        let _ = &pass.server;
+        let _ = &self.count;
     }
 }

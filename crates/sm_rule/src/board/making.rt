@@ -16,7 +16,7 @@ use std::alloc::{AllocError, Global};
 use std::snapshot::Snapshot;
 
 impl<S: Service> Board<S> {
-    /// A board of as many vacant shards as bodies (1 to 4,096), which keep nothing yet, whose generations stay at or below the
+    /// A board of as many vacant shards as bodies (1 to 4,096), which have applied nothing yet, whose generations stay at or below the
     /// ceiling (3 to 2^36 - 1), and its chair; or the first fault that applies, `NoMemory` only where no other does, and
     /// the bodies are dropped. Each shard has the limit of the body at its place in the list.
     pub fn make(
@@ -24,6 +24,8 @@ impl<S: Service> Board<S> {
         bodies: Vec<S>,
         ceiling: u64,
     ) -> Result<(Board<S>, Chair<S>), MakeFault>
+        requires initial { All (λ body. S.base body ≡ S.initial) bodies.items }
+        requires before { All (λ body. S.before body ≡ 0) bodies.items }
         requires empty { All (λ body. S.requests body ≡ []) bodies.items }
         ensures count { IfOk result (λ made. made.0.limits.count ≡ length bodies.items) }
         ensures ceiling { IfOk result (λ made. made.0.limits.ceiling ≡ ceiling) }
@@ -43,6 +45,8 @@ impl<S: Service> Board<S> {
 
     // The board and its chair, where their sizes have no fault.
     fn made(alloc: Global, bodies: Vec<S>, ceiling: u64) -> Result<(Board<S>, Chair<S>), AllocError>
+        requires initial { All (λ body. S.base body ≡ S.initial) bodies.items }
+        requires before { All (λ body. S.before body ≡ 0) bodies.items }
         requires empty { All (λ body. S.requests body ≡ []) bodies.items }
         requires count { (1 ≤ length bodies.items) × (length bodies.items ≤ MAX_SHARDS) }
         requires ceiling { ceiling < 2 ^ 36 }

@@ -1,4 +1,5 @@
 use Rattle.std.proofs.Common.{◌∙◌}
+use Rattle.sm_rule.specs.Bodies.{Keeps}
 use Rattle.sm_rule.proofs.Seeing.{allowed_read, below_board, chair_changes, chair_looks, chair_made, chair_raced, formed_next, looks_looks, may_make, room_stays}
 use Rattle.sm_rule.proofs.board.Board.change_as.Goals as goal
 
@@ -29,7 +30,7 @@ exchange-requires-clause-may g c = λ _ _.
 
 pub invariant_of-chair-in-Ok : goal.invariant_of-chair-in-Ok
 invariant_of-chair-in-Ok g c =
-    let made = chair_made g.S.Service.requests g.S.Service.limit c.chair.inside.stands.items c.chair.inside.seat.me.0 c.load-word.new.seat.me.0 c.exchange.new.seat.me.0 c.chair.inside.seat.table_id c.args.chair.now c.args.self.now g.B.Asks.kind c.args.change c.args.k c.index.result _
+    let made = chair_made (Keeps g.S.Service.initial g.S.Service.next g.S.Service.base g.S.Service.before g.S.Service.requests) g.S.Service.limit c.chair.inside.stands.items c.chair.inside.seat.me.0 c.load-word.new.seat.me.0 c.exchange.new.seat.me.0 c.chair.inside.seat.table_id c.args.chair.now c.args.self.now g.B.Asks.kind c.args.change c.args.k c.index.result _
     c.in_ok-next.next c.chair.inside.seat.me.1 c.load-word.new.seat.me.1 c.exchange.new.seat.me.1 c.chair.invariant.0 c.load-word.ensures.seen c.in-Ok.ensures.made c.requires.kind c.chair.view_is c.requires.board c.requires.shard c.index.ensures.value c.in-Ok.ensures.next c.in-Ok.ensures.slots
     c.load-word.ensures.slots c.chair.invariant.1 c.chair.invariant.3 in
     (made.0, made.1, c.chair.invariant.2, made.2)

@@ -1,16 +1,17 @@
 use Rattle.std.proofs.Common.{◌≡◌, sym, ap, ◌∙◌, subst, arith}
-use Rattle.std.specs.Prelude.{Option}
 use mathlib.Core.Option.{none}
 use Rattle.atomic_table.specs.Table.{Allows, step}
 use Rattle.sm_ownership.specs.declared.entry.Kind.TheVariants.{Done}
-use Rattle.sm_ownership.specs.History.{after_done, ending_of, kept, kept_after}
+use Rattle.sm_ownership.specs.History.{after_done}
 use Rattle.sm_word.specs.Word.{word_of}
-use Rattle.sm_rule.specs.Admissions.{beyond}
 use Rattle.sm_rule.specs.Boards.{limit_at, limits_of}
+use Rattle.sm_rule.specs.Bodies.{Keeps}
 use Rattle.sm_rule.specs.Rule.{Rule}
 use Rattle.sm_rule.specs.Steps.{Stored}
-use Rattle.sm_rule.specs.Views.{ending_with, list_held, list_with}
-use Rattle.sm_rule.proofs.Keeping.{beyond_with_gained, carries_body, held_within, kept_after-ending_with, list_is, low_ceiling, slot_held, store_allowed}
+use Rattle.sm_rule.specs.Views.{EndsWith}
+use Rattle.sm_rule.proofs.Bodies.{ending_is}
+use Rattle.sm_rule.proofs.Finishing.{ended_adds, ended_all, ended_body}
+use Rattle.sm_rule.proofs.Keeping.{bounds, carries_body, held_within, low_ceiling, slot_held, store_allowed}
 use Rattle.sm_rule.proofs.board.Board.finish_as.Goals as goal
 
 pub store-requires : goal.store-requires
@@ -34,23 +35,46 @@ store-requires g c =
     let at_key = (λ i. limits_of g.S.Service.limit (c.self.invariant.0 i) (c.self.invariant.1 i) origin.bodies.value.items) ∙ ap (λ b. b.limits) c.self.view_is in
     let same_limit : g.S.Service.limit c.permit.inside.body ≡ limit_at key c.index-at.result =
     ap g.S.Service.limit body ∙ (c.requires.limit ∙ λ i. limit_at (sym at_key i) ((sym shard ∙ sym at) i)) in
-    let gains : (request : Option g.row.S-Request.Denot) × (g.S.Service.requests c.permit.inside.body ≡ list_with (list_held c.args.pass.now.held) request) = (c.requires.body.0, ap g.S.Service.requests body ∙ c.requires.body.1) in
-    let allowed = store_allowed id view c.args.pass.now c.args.permit of_pass c.requires.permit g.S.Service.requests g.S.Service.limit key c.self.inside.table.shared.table_id.slots c.exchange.new.seat.id c.index-at.result c.done_word-word.result c.permit.inside.body c.exchange.new.seat.me
+    let keeps = (Keeps g.S.Service.initial g.S.Service.next g.S.Service.base g.S.Service.before g.S.Service.requests) in
+    let ending = c.requires.body.0 in
+    let gains : EndsWith keeps c.args.pass.now.held c.permit.inside.body ending = subst (λ one. EndsWith keeps c.args.pass.now.held one ending) (sym body) c.requires.body.1 in
+    let allowed = store_allowed id view c.args.pass.now c.args.permit of_pass c.requires.permit keeps g.S.Service.limit key c.self.inside.table.shared.table_id.slots c.exchange.new.seat.id c.index-at.result c.done_word-word.result c.permit.inside.body c.exchange.new.seat.me ending
     carries (low_ceiling c.self.inside.table.shared.key.ceiling c.self.inside.ceiling c.self.invariant.1 c.self.invariant.6) c.pass.invariant.0.0 (sym shard ∙ sym at)
     (c.done_word-word.ensures c.permit.inside.state c.permit.invariant.2 (sym c.permit.invariant.3) ∙ ap (λ one. word_of (after_done one)) state) gains same_limit in
-    let kind = c.requires.kind ∙ ap (λ one. Done (ending_with (beyond (list_held c.args.pass.now.held) (g.S.Service.requests one)))) (sym body) in (
+    let small = bounds id view c.args.pass.now c.args.permit of_pass c.requires.permit c.pass.invariant.0.3 in
+    let kind = c.requires.kind ∙ ap Done (ending_is g.S.Service.initial g.S.Service.next g.S.Service.base g.S.Service.before g.S.Service.requests c.args.pass.now.held c.args.permit.body ending small.0 c.requires.body.1) in (
       out.0 ∙ (ap (λ p. p.board.id) of_pass ∙ ap (λ b. b.id) board),
       omega arith,
-      subst (λ one. Allows (Rule g.S.Service.requests g.S.Service.limit key) c.self.inside.table.shared.table_id.slots c.exchange.new.seat.id c.exchange.new.seat.me c.index-at.result (λ _. c.done_word-word.result) (λ _. Stored one (step c.self.inside.table.shared.table_id.slots c.index-at.result c.done_word-word.result 0 none) c.exchange.new.seat.me c.done_word-word.result)) (sym kind) allowed,
+      subst (λ one. Allows (Rule keeps g.S.Service.limit key) c.self.inside.table.shared.table_id.slots c.exchange.new.seat.id c.exchange.new.seat.me c.index-at.result (λ _. c.done_word-word.result) (λ _. Stored one (step c.self.inside.table.shared.table_id.slots c.index-at.result c.done_word-word.result 0 none) c.exchange.new.seat.me c.done_word-word.result)) (sym kind) allowed,
     )
+
+pub returns-clause-done : goal.returns-clause-done
+returns-clause-done g c = λ ending ends.
+    let shard = ap (λ p. p.shard) c.permit.view_is in
+    let small = bounds c.pass.inside.seat.table_id c.pass.inside.seat.me.0 c.args.pass.now c.args.permit c.pass.view_is c.requires.permit c.pass.invariant.0.3 in
+    let kind = c.requires.kind ∙ ap Done (ending_is g.S.Service.initial g.S.Service.next g.S.Service.base g.S.Service.before g.S.Service.requests c.args.pass.now.held c.args.permit.body ending small.0 ends) in
+    ended_adds c.args.pass.now c.pass.inside.seat.table_id c.pass.inside.seat.me.0 c.store.new.seat.me.0 c.exchange.new.seat.me _ c.args.permit.shard c.index-at.result g.B.Asks.kind ending c.pass.view_is c.exchange.ensures.3 (c.index-at.ensures.value ∙ shard) kind c.store.new.seat.table_id (c.store.ensures.0 ∙ c.exchange.ensures.0) c.store.ensures.2.0
+
+pub returns-clause-all : goal.returns-clause-all
+returns-clause-all g c = λ ending ends.
+    let shard = ap (λ p. p.shard) c.permit.view_is in
+    let small = bounds c.pass.inside.seat.table_id c.pass.inside.seat.me.0 c.args.pass.now c.args.permit c.pass.view_is c.requires.permit c.pass.invariant.0.3 in
+    let kind = c.requires.kind ∙ ap Done (ending_is g.S.Service.initial g.S.Service.next g.S.Service.base g.S.Service.before g.S.Service.requests c.args.pass.now.held c.args.permit.body ending small.0 ends) in
+    ended_all c.args.pass.now c.pass.inside.seat.table_id c.pass.inside.seat.me.0 c.store.new.seat.me.0 c.exchange.new.seat.me _ c.args.permit.shard c.index-at.result g.B.Asks.kind ending c.pass.view_is c.exchange.ensures.3 (c.index-at.ensures.value ∙ shard) kind c.store.ensures.2.2
+
+pub returns-clause-body : goal.returns-clause-body
+returns-clause-body g c =
+    let shard = ap (λ p. p.shard) c.permit.view_is in
+    let small = bounds c.pass.inside.seat.table_id c.pass.inside.seat.me.0 c.args.pass.now c.args.permit c.pass.view_is c.requires.permit c.pass.invariant.0.3 in
+    let kind = c.requires.kind ∙ ap Done (ending_is g.S.Service.initial g.S.Service.next g.S.Service.base g.S.Service.before g.S.Service.requests c.args.pass.now.held c.args.permit.body c.requires.body.0 small.0 c.requires.body.1) in
+    ended_body c.args.pass.now c.pass.inside.seat.table_id c.pass.inside.seat.me.0 c.store.new.seat.me.0 c.exchange.new.seat.me _ c.args.permit.shard c.index-at.result g.B.Asks.kind c.requires.body.0 c.pass.view_is c.exchange.ensures.3 (c.index-at.ensures.value ∙ shard) kind c.store.ensures.2.2 c.store.ensures.2.3
+    (Keeps g.S.Service.initial g.S.Service.next g.S.Service.base g.S.Service.before g.S.Service.requests) c.args.permit.body c.requires.body.1
 
 pub returns-clause-kept : goal.returns-clause-kept
 returns-clause-kept g c =
-    let of_pass = c.pass.view_is in
     let shard = ap (λ p. p.shard) c.permit.view_is in
-    let held = ap (λ me. list_held me.0.held) c.exchange.ensures.3 ∙ list_is c.pass.inside.seat.table_id c.pass.inside.seat.me.0 c.args.pass.now c.args.permit of_pass c.requires.permit in
-    ap (λ k. kept c.store.new.seat.me.0.seen k) (sym shard ∙ sym c.index-at.ensures.value)
-    ∙ (c.store.ensures.2.2
-    ∙ ((λ i. kept_after (held i) (ending_of (c.requires.kind i)))
-    ∙ (kept_after-ending_with (list_held c.args.pass.now.held) (beyond (list_held c.args.pass.now.held) (g.S.Service.requests c.args.permit.body))
-    ∙ beyond_with_gained (list_held c.args.pass.now.held) (g.S.Service.requests c.args.permit.body) c.requires.body)))
+    let small = bounds c.pass.inside.seat.table_id c.pass.inside.seat.me.0 c.args.pass.now c.args.permit c.pass.view_is c.requires.permit c.pass.invariant.0.3 in
+    let kind = c.requires.kind ∙ ap Done (ending_is g.S.Service.initial g.S.Service.next g.S.Service.base g.S.Service.before g.S.Service.requests c.args.pass.now.held c.args.permit.body c.requires.body.0 small.0 c.requires.body.1) in
+    let rests = ended_body c.args.pass.now c.pass.inside.seat.table_id c.pass.inside.seat.me.0 c.store.new.seat.me.0 c.exchange.new.seat.me _ c.args.permit.shard c.index-at.result g.B.Asks.kind c.requires.body.0 c.pass.view_is c.exchange.ensures.3 (c.index-at.ensures.value ∙ shard) kind c.store.ensures.2.2 c.store.ensures.2.3
+    (Keeps g.S.Service.initial g.S.Service.next g.S.Service.base g.S.Service.before g.S.Service.requests) c.args.permit.body c.requires.body.1 in
+    sym rests.2
