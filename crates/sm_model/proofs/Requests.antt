@@ -4,6 +4,7 @@ use Rattle.std.proofs.lemmas.Bool.{true≢false}
 use Rattle.sm_desk.specs.Desk.{is_known}
 use Rattle.sm_envelope.specs.declared.envelope.TheConstants.{MOST_HOPS}
 use Rattle.sm_envelope.specs.declared.refusal.Refusal.TheVariants as refusal
+use Rattle.sm_ownership.specs.declared.admit_fault.AdmitFault.{AdmitFault}
 use Rattle.sm_ownership.specs.declared.admit_fault.AdmitFault.TheVariants as admit
 use Rattle.sm_ownership.specs.declared.record.Record.{Record}
 use Rattle.sm_ownership.specs.declared.entry.Ending.TheVariants.{Nothing}
@@ -18,13 +19,13 @@ use Rattle.sm_service.specs.declared.request.Request.{Request}
 use Rattle.sm_table.specs.declared.hands.InHand.{InHand}
 use Rattle.sm_table.specs.declared.hands.Work.{Work}
 use Rattle.sm_table.specs.declared.step.Step.{Step}
-use Rattle.sm_table.specs.declared.step.Step.TheVariants.{Send, Finish}
+use Rattle.sm_table.specs.declared.step.Step.TheVariants.{Send, Finish, Checkpoint}
 use Rattle.sm_table.specs.declared.world_answer.WorldAnswer.{WorldAnswer}
 use Rattle.sm_table.specs.declared.world_answer.WorldAnswer.TheVariants.{Made, Seen, Sent, Began, Forwarded, Refused, Replied}
 use Rattle.sm_table.specs.declared.world_fault.WorldFault.{WorldFault}
 use Rattle.sm_table.specs.declared.world_fault.WorldFault.TheVariants as fault
 use Rattle.sm_table.specs.Standing.{Follows, GoesAs, StandsFor, WorldView}
-use Rattle.sm_table.specs.World.{WorldState, Mark, Plain, Unmade, Unserved, ended, mark_of, may_go, outcome, served, with_room, worked, world_record}
+use Rattle.sm_table.specs.World.{WorldState, Mark, Plain, Unmade, Unserved, based, count_of, ended, mark_of, may_go, outcome, served, with_room, worked, world_record}
 use Rattle.sm_model.specs.Calls.{Stepped, after_arrival, after_hops, after_sending, answer_of, called, counter_text, is_begun, is_sent, requested, shard_for, stepped}
 use Rattle.sm_model.specs.Sessions.{Arrives, Ends, EndsAt, IsIdle, Steps}
 use Rattle.sm_model.proofs.Answering.{follows_plain}
@@ -236,3 +237,28 @@ ends_finished before between there after shard server request sent reached resul
     let follows = finishes v has.follows.stands in
     let idle : IsIdle after = ((outcome counter_text v (mark_of result) (Finish shard)).1, record { world = follows.stands; rest = finish_keeps v (mark_of result) shard ∙ rest }) in
     (idle, λ plain. ends_with after w result (called w (call.RequestAt server request)) (stepped v (Finish shard)) whole (follows_plain after v (Finish shard) result plain follows) settled)
+
+-- ---- a checkpoint, to which memory may be refused
+
+based_keeps : (w : WorldState Request) (shard server : ℕ) (there known : Bool) (why : Option AdmitFault)
+    → (if there then (if known then based {R = Reply} w shard server why else (Err fault.UnknownServer, w)) else (Err fault.UnknownShard, w)).1.in_flight ≡ w.in_flight
+based_keeps w shard server true true (Some why) = refl
+based_keeps w shard server true true None = refl
+based_keeps w shard server true false why = refl
+based_keeps w shard server false known why = refl
+
+checkpoint_keeps : (w : WorldState Request) (mark : Mark) (shard server : ℕ) → (outcome counter_text w mark (Checkpoint shard server)).1.in_flight ≡ w.in_flight
+checkpoint_keeps w Unmade shard server = refl
+checkpoint_keeps w Plain shard server = based_keeps w shard server (nat_lt shard (count_of w)) (is_known w.frame.servers server) _
+checkpoint_keeps w Unserved shard server = based_keeps w shard server (nat_lt shard (count_of w)) (is_known w.frame.servers server) _
+
+pub ends_checkpoint : (before after : WorldView Request) (shard server : ℕ) (result : Result (WorldAnswer Reply) WorldFault)
+    → GoesAs counter_text before result after (Checkpoint shard server) → Ends before (call.Checkpoint shard server) result after
+ends_checkpoint before after shard server result goes = λ w at.
+    let follows = goes w at.world in
+    let idle : IsIdle after = ((outcome counter_text w (mark_of result) (Checkpoint shard server)).1, record { world = follows.stands; rest = checkpoint_keeps w (mark_of result) shard server ∙ at.rest }) in (
+      idle,
+      λ plain.
+          ends_with after w result (called w (call.Checkpoint shard server)) (stepped w (Checkpoint shard server)) refl
+          (follows_plain after w (Checkpoint shard server) result plain follows) (settles w (call.Checkpoint shard server) at.world.sound at.rest),
+    )

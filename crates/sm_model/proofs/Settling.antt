@@ -17,16 +17,16 @@ use Rattle.sm_table.specs.declared.hands.InHand.{InHand}
 use Rattle.sm_table.specs.declared.hands.Work.{Work}
 use Rattle.sm_ownership.specs.declared.entry.Ending.TheVariants.{Nothing}
 use Rattle.sm_ownership.specs.declared.mode.Mode.TheVariants.{Direct}
-use Rattle.sm_table.specs.declared.step.Step.TheVariants.{Control, Look, Send, Deliver, Finish, Hold, Free}
+use Rattle.sm_table.specs.declared.step.Step.TheVariants.{Control, Look, Send, Deliver, Finish, Hold, Free, Checkpoint}
 use Rattle.sm_table.specs.declared.world_answer.WorldAnswer.{WorldAnswer}
-use Rattle.sm_table.specs.declared.world_answer.WorldAnswer.TheVariants.{Made, Seen, Sent, Began, Forwarded, Refused, Replied}
+use Rattle.sm_table.specs.declared.world_answer.WorldAnswer.TheVariants.{Seen, Sent, Refused}
 use Rattle.sm_table.specs.declared.world_fault.WorldFault.{WorldFault}
 use Rattle.sm_table.specs.declared.world_fault.WorldFault.TheVariants.{UnknownServer, UnknownShard}
 use Rattle.sm_desk.specs.declared.command.Command.TheVariants.{Change as ChangeOf}
 use Rattle.sm_desk.specs.Desk.{is_known}
 use Rattle.sm_envelope.specs.Envelope.{EnvelopeView, one_hop_more, sent_on}
 use Rattle.sm_envelope.specs.declared.envelope.TheConstants.{MOST_HOPS}
-use Rattle.sm_table.specs.World.{WorldState, Plain, after_hop, arrived, controlled, count_of, ended, flight_to, freed, hand_of, held, hopped, let_go, reached, served, with_room, worked, world_record}
+use Rattle.sm_table.specs.World.{WorldState, Plain, after_hop, arrived, based, controlled, count_of, ended, flight_to, freed, hand_of, held, hopped, let_go, reached, served, with_room, worked, world_record}
 use Rattle.sm_ownership.specs.History.{kept}
 use Rattle.sm_ownership.specs.Rules.{admit_fault, forward_to}
 use Rattle.sm_envelope.specs.declared.refusal.Refusal.TheVariants.{KeptFull}
@@ -140,6 +140,13 @@ held_settles w shard server true true None rest = record { answers = refl; rest 
 held_settles w shard server true false fault rest = record { answers = refl; rest = rest }
 held_settles w shard server false known fault rest = record { answers = refl; rest = rest }
 
+based_settles : (w : WorldState Request) (shard server : ℕ) (there known : Bool) (fault : Option AdmitFault) → w.in_flight ≡ []
+    → Settles (if there then (if known then based w shard server fault else (Err UnknownServer, w)) else (Err UnknownShard, w))
+based_settles w shard server true true (Some fault) rest = record { answers = refl; rest = rest }
+based_settles w shard server true true None rest = record { answers = refl; rest = rest }
+based_settles w shard server true false fault rest = record { answers = refl; rest = rest }
+based_settles w shard server false known fault rest = record { answers = refl; rest = rest }
+
 let_go_settles : (w : WorldState Request) (shard server : ℕ) (work : Option (Work Request)) → w.in_flight ≡ [] → Settles (let_go w shard server work)
 let_go_settles w shard server None rest = record { answers = refl; rest = rest }
 let_go_settles w shard server (Some work) rest = record { answers = refl; rest = rest }
@@ -166,6 +173,7 @@ pub settles : (w : WorldState Request) (call : Call) → IsSound w → w.in_flig
 settles w (call.Control (ChangeOf shard change)) sound rest = control_settles w shard change _ rest
 settles w (call.Hold shard server) sound rest = held_settles w shard server (nat_lt shard (count_of w)) (is_known w.frame.servers server) _ rest
 settles w (call.Free shard) sound rest = freed_settles w shard (nat_lt shard (count_of w)) (slice_index_or w.in_hand shard None) rest
+settles w (call.Checkpoint shard server) sound rest = based_settles w shard server (nat_lt shard (count_of w)) (is_known w.frame.servers server) _ rest
 settles w (call.Look shard) sound rest = look_settles w shard (nat_lt shard (count_of w)) rest
 settles w (call.Request request) sound rest = requested_settles w request (owner_of (world_record w (shard_for w request)).stand) (has_place w request sound) rest
 settles w (call.RequestAt server request) sound rest = requested_at_settles w request server (has_place w request sound) rest
@@ -205,6 +213,7 @@ called_sound : (w : WorldState Request) (call : Call) → IsSound w → IsSound 
 called_sound w (call.Control command) sound = sound_next counter_text w Plain (Control command) sound
 called_sound w (call.Hold shard server) sound = sound_next counter_text w Plain (Hold shard server) sound
 called_sound w (call.Free shard) sound = sound_next counter_text w Plain (Free shard) sound
+called_sound w (call.Checkpoint shard server) sound = sound_next counter_text w Plain (Checkpoint shard server) sound
 called_sound w (call.Look shard) sound = sound_next counter_text w Plain (Look shard) sound
 called_sound w (call.Request request) sound = requested_sound w request (shard_for w request) (owner_of (world_record w (shard_for w request)).stand) sound
 called_sound w (call.RequestAt server request) sound = requested_at_sound w request (shard_for w request) server sound

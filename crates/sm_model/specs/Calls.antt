@@ -17,7 +17,7 @@ use Rattle.sm_service.specs.declared.reply.Reply.{Reply}
 use Rattle.sm_service.specs.declared.request.Request.{Request}
 use Rattle.sm_settings.specs.SettingsLine.{SettingsValues}
 use Rattle.sm_table.specs.declared.step.Step.{Step}
-use Rattle.sm_table.specs.declared.step.Step.TheVariants.{Control, Look, Send, Deliver, Finish, Hold, Free}
+use Rattle.sm_table.specs.declared.step.Step.TheVariants.{Control, Look, Send, Deliver, Finish, Hold, Free, Checkpoint}
 use Rattle.sm_table.specs.declared.world_answer.WorldAnswer.{WorldAnswer}
 use Rattle.sm_table.specs.declared.world_answer.WorldAnswer.TheVariants.{Made, Seen, Sent, Began, Forwarded, Refused, Replied}
 use Rattle.sm_table.specs.declared.world_fault.WorldFault.{WorldFault}
@@ -106,6 +106,7 @@ abbrev pub called : WorldState Request → Call → Stepped
 called w (call.Control command) = stepped w (Control command)
 called w (call.Hold shard server) = stepped w (Hold shard server)
 called w (call.Free shard) = stepped w (Free shard)
+called w (call.Checkpoint shard server) = stepped w (Checkpoint shard server)
 called w (call.Look shard) = stepped w (Look shard)
 called w (call.Request request) = requested w request (shard_for w request) (owner_of (world_record w (shard_for w request)).stand)
 called w (call.RequestAt server request) = requested_at w request (shard_for w request) server

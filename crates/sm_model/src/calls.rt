@@ -34,6 +34,7 @@ pub(crate) fn carry_out(
         Call::Control(command) => make(world, Step::Control(command)),
         Call::Hold(shard, server) => make(world, Step::Hold(shard, server)),
         Call::Free(shard) => make(world, Step::Free(shard)),
+        Call::Checkpoint(shard, server) => make_checkpoint(world, shard, server),
         Call::Look(shard) => make(world, Step::Look(shard)),
         Call::Request(request) => run_request(world, request),
         Call::RequestAt(server, request) => {
@@ -53,6 +54,17 @@ fn make(
     ensures bounds { world.new.bounds ≡ world.old.bounds }
 {
     world.step(step)
+}
+
+/// Has the server make the shard's present state its base.
+fn make_checkpoint(
+    world: &mut World<CounterText>,
+    shard: ShardId,
+    server: ServerId,
+) -> Result<WorldAnswer<Reply>, WorldFault>
+    ensures { Ends world.old (call.Checkpoint shard server) result world.new }
+{
+    world.step(Step::Checkpoint(shard, server))
 }
 
 /// Has the request executed by the owner of its key's shard.

@@ -50,6 +50,13 @@ impl Table {
         })
     }
 
+    /// The greatest generation.
+    pub fn ceiling(&self) -> u64
+        ensures { result ≡ self.now.ceiling }
+    {
+        self.ceiling
+    }
+
     /// The number of shards.
     pub fn count(&self) -> usize
         ensures { result ≡ length self.now.records }
@@ -98,11 +105,12 @@ impl Table {
         }
     }
 
-    /// Ends the shard's admission.
+    /// Ends the shard's admission. There is room for it below the ceiling.
     pub fn done(&mut self, k: ShardId)
         requires known { k < length self.old.records }
         requires admitted { (record_at self.old.records k).admitted ≡ true }
-        ensures { self.new ≡ table_done self.old k }
+        ensures done { self.new ≡ table_done self.old k }
+        ensures room { (record_at self.old.records k).generation < self.old.ceiling }
     {
         let next = self.record(k).ended();
         self.records[k.index()] = next;

@@ -12,7 +12,7 @@ use Rattle.sm_script.specs.declared.shape.TheConstants.{MAX_CLIENTS, MAX_EACH, M
 use Rattle.sm_script.specs.declared.shape.Shape.{Shape}
 use Rattle.sm_script.specs.declared.shape.Shape.TheVariants.{Shard, Server, Key, Text, Increment, Limit, Clients, Each}
 use Rattle.sm_script.specs.declared.word.Word.{Word}
-use Rattle.sm_script.specs.declared.word.Word.TheVariants.{Assign, PrepareAdd, PrepareDrop, Add, Drop, Cancel, Pause, Resume, Reassign, Ask, Approve, Stopped, Back, Fail, Place, Drain, Look, Publish, Route, Hold, Free, Load, Get, Put, Append, Inc, Del, Scan}
+use Rattle.sm_script.specs.declared.word.Word.TheVariants.{Assign, PrepareAdd, PrepareDrop, Add, Drop, Cancel, Pause, Resume, Reassign, Ask, Approve, Stopped, Back, Fail, Place, Drain, Look, Publish, Route, Hold, Free, Checkpoint, Load, Get, Put, Append, Inc, Del, Scan}
 
 -- what a word has to be, as it is written
 abbrev pub takes_word : Shape → List ℕ → Bool
@@ -84,6 +84,7 @@ name_of Publish = codes "publish"
 name_of Route = codes "route"
 name_of Hold = codes "hold"
 name_of Free = codes "free"
+name_of Checkpoint = codes "checkpoint"
 name_of Load = codes "load"
 
 -- what the words after each word have to be
@@ -115,6 +116,7 @@ shapes_of Publish = Shard ∷ []
 shapes_of Route = Key ∷ []
 shapes_of Hold = Shard ∷ Server ∷ []
 shapes_of Free = Shard ∷ []
+shapes_of Checkpoint = Shard ∷ Server ∷ []
 shapes_of Load = Key ∷ Clients ∷ Each ∷ []
 
 -- the words of requests
@@ -127,7 +129,7 @@ first_words =
     request_words ++
     Look ∷ Assign ∷ PrepareAdd ∷ PrepareDrop ∷ Add ∷ Drop ∷ Cancel ∷ Pause ∷ Resume ∷ Reassign ∷
     Ask ∷ Approve ∷ Stopped ∷ Back ∷ Fail ∷ Place ∷ Drain ∷
-    Publish ∷ Route ∷ Hold ∷ Free ∷ Load ∷ []
+    Publish ∷ Route ∷ Hold ∷ Free ∷ Checkpoint ∷ Load ∷ []
 
 -- the one of these words that has these bytes
 abbrev pub word_among : List Word → List ℕ → Option Word

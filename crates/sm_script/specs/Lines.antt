@@ -19,7 +19,7 @@ use Rattle.sm_script.specs.declared.fault.ParseFault.TheVariants.{Line, NoMemory
 use Rattle.sm_script.specs.declared.line.TheConstants.{MAX_LINE}
 use Rattle.sm_script.specs.declared.shape.Shape.TheVariants.{Server}
 use Rattle.sm_script.specs.declared.word.Word.{Word}
-use Rattle.sm_script.specs.declared.word.Word.TheVariants.{Assign, PrepareAdd, PrepareDrop, Add, Drop, Cancel, Pause, Resume, Reassign, Hold, Free, Look, Get, Put, Append, Inc, Del, Scan}
+use Rattle.sm_script.specs.declared.word.Word.TheVariants.{Assign, PrepareAdd, PrepareDrop, Add, Drop, Cancel, Pause, Resume, Reassign, Hold, Free, Checkpoint, Look, Get, Put, Append, Inc, Del, Scan}
 use Rattle.sm_service.specs.declared.request.Request.{Request}
 use Rattle.sm_service.specs.declared.request.Request.TheVariants.{Get as GetRequest, Put as PutRequest, Append as AppendRequest}
 use Rattle.sm_service.specs.declared.request.Request.TheVariants.{Inc as IncRequest, Del as DelRequest, Scan as ScanRequest}
@@ -61,6 +61,7 @@ call_with Resume (shard ∷ []) = Ok (change_call (number shard) change.Resume)
 call_with Reassign (shard ∷ server ∷ []) = Ok (change_call (number shard) (change.Reassign (number server)))
 call_with Hold (shard ∷ server ∷ []) = Ok (call.Hold (number shard) (number server))
 call_with Free (shard ∷ []) = Ok (call.Free (number shard))
+call_with Checkpoint (shard ∷ server ∷ []) = Ok (call.Checkpoint (number shard) (number server))
 call_with Look (shard ∷ []) = Ok (call.Look (number shard))
 call_with word words = with_request call.Request (request_with word words)
 

@@ -19,8 +19,8 @@ pub enum Answer {
     Refused(Refused),
     /// A shard's record.
     Seen(Record),
-    /// A request was executed by the server, and has this place in the list of the shard's kept
-    /// requests, from 0.
+    /// A request was executed by the server, and has this place among all requests of the shard,
+    /// from 0.
     Executed {
         reply: Reply,
         server: ServerId,

@@ -13,6 +13,8 @@ pub enum Call {
     Hold(ShardId, ServerId),
     /// `free K`: that admission ends.
     Free(ShardId),
+    /// `checkpoint K A`: the server makes the shard's present state its base, and the shard keeps no request.
+    Checkpoint(ShardId, ServerId),
     /// `look K`: the shard's record.
     Look(ShardId),
     /// A request, to the owner in the record of its key's shard.

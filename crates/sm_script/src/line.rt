@@ -29,6 +29,7 @@ fn shard_and_server_call(word: Word, mut words: Words) -> Result<Call, LineFault
         Word::PrepareAdd => Ok(Call::change(shard, Change::PrepareAddShard(server))),
         Word::Reassign => Ok(Call::change(shard, Change::Reassign(server))),
         Word::Hold => Ok(Call::Hold(shard, server)),
+        Word::Checkpoint => Ok(Call::Checkpoint(shard, server)),
         _ => Err(LineFault::NotHere),
     }
 }
@@ -60,9 +61,9 @@ fn call_with(alloc: Global, word: Word, words: Words) -> Result<Call, ParseFault
     ensures err { IfErr result (λ fault. IsFaultIn fault (call_with word words.entry)) }
 {
     match word {
-        Word::Assign | Word::PrepareAdd | Word::Reassign | Word::Hold => Ok(shard_and_server_call(
-            word, words,
-        )?),
+        Word::Assign | Word::PrepareAdd | Word::Reassign | Word::Hold | Word::Checkpoint => {
+            Ok(shard_and_server_call(word, words)?)
+        }
         Word::PrepareDrop
         | Word::Add
         | Word::Drop

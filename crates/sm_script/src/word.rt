@@ -59,6 +59,8 @@ pub(crate) enum Word {
     Hold,
     /// `free K`: the end of such an admission.
     Free,
+    /// `checkpoint K A`: the shard's present state becomes its base.
+    Checkpoint,
     /// `load KEY C N`: clients that add to one count at the same time.
     Load,
 }
@@ -68,7 +70,7 @@ impl Word {
 
     // The words that a line may begin with, beside `at` and `client`. Those of requests come
     // first, since most lines are requests.
-    const FIRST: [Word; 28] = [
+    const FIRST: [Word; 29] = [
         Word::Get,
         Word::Put,
         Word::Append,
@@ -96,6 +98,7 @@ impl Word {
         Word::Route,
         Word::Hold,
         Word::Free,
+        Word::Checkpoint,
         Word::Load,
     ];
 
@@ -131,6 +134,7 @@ impl Word {
             Word::Route => "route",
             Word::Hold => "hold",
             Word::Free => "free",
+            Word::Checkpoint => "checkpoint",
             Word::Load => "load",
         }
     }
@@ -181,10 +185,11 @@ impl Word {
             | Word::Resume
             | Word::Publish
             | Word::Free => &[Shape::Shard],
-            Word::Assign | Word::PrepareAdd | Word::Reassign | Word::Hold => &[
-                Shape::Shard,
-                Shape::Server,
-            ],
+            Word::Assign
+            | Word::PrepareAdd
+            | Word::Reassign
+            | Word::Hold
+            | Word::Checkpoint => &[Shape::Shard, Shape::Server],
             Word::Ask | Word::Approve | Word::Stopped | Word::Back | Word::Fail | Word::Drain => &[
                 Shape::Server,
             ],

@@ -1,5 +1,5 @@
 -- The world in which nothing has happened.
-use Rattle.std.proofs.Common.{◌≡◌, ℕ, zero, suc, ◌<◌, ◌≤◌, [], ◌∷◌, List, length, refl, sym, ap, subst, ◌∙◌, arith, ⊎_elim}
+use Rattle.std.proofs.Common.{◌≡◌, ℕ, zero, suc, ◌<◌, ◌≤◌, ◌^◌, [], ◌∷◌, List, length, refl, sym, ap, subst, ◌∙◌, arith, ⊎_elim}
 use Rattle.std.specs.Prelude.{Option, Some, None, All, map, replicate, slice_index_or}
 use Rattle.std.proofs.lemmas.Bool.{cases_lt}
 use Rattle.std.proofs.lemmas.List.{get_or-replicate, get_or_past, length-replicate}
@@ -12,7 +12,7 @@ use Rattle.sm_ownership.specs.History.{vacant}
 use Rattle.sm_table.specs.World.{Frame, empty_world}
 use Rattle.sm_ownership.specs.Tables.{TableView}
 use Rattle.sm_desk.specs.Desk.{DeskView}
-use Rattle.sm_table.specs.Bodies.{BodiesView, no_past}
+use Rattle.sm_table.specs.Bodies.{BodiesView, Past, no_past, past_at}
 use Rattle.sm_table.specs.Standing.{IsFrame, StandsFor, IsTogether, view_of}
 use Rattle.sm_table.specs.lemmas.Soundness.{sound_empty}
 
@@ -24,33 +24,43 @@ no_hand {Q = Q} count shard hand is =
     (λ (past : count ≤ shard). let free = get_or_past (replicate count nothing) shard nothing (omega (arith, length-replicate count nothing)) in cc)
     (cases_lt shard count)
 
+none_yet : (Q : Type 0) (count shard : ℕ) → length (past_at {Q = Q} (replicate count no_past) shard).all ≡ 0
+none_yet Q count shard =
+    let nothing : Past Q = no_past in
+    ⊎_elim
+    (λ (within : shard < count). ap (λ (p : Past Q). length p.all) (get_or-replicate count shard nothing nothing within))
+    (λ (past : count ≤ shard). ap (λ (p : Past Q). length p.all) (get_or_past (replicate count nothing) shard nothing (omega (arith, length-replicate count nothing))))
+    (cases_lt shard count)
+
 map-replicate : {A B : Type 0} (f : A → B) (count : ℕ) (x : A) → map f (replicate count x) ≡ replicate count (f x)
 map-replicate f zero x = refl
 map-replicate f (suc count) x = ap (λ rest. f x ∷ rest) (map-replicate f count x)
 
 module _ {Q : Type 0} {bounds : List (List ℕ)} {desk : DeskView} {table : TableView} {bodies : BodiesView Q} {in_flight : List (Flight Q)} {in_hand : List (Option (InHand Q))} where
   -- parts with a vacant record for each shard, where nothing is kept, in flight or in hand
-  pub StandsFor-empty : (frame : Frame) → IsFrame frame → bounds ≡ frame.bounds → desk.servers ≡ frame.servers → desk.stands ≡ replicate (length frame.bounds) Vacant → table.records ≡ replicate (length frame.bounds) vacant → table.ceiling ≡ frame.ceiling → length bodies.pasts ≡ length frame.bounds → All (λ past. past ≡ no_past) bodies.pasts → bodies.limits ≡ frame.limits → in_flight ≡ [] → in_hand ≡ replicate (length frame.bounds) None → StandsFor (view_of bounds desk table bodies in_flight in_hand) (empty_world frame)
-  StandsFor-empty frame is same servers stands records ceiling long empty limits flights hands = record {
+  pub StandsFor-empty : (frame : Frame) → IsFrame frame → bounds ≡ frame.bounds → desk.servers ≡ frame.servers → desk.stands ≡ replicate (length frame.bounds) Vacant → table.records ≡ replicate (length frame.bounds) vacant → table.ceiling ≡ frame.ceiling → bodies.pasts ≡ replicate (length frame.bounds) no_past → bodies.limits ≡ frame.limits → in_flight ≡ [] → in_hand ≡ replicate (length frame.bounds) None → StandsFor (view_of bounds desk table bodies in_flight in_hand) (empty_world frame)
+  StandsFor-empty frame is same servers stands records ceiling empty limits flights hands = record {
     bounds = same;
     desk = ap (λ numbers. record { servers = numbers; stands = desk.stands }) servers ∙ ap (λ of_shards. record { servers = frame.servers; stands = of_shards }) (stands ∙ sym (map-replicate (λ (state : Record). state.stand) (length frame.bounds) vacant));
     records = records;
     ceiling = ceiling;
-    bodies = long;
-    pasts = λ shard within. empty shard no_past (omega (arith, long));
+    bodies = ap length empty ∙ length-replicate (length frame.bounds) no_past;
+    pasts = λ shard within. ap (λ all. past_at all shard) empty ∙ get_or-replicate (length frame.bounds) shard no_past no_past within;
     limits = limits;
     in_flight = flights;
     in_hand = hands;
     sound = sound_empty frame is;
   }
 
-  pub IsTogether-empty : (count : ℕ) → length bounds ≡ count → table.records ≡ replicate count vacant → length bodies.pasts ≡ count → in_flight ≡ [] → in_hand ≡ replicate count None → IsTogether (view_of bounds desk table bodies in_flight in_hand)
-  IsTogether-empty count layout records pasts flights hands =
+  pub IsTogether-empty : (count : ℕ) → length bounds ≡ count → table.records ≡ replicate count vacant → table.ceiling < 2 ^ 36 → bodies.pasts ≡ replicate count no_past → in_flight ≡ [] → in_hand ≡ replicate count None → IsTogether (view_of bounds desk table bodies in_flight in_hand)
+  IsTogether-empty count layout records low pasts flights hands =
       let long : length in_hand ≡ count = ap length hands ∙ length-replicate count None in
       record {
         layout = layout ∙ sym long;
         table = ap length records ∙ length-replicate count vacant ∙ sym long;
-        bodies = pasts ∙ sym long;
+        bodies = ap length pasts ∙ length-replicate count no_past ∙ sym long;
         flights = subst (λ all. All (λ (flight : Flight Q). flight.envelope.shard < length in_hand) all) (sym flights) (All-nil (λ (flight : Flight Q). flight.envelope.shard < length in_hand));
         admitted = λ shard hand is. absurd (no_hand count shard hand (ap (λ all. slice_index_or all shard None) (sym hands) ∙ is));
+        few = λ shard. let none : length (past_at bodies.pasts shard).all ≡ 0 = ap (λ all. length (past_at all shard).all) pasts ∙ none_yet Q count shard in omega arith;
+        low = low;
       }

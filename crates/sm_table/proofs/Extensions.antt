@@ -12,12 +12,12 @@ use Rattle.sm_table.specs.declared.world.Flight.{Flight}
 use Rattle.sm_table.specs.declared.hands.InHand.{InHand}
 use Rattle.sm_table.specs.declared.hands.Work.{Work}
 use Rattle.sm_table.specs.declared.step.Step.{Step}
-use Rattle.sm_table.specs.declared.step.Step.TheVariants.{Control, Look, Send, Deliver, Finish, Lose, Hold, Free}
+use Rattle.sm_table.specs.declared.step.Step.TheVariants.{Control, Look, Send, Deliver, Finish, Lose, Hold, Free, Checkpoint}
 use Rattle.sm_desk.specs.Desk.{is_known}
 use Rattle.sm_envelope.specs.Envelope.{EnvelopeView}
 use Rattle.sm_ownership.specs.History.{kept}
 use Rattle.sm_body.specs.Service.{Service}
-use Rattle.sm_table.specs.World.{WorldState, Mark, Plain, Unmade, Unserved, Outcome, count_of, controlled, reached, arrived, without_flight, delivered, with_room, worked, served, held, after_hold, let_go, freed, next, world_after}
+use Rattle.sm_table.specs.World.{WorldState, Mark, Plain, Unmade, Unserved, Outcome, count_of, controlled, reached, arrived, without_flight, delivered, with_room, worked, served, held, after_hold, based, after_checkpoint, let_go, freed, next, world_after}
 
 -- the later world has the frame of the earlier one, and its history and then these entries
 pub record Extends {Q : Type 0} (w later : WorldState Q) : Type 0 where
@@ -83,6 +83,15 @@ module _ {Q : Type 0} (R : Type 0) (w : WorldState Q) where
       (λ _. cond_both (is_known w.frame.servers server) _ _ LeavesExtended (λ _. extends_held shard server _) (λ _. extends_itself w))
       (λ _. extends_itself w)
 
+  extends_based : (shard server : ℕ) (fault : Option AdmitFault) → LeavesExtended (based w shard server fault)
+  extends_based shard server None = record { frame = refl; added = _; history = append_assoc w.history _ _ }
+  extends_based shard server (Some fault) = extends_itself w
+
+  extends_checkpoint : (shard server : ℕ) → LeavesExtended (after_checkpoint w shard server)
+  extends_checkpoint shard server = cond_both (nat_lt shard (count_of w)) _ _ LeavesExtended
+      (λ _. cond_both (is_known w.frame.servers server) _ _ LeavesExtended (λ _. extends_based shard server _) (λ _. extends_itself w))
+      (λ _. extends_itself w)
+
   extends_let_go : (shard server : ℕ) (work : Option (Work Q)) → LeavesExtended (let_go w shard server work)
   extends_let_go shard server None = record { frame = refl; added = _; history = refl }
   extends_let_go shard server (Some work) = extends_itself w
@@ -103,6 +112,7 @@ extends_next {R = R} service w mark (Finish shard) = extends_served R w service 
 extends_next {R = R} service w mark (Lose place) = cond_both (nat_lt place (length w.in_flight)) _ _ (LeavesExtended R w) (λ _. extends_flights R w _) (λ _. extends_itself w)
 extends_next {R = R} service w mark (Hold shard server) = extends_hold R w shard server
 extends_next {R = R} service w mark (Free shard) = cond_both (nat_lt shard (count_of w)) _ _ (LeavesExtended R w) (λ _. extends_freed R w shard _) (λ _. extends_itself w)
+extends_next {R = R} service w mark (Checkpoint shard server) = extends_checkpoint R w shard server
 
 pub extends_after : {Q R : Type 0} (service : Service Q R) (w : WorldState Q) (steps : List (Mark × Step Q)) → Extends w (world_after service w steps)
 extends_after service w [] = extends_itself w

@@ -1,4 +1,5 @@
 pub mod Admissions
+pub mod Checkpoints
 pub mod Controls
 pub mod Deliveries
 pub mod Empties
@@ -12,3 +13,4 @@ pub mod Parts
 pub mod Pasts
 pub mod Runs
 pub mod Sends
+pub mod Tracing

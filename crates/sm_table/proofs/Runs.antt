@@ -15,14 +15,14 @@ use Rattle.sm_table.specs.declared.world.Flight.{Flight}
 use Rattle.sm_table.specs.declared.hands.InHand.{InHand}
 use Rattle.sm_table.specs.declared.hands.Work.{Work}
 use Rattle.sm_table.specs.declared.step.Step.{Step}
-use Rattle.sm_table.specs.declared.step.Step.TheVariants.{Control, Look, Send, Deliver, Finish, Lose, Hold, Free}
+use Rattle.sm_table.specs.declared.step.Step.TheVariants.{Control, Look, Send, Deliver, Finish, Lose, Hold, Free, Checkpoint}
 use Rattle.sm_table.specs.declared.world_answer.WorldAnswer.TheVariants.{Replied}
 use Rattle.sm_ownership.specs.Rules.{forward_to}
 use Rattle.sm_desk.specs.Desk.{is_known}
 use Rattle.sm_envelope.specs.Envelope.{EnvelopeView}
 use Rattle.sm_ownership.specs.History.{all_of, kept, said}
 use Rattle.sm_body.specs.Service.{Service}
-use Rattle.sm_table.specs.World.{Frame, WorldState, Mark, Plain, Unmade, Unserved, Outcome, count_of, world_record, controlled, reached, after_hop, hopped, arrived, without_flight, delivered, with_room, worked, served, held, after_hold, let_go, freed, empty_world, answer, next, outcome, world_after, world_of}
+use Rattle.sm_table.specs.World.{Frame, WorldState, Mark, Plain, Unmade, Unserved, Outcome, count_of, world_record, controlled, reached, after_hop, hopped, arrived, without_flight, delivered, with_room, worked, served, held, after_hold, based, after_checkpoint, let_go, freed, empty_world, answer, next, outcome, world_after, world_of}
 use Rattle.sm_table.proofs.Extensions.{extends_after}
 use Rattle.sm_ownership.specs.lemmas.Requests.{all_of-append, all_of-push_some}
 
@@ -94,6 +94,15 @@ module _ {Q R : Type 0} (service : Service Q R) (w : WorldState Q) (number serve
       (λ _. cond_both (is_known w.frame.servers by) _ _ NeverReplied (λ _. never_held shard by _) (λ _ at. cc))
       (λ _ at. cc)
 
+  never_based : (shard by : ℕ) (fault : Option AdmitFault) → NeverReplied (based w shard by fault)
+  never_based shard by None answered = cc
+  never_based shard by (Some fault) answered = cc
+
+  never_checkpoint : (shard by : ℕ) → NeverReplied (after_checkpoint w shard by)
+  never_checkpoint shard by = cond_both (nat_lt shard (count_of w)) _ _ NeverReplied
+      (λ _. cond_both (is_known w.frame.servers by) _ _ NeverReplied (λ _. never_based shard by _) (λ _ at. cc))
+      (λ _ at. cc)
+
   never_let_go : (shard by : ℕ) (work : Option (Work Q)) → NeverReplied (let_go w shard by work)
   never_let_go shard by None answered = cc
   never_let_go shard by (Some work) answered = cc
@@ -113,6 +122,7 @@ module _ {Q R : Type 0} (service : Service Q R) (w : WorldState Q) (number serve
   runs_step mark (Lose at) answered = absurd (cond_both (nat_lt at (length w.in_flight)) _ _ NeverReplied (λ _ lost. cc) (λ _ lost. cc) answered)
   runs_step mark (Hold shard by) answered = absurd (never_hold shard by answered)
   runs_step mark (Free shard) answered = absurd (cond_both (nat_lt shard (count_of w)) _ _ NeverReplied (λ _. never_freed shard _) (λ _ at. cc) answered)
+  runs_step mark (Checkpoint shard by) answered = absurd (never_checkpoint shard by answered)
 
 world_after-append : {Q R : Type 0} (service : Service Q R) (w : WorldState Q) (steps later : List (Mark × Step Q)) → world_after service w (steps ++ later) ≡ world_after service (world_after service w steps) later
 world_after-append service w [] later = refl

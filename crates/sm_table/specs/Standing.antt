@@ -1,5 +1,5 @@
 -- When the parts of a `World` stand for a world of the definitions.
-use Rattle.std.specs.Prelude.{ℕ, Bool, true, false, Option, Some, None, Result, ◌≡◌, ◌<◌, List, All, length, reverse, slice_index_or, slice_set}
+use Rattle.std.specs.Prelude.{ℕ, Bool, true, false, Option, Some, None, Result, ◌≡◌, ◌<◌, ◌≤◌, ◌^◌, List, All, length, reverse, slice_index_or, slice_set}
 use Rattle.std.specs.List.{list_all}
 use Rattle.sm_body.specs.Service.{Service}
 use Rattle.sm_ranges.specs.Ranges.{IsLayout}
@@ -76,13 +76,16 @@ view_of bounds desk table bodies in_flight in_hand = record {
   in_hand = in_hand;
 }
 
--- each part has an element for each shard, flights are for shards that are there, and a shard that a server has in hand is admitted
+-- each part has an element for each shard, flights are for shards that are there, and a shard that a server has in hand
+-- is admitted, and no shard has more requests than its generation
 pub record IsTogether {Q : Type 0} (view : WorldView Q) : Type 0 where
   pub layout : length view.bounds ≡ length view.in_hand
   pub table : length view.records ≡ length view.in_hand
   pub bodies : length view.pasts ≡ length view.in_hand
   pub flights : All (λ flight. flight.envelope.shard < length view.in_hand) view.in_flight
   pub admitted : (shard : ℕ) (hand : InHand Q) → slice_index_or view.in_hand shard None ≡ Some hand → (record_at view.records shard).admitted ≡ true
+  pub few : (shard : ℕ) → length (past_at view.pasts shard).all ≤ (record_at view.records shard).generation
+  pub low : view.ceiling < 2 ^ 36
 
 -- the parts are those of the world, which is one that steps lead to
 pub record StandsFor {Q : Type 0} (view : WorldView Q) (w : WorldState Q) : Type 0 where

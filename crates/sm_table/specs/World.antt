@@ -10,7 +10,7 @@ use Rattle.sm_desk.specs.declared.command.Command.TheVariants.{Change as ChangeO
 use Rattle.sm_desk.specs.declared.command.CommandFault.{CommandFault}
 use Rattle.sm_desk.specs.declared.command.CommandFault.TheVariants.{Change as ChangeRefused}
 use Rattle.sm_ownership.specs.declared.entry.Ending.{Ending}
-use Rattle.sm_ownership.specs.declared.entry.Ending.TheVariants.{Nothing, Request}
+use Rattle.sm_ownership.specs.declared.entry.Ending.TheVariants.{Nothing, Request, Checkpoint}
 use Rattle.sm_ownership.specs.declared.entry.Entry.{Entry}
 use Rattle.sm_ownership.specs.declared.entry.Kind.{Kind}
 use Rattle.sm_ownership.specs.declared.entry.Kind.TheVariants.{Change as Changed, Admit, Done}
@@ -21,7 +21,7 @@ use Rattle.sm_table.specs.declared.hands.InHand.{InHand}
 use Rattle.sm_table.specs.declared.hands.Work.{Work}
 use Rattle.sm_envelope.specs.declared.refusal.Refusal.TheVariants.{TooManyHops, Admit as NotAdmitted, KeptFull, NoMemory as NoMemoryFor}
 use Rattle.sm_table.specs.declared.step.Step.{Step}
-use Rattle.sm_table.specs.declared.step.Step.TheVariants.{Control, Look, Send, Deliver, Finish, Lose, Hold, Free}
+use Rattle.sm_table.specs.declared.step.Step.TheVariants.{Control, Look, Send, Deliver, Finish, Lose, Hold, Free, Checkpoint as CheckpointAt}
 use Rattle.sm_table.specs.declared.world_answer.WorldAnswer.{WorldAnswer}
 use Rattle.sm_table.specs.declared.world_answer.WorldAnswer.TheVariants.{Made, Seen, Sent, Began, Forwarded, Refused, Replied}
 use Rattle.sm_table.specs.declared.world_fault.WorldFault.{WorldFault}
@@ -52,10 +52,11 @@ pub data Mark : Type 0 where
   Unmade : Mark
   Unserved : Mark
 
--- how a step may go: a `Send` alone may have its memory refused, and the service at a `Finish` alone
+-- how a step may go: a `Send` and a `Checkpoint` alone may have their memory refused, and the service at a `Finish` alone
 abbrev pub may_go : {Q : Type 0} → Step Q → Mark → Bool
 may_go step Plain = true
 may_go (Send to number request) Unmade = true
+may_go (CheckpointAt shard server) Unmade = true
 may_go (Finish shard) Unserved = true
 may_go step mark = false
 
@@ -196,6 +197,25 @@ freed w shard (Some hand) = let_go w shard hand.server hand.work
 abbrev pub after_free : {Q R : Type 0} → WorldState Q → ℕ → Outcome Q R
 after_free w shard = if nat_lt shard (count_of w) then freed w shard (slice_index_or w.in_hand shard None) else (Err UnknownShard, w)
 
+-- how the admission of a checkpoint ends: as one, or with nothing where the shard keeps no request
+abbrev pub checkpoint_ending : {Q : Type 0} → List Q → Ending Q
+checkpoint_ending [] = Nothing
+checkpoint_ending (request ∷ later) = Checkpoint
+
+abbrev pub based : {Q R : Type 0} → WorldState Q → ℕ → ℕ → Option AdmitFault → Outcome Q R
+based w shard server (Some fault) = (Err (AdmitRefused fault), w)
+based w shard server None = (
+  Ok Made,
+  with_entry (with_entry w server shard (Admit server Direct)) server shard (Done (checkpoint_ending (kept w.history shard))),
+)
+
+-- the server is admitted to the shard, makes the shard's state its base, and its admission ends
+abbrev pub after_checkpoint : {Q R : Type 0} → WorldState Q → ℕ → ℕ → Outcome Q R
+after_checkpoint w shard server =
+    if nat_lt shard (count_of w)
+    then (if is_known w.frame.servers server then based w shard server (admit_fault w.frame.ceiling (world_record w shard) server Direct) else (Err UnknownServer, w))
+    else (Err UnknownShard, w)
+
 -- what a step that went so answers, and the world that it leaves
 abbrev pub outcome : {Q R : Type 0} → Service Q R → WorldState Q → Mark → Step Q → Outcome Q R
 outcome service w Unmade step = (Err NoMemory, w)
@@ -207,6 +227,7 @@ outcome service w mark (Finish shard) = after_finish service w mark shard
 outcome service w mark (Lose place) = after_lose w place
 outcome service w mark (Hold shard server) = after_hold w shard server
 outcome service w mark (Free shard) = after_free w shard
+outcome service w mark (CheckpointAt shard server) = after_checkpoint w shard server
 
 abbrev pub answer : {Q R : Type 0} → Service Q R → WorldState Q → Mark → Step Q → Result (WorldAnswer R) WorldFault
 answer service w mark step = (outcome service w mark step).0

@@ -1,49 +1,54 @@
-ghost use Rattle.std.specs.Prelude.{◌≡◌, ◌<◌, ◌≤◌, [], All, fold, length, map, slice_index_or, slice_set, IfOk, IfErr, OnOk, OnErr};
-ghost use Rattle.sm_ownership.specs.declared.entry.Ending.TheVariants.{Request};
+ghost use Rattle.std.specs.Prelude.{◌≡◌, ◌<◌, ◌≤◌, ◌^◌, [], All, fold, length, map, replicate, slice_index_or, slice_set, IfOk, IfErr, OnOk, OnErr};
+ghost use Rattle.sm_ownership.specs.declared.entry.Ending.TheVariants.{Request, Checkpoint};
 ghost use Rattle.sm_table.specs.Bodies.{kept_in, no_past, past_after, past_at};
 
+use crate::traced::Traced;
 use sm_body::service::{ApplyFault, Service};
 use sm_ranges::shard_id::ShardId;
+use std::alloc::{AllocError, Global};
 use std::marker::Model;
 
-/// The bodies of the shards, by the requests that each has applied. None has made a checkpoint.
+/// The bodies of the shards, by the requests that each has applied since the initial state.
 #[derive(Drop)]
-pub struct Bodies<S: Service> {
-    bodies: Vec<S>,
+pub(crate) struct Bodies<S: Service> {
+    bodies: Vec<Traced<S>>,
 }
 
 impl<S: Service> Model for Bodies<S> {
-    ghost use Rattle.std.specs.Prelude.{◌≡◌, All, map};
+    ghost use Rattle.std.specs.Prelude.{map};
     ghost use Rattle.sm_table.specs.Bodies.{BodiesView};
 
     ghost Value = { BodiesView S.Request };
 
     ghost view = { λ all. record {
-      pasts = map (λ body. record { all = S.requests body; first = 0 }) all.bodies.items;
-      limits = map S.limit all.bodies.items;
+      pasts = map (λ run. run.past) all.bodies.items;
+      limits = map (λ run. run.limit) all.bodies.items;
     } };
-
-    ghost invariant = { λ all. All (λ body. S.base body ≡ S.initial) all.bodies.items };
 }
 
 impl<S: Service> Bodies<S> {
-    /// These bodies, by shard.
-    pub fn new(bodies: Vec<S>) -> Bodies<S>
+    /// These bodies, by shard, which have applied nothing.
+    pub fn new(alloc: Global, bodies: Vec<S>) -> Result<Bodies<S>, AllocError>
         requires initial { All (λ body. S.base body ≡ S.initial) bodies.items }
+        requires first { All (λ body. S.before body ≡ 0) bodies.items }
         requires empty { All (λ body. S.requests body ≡ []) bodies.items }
-        ensures pasts { All (λ past. past ≡ no_past) result.pasts }
-        ensures length { length result.pasts ≡ length bodies.items }
-        ensures limits { result.limits ≡ map S.limit bodies.items }
+        ensures pasts { IfOk result (λ all. all.pasts ≡ replicate (length bodies.items) no_past) }
+        ensures limits { IfOk result (λ all. all.limits ≡ map S.limit bodies.items) }
     {
-        Bodies { bodies }
+        let mut traced = Vec::with_capacity(alloc, bodies.len())?;
+        for body in bodies {
+            traced.push(Traced::new(body))?;
+        }
+        Ok(Bodies { bodies: traced })
     }
 
     /// How many requests the shard has applied.
-    pub fn applied(&self, k: ShardId) -> usize
-        requires { k < length self.now.pasts }
+    pub fn applied(&self, k: ShardId) -> u64
+        requires known { k < length self.now.pasts }
+        requires few { length (past_at self.now.pasts k).all < 2 ^ 36 }
         ensures { result ≡ length (past_at self.now.pasts k).all }
     {
-        self.bodies[k.index()].kept()
+        self.bodies[k.index()].applied()
     }
 
     /// Applies the request to the body of the shard, or hands it back.
@@ -70,5 +75,17 @@ impl<S: Service> Bodies<S> {
         ensures limits { self.new.limits ≡ self.old.limits }
     {
         self.bodies[k.index()].apply(request)
+    }
+
+    /// Makes the present state of the shard's body its base, or changes nothing, where memory is refused.
+    pub fn checkpoint(&mut self, k: ShardId) -> Result<(), AllocError>
+        requires known { k < length self.old.pasts }
+        requires few { length (past_at self.old.pasts k).all < 2 ^ 36 }
+        ensures pasts { OnOk result
+            (self.new.pasts ≡ slice_set self.old.pasts k (past_after (past_at self.old.pasts k) Checkpoint)) }
+        ensures unchanged { OnErr result (self.new.pasts ≡ self.old.pasts) }
+        ensures limits { self.new.limits ≡ self.old.limits }
+    {
+        self.bodies[k.index()].checkpoint()
     }
 }

@@ -12,6 +12,7 @@ mod bodies;
 mod hands;
 pub mod laws;
 pub mod step;
+mod traced;
 pub mod world;
 pub mod world_answer;
 pub mod world_fault;

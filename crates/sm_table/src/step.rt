@@ -21,4 +21,6 @@ pub enum Step<Q> {
     Hold(ShardId, ServerId),
     /// The admission to the shard without a request ends.
     Free(ShardId),
+    /// The server is admitted to the shard, whose present state becomes its base, and that admission ends.
+    Checkpoint(ShardId, ServerId),
 }

@@ -9,7 +9,7 @@ ghost use Rattle.sm_envelope.specs.Envelope.{forwarded};
 ghost use Rattle.sm_table.specs.Standing.{StandsFor, GoesAs, setup_frame, with_admission};
 ghost use Rattle.sm_table.specs.World.{Plain, after_hop, mark_of, may_go, empty_world};
 ghost use Rattle.sm_desk.specs.declared.command.Command.TheVariants.{Change as ChangeOf};
-ghost use Rattle.sm_table.specs.declared.step.Step.TheVariants.{Control as ControlOf, Look as LookAt, Send as SendOf, Deliver as DeliverAt, Finish as FinishAt, Lose as LoseAt, Hold as HoldAt, Free as FreeAt};
+ghost use Rattle.sm_table.specs.declared.step.Step.TheVariants.{Control as ControlOf, Look as LookAt, Send as SendOf, Deliver as DeliverAt, Finish as FinishAt, Lose as LoseAt, Hold as HoldAt, Free as FreeAt, Checkpoint as CheckpointAt};
 
 use crate::bodies::Bodies;
 use crate::hands::{Hands, InHand, Work};
@@ -76,11 +76,12 @@ impl<S: Service> Model for World<S> {
 
 impl<S: Service> World<S> {
     /// The world in which nothing has happened: no shard has an owner, and nothing is in flight.
-    /// There is a body for each shard of the layout, in the initial state, and none has kept a request yet.
+    /// There is a body for each shard of the layout, in the initial state, and none has applied a request yet.
     pub fn new(alloc: Global, setup: Setup, bodies: Vec<S>) -> Result<World<S>, AllocError>
         requires vacant { setup.desk.stands ≡ replicate (length setup.layout) Vacant }
         requires bodies { vec_len bodies ≡ length setup.layout }
         requires initial { All (λ body. S.base body ≡ S.initial) bodies.items }
+        requires first { All (λ body. S.before body ≡ 0) bodies.items }
         requires empty { All (λ body. S.requests body ≡ []) bodies.items }
         requires least_ceiling { 3 ≤ setup.ceiling }
         requires greatest_ceiling { setup.ceiling < 2 ^ 36 }
@@ -95,7 +96,7 @@ impl<S: Service> World<S> {
         let count = layout.count();
         Ok(World {
             table: Table::new(alloc, count, ceiling)?,
-            bodies: Bodies::new(bodies),
+            bodies: Bodies::new(alloc, bodies)?,
             in_flight: Vec::new(alloc),
             in_hand: Hands::none(alloc, count)?,
             layout,
@@ -120,8 +121,8 @@ impl<S: Service> World<S> {
     }
 
     /// Makes a step. Where the world stands for one of the definitions, it answers as that one does, and then stands for
-    /// the next. A step that a fault refuses changes nothing. Want of memory is told of a `Send`, by `NoMemory`, and of a
-    /// `Finish`, which then refuses its request; of no other step.
+    /// the next. A step that a fault refuses changes nothing. Want of memory is told of a `Send` and of a
+    /// `Checkpoint`, by `NoMemory`, and of a `Finish`, which then refuses its request; of no other step.
     pub fn step(&mut self, step: Step<S::Request>) -> Result<WorldAnswer<S::Reply>, WorldFault>
         ensures stands { GoesAs (meaning_of S.initial S.next S.answer S.key_of) self.old result self.new step }
         ensures marks { may_go step (mark_of result) ≡ true }
@@ -139,6 +140,7 @@ impl<S: Service> World<S> {
             Step::Lose(place) => self.lose(place),
             Step::Hold(k, server) => self.hold(k, server),
             Step::Free(k) => self.free(k),
+            Step::Checkpoint(k, server) => self.checkpoint(k, server),
         }
     }
 
@@ -243,7 +245,7 @@ impl<S: Service> World<S> {
         };
         let Work { number, request } = work;
         self.table.done(k);
-        let place = self.bodies.applied(k) as u64;
+        let place = self.bodies.applied(k);
         match self.bodies.apply(k, request) {
             Ok(reply) => Ok(WorldAnswer::Replied {
                 number,
@@ -299,6 +301,37 @@ impl<S: Service> World<S> {
         if !self.in_hand.let_go(k) {
             return Err(WorldFault::NotHeld);
         }
+        self.table.done(k);
+        Ok(WorldAnswer::Made)
+    }
+
+    // Admits the server to the shard, makes the shard's present state its base, and ends the admission.
+    fn checkpoint(
+        &mut self,
+        k: ShardId,
+        server: ServerId,
+    ) -> Result<WorldAnswer<S::Reply>, WorldFault>
+        ensures stands { GoesAs (meaning_of S.initial S.next S.answer S.key_of) self.old result self.new (CheckpointAt k server) }
+        ensures marks { may_go {Q = S.Request} (CheckpointAt k server) (mark_of result) ≡ true }
+        ensures bounds { self.new.bounds ≡ self.old.bounds }
+    {
+        if k.index() >= self.table.count() {
+            return Err(WorldFault::UnknownShard);
+        }
+        let is_known = self.desk.knows(server);
+        if !is_known {
+            return Err(WorldFault::UnknownServer);
+        }
+        let state = self.table.record(k);
+        if let Some(fault) = state.admit_fault(server, Mode::Direct, self.table.ceiling()) {
+            return Err(WorldFault::Admit(fault));
+        }
+        if self.bodies.checkpoint(k).is_err() {
+            return Err(WorldFault::NoMemory);
+        }
+        let Ok(()) = self.table.admit(k, server, Mode::Direct) else {
+            unreachable!()
+        };
         self.table.done(k);
         Ok(WorldAnswer::Made)
     }

@@ -147,6 +147,9 @@ fn shown(alloc: Global, call: &Call) -> Result<String, AllocError> {
             format!(in alloc; "hold {} {}", shard.number(), server.number())
         }
         Call::Free(shard) => format!(in alloc; "free {}", shard.number()),
+        Call::Checkpoint(shard, server) => {
+            format!(in alloc; "checkpoint {} {}", shard.number(), server.number())
+        }
         Call::Look(shard) => format!(in alloc; "look {}", shard.number()),
         Call::Request(request) => shown_request(alloc, request),
         Call::RequestAt(server, request) => {
@@ -171,6 +174,7 @@ fn calls_of_lines(rt: HostRuntime) -> Result<(), Fail> {
         (b"reassign 7 8", "reassign 7 8"),
         (b"hold 9 10", "hold 9 10"),
         (b"free 11", "free 11"),
+        (b"checkpoint 12 13", "checkpoint 12 13"),
         (b"look 0", "look 0"),
         (b"get \xff", "get [255]"),
         (b"put m  a b ", "put [109] [32, 97, 32, 98, 32]"),

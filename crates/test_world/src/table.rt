@@ -51,6 +51,7 @@ enum Act {
     Lose(usize),
     Hold(ShardId, ServerId),
     Free(ShardId),
+    Checkpoint(ShardId, ServerId),
 }
 
 fn step_of(alloc: Global, act: Act) -> Result<Step<Request>, Fail> {
@@ -67,6 +68,7 @@ fn step_of(alloc: Global, act: Act) -> Result<Step<Request>, Fail> {
         Act::Lose(place) => Step::Lose(place),
         Act::Hold(k, server) => Step::Hold(k, server),
         Act::Free(k) => Step::Free(k),
+        Act::Checkpoint(k, server) => Step::Checkpoint(k, server),
     };
     Ok(step)
 }
@@ -215,6 +217,46 @@ fn keeps_so_many_requests(rt: HostRuntime) -> Result<(), Fail> {
         (Act::Send(two, 2, b'm'), Told::Sent),
         (Act::Deliver(0), Told::Began(two)),
         (Act::Finish(k), Told::Refused(Refusal::KeptFull)),
+    ];
+    let mut world = new_world(rt.alloc())?;
+    follow(&rt, rt.alloc(), &mut world, &cases)
+}
+
+#[test]
+fn keeps_requests_again_after_a_checkpoint(rt: HostRuntime) -> Result<(), Fail> {
+    let (two, k) = (ServerId::of(2), shard(1)?);
+    let cases = [
+        (Act::Change(k, Change::Assign(two)), Told::Made),
+        (Act::Send(two, 0, b'm'), Told::Sent),
+        (Act::Deliver(0), Told::Began(two)),
+        (Act::Finish(k), Told::Replied(0, two, 0)),
+        (Act::Checkpoint(k, two), Told::Made),
+        (Act::Checkpoint(k, two), Told::Made),
+        (Act::Look(k), seen(Stand::Serving(two), 7)),
+        (Act::Send(two, 1, b'm'), Told::Sent),
+        (Act::Deliver(0), Told::Began(two)),
+    ];
+    let mut world = new_world(rt.alloc())?;
+    follow(&rt, rt.alloc(), &mut world, &cases)?;
+    assert!(rt; counts(&mut world, k, 2));
+    Ok(())
+}
+
+#[test]
+fn makes_no_checkpoint(rt: HostRuntime) -> Result<(), Fail> {
+    let (one, five, k, unknown) = (ServerId::of(1), ServerId::of(5), shard(1)?, shard(4)?);
+    let vacant = Told::Fault(WorldFault::Admit(AdmitFault::Vacant));
+    let cases = [
+        (
+            Act::Checkpoint(unknown, five),
+            Told::Fault(WorldFault::UnknownShard),
+        ),
+        (
+            Act::Checkpoint(k, five),
+            Told::Fault(WorldFault::UnknownServer),
+        ),
+        (Act::Checkpoint(k, one), vacant),
+        (Act::Look(k), seen(Stand::Vacant, 0)),
     ];
     let mut world = new_world(rt.alloc())?;
     follow(&rt, rt.alloc(), &mut world, &cases)

@@ -1,11 +1,11 @@
 -- The entries that steps write keep a world sound.
-use Rattle.std.proofs.Common.{◌≡◌, ◌≢◌, ℕ, ◌<◌, ◌≤◌, Bool, true, false, not, ◌&&◌, ◌||◌, List, [], ◌∷◌, ◌++◌, length, refl, sym, ap, subst, ◌∙◌, arith, ⊎_elim}
+use Rattle.std.proofs.Common.{◌≡◌, ◌≢◌, ℕ, zero, suc, ◌<◌, ◌≤◌, Bool, true, false, not, ◌&&◌, ◌||◌, List, [], ◌∷◌, ◌++◌, length, refl, sym, ap, subst, ◌∙◌, arith, ⊎_elim}
 use Rattle.std.specs.Prelude.{Option, Some, None, map, reverse, slice_set, slice_index_or, nat_lt, is_none, ◌==◌, if◌then◌else◌}
 use Rattle.std.specs.List.{list_all}
 use Rattle.std.specs.Option.{option_map}
-use Rattle.std.proofs.lemmas.Bool.{true≢false, cases_eq, cases_lt, eq-eqb, ne_eqb, and_parts, and_from, lt-ltb, eqb-true}
+use Rattle.std.proofs.lemmas.Bool.{true≢false, cases_eq, cases_lt, eq-eqb, ne_eqb, and_parts, and_from, lt-ltb, eqb-true, not-true}
 use Rattle.std.proofs.lemmas.Bool.Decides.{nat_tests}
-use Rattle.std.proofs.lemmas.List.{reverse-append, get_or-set_same, get_or-set_other, get_or_past, get_or-map, length-map, length-set}
+use Rattle.std.proofs.lemmas.List.{reverse-append, get_or-set_same, get_or-set_other, get_or_past, get_or-map, length-map, length-set, set-get_or}
 use Rattle.std.proofs.lemmas.List.Folds.{list_all-append}
 use Rattle.sm_ranges.specs.ServerId.{IsServer}
 use Rattle.sm_ranges.specs.Stand.{AllNamed}
@@ -16,6 +16,7 @@ use Rattle.sm_ownership.specs.declared.entry.Entry.{Entry}
 use Rattle.sm_ownership.specs.declared.entry.Kind.{Kind}
 use Rattle.sm_ownership.specs.declared.entry.Kind.TheVariants.{Change as Changed, Admit, Done}
 use Rattle.sm_ownership.specs.declared.mode.Mode.{Mode}
+use Rattle.sm_ownership.specs.declared.mode.Mode.TheVariants.{Direct}
 use Rattle.sm_ownership.specs.declared.record.Record.{Record}
 use Rattle.sm_table.specs.declared.hands.InHand.{InHand}
 use Rattle.sm_ownership.specs.Rules.{phase_fault, admit_fault}
@@ -67,6 +68,11 @@ module _ {Q : Type 0} where
   held_idle history longer admitted shard None idle held = held
   held_idle history longer admitted shard (Some hand) idle held = absurd (true≢false (sym held.0 ∙ idle))
 
+  -- nothing is in hand at an idle record
+  pub none_held : (history : List (Entry Q)) (admitted : Bool) (shard : ℕ) (hand : Option (InHand Q)) → admitted ≡ false → AgreesWithHand history admitted shard hand → hand ≡ None
+  none_held history admitted shard None idle held = refl
+  none_held history admitted shard (Some hand) idle held = absurd (true≢false (sym held.0 ∙ idle))
+
   -- what is in hand is so at a shard that is there
   pub hand_within : (hands : List (Option (InHand Q))) (shard : ℕ) (hand : InHand Q) → slice_index_or hands shard None ≡ Some hand → shard < length hands
   hand_within hands shard hand is =
@@ -74,6 +80,12 @@ module _ {Q : Type 0} where
       (λ (within : shard < length hands). within)
       (λ (past : length hands ≤ shard). let gone = get_or_past hands shard None past in absurd cc)
       (cases_lt shard (length hands))
+
+-- an element that is written twice
+pub set-set : {X : Type 0} (xs : List X) (i : ℕ) (a b : X) → slice_set (slice_set xs i a) i b ≡ slice_set xs i b
+set-set [] i a b = refl
+set-set (x ∷ xs) zero a b = refl
+set-set (x ∷ xs) (suc i) a b = ap (λ rest. x ∷ rest) (set-set xs i a b)
 
 -- an entry that may come next in a world, and what is then in hand
 record IsNext {Q : Type 0} (w : WorldState Q) (entry : Entry Q) (hands : List (Option (InHand Q))) : Type 0 where
@@ -203,3 +215,17 @@ module _ {Q : Type 0} (w : WorldState Q) (sound : IsSound w) where
         named = sound.named shard (omega arith);
         here = rw freed refl;
       })
+
+-- an admission that ends at once: nothing is in hand before it and after
+module _ {Q : Type 0} (w : WorldState Q) (sound : IsSound w) where
+  pub sound_admit_done : (server shard : ℕ) (ending : Ending Q) → shard < count_of w → IsServer server → admit_fault w.frame.ceiling (world_record w shard) server Direct ≡ None → IsSound (with_entry (with_entry w server shard (Admit server Direct)) server shard (Done ending))
+  sound_admit_done server shard ending within is none =
+      let hand : InHand Q = record { server = server; work = None } in
+      let held = sound_admit w sound server shard Direct hand within is refl none in
+      let count = sound.hands in
+      let there : slice_index_or (slice_set w.in_hand shard (Some hand)) shard None ≡ Some hand = get_or-set_same w.in_hand shard (Some hand) None (omega arith) in
+      let idle : (world_record w shard).admitted ≡ false = not-true (world_record w shard).admitted (and_parts (not (world_record w shard).admitted) _ (sym (admit_fault-none w.frame.ceiling (world_record w shard) server Direct) ∙ ap is_none none)).0 in
+      let free : slice_index_or w.in_hand shard None ≡ None = none_held w.history (world_record w shard).admitted shard (slice_index_or w.in_hand shard None) idle (sound.held shard within) in
+      let same : slice_set (slice_set w.in_hand shard (Some hand)) shard None ≡ w.in_hand = set-set w.in_hand shard (Some hand) None ∙ (ap (slice_set w.in_hand shard) (sym free) ∙ set-get_or w.in_hand shard None) in
+      subst (λ hands. IsSound (record (with_entry (with_entry w server shard (Admit server Direct)) server shard (Done ending)) { in_hand = hands })) same
+      (sound_done (with_hand (with_entry w server shard (Admit server Direct)) shard (Some hand)) held shard hand ending there)

@@ -21,18 +21,18 @@ use Rattle.sm_ownership.specs.declared.entry.Ending.TheVariants.{Nothing, Reques
 use Rattle.sm_ownership.specs.declared.mode.Mode.TheVariants.{Direct}
 use Rattle.sm_ownership.specs.declared.record.Record.{Record}
 use Rattle.sm_table.specs.declared.step.Step.{Step}
-use Rattle.sm_table.specs.declared.step.Step.TheVariants.{Control, Look, Send, Deliver, Finish, Lose, Hold, Free}
+use Rattle.sm_table.specs.declared.step.Step.TheVariants.{Control, Look, Send, Deliver, Finish, Lose, Hold, Free, Checkpoint}
 use Rattle.sm_ownership.specs.Rules.{admit_fault, forward_to}
 use Rattle.sm_desk.specs.Desk.{is_known, desk_change_fault}
 use Rattle.sm_envelope.specs.Envelope.{EnvelopeView, one_hop_more, sent_on}
 use Rattle.sm_envelope.specs.declared.envelope.TheConstants.{MOST_HOPS}
 use Rattle.sm_ownership.specs.History.{vacant, record_at, kept}
 use Rattle.sm_body.specs.Service.{Service}
-use Rattle.sm_table.specs.World.{Frame, WorldState, Mark, Plain, Unmade, Unserved, Outcome, count_of, world_record, desk_of, table_fault, controlled, after_look, after_send, flight_to, reached, after_hop, hopped, arrived, without_flight, delivered, after_lose, with_room, worked, served, held, after_hold, let_go, freed, after_free, empty_world, next, world_after, world_of}
+use Rattle.sm_table.specs.World.{Frame, WorldState, Mark, Plain, Unmade, Unserved, Outcome, count_of, world_record, desk_of, table_fault, controlled, after_look, after_send, flight_to, reached, after_hop, hopped, arrived, without_flight, delivered, after_lose, with_room, worked, served, held, after_hold, based, after_checkpoint, checkpoint_ending, let_go, freed, after_free, empty_world, next, world_after, world_of}
 use Rattle.sm_table.specs.Standing.{IsFrame, IsFlight, IsThere, AgreesWithHand, IsSound}
 use Rattle.sm_ownership.specs.lemmas.Growth.{record_at-empty}
 use Rattle.sm_table.specs.lemmas.Names.{known_forward}
-use Rattle.sm_table.specs.lemmas.Entries.{sound_change, sound_admit, sound_done}
+use Rattle.sm_table.specs.lemmas.Entries.{sound_change, sound_admit, sound_admit_done, sound_done}
 
 -- the empty world is sound
 pub sound_empty : {Q : Type 0} (frame : Frame) → IsFrame frame → IsSound {Q = Q} (empty_world frame)
@@ -146,6 +146,17 @@ module _ {Q : Type 0} (R : Type 0) (w : WorldState Q) (sound : IsSound w) where
       (λ _. sound))
       (λ _. sound)
 
+  sound_based : (shard server : ℕ) (fault : Option AdmitFault) → shard < count_of w → IsServer server → admit_fault w.frame.ceiling (world_record w shard) server Direct ≡ fault → LeavesSound (based w shard server fault)
+  sound_based shard server (Some fault) within is none = sound
+  sound_based shard server None within is none = sound_admit_done w sound server shard (checkpoint_ending (kept w.history shard)) within is none
+
+  sound_checkpoint : (shard server : ℕ) → LeavesSound (after_checkpoint w shard server)
+  sound_checkpoint shard server = cond_both (nat_lt shard (count_of w)) _ _ LeavesSound
+      (λ within. cond_both (is_known w.frame.servers server) _ _ LeavesSound
+      (λ known. sound_based shard server _ (ltb-true _ _ within) (known_server w.frame.servers server sound.frame.servers known) refl)
+      (λ _. sound))
+      (λ _. sound)
+
   sound_let_go : (shard : ℕ) (hand : InHand Q) (work : Option (Work Q)) → slice_index_or w.in_hand shard None ≡ Some hand → LeavesSound (let_go w shard hand.server work)
   sound_let_go shard hand None is = sound_done w sound shard hand Nothing is
   sound_let_go shard hand (Some work) is = sound
@@ -175,6 +186,7 @@ sound_next {R = R} service w mark (Finish shard) sound = sound_served R w sound 
 sound_next {R = R} service w mark (Lose place) sound = sound_lose R w sound place
 sound_next {R = R} service w mark (Hold shard server) sound = sound_hold R w sound shard server
 sound_next {R = R} service w mark (Free shard) sound = sound_free R w sound shard
+sound_next {R = R} service w mark (Checkpoint shard server) sound = sound_checkpoint R w sound shard server
 
 sound_after : {Q R : Type 0} (service : Service Q R) (w : WorldState Q) (steps : List (Mark × Step Q)) → IsSound w → IsSound (world_after service w steps)
 sound_after service w [] sound = sound

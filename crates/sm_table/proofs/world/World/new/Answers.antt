@@ -1,7 +1,8 @@
-use Rattle.std.proofs.Common.{◌≡◌, ap, refl, subst, ◌∙◌, None, length, replicate, arith}
+use Rattle.std.proofs.Common.{◌≡◌, ◌<◌, ◌^◌, ap, refl, subst, sym, ◌∙◌, None, length, replicate, arith}
 use Rattle.std.specs.Prelude.{All, map}
 use Rattle.sm_ranges.specs.ServerId.{IsServer}
 use Rattle.sm_ownership.specs.History.{vacant}
+use Rattle.sm_table.specs.Bodies.{no_past}
 use Rattle.sm_table.specs.Standing.{setup_frame}
 use Rattle.sm_table.proofs.Empties.{StandsFor-empty, IsTogether-empty}
 use Rattle.sm_table.proofs.world.World.new.Goals as goal
@@ -11,7 +12,8 @@ invariant_of-result g c =
     let bodies : length c.args.bodies.items ≡ length c.args.setup.layout = omega (arith, c.args.bodies.ok.0, c.requires.bodies) in
     IsTogether-empty (length c.args.setup.layout) refl
     (c.in_ok-new.ensures.records ∙ ap (λ count. replicate count vacant) c.count-count.ensures.value)
-    (c.new-2.ensures.length ∙ bodies)
+    (subst (λ ceiling. ceiling < 2 ^ 36) (sym c.in_ok-new.ensures.ceiling) c.requires.greatest_ceiling)
+    (c.in_ok-new-2.ensures.pasts ∙ ap (λ count. replicate count no_past) bodies)
     c.new-3.ensures.items
     (c.in_ok-none.ensures ∙ ap (λ count. replicate count None) c.count-count.ensures.value)
 
@@ -23,8 +25,7 @@ returns g c =
     refl refl c.requires.vacant
     (c.in_ok-new.ensures.records ∙ ap (λ count. replicate count vacant) c.count-count.ensures.value)
     c.in_ok-new.ensures.ceiling
-    (c.new-2.ensures.length ∙ bodies)
-    c.new-2.ensures.pasts
-    c.new-2.ensures.limits
+    (c.in_ok-new-2.ensures.pasts ∙ ap (λ count. replicate count no_past) bodies)
+    c.in_ok-new-2.ensures.limits
     c.new-3.ensures.items
     (c.in_ok-none.ensures ∙ ap (λ count. replicate count None) c.count-count.ensures.value)
