@@ -100,8 +100,8 @@ impl<S: Service> Board<S> {
         }
     }
 
-    // Says, for proofs alone, how many requests the shard had that the pass holds. It does nothing.
-    fn bounds(&self, pass: &Pass<S>)
+    /// Says, for proofs alone, how many requests the shard had that the pass holds. It does nothing.
+    pub fn bounds(&self, pass: &Pass<S>)
         requires board { pass.now.board ≡ self.now }
         ensures { length (all_held pass.now.held) < 2 ^ 36 }
     {

@@ -1,0 +1,4 @@
+pub mod Answers
+pub mod Basing
+pub mod Running
+pub mod Serving

@@ -1,0 +1,121 @@
+-- What a server tells of an envelope that came to it.
+use Rattle.std.specs.Prelude.{ℕ, Bool, true, false, ◌≡◌, ◌≤◌, ◌<◌, ◌⊎◌, ◌==◌, ◌&&◌, nat_lt, List, [], Option, Some, None, length}
+use Rattle.std.specs.List.{filter_map}
+use Rattle.sm_body.specs.Service.{Service}
+use Rattle.sm_envelope.specs.Envelope.{EnvelopeView, one_hop_more, shell_of}
+use Rattle.sm_envelope.specs.declared.envelope.TheConstants.{MOST_HOPS}
+use Rattle.sm_ownership.specs.declared.entry.Ending.TheVariants.{Nothing}
+use Rattle.sm_ownership.specs.declared.entry.Entry.{Entry}
+use Rattle.sm_ownership.specs.History.{ending_of, kept, request_of}
+use Rattle.sm_ownership.specs.Rules.{forward_to}
+use Rattle.sm_ranges.specs.Ranges.{shard_of}
+use Rattle.sm_rule.specs.declared.admit_refusal.AdmitRefusal.{AdmitRefusal}
+use Rattle.sm_rule.specs.declared.admit_refusal.AdmitRefusal.TheVariants as admission
+use Rattle.sm_rule.specs.Admissions.{RefusedBy}
+use Rattle.sm_rule.specs.Boards.{limit_at}
+use Rattle.sm_rule.specs.Passes.{PassValue, own, record_of}
+use Rattle.sm_rule.specs.Views.{Begins}
+use Rattle.sm_server.specs.declared.outcome.Outcome.{Outcome}
+use Rattle.sm_server.specs.declared.outcome.Outcome.TheVariants.{Answered, Forward, Refused}
+use Rattle.sm_server.specs.declared.refusal.Refusal.{Refusal}
+use Rattle.sm_server.specs.declared.refusal.Refusal.TheVariants.{WrongShard, TooManyHops, Admit as NotAdmitted, KeptFull, NoMemory}
+use Rattle.sm_server.specs.Answers.{AnswerValue, IsAnswer, run_of}
+
+-- the envelope of a request, with a note of what its sender has seen
+abbrev pub Sent : Type 0 → Type 0
+Sent Q = EnvelopeView Q (PassValue Q)
+
+-- the envelope's shard is one of so many, and the one whose range covers the request's key
+abbrev pub is_here : {Q R N : Type 0} → Service Q R → List (List ℕ) → ℕ → EnvelopeView Q N → Bool
+is_here service bounds count envelope = nat_lt envelope.shard count && (shard_of bounds (service.key_of envelope.request) == envelope.shard)
+
+-- the requests that entries say were executed
+abbrev pub requests_in : {Q : Type 0} → List (Entry Q) → List Q
+requests_in entries = filter_map (λ entry. request_of (ending_of entry.kind)) entries
+
+-- the request was executed once: the answer's history extends what the pass and the envelope's note had seen
+pub record IsAnswered {Q R : Type 0} (service : Service Q R) (before : PassValue Q) (envelope : Sent Q) (answer : AnswerValue Q R) : Type 0 where
+  pub number : answer.number ≡ envelope.number
+  pub server : before.server ≡ Some answer.server
+  pub board : answer.note.board ≡ before.board
+  pub seen : Begins before.seen answer.note.seen
+  pub told : Begins envelope.note.seen answer.note.seen
+  pub executed : IsAnswer service envelope.shard envelope.mode envelope.request answer
+
+-- an envelope comes back with its request, and with its note or one that has seen more and executed nothing
+pub record IsHandedBack {Q : Type 0} (envelope back : Sent Q) : Type 0 where
+  pub request : back.request ≡ envelope.request
+  pub board : back.note.board ≡ envelope.note.board
+  pub told : Begins envelope.note.seen back.note.seen
+  pub idle : (back.note ≡ envelope.note) ⊎ (requests_in (own back.note.number back.note.seen) ≡ [])
+
+-- the point by which an envelope comes back: what the pass has then seen, where the note is the old one, or what the new note has
+pub record IsPoint {Q : Type 0} (before after : PassValue Q) (envelope back : Sent Q) (point : PassValue Q) : Type 0 where
+  pub board : point.board ≡ before.board
+  pub seen : Begins before.seen point.seen
+  pub whose : ((point ≡ after) × (back.note ≡ envelope.note)) ⊎ (point ≡ back.note)
+
+-- the shard's record at a point has the pass's server forward to this one, and the envelope has gone one hop more
+pub record IsForwarded {Q : Type 0} (before after : PassValue Q) (envelope : Sent Q) (to : ℕ) (back : Sent Q) : Type 0 where
+  pub point : PassValue Q
+  pub is_point : IsPoint before after envelope back point
+  pub server : ℕ
+  pub is_own : before.server ≡ Some server
+  pub forwards : forward_to (record_of point envelope.shard) server ≡ Some to
+  pub hops : envelope.hops < MOST_HOPS
+  pub shell : shell_of back ≡ shell_of (one_hop_more envelope server)
+
+-- the record would have the server forward the envelope, which went as many hops as it may
+pub record IsTooFar {Q : Type 0} (before after : PassValue Q) (envelope back : Sent Q) : Type 0 where
+  pub point : PassValue Q
+  pub is_point : IsPoint before after envelope back point
+  pub server : ℕ
+  pub is_own : before.server ≡ Some server
+  pub to : ℕ
+  pub forwards : forward_to (record_of point envelope.shard) server ≡ Some to
+  pub hops : MOST_HOPS ≤ envelope.hops
+
+-- a server doesn't forward by the record that refused its admission; of an admission that was overtaken nothing is said
+abbrev pub NotForwarding : Option ℕ → AdmitRefusal → Type 0
+NotForwarding (Some server) (admission.Refused fault state) = forward_to state server ≡ None
+NotForwarding server refusal = Unit {0}
+
+-- the admission was refused by the record at a point, or overtaken
+pub record IsNotAdmitted {Q : Type 0} (before after : PassValue Q) (envelope back : Sent Q) (refusal : AdmitRefusal) : Type 0 where
+  pub point : PassValue Q
+  pub is_point : IsPoint before after envelope back point
+  pub refused : RefusedBy before point envelope.shard envelope.mode refusal
+  pub stays : NotForwarding before.server refusal
+
+-- the server was admitted, and the admission ended with nothing; the new note did that and no more
+pub record IsUnserved {Q : Type 0} (before : PassValue Q) (envelope back : Sent Q) : Type 0 where
+  pub seen : Begins before.seen back.note.seen
+  pub server : ℕ
+  pub is_own : before.server ≡ Some server
+  pub ran : own back.note.number back.note.seen ≡ run_of back.note.number envelope.shard server envelope.mode Nothing
+
+-- as many requests as the shard keeps at most
+abbrev pub limit_of : {Q : Type 0} → PassValue Q → ℕ → ℕ
+limit_of pass shard = limit_at pass.board.limits shard
+
+-- why an envelope comes back
+abbrev pub RefusedFor : {Q : Type 0} → PassValue Q → PassValue Q → Sent Q → Sent Q → Refusal → Type 0
+RefusedFor before after envelope back WrongShard = back ≡ envelope
+RefusedFor before after envelope back TooManyHops = IsTooFar before after envelope back
+RefusedFor before after envelope back (NotAdmitted refusal) = IsNotAdmitted before after envelope back refusal
+RefusedFor before after envelope back KeptFull =
+    IsUnserved before envelope back × (limit_of before envelope.shard ≤ length (kept back.note.seen envelope.shard))
+RefusedFor before after envelope back NoMemory =
+    IsUnserved before envelope back × (length (kept back.note.seen envelope.shard) < limit_of before envelope.shard)
+
+abbrev pub is_of_shard : Refusal → Bool
+is_of_shard WrongShard = false
+is_of_shard _ = true
+
+-- what a server tells of an envelope that is here or not, by what its pass had seen before and has after
+abbrev pub Served : {Q R : Type 0} → Service Q R → Bool → PassValue Q → PassValue Q → Sent Q → Outcome (AnswerValue Q R) (Sent Q) → Type 0
+Served service here before after envelope (Answered answer) = (here ≡ true) × IsAnswered service before envelope answer
+Served service here before after envelope (Forward to back) =
+    (here ≡ true) × IsHandedBack envelope back × IsForwarded before after envelope to back
+Served service here before after envelope (Refused refusal back) =
+    (here ≡ is_of_shard refusal) × IsHandedBack envelope back × (shell_of back ≡ shell_of envelope) × RefusedFor before after envelope back refusal

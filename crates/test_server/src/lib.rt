@@ -1,0 +1,11 @@
+//! Tests of what a server does with envelopes.
+#![tactic(auto)]
+
+#[cfg(test)]
+mod calls;
+#[cfg(test)]
+mod migrating;
+#[cfg(test)]
+mod serving;
+#[cfg(test)]
+mod threads;
