@@ -38,9 +38,10 @@ Requests, as put m hello, and at 1 get m:
   scan LOW HIGH MAX the first MAX pairs of LOW's shard with keys from LOW on and below HIGH, at most 100
   at A REQUEST      a request to server A, where the others go to the owner
 
-Looking and holding, as look 0:
+Looking, holding and checkpoints, as look 0:
   look K            the record of shard K
   hold K A, free K  server A is admitted to shard K without a request; its end
+  checkpoint K A    server A makes what shard K holds its base: it has room for requests again
 
 Each command has one answer line. An empty line and a line that begins with # have none.
 

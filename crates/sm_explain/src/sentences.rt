@@ -27,7 +27,7 @@ const FORMS: [Entry; 31] = [
     ("reassign", "reassign takes two words: reassign K B"),
     ("hold", "hold takes two words: hold K A"),
     ("free", "free takes one word: free K"),
-    ("checkpoint", "checkpoint takes one word: checkpoint K"),
+    ("checkpoint", "checkpoint takes two words: checkpoint K A"),
     ("ask", "ask takes one word: ask A"),
     ("approve", "approve takes one word: approve A"),
     ("stopped", "stopped takes one word: stopped A"),
