@@ -23,11 +23,7 @@ fn count_of(reply: Option<Reply>) -> Option<i64> {
 }
 
 // Counts 7 more under an admission of the pass, and tells the sum; none where that isn't done.
-fn counted(
-    board: &Board<CounterText>,
-    pass: &mut Pass<CounterText>,
-    alloc: Global,
-) -> Option<i64>
+fn counted(board: &Board<CounterText>, pass: &mut Pass<CounterText>, alloc: Global) -> Option<i64>
     requires board { pass.old.board ≡ board.now }
     requires shards { board.now.limits.count ≡ 1 }
     requires free { pass.old.held ≡ None }

@@ -23,10 +23,16 @@ count_of_others servers r shards k a cell d own count counts shard inside ranked
 
 pub overflow_sub-result : goal.overflow_sub-result
 overflow_sub-result c =
-    omega (arith, count_of_others _ _ _ _ _ _ _ _ _ _ _ c.requires.shard c.requires.domains c.requires.cells c.requires.known c.requires.counts
-    c.shard_at-shard.ensures c.cell-cell.ensures (ap (λ (r : ServerRow). r.domain) c.row.ensures) c.count_by.ensures c.from.ensures)
+    omega (
+      arith,
+      count_of_others _ _ _ _ _ _ _ _ _ _ _ c.requires.shard c.requires.domains c.requires.cells c.requires.known c.requires.counts
+          c.shard_at-shard.ensures c.cell-cell.ensures (ap (λ (r : ServerRow). r.domain) c.row.ensures) c.count_by.ensures c.from.ensures,
+    )
 
 pub returns : goal.returns
 returns c =
-    omega (arith, count_of_others _ _ _ _ _ _ _ _ _ _ _ c.requires.shard c.requires.domains c.requires.cells c.requires.known c.requires.counts
-    c.shard_at-shard.ensures c.cell-cell.ensures (ap (λ (r : ServerRow). r.domain) c.row.ensures) c.count_by.ensures c.from.ensures)
+    omega (
+      arith,
+      count_of_others _ _ _ _ _ _ _ _ _ _ _ c.requires.shard c.requires.domains c.requires.cells c.requires.known c.requires.counts
+          c.shard_at-shard.ensures c.cell-cell.ensures (ap (λ (r : ServerRow). r.domain) c.row.ensures) c.count_by.ensures c.from.ensures,
+    )
