@@ -1,2 +1,3 @@
-pub mod Known
-pub mod Risings
+mod Holding
+mod Rooms
+mod Sounding

@@ -1,45 +1,105 @@
--- The desk: what the control knows when it checks a command.
-use Rattle.std.specs.Prelude.{ℕ, Bool, false, Option, Some, None, ◌==◌, nat_lt, not, if◌then◌else◌, unwrap_or, List, length, slice_index_or, slice_set}
-use Rattle.std.specs.List.{list_any}
-use Rattle.std.specs.Option.{option_map}
+-- The desk: what the control knows when it checks a command. Rules of stands, of room and of approvals are those of the
+-- crates below; here stand their order, and what a command leaves.
+use Rattle.std.specs.Prelude.{ℕ, Bool, true, false, Option, Some, None, nat_lt, not, if◌then◌else◌, unwrap_or, List, length, map, ◌||◌}
+use Rattle.std.specs.Option.{option_map, option_or}
+use Rattle.std.specs.Result.{result_err}
 use Rattle.sm_ranges.specs.declared.stand.Stand.{Stand}
-use Rattle.sm_ranges.specs.declared.stand.Stand.TheVariants.{Vacant}
+use Rattle.sm_ranges.specs.declared.stand.Stand.TheVariants.{Paused}
+use Rattle.sm_rows.specs.declared.server_row.ServerRow.{ServerRow}
 use Rattle.sm_ownership.specs.declared.change.Change.{Change as AnyChange}
+use Rattle.sm_ownership.specs.declared.change.Change.TheVariants.{Resume}
 use Rattle.sm_ownership.specs.declared.change_fault.ChangeFault.TheVariants.{UnknownShard}
-use Rattle.sm_desk.specs.declared.command.Command.{Command}
-use Rattle.sm_desk.specs.declared.command.Command.TheVariants.{Change}
-use Rattle.sm_desk.specs.declared.command.CommandFault.{CommandFault}
-use Rattle.sm_desk.specs.declared.command.CommandFault.TheVariants.{UnknownServer, Change as ChangeRefused}
 use Rattle.sm_ownership.specs.Rules.{stand_after, phase_fault, newly_named}
 use Rattle.sm_ownership.specs.Tables.{change_fault_of}
+use Rattle.sm_place.specs.declared.place_fault.PlaceFault.TheVariants.{Leaving}
+use Rattle.sm_place.specs.declared.server_state.ServerState.TheVariants.{Up as IsUp, Asked as IsAsked, Approved as IsApproved, Stopped as IsStopped, Failed as IsFailed}
+use Rattle.sm_place.specs.Books.{BooksView, place_of, shard_at, state_of, with_stand, with_state}
+use Rattle.sm_place.specs.Room.{fit}
+use Rattle.sm_place.specs.ServerState.{is_leaving}
+use Rattle.sm_tasks.specs.States.{is_failed, is_stopped}
+use Rattle.sm_tasks.specs.Approvals.{approvable, askable, failable, returnable, stoppable}
+use Rattle.sm_desk.specs.declared.command.Command.{Command}
+use Rattle.sm_desk.specs.declared.command.Command.TheVariants.{Change, Ask, Approve, Stopped, Back, Fail}
+use Rattle.sm_desk.specs.declared.command.CommandFault.{CommandFault}
+use Rattle.sm_desk.specs.declared.command.CommandFault.TheVariants.{UnknownServer, Change as ChangeRefused, Place, Ask as AskRefused, Approve as ApproveRefused, Stopped as StoppedRefused, Back as BackRefused, Fail as FailRefused}
 
--- the servers that exist, and the stand of each shard
+-- the books, and how many servers may be leaving for an approval
 pub record DeskView : Type 0 where
-  pub servers : List ℕ
-  pub stands : List Stand
+  pub books : BooksView
+  pub ops : ℕ
 
-abbrev pub is_known : List ℕ → ℕ → Bool
-is_known servers server = list_any (λ known. known == server) servers
+abbrev pub is_known : List ServerRow → ℕ → Bool
+is_known servers server = nat_lt (place_of servers server) (length servers)
 
-abbrev pub is_unknown : List ℕ → Option ℕ → Bool
+abbrev pub is_unknown : List ServerRow → Option ℕ → Bool
 is_unknown servers None = false
 is_unknown servers (Some server) = not (is_known servers server)
 
-abbrev pub stand_at : List Stand → ℕ → Stand
-stand_at stands shard = slice_index_or stands shard Vacant
+-- whether the command is a step of a server's restart, and no change of a shard
+abbrev pub is_restart : Command → Bool
+is_restart (Change shard change) = false
+is_restart command = true
+
+-- the stands of the shards
+abbrev pub stands_of : DeskView → List Stand
+stands_of desk = map (λ shard. shard.stand) desk.books.shards
+
+-- whether requests reach the server: they don't where it is stopped or failed
+abbrev pub is_reached : DeskView → ℕ → Bool
+is_reached desk server = not (is_stopped (state_of desk.books server) || is_failed (state_of desk.books server))
+
+-- why the shard has no room on the server that a change newly names
+abbrev pub room_fault : BooksView → ℕ → Option ℕ → Option CommandFault
+room_fault books shard None = None
+room_fault books shard (Some server) = option_map Place (result_err (fit books shard server))
+
+-- the owner that is to execute again
+abbrev pub resumed : Stand → AnyChange → Option ℕ
+resumed (Paused owner) Resume = Some owner
+resumed _ _ = None
+
+-- why that owner may not
+abbrev pub resume_fault : BooksView → Option ℕ → Option CommandFault
+resume_fault books None = None
+resume_fault books (Some owner) = if is_leaving (state_of books owner) then Some (Place Leaving) else None
 
 -- the first reason for which the desk refuses a change of a shard
-abbrev pub desk_change_fault : DeskView → ℕ → AnyChange → Option CommandFault
-desk_change_fault desk shard change =
-    if not (nat_lt shard (length desk.stands)) then Some (ChangeRefused UnknownShard)
-    else if is_unknown desk.servers (newly_named change) then Some UnknownServer
-    else option_map (λ fault. ChangeRefused (change_fault_of fault)) (phase_fault (stand_at desk.stands shard) change)
+abbrev pub desk_change_fault : BooksView → ℕ → AnyChange → Option CommandFault
+desk_change_fault books shard change =
+    let stand = (shard_at books.shards shard).stand in
+    if not (nat_lt shard (length books.shards)) then Some (ChangeRefused UnknownShard)
+    else if is_unknown books.servers (newly_named change) then Some UnknownServer
+    else option_or (option_map (λ fault. ChangeRefused (change_fault_of fault)) (phase_fault stand change))
+    (option_or (room_fault books shard (newly_named change)) (resume_fault books (resumed stand change)))
+
+-- the fault of a step of the server's restart, where the server has a row
+abbrev pub restart_fault : BooksView → ℕ → Option CommandFault → Option CommandFault
+restart_fault books server fault = if is_known books.servers server then fault else Some UnknownServer
 
 -- the first reason for which the desk refuses a command
 abbrev pub desk_fault : DeskView → Command → Option CommandFault
-desk_fault desk (Change shard change) = desk_change_fault desk shard change
+desk_fault desk (Change shard change) = desk_change_fault desk.books shard change
+desk_fault desk (Ask server) = restart_fault desk.books server (option_map AskRefused (result_err (askable desk.books server)))
+desk_fault desk (Approve server) = restart_fault desk.books server (option_map ApproveRefused (result_err (approvable desk.ops desk.books server)))
+desk_fault desk (Stopped server) = restart_fault desk.books server (option_map StoppedRefused (result_err (stoppable desk.books server)))
+desk_fault desk (Back server) = restart_fault desk.books server (option_map BackRefused (result_err (returnable desk.books server)))
+desk_fault desk (Fail server) = restart_fault desk.books server (option_map FailRefused (result_err (failable desk.books server)))
+
+-- the books after a change that isn't refused
+abbrev pub books_changed : BooksView → ℕ → AnyChange → BooksView
+books_changed books shard change =
+    let stand = (shard_at books.shards shard).stand in
+    record books { shards = with_stand books.shards shard (unwrap_or (stand_after stand change) stand) }
+
+-- the books after a command that the desk doesn't refuse
+abbrev pub books_commanded : BooksView → Command → BooksView
+books_commanded books (Change shard change) = books_changed books shard change
+books_commanded books (Ask server) = with_state books server IsAsked
+books_commanded books (Approve server) = with_state books server IsApproved
+books_commanded books (Stopped server) = with_state books server IsStopped
+books_commanded books (Back server) = with_state books server IsUp
+books_commanded books (Fail server) = with_state books server IsFailed
 
 -- the desk after a command that it doesn't refuse
-abbrev pub desk_after : DeskView → Command → DeskView
-desk_after desk (Change shard change) =
-    record desk { stands = slice_set desk.stands shard (unwrap_or (stand_after (stand_at desk.stands shard) change) (stand_at desk.stands shard)) }
+abbrev pub commanded : DeskView → Command → DeskView
+commanded desk command = record { books = books_commanded desk.books command; ops = desk.ops }

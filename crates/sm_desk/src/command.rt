@@ -1,6 +1,9 @@
 use sm_ownership::change::Change;
 use sm_ownership::change_fault::ChangeFault;
+use sm_place::PlaceFault;
+use sm_ranges::server_id::ServerId;
 use sm_ranges::shard_id::ShardId;
+use sm_tasks::{AlreadyFailed, AlreadyUp, ApproveFault, NotUp, StoppedFault};
 use thiserror::Error;
 
 /// A command of the control.
@@ -8,10 +11,20 @@ use thiserror::Error;
 pub enum Command {
     /// Changes the stand of the shard.
     Change(ShardId, Change),
+    /// Asks for a restart of the server.
+    Ask(ServerId),
+    /// Approves the restart of the server.
+    Approve(ServerId),
+    /// Notes that the server was stopped for its restart.
+    Stopped(ServerId),
+    /// Notes that the server is up again.
+    Back(ServerId),
+    /// Notes that the server failed.
+    Fail(ServerId),
 }
 
-/// Why a command was refused. The first that applies is answered: an unknown shard, an unknown server, and then the other
-/// reasons of the ownership table, in their order.
+/// Why a command was refused. The first that applies is answered. Of a change: an unknown shard, an unknown server, the other
+/// reasons of the shard's stand, and then those of the server that the change newly names, or has execute again.
 #[derive(Clone, Copy, Debug, PartialEq, Eq, Drop, Error)]
 pub enum CommandFault {
     /// There is no such server.
@@ -20,6 +33,24 @@ pub enum CommandFault {
     /// The ownership table doesn't allow the change.
     #[error("{0}")]
     Change(ChangeFault),
+    /// The server has no room for the shard, or is leaving.
+    #[error("{0}")]
+    Place(PlaceFault),
+    /// The restart can't be asked for.
+    #[error("{0}")]
+    Ask(NotUp),
+    /// The restart isn't approved.
+    #[error("{0}")]
+    Approve(ApproveFault),
+    /// The server may not be stopped.
+    #[error("{0}")]
+    Stopped(StoppedFault),
+    /// The server was up.
+    #[error("{0}")]
+    Back(AlreadyUp),
+    /// The server had failed.
+    #[error("{0}")]
+    Fail(AlreadyFailed),
 }
 
 impl From<ChangeFault> for CommandFault {

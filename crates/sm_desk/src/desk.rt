@@ -1,109 +1,112 @@
-ghost use Rattle.std.specs.Prelude.{◌≡◌, ℕ, All, IfOk, None, replicate};
-ghost use Rattle.std.specs.List.Sorted.{IsStrictlyIncreasing};
+ghost use Rattle.std.specs.Prelude.{◌≡◌, None};
 ghost use Rattle.std.specs.Result.{result_err};
-ghost use Rattle.sm_ranges.specs.ServerId.{IsServer};
-ghost use Rattle.sm_desk.specs.Desk.{is_known, desk_change_fault, desk_fault, desk_after};
+ghost use Rattle.sm_place.specs.Sound.{AreSound};
+ghost use Rattle.sm_tasks.specs.Caps.{MeetsCaps};
+ghost use Rattle.sm_desk.specs.Desk.{commanded, desk_fault, is_known, is_reached};
 
+use crate::changes::{check_change, commit_change};
 use crate::command::{Command, CommandFault};
-use sm_ownership::change::Change;
-use sm_ownership::change_fault::ChangeFault;
+use crate::laws::commands_keep_caps;
+use crate::restarts::{check_approve, check_ask, check_back, check_fail, check_stopped};
+use sm_place::{Books, ServerState};
 use sm_ranges::server_id::ServerId;
-use sm_ranges::shard_id::ShardId;
-use sm_ranges::stand::Stand;
-use std::alloc::{AllocError, Global};
-use std::collections::BTreeSet;
+use sm_tasks::Tasks;
 use std::marker::Model;
 
-/// What the control checks its commands against: the servers that exist, and the stand of each shard.
-#[derive(Debug, Drop)]
+/// What the control checks its commands against: the books, and how many servers may be leaving for an approval.
+/// At all times the books have room, and the caps of approved restarts are kept.
+#[derive(Drop)]
 pub struct Desk {
-    // The servers' numbers.
-    servers: BTreeSet<u16>,
-    stands: Vec<Stand>,
+    books: Books,
+    tasks: Tasks,
 }
 
 impl Model for Desk {
-    ghost use Rattle.std.specs.Prelude.{All};
-    ghost use Rattle.sm_ranges.specs.ServerId.{IsServer};
+    ghost use Rattle.sm_tasks.specs.Caps.{MeetsCaps};
     ghost use Rattle.sm_desk.specs.Desk.{DeskView};
 
     ghost Value = { DeskView };
 
-    ghost view = { λ desk. record { servers = desk.servers.keys; stands = desk.stands.items } };
+    ghost view = { λ desk. record { books = desk.books; ops = desk.tasks } };
 
-    ghost invariant = { λ desk. All IsServer desk.servers.keys };
+    ghost invariant = { λ desk. MeetsCaps desk.tasks desk.books };
 }
 
 impl Desk {
-    /// A desk with these servers, where each of so many shards is vacant.
-    pub fn plain(alloc: Global, count: usize, servers: &[ServerId]) -> Result<Desk, AllocError>
-        ensures servers { IfOk result
-            (λ desk. (server : ℕ) → is_known desk.servers server ≡ is_known servers.now server) }
-        ensures numbers { IfOk result (λ desk. All IsServer desk.servers) }
-        ensures rising { IfOk result (λ desk. IsStrictlyIncreasing servers.now → desk.servers ≡ servers.now) }
-        ensures stands { IfOk result (λ desk. desk.stands ≡ replicate count Stand.Vacant) }
+    /// A desk over these books, which keep the caps.
+    pub fn new(books: Books, tasks: Tasks) -> Desk
+        requires { MeetsCaps tasks books }
+        ensures books { result.books ≡ books }
+        ensures ops { result.ops ≡ tasks }
     {
-        Ok(Desk {
-            servers: numbers_of(alloc, servers)?,
-            stands: vec![in alloc; Stand::Vacant; count]?,
-        })
+        Desk { books, tasks }
+    }
+
+    /// The books.
+    pub fn books(&self) -> &Books
+        ensures { result.now ≡ self.now.books }
+    {
+        &self.books
+    }
+
+    /// Says, for proofs alone, that the books are sound, and that the caps are kept. It does nothing.
+    pub fn soundness(&self)
+        ensures books { AreSound self.now.books }
+        ensures caps { MeetsCaps self.now.ops self.now.books }
+    {
+        self.books.soundness();
     }
 
     /// Whether the server exists.
     pub fn knows(&self, server: ServerId) -> bool
-        ensures { result ≡ is_known self.now.servers server }
+        ensures { result ≡ is_known self.now.books.servers server }
     {
-        self.servers.contains(&server.number())
+        self.books.knows(server)
     }
 
-    /// Whether the servers and the stands allow the command, or the first fault that applies. `Spent` and `Busy` are
-    /// for the ownership table to answer.
+    /// Whether requests reach the server. They don't where it is Stopped or Failed.
+    pub fn reaches(&self, server: ServerId) -> bool
+        ensures { result ≡ is_reached self.now server }
+    {
+        self.books.soundness();
+        if !self.books.knows(server) {
+            return true;
+        }
+        !matches!(
+            self.books.state(server),
+            ServerState::Stopped | ServerState::Failed
+        )
+    }
+
+    /// Whether books and caps allow the command, or the first fault that applies. `Spent` and `Busy` are for the ownership
+    /// table to answer.
     pub fn check(&self, command: &Command) -> Result<(), CommandFault>
         ensures { result_err result ≡ desk_fault self.now command.now }
     {
         match command {
-            Command::Change(k, change) => self.check_change(*k, change),
+            Command::Change(k, change) => check_change(&self.books, *k, change),
+            Command::Ask(a) => check_ask(&self.tasks, &self.books, *a),
+            Command::Approve(a) => check_approve(&self.tasks, &self.books, *a),
+            Command::Stopped(a) => check_stopped(&self.tasks, &self.books, *a),
+            Command::Back(a) => check_back(&self.tasks, &self.books, *a),
+            Command::Fail(a) => check_fail(&self.tasks, &self.books, *a),
         }
     }
 
-    fn check_change(&self, k: ShardId, change: &Change) -> Result<(), CommandFault>
-        ensures { result_err result ≡ desk_change_fault self.now k change.now }
-    {
-        if k.index() >= self.stands.len() {
-            return Err(ChangeFault::UnknownShard.into());
-        }
-        if let Some(server) = change.newly_named() {
-            if !self.knows(server) {
-                return Err(CommandFault::UnknownServer);
-            }
-        }
-        if let Err(fault) = change.apply_to(self.stands[k.index()]) {
-            return Err(ChangeFault::from(fault).into());
-        }
-        Ok(())
-    }
-
-    /// Sets the stand that the command leads to. The desk doesn't refuse the command.
+    /// Makes the change or the step of a restart. The desk doesn't refuse the command.
     pub fn commit(&mut self, command: Command)
         requires { desk_fault self.old command ≡ None }
-        ensures { self.new ≡ desk_after self.old command }
+        ensures { self.new ≡ commanded self.old command }
     {
-        let Command::Change(k, change) = command;
-        let stand = &mut self.stands[k.index()];
-        *stand = change.apply_to(*stand).unwrap();
+        commands_keep_caps();
+        self.books.soundness();
+        match command {
+            Command::Change(k, change) => commit_change(&mut self.books, k, change),
+            Command::Ask(a) => self.books.set_state(a, ServerState::Asked),
+            Command::Approve(a) => self.books.set_state(a, ServerState::Approved),
+            Command::Stopped(a) => self.books.set_state(a, ServerState::Stopped),
+            Command::Back(a) => self.books.set_state(a, ServerState::Up),
+            Command::Fail(a) => self.books.set_state(a, ServerState::Failed),
+        }
     }
-}
-
-// The numbers of the servers.
-fn numbers_of(alloc: Global, servers: &[ServerId]) -> Result<BTreeSet<u16>, AllocError>
-    ensures same { IfOk result
-        (λ numbers. (server : ℕ) → is_known numbers.keys server ≡ is_known servers.now server) }
-    ensures rising { IfOk result (λ numbers. IsStrictlyIncreasing servers.now → numbers.keys ≡ servers.now) }
-    ensures servers { IfOk result (λ numbers. All IsServer numbers.keys) }
-{
-    let mut numbers = BTreeSet::new(alloc);
-    for server in servers {
-        numbers.insert(server.number())?;
-    }
-    Ok(numbers)
 }

@@ -1,7 +1,7 @@
 //! The commands of the control, and the desk that checks them.
 //!
 //! ```rust
-//! let mut desk = Desk::plain(rt.alloc(), 2, &[one, two])?;
+//! let mut desk = Desk::new(books, Tasks::new(1));
 //! let assign = Command::Change(k, Change::Assign(one));
 //! desk.check(&assign)?;
 //! desk.commit(assign);
@@ -12,8 +12,11 @@
 //! ```
 #![tactic(auto)]
 
+mod changes;
 pub mod command;
 pub mod desk;
+pub mod laws;
+mod restarts;
 
 pub use command::{Command, CommandFault};
 pub use desk::Desk;

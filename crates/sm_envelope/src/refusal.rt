@@ -13,6 +13,9 @@ pub enum Refusal {
     /// The shard keeps as many requests as it may.
     #[error("the shard keeps as many requests as it may")]
     KeptFull,
+    /// The server that the request is forwarded to isn't reached.
+    #[error("the server isn't reached")]
+    Unreachable,
     /// Memory for the request was refused.
     #[error("out of memory")]
     NoMemory,

@@ -1,5 +1,5 @@
 -- What the step that ends a call, and the call's answer, say of each other.
-use Rattle.std.proofs.Common.{◌≡◌, true, ap, sym, ◌∙◌, subst, refl, Ok, Err, Result, Some, is_some, IfOk}
+use Rattle.std.proofs.Common.{◌≡◌, true, false, ap, sym, ◌∙◌, subst, refl, Ok, Err, Result, Some, is_some, IfOk}
 use Rattle.std.specs.declared.alloc.AllocError.{AllocError}
 use Rattle.sm_envelope.specs.declared.refusal.Refusal.TheVariants as refusal
 use Rattle.sm_script.specs.declared.answer.Answer.{Answer}
@@ -13,7 +13,8 @@ use Rattle.sm_table.specs.declared.world_fault.WorldFault.{WorldFault}
 use Rattle.sm_table.specs.declared.world_fault.WorldFault.TheVariants as fault
 use Rattle.sm_table.specs.Standing.{Follows, WorldView}
 use Rattle.sm_table.specs.World.{WorldState, Mark, Plain, mark_of, outcome}
-use Rattle.sm_model.specs.Calls.{answer_of, counter_text, stepped}
+use Rattle.sm_model.specs.Calls.{answer_of, counter_text, is_plan, stepped}
+use Rattle.sm_model.proofs.Planning.{answered-steps}
 use Rattle.sm_model.specs.Sessions.{Ends, GivesAnswer, HasAnswer, IsIdle}
 
 -- a step that has an answer went as it should
@@ -25,6 +26,7 @@ plain_of_answer (Ok (Began server)) some = refl
 plain_of_answer (Ok (Forwarded server)) some = refl
 plain_of_answer (Ok (Refused refusal.TooManyHops)) some = refl
 plain_of_answer (Ok (Refused (refusal.Admit reason))) some = refl
+plain_of_answer (Ok (Refused refusal.Unreachable)) some = refl
 plain_of_answer (Ok (Refused refusal.KeptFull)) some = refl
 plain_of_answer (Ok (Refused refusal.NoMemory)) some = cc
 plain_of_answer (Ok (Replied number server reply place)) some = refl
@@ -32,6 +34,7 @@ plain_of_answer (Err (fault.Command reason)) some = refl
 plain_of_answer (Err (fault.Admit reason)) some = refl
 plain_of_answer (Err fault.UnknownShard) some = refl
 plain_of_answer (Err fault.UnknownServer) some = refl
+plain_of_answer (Err fault.Unreachable) some = refl
 plain_of_answer (Err fault.NoEnvelope) some = refl
 plain_of_answer (Err fault.NotHeld) some = refl
 plain_of_answer (Err fault.NoMemory) some = cc
@@ -50,7 +53,7 @@ idle_after before after call ended idle ends = (ends idle.0 idle.1).0
 
 -- the answer to a call that ended as it should
 pub gives_answer : (before after : WorldView Request) (call : Call) (ended : Result (WorldAnswer Reply) WorldFault) (result : Result Answer AllocError)
-    → IfOk result (λ answer. answer_of ended ≡ Some answer) → Ends before call ended after → IfOk result (λ answer. GivesAnswer before call answer after)
-gives_answer before after call ended (Ok answer) is ends =
-    λ w at. let end = (ends w at).1 (plain_of_answer ended (ap is_some is)) in (sym (ap answer_of end.answered) ∙ is, end.stands)
-gives_answer before after call ended (Err fault) is ends = tt
+    → IfOk result (λ answer. answer_of ended ≡ Some answer) → is_plan call ≡ false → Ends before call ended after → IfOk result (λ answer. GivesAnswer before call answer after)
+gives_answer before after call ended (Ok answer) is steps ends =
+    λ w at. let end = (ends w at).1 (plain_of_answer ended (ap is_some is)) in (answered-steps w call steps ∙ (sym (ap answer_of end.answered) ∙ is), end.stands)
+gives_answer before after call ended (Err fault) is steps ends = tt

@@ -1,7 +1,7 @@
 -- How a call ends, from what each of its steps came to.
 use Rattle.std.proofs.Common.{◌≡◌, ℕ, Bool, true, false, List, [], if◌then◌else◌, ap, sym, ◌∙◌, subst, refl, Option, Some, None, Ok, Err, Result, is_some, nat_lt, length, slice_index_or}
 use Rattle.std.proofs.lemmas.Bool.{true≢false}
-use Rattle.sm_desk.specs.Desk.{is_known}
+use Rattle.sm_desk.specs.Desk.{is_reached}
 use Rattle.sm_envelope.specs.declared.envelope.TheConstants.{MOST_HOPS}
 use Rattle.sm_envelope.specs.declared.refusal.Refusal.TheVariants as refusal
 use Rattle.sm_ownership.specs.declared.admit_fault.AdmitFault.{AdmitFault}
@@ -25,7 +25,7 @@ use Rattle.sm_table.specs.declared.world_answer.WorldAnswer.TheVariants.{Made, S
 use Rattle.sm_table.specs.declared.world_fault.WorldFault.{WorldFault}
 use Rattle.sm_table.specs.declared.world_fault.WorldFault.TheVariants as fault
 use Rattle.sm_table.specs.Standing.{Follows, GoesAs, StandsFor, WorldView}
-use Rattle.sm_table.specs.World.{WorldState, Mark, Plain, Unmade, Unserved, based, count_of, ended, mark_of, may_go, outcome, served, with_room, worked, world_record}
+use Rattle.sm_table.specs.World.{WorldState, Mark, Plain, Unmade, Unserved, based, count_of, ended, is_there, mark_of, may_go, outcome, served, with_room, worked, world_record}
 use Rattle.sm_model.specs.Calls.{Stepped, after_arrival, after_hops, after_sending, answer_of, called, counter_text, is_begun, is_sent, requested, shard_for, stepped}
 use Rattle.sm_model.specs.Sessions.{Arrives, Ends, EndsAt, IsIdle, Steps}
 use Rattle.sm_model.proofs.Answering.{follows_plain}
@@ -107,19 +107,20 @@ steps_plainly before after result step goes may unmade unserved = λ w at.
 abbrev sent_to : WorldState Request → Request → ℕ → Stepped
 sent_to w request server = stepped w (Send server 0 request)
 
-abbrev sent_where : Bool → WorldState Request → WorldState Request → Stepped
-sent_where known sent w = if known then (Ok Sent, sent) else (Err fault.UnknownServer, w)
+abbrev sent_where : Bool → Bool → WorldState Request → WorldState Request → Stepped
+sent_where known reached sent w = if known then (if reached then (Ok Sent, sent) else (Err fault.Unreachable, w)) else (Err fault.UnknownServer, w)
 
-unknown_unsent : (known : Bool) (sent w : WorldState Request) → is_sent (sent_where known sent w).0 ≡ false → (sent_where known sent w).1 ≡ w
-unknown_unsent true sent w unsent = absurd cc
-unknown_unsent false sent w unsent = refl
+unknown_unsent : (known reached : Bool) (sent w : WorldState Request) → is_sent (sent_where known reached sent w).0 ≡ false → (sent_where known reached sent w).1 ≡ w
+unknown_unsent true true sent w unsent = absurd cc
+unknown_unsent true false sent w unsent = refl
+unknown_unsent false reached sent w unsent = refl
 
 -- where nothing was sent, the world is as it was
 unsent_same : (w : WorldState Request) (mark : Mark) (server : ℕ) (request : Request)
     → is_sent (outcome counter_text w mark (Send server 0 request)).0 ≡ false → (outcome counter_text w mark (Send server 0 request)).1 ≡ w
 unsent_same w Unmade server request unsent = refl
-unsent_same w Plain server request unsent = unknown_unsent (is_known w.frame.servers server) _ w unsent
-unsent_same w Unserved server request unsent = unknown_unsent (is_known w.frame.servers server) _ w unsent
+unsent_same w Plain server request unsent = unknown_unsent (is_there w server) (is_reached w.desk server) _ w unsent
+unsent_same w Unserved server request unsent = unknown_unsent (is_there w server) (is_reached w.desk server) _ w unsent
 
 -- a step that didn't send the request ends the call
 after_no_sending : (shard : ℕ) (result : Result (WorldAnswer Reply) WorldFault) (w : WorldState Request) → is_sent result ≡ false → after_sending shard result w ≡ (result, w)
@@ -249,8 +250,8 @@ based_keeps w shard server false known why = refl
 
 checkpoint_keeps : (w : WorldState Request) (mark : Mark) (shard server : ℕ) → (outcome counter_text w mark (Checkpoint shard server)).1.in_flight ≡ w.in_flight
 checkpoint_keeps w Unmade shard server = refl
-checkpoint_keeps w Plain shard server = based_keeps w shard server (nat_lt shard (count_of w)) (is_known w.frame.servers server) _
-checkpoint_keeps w Unserved shard server = based_keeps w shard server (nat_lt shard (count_of w)) (is_known w.frame.servers server) _
+checkpoint_keeps w Plain shard server = based_keeps w shard server (nat_lt shard (count_of w)) (is_there w server) _
+checkpoint_keeps w Unserved shard server = based_keeps w shard server (nat_lt shard (count_of w)) (is_there w server) _
 
 pub ends_checkpoint : (before after : WorldView Request) (shard server : ℕ) (result : Result (WorldAnswer Reply) WorldFault)
     → GoesAs counter_text before result after (Checkpoint shard server) → Ends before (call.Checkpoint shard server) result after

@@ -10,7 +10,6 @@ use Rattle.sm_ranges.specs.Stand.{owner_of}
 use Rattle.sm_script.specs.declared.call.Call.{Call}
 use Rattle.sm_script.specs.declared.call.Call.TheVariants as call
 use Rattle.sm_ownership.specs.declared.admit_fault.AdmitFault.{AdmitFault}
-use Rattle.sm_ownership.specs.declared.change.Change.{Change}
 use Rattle.sm_desk.specs.declared.command.CommandFault.{CommandFault}
 use Rattle.sm_table.specs.declared.world.Flight.{Flight}
 use Rattle.sm_table.specs.declared.hands.InHand.{InHand}
@@ -19,17 +18,18 @@ use Rattle.sm_ownership.specs.declared.entry.Ending.TheVariants.{Nothing}
 use Rattle.sm_ownership.specs.declared.mode.Mode.TheVariants.{Direct}
 use Rattle.sm_table.specs.declared.step.Step.TheVariants.{Control, Look, Send, Deliver, Finish, Hold, Free, Checkpoint}
 use Rattle.sm_table.specs.declared.world_answer.WorldAnswer.{WorldAnswer}
-use Rattle.sm_table.specs.declared.world_answer.WorldAnswer.TheVariants.{Seen, Sent, Refused}
+use Rattle.sm_table.specs.declared.world_answer.WorldAnswer.TheVariants.{Forwarded, Seen, Sent, Refused}
 use Rattle.sm_table.specs.declared.world_fault.WorldFault.{WorldFault}
-use Rattle.sm_table.specs.declared.world_fault.WorldFault.TheVariants.{UnknownServer, UnknownShard}
-use Rattle.sm_desk.specs.declared.command.Command.TheVariants.{Change as ChangeOf}
-use Rattle.sm_desk.specs.Desk.{is_known}
+use Rattle.sm_table.specs.declared.world_fault.WorldFault.TheVariants.{Unreachable, UnknownServer, UnknownShard}
+use Rattle.sm_desk.specs.declared.command.Command.{Command}
+use Rattle.sm_desk.specs.declared.command.Command.TheVariants.{Change as ChangeOf, Ask, Approve, Stopped, Back, Fail}
+use Rattle.sm_desk.specs.Desk.{is_reached}
 use Rattle.sm_envelope.specs.Envelope.{EnvelopeView, one_hop_more, sent_on}
 use Rattle.sm_envelope.specs.declared.envelope.TheConstants.{MOST_HOPS}
-use Rattle.sm_table.specs.World.{WorldState, Plain, after_hop, arrived, based, controlled, count_of, ended, flight_to, freed, hand_of, held, hopped, let_go, reached, served, with_room, worked, world_record}
+use Rattle.sm_table.specs.World.{WorldState, Plain, after_hop, arrived, based, controlled, count_of, ended, flight_to, freed, hand_of, held, hopped, is_there, let_go, reached, served, with_room, worked, world_record}
 use Rattle.sm_ownership.specs.History.{kept}
 use Rattle.sm_ownership.specs.Rules.{admit_fault, forward_to}
-use Rattle.sm_envelope.specs.declared.refusal.Refusal.TheVariants.{KeptFull}
+use Rattle.sm_envelope.specs.declared.refusal.Refusal.TheVariants.{KeptFull, Unreachable as NotReached}
 use Rattle.sm_table.specs.Standing.{IsSound}
 use Rattle.sm_table.specs.lemmas.Soundness.{shard_within, sound_next}
 use Rattle.sm_model.specs.Calls.{Stepped, after_arrival, after_hops, after_sending, answer_of, called, counter_text, is_begun, is_forwarded, is_sent, requested, requested_at, shard_for, stepped, world_after_calls}
@@ -39,9 +39,14 @@ pub record Settles (went : Stepped) : Type 0 where
   pub answers : is_some (answer_of went.0) ≡ true
   pub rest : went.1.in_flight ≡ []
 
-control_settles : (w : WorldState Request) (shard : ℕ) (change : Change) (fault : Option CommandFault) → w.in_flight ≡ [] → Settles (controlled w shard change fault)
-control_settles w shard change (Some fault) rest = record { answers = refl; rest = rest }
-control_settles w shard change None rest = record { answers = refl; rest = rest }
+control_settles : (w : WorldState Request) (command : Command) (fault : Option CommandFault) → w.in_flight ≡ [] → Settles (controlled w command fault)
+control_settles w command (Some fault) rest = record { answers = refl; rest = rest }
+control_settles w (ChangeOf shard change) None rest = record { answers = refl; rest = rest }
+control_settles w (Ask server) None rest = record { answers = refl; rest = rest }
+control_settles w (Approve server) None rest = record { answers = refl; rest = rest }
+control_settles w (Stopped server) None rest = record { answers = refl; rest = rest }
+control_settles w (Back server) None rest = record { answers = refl; rest = rest }
+control_settles w (Fail server) None rest = record { answers = refl; rest = rest }
 
 -- a shard with a request in hand replies, or keeps as many requests as it may
 worked_settles : (w : WorldState Request) (shard server : ℕ) (work : Work Request) → w.in_flight ≡ [] → Settles (worked counter_text w Plain shard server (Some work))
@@ -91,9 +96,15 @@ reached_settles left w to envelope None within rest = stays_settles left envelop
 -- a forwarded envelope is in flight again where a hop is left
 hop_settles : (left : ℕ) (w : WorldState Request) (flight : Flight Request) (to : ℕ) → flight.envelope.hops + left ≡ MOST_HOPS
     → ((fewer : ℕ) → left ≡ suc fewer → Settles (arrives fewer w (flight_to to (one_hop_more flight.envelope flight.to))))
-    → Settles (continues left flight.envelope.shard (hopped (record w { in_flight = [] }) (after_hop [] (sent_on flight.envelope flight.to (Some to)))))
+    → Settles (continues left flight.envelope.shard (hopped (record w { in_flight = [] }) (after_hop w.desk [] (sent_on flight.envelope flight.to (Some to)))))
 hop_settles zero w flight to hops again = let none : nat_lt flight.envelope.hops MOST_HOPS ≡ false = grind (arith, nat_tests) in rw none (record { answers = refl; rest = refl })
-hop_settles (suc fewer) w flight to hops again = let some : nat_lt flight.envelope.hops MOST_HOPS ≡ true = grind (arith, nat_tests) in rw some (again fewer refl)
+hop_settles (suc fewer) w flight to hops again =
+    let some : nat_lt flight.envelope.hops MOST_HOPS ≡ true = grind (arith, nat_tests) in rw some (onward (is_reached w.desk to))
+  where
+    onward : (reached : Bool) → Settles (continues (suc fewer) flight.envelope.shard
+        (hopped (record w { in_flight = [] }) (if reached then (Forwarded to, flight_to to (one_hop_more flight.envelope flight.to) ∷ []) else (Refused NotReached, []))))
+    onward true = again fewer refl
+    onward false = record { answers = refl; rest = refl }
 
 flight_settles : (left : ℕ) (w : WorldState Request) (flight : Flight Request) (next : Option ℕ) → flight.envelope.hops + left ≡ MOST_HOPS → flight.envelope.shard < length w.in_hand
     → ((fewer : ℕ) → left ≡ suc fewer → (to : ℕ) → Settles (arrives fewer w (flight_to to (one_hop_more flight.envelope flight.to))))
@@ -115,18 +126,19 @@ arrives_settles (suc left) w flight hops within =
 abbrev flight_of : WorldState Request → Request → ℕ → Flight Request
 flight_of w request to = record { to = to; envelope = record { number = 0; shard = shard_for w request; mode = Direct; hops = 0; request = request; note = tt } }
 
--- a request is refused where the server is unknown, and else sent, and arrives
-sent_settles : (w : WorldState Request) (in_flight : List (Flight Request)) (request : Request) (server : ℕ) (known : Bool) → in_flight ≡ [] → shard_for w request < length w.in_hand
-    → Settles (let went : Stepped = if known then (Ok Sent, record w { in_flight = in_flight ++ flight_of w request server ∷ [] }) else (Err UnknownServer, record w { in_flight = in_flight }) in
+-- a request is refused where the server is unknown or isn't reached, and else sent, and arrives
+sent_settles : (w : WorldState Request) (in_flight : List (Flight Request)) (request : Request) (server : ℕ) (known reached : Bool) → in_flight ≡ [] → shard_for w request < length w.in_hand
+    → Settles (let went : Stepped = if known then (if reached then (Ok Sent, record w { in_flight = in_flight ++ flight_of w request server ∷ [] }) else (Err Unreachable, record w { in_flight = in_flight })) else (Err UnknownServer, record w { in_flight = in_flight }) in
     after_sending (shard_for w request) went.0 went.1)
-sent_settles w in_flight request server true rest within =
+sent_settles w in_flight request server true true rest within =
     let P : List (Flight Request) → Type 0 = λ flights. Settles (after_sending (shard_for w request) (Ok Sent) (record w { in_flight = flights ++ flight_of w request server ∷ [] })) in
     subst P (sym rest) (arrives_settles MOST_HOPS w (flight_of w request server) refl within)
-sent_settles w in_flight request server false rest within = record { answers = refl; rest = rest }
+sent_settles w in_flight request server true false rest within = record { answers = refl; rest = rest }
+sent_settles w in_flight request server false reached rest within = record { answers = refl; rest = rest }
 
 requested_at_settles : (w : WorldState Request) (request : Request) (server : ℕ) → shard_for w request < length w.in_hand → w.in_flight ≡ []
     → Settles (requested_at w request (shard_for w request) server)
-requested_at_settles w request server within rest = sent_settles w w.in_flight request server (is_known w.frame.servers server) rest within
+requested_at_settles w request server within rest = sent_settles w w.in_flight request server (is_there w server) (is_reached w.desk server) rest within
 
 requested_settles : (w : WorldState Request) (request : Request) (owner : Option ℕ) → shard_for w request < length w.in_hand → w.in_flight ≡ []
     → Settles (requested w request (shard_for w request) owner)
@@ -170,10 +182,12 @@ has_place w request sound =
 
 -- so does each call
 pub settles : (w : WorldState Request) (call : Call) → IsSound w → w.in_flight ≡ [] → Settles (called w call)
-settles w (call.Control (ChangeOf shard change)) sound rest = control_settles w shard change _ rest
-settles w (call.Hold shard server) sound rest = held_settles w shard server (nat_lt shard (count_of w)) (is_known w.frame.servers server) _ rest
+settles w (call.Control command) sound rest = control_settles w command _ rest
+settles w call.Place sound rest = record { answers = refl; rest = rest }
+settles w (call.Drain server) sound rest = record { answers = refl; rest = rest }
+settles w (call.Hold shard server) sound rest = held_settles w shard server (nat_lt shard (count_of w)) (is_there w server) _ rest
 settles w (call.Free shard) sound rest = freed_settles w shard (nat_lt shard (count_of w)) (slice_index_or w.in_hand shard None) rest
-settles w (call.Checkpoint shard server) sound rest = based_settles w shard server (nat_lt shard (count_of w)) (is_known w.frame.servers server) _ rest
+settles w (call.Checkpoint shard server) sound rest = based_settles w shard server (nat_lt shard (count_of w)) (is_there w server) _ rest
 settles w (call.Look shard) sound rest = look_settles w shard (nat_lt shard (count_of w)) rest
 settles w (call.Request request) sound rest = requested_settles w request (owner_of (world_record w (shard_for w request)).stand) (has_place w request sound) rest
 settles w (call.RequestAt server request) sound rest = requested_at_settles w request server (has_place w request sound) rest
@@ -211,6 +225,8 @@ requested_sound w request shard (Some owner) sound = requested_at_sound w reques
 
 called_sound : (w : WorldState Request) (call : Call) → IsSound w → IsSound (called w call).1
 called_sound w (call.Control command) sound = sound_next counter_text w Plain (Control command) sound
+called_sound w call.Place sound = sound
+called_sound w (call.Drain server) sound = sound
 called_sound w (call.Hold shard server) sound = sound_next counter_text w Plain (Hold shard server) sound
 called_sound w (call.Free shard) sound = sound_next counter_text w Plain (Free shard) sound
 called_sound w (call.Checkpoint shard server) sound = sound_next counter_text w Plain (Checkpoint shard server) sound

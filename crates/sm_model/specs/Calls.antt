@@ -1,14 +1,18 @@
 -- What each call of a script answers on a world, and the world that it leaves.
-use Rattle.std.specs.Prelude.{ℕ, zero, suc, Bool, true, false, Option, Some, None, Result, Ok, Err, if◌then◌else◌, List, [], ◌∷◌, map, length, replicate}
+use Rattle.std.specs.Prelude.{ℕ, zero, suc, Bool, true, false, Option, Some, None, Result, Ok, Err, if◌then◌else◌, List, [], ◌∷◌, length, replicate}
+use Rattle.std.specs.Option.{option_or}
 use Rattle.sm_body.specs.Service.{Service}
 use Rattle.sm_envelope.specs.declared.envelope.TheConstants.{MOST_HOPS}
 use Rattle.sm_envelope.specs.declared.refusal.Refusal.{Refusal}
 use Rattle.sm_envelope.specs.declared.refusal.Refusal.TheVariants as refusal
 use Rattle.sm_ownership.specs.declared.admit_fault.AdmitFault.TheVariants as admit
+use Rattle.sm_desk.specs.Desk.{DeskView}
+use Rattle.sm_place.specs.Books.{new_books}
+use Rattle.sm_place.specs.Plans.{assign_plan, drain_plan}
 use Rattle.sm_ranges.specs.Ranges.{shard_of}
 use Rattle.sm_ranges.specs.Stand.{owner_of}
 use Rattle.sm_script.specs.declared.answer.Answer.{Answer}
-use Rattle.sm_script.specs.declared.answer.Answer.TheVariants.{Made as IsMade, Refused as IsRefused, Seen as IsSeen, Executed}
+use Rattle.sm_script.specs.declared.answer.Answer.TheVariants.{Made as IsMade, Refused as IsRefused, Seen as IsSeen, Executed, Planned}
 use Rattle.sm_script.specs.declared.call.Call.{Call}
 use Rattle.sm_script.specs.declared.call.Call.TheVariants as call
 use Rattle.sm_script.specs.declared.refused.Refused.TheVariants as refused
@@ -22,17 +26,24 @@ use Rattle.sm_table.specs.declared.world_answer.WorldAnswer.{WorldAnswer}
 use Rattle.sm_table.specs.declared.world_answer.WorldAnswer.TheVariants.{Made, Seen, Sent, Began, Forwarded, Refused, Replied}
 use Rattle.sm_table.specs.declared.world_fault.WorldFault.{WorldFault}
 use Rattle.sm_table.specs.declared.world_fault.WorldFault.TheVariants as fault
-use Rattle.sm_table.specs.World.{Frame, WorldState, Plain, outcome, world_record}
+use Rattle.sm_table.specs.World.{Frame, WorldState, Plain, is_there, outcome, world_record}
 
 -- what the sample service means
 abbrev pub counter_text : Service Request Reply
 counter_text = record { reply_of = reply_after; key_of = key_of_request }
 
+-- the desk that settings ask for: all servers are up, and all shards vacant
+abbrev pub settings_desk : SettingsValues → DeskView
+settings_desk settings = record {
+  books = new_books settings.servers settings.groups settings.shards settings.domains;
+  ops = settings.ops;
+}
+
 -- the frame of the world that settings ask for
 abbrev pub settings_frame : SettingsValues → Frame
 settings_frame settings = record {
   bounds = settings.bounds;
-  servers = map (λ row. row.id) settings.servers;
+  start = settings_desk settings;
   ceiling = settings.ceiling;
   limits = replicate (length settings.bounds) settings.kept;
 }
@@ -52,6 +63,7 @@ answer_of (Err (fault.Command why)) = Some (IsRefused (refused.Command why))
 answer_of (Err (fault.Admit why)) = Some (IsRefused (refused.Admit why))
 answer_of (Err fault.UnknownShard) = Some (IsRefused refused.UnknownShard)
 answer_of (Err fault.UnknownServer) = Some (IsRefused refused.UnknownServer)
+answer_of (Err fault.Unreachable) = Some (IsRefused refused.Unreachable)
 answer_of (Err fault.NotHeld) = Some (IsRefused refused.NotHeld)
 answer_of _ = None
 
@@ -101,7 +113,23 @@ requested w request shard (Some owner) = requested_at w request shard owner
 abbrev pub shard_for : WorldState Request → Request → ℕ
 shard_for w request = shard_of w.frame.bounds (key_of_request request)
 
--- the steps of a call
+-- whether the call asks for a plan
+abbrev pub is_plan : Call → Bool
+is_plan call.Place = true
+is_plan (call.Drain server) = true
+is_plan asked = false
+
+-- the plan for the server's shards, where the server exists
+abbrev pub drained : WorldState Request → ℕ → Answer
+drained w server = if is_there w server then Planned (drain_plan w.desk.books server) else IsRefused refused.UnknownServer
+
+-- the answer to a call for a plan, by the books of the world
+abbrev pub plan_answer : WorldState Request → Call → Option Answer
+plan_answer w call.Place = Some (Planned (assign_plan w.desk.books))
+plan_answer w (call.Drain server) = Some (drained w server)
+plan_answer w asked = None
+
+-- the steps of a call; a plan takes none
 abbrev pub called : WorldState Request → Call → Stepped
 called w (call.Control command) = stepped w (Control command)
 called w (call.Hold shard server) = stepped w (Hold shard server)
@@ -110,6 +138,11 @@ called w (call.Checkpoint shard server) = stepped w (Checkpoint shard server)
 called w (call.Look shard) = stepped w (Look shard)
 called w (call.Request request) = requested w request (shard_for w request) (owner_of (world_record w (shard_for w request)).stand)
 called w (call.RequestAt server request) = requested_at w request (shard_for w request) server
+called w asked = (Ok Made, w)
+
+-- the answer to a call: a plan, or that to its last step
+abbrev pub answered : WorldState Request → Call → Option Answer
+answered w asked = option_or (plan_answer w asked) (answer_of (called w asked).0)
 
 -- the world after these calls, one after another
 abbrev pub world_after_calls : WorldState Request → List Call → WorldState Request

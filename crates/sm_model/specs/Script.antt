@@ -12,7 +12,7 @@ use Rattle.sm_run.specs.Openings.{settings_in, settings_line}
 use Rattle.sm_settings.specs.SettingsLine.{SettingsValues, settings_of}
 use Rattle.sm_settings.specs.declared.settings_fault.SettingsFault.{SettingsFault}
 use Rattle.sm_table.specs.World.{WorldState, empty_world}
-use Rattle.sm_model.specs.Calls.{answer_of, called, settings_frame}
+use Rattle.sm_model.specs.Calls.{answered, called, settings_frame}
 
 -- an answer, and the line feed that ends it
 abbrev pub answer_line : Answer → List ℕ
@@ -26,7 +26,7 @@ optional_line (Some answer) = answer_line answer
 abbrev pub responded : WorldState Request → Result (Option Call) LineFault → List ℕ × WorldState Request
 responded w (Err fault) = (answer_line (Error fault), w)
 responded w (Ok None) = ([], w)
-responded w (Ok (Some call)) = (optional_line (answer_of (called w call).0), (called w call).1)
+responded w (Ok (Some call)) = (optional_line (answered w call), (called w call).1)
 
 -- what is written for a line of a script, and the world that it leaves
 abbrev pub line_response : WorldState Request → List ℕ → List ℕ × WorldState Request

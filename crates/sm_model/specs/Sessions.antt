@@ -1,7 +1,7 @@
 -- When a session of the model stands at a world of the definitions, and what it answers there.
 use Rattle.std.specs.Prelude.{◌≡◌, ℕ, ◌<◌, ◌++◌, List, [], Some, Result, true, is_some, length}
 use Rattle.sm_envelope.specs.declared.envelope.TheConstants.{MOST_HOPS}
-use Rattle.sm_model.specs.Calls.{Stepped, after_hops, answer_of, called, settings_frame, stepped}
+use Rattle.sm_model.specs.Calls.{Stepped, after_hops, answer_of, answered, called, settings_frame, stepped}
 use Rattle.sm_model.specs.Script.{responded}
 use Rattle.sm_script.specs.Lines.{call_of_line}
 use Rattle.sm_script.specs.declared.answer.Answer.{Answer}
@@ -34,7 +34,7 @@ IsNew settings view = IsAt view (empty_world (settings_frame settings))
 -- at every world the call has this answer, and leaves the world that it should
 abbrev pub GivesAnswer : WorldView Request → Call → Answer → WorldView Request → Type 0
 GivesAnswer before call answer after =
-    (w : WorldState Request) → IsAt before w → (answer_of (called w call).0 ≡ Some answer) × IsAt after (called w call).1
+    (w : WorldState Request) → IsAt before w → (answered w call ≡ Some answer) × IsAt after (called w call).1
 
 -- at every world the line has this response
 abbrev pub Responds : WorldView Request → List ℕ → List ℕ → WorldView Request → Type 0

@@ -5,7 +5,7 @@ ghost use Rattle.sm_ranges.specs.Ranges.{shard_of};
 ghost use Rattle.sm_service.specs.Service.{key_of_request};
 ghost use Rattle.sm_service.specs.declared.reply.Reply.{Reply as AnyReply};
 ghost use Rattle.sm_table.specs.World.{Plain, Unmade, Unserved, mark_of, may_go};
-ghost use Rattle.sm_model.specs.Calls.{answer_of, is_begun, is_forwarded, is_sent, refused_answer};
+ghost use Rattle.sm_model.specs.Calls.{answer_of, is_begun, is_forwarded, is_plan, is_sent, refused_answer};
 ghost use Rattle.sm_model.specs.Sessions.{Arrives, Ends, HasAnswer, Steps};
 ghost use Rattle.sm_script.specs.declared.call.Call.TheVariants as call;
 
@@ -28,6 +28,7 @@ pub(crate) fn carry_out(
     world: &mut World<CounterText>,
     call: Call,
 ) -> Result<WorldAnswer<Reply>, WorldFault>
+    requires { is_plan call ≡ false }
     ensures { Ends world.old call result world.new }
 {
     match call {
@@ -36,6 +37,7 @@ pub(crate) fn carry_out(
         Call::Free(shard) => make(world, Step::Free(shard)),
         Call::Checkpoint(shard, server) => make_checkpoint(world, shard, server),
         Call::Look(shard) => make(world, Step::Look(shard)),
+        Call::Place | Call::Drain(_) => unreachable!(),
         Call::Request(request) => run_request(world, request),
         Call::RequestAt(server, request) => {
             let shard = world.shard_of(&request);
@@ -180,9 +182,9 @@ fn answer_of_refusal(refusal: Refusal) -> Result<Answer, AllocError>
 {
     match refusal {
         Refusal::NoMemory => Err(AllocError),
-        Refusal::Admit(_) | Refusal::TooManyHops | Refusal::KeptFull => Ok(Answer::Refused(
-            Refused::Request(refusal),
-        )),
+        Refusal::Admit(_) | Refusal::TooManyHops | Refusal::Unreachable | Refusal::KeptFull => Ok(
+            Answer::Refused(Refused::Request(refusal)),
+        ),
     }
 }
 
@@ -197,6 +199,7 @@ fn answer_of_fault(fault: WorldFault) -> Result<Answer, AllocError>
         WorldFault::Admit(fault) => Ok(Answer::Refused(Refused::Admit(fault))),
         WorldFault::UnknownShard => Ok(Answer::Refused(Refused::UnknownShard)),
         WorldFault::UnknownServer => Ok(Answer::Refused(Refused::UnknownServer)),
+        WorldFault::Unreachable => Ok(Answer::Refused(Refused::Unreachable)),
         WorldFault::NotHeld => Ok(Answer::Refused(Refused::NotHeld)),
         WorldFault::NoMemory => Err(AllocError),
         WorldFault::NoEnvelope => unreachable!(),

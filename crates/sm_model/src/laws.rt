@@ -4,12 +4,12 @@ ghost use Rattle.std.specs.Prelude.{◌≡◌, List, [], true, is_some};
 ghost use Rattle.sm_script.specs.declared.call.Call.{Call};
 ghost use Rattle.sm_table.specs.Standing.{IsFrame};
 ghost use Rattle.sm_table.specs.World.{Frame, empty_world};
-ghost use Rattle.sm_model.specs.Calls.{answer_of, called, world_after_calls};
+ghost use Rattle.sm_model.specs.Calls.{answered, called, world_after_calls};
 
 /// As long as no memory is refused: whatever calls a script has made, its next call has an answer, and leaves no request under
 /// way.
 pub fn every_call_answered()
     ensures { (frame : Frame) (calls : List Call) (call : Call) → IsFrame frame
         → let w = world_after_calls (empty_world frame) calls in
-        (is_some (answer_of (called w call).0) ≡ true) × ((called w call).1.in_flight ≡ []) }
+        (is_some (answered w call) ≡ true) × ((called w call).1.in_flight ≡ []) }
 {}

@@ -1,18 +1,22 @@
-ghost use Rattle.std.specs.Prelude.{◌≡◌, ◌++◌, [], IfOk, OnOk, map, replicate};
+ghost use Rattle.std.specs.Prelude.{◌≡◌, ◌++◌, [], IfOk, OnOk, false, replicate};
 ghost use Rattle.sm_settings.specs.SettingsLine.{values_of};
 ghost use Rattle.sm_settings.specs.SettingsRules.{KeepsRules};
+ghost use Rattle.sm_script.specs.declared.call.Call.TheVariants as call;
+ghost use Rattle.sm_model.specs.Calls.{is_plan, settings_desk};
 ghost use Rattle.sm_model.specs.Script.{answer_line};
 ghost use Rattle.sm_model.specs.Sessions.{GivesAnswer, IsNew};
 
 use crate::calls::{answer_of, carry_out};
 use sm_desk::Desk;
 use sm_lines::Responder;
+use sm_place::{Books, BooksFault};
 use sm_ranges::server_id::ServerId;
-use sm_rows::ServerRow;
-use sm_script::{Answer, Call, ParseFault, long_line_fault, parse};
+use sm_script::{Answer, Call, ParseFault, Refused, long_line_fault, parse};
 use sm_service::counter_text::CounterText;
 use sm_settings::settings::Settings;
 use sm_table::world::{Setup, World};
+use sm_tasks::Tasks;
+use sm_tasks::laws::all_up_meets_caps;
 use std::alloc::{AllocError, Global};
 use std::marker::Model;
 
@@ -42,8 +46,7 @@ impl ModelSession {
         ensures { IfOk result (IsNew (values_of settings)) }
     {
         let count = settings.layout.count();
-        let servers = server_ids(alloc, &settings.servers)?;
-        let desk = Desk::plain(alloc, count, &servers)?;
+        let desk = desk_of(alloc, &settings)?;
         let bodies = empty_bodies(alloc, count, settings.kept as usize)?;
         let setup = Setup {
             layout: settings.layout,
@@ -58,7 +61,42 @@ impl ModelSession {
     fn run(&mut self, call: Call) -> Result<Answer, AllocError>
         ensures { IfOk result (λ answer. GivesAnswer self.old call answer self.new) }
     {
+        match call {
+            Call::Place => self.place(),
+            Call::Drain(server) => self.drain(server),
+            _ => self.make(call),
+        }
+    }
+
+    /// Makes the steps of the call; an error is want of memory.
+    fn make(&mut self, call: Call) -> Result<Answer, AllocError>
+        requires { is_plan call ≡ false }
+        ensures { IfOk result (λ answer. GivesAnswer self.old call answer self.new) }
+    {
         answer_of(carry_out(&mut self.world, call))
+    }
+
+    /// A plan for the shards without an owner; an error is want of memory.
+    fn place(&self) -> Result<Answer, AllocError>
+        ensures { IfOk result (λ answer. GivesAnswer self.now call.Place answer self.now) }
+    {
+        match self.world.desk().books().plan_assign(self.alloc) {
+            Ok(plan) => Ok(Answer::Planned(plan)),
+            Err(fault) => Err(fault),
+        }
+    }
+
+    /// A plan for the shards that the server serves; an error is want of memory.
+    fn drain(&self, server: ServerId) -> Result<Answer, AllocError>
+        ensures { IfOk result (λ answer. GivesAnswer self.now (call.Drain server) answer self.now) }
+    {
+        if !self.world.desk().knows(server) {
+            return Ok(Answer::Refused(Refused::UnknownServer));
+        }
+        match self.world.desk().books().plan_drain(self.alloc, server) {
+            Ok(plan) => Ok(Answer::Planned(plan)),
+            Err(fault) => Err(fault),
+        }
     }
 }
 
@@ -102,11 +140,36 @@ fn write_line(answer: &Answer, out: &mut Vec<u8>) -> Result<(), AllocError>
     Ok(())
 }
 
-/// The servers of the rows.
-fn server_ids(alloc: Global, rows: &[ServerRow]) -> Result<Vec<ServerId>, AllocError>
-    ensures { IfOk result (λ servers. servers.items ≡ map (λ row. row.id) rows.now) }
+/// The desk of the settings' rows: all servers are up, and all shards vacant.
+fn desk_of(alloc: Global, settings: &Settings) -> Result<Desk, AllocError>
+    requires { KeepsRules (values_of settings.now) }
+    ensures { IfOk result (λ desk. desk ≡ settings_desk (values_of settings.now)) }
 {
-    rows.iter().map(|row| row.id).collect(alloc)
+    let books = match Books::new(
+        alloc,
+        &settings.servers,
+        &settings.groups,
+        &settings.shards,
+        &settings.domains,
+    ) {
+        Ok(books) => books,
+        Err(fault) => return Err(want_of_memory(fault)),
+    };
+    all_up_meets_caps();
+    Ok(Desk::new(books, Tasks::new(settings.ops)))
+}
+
+/// Why there are no books: the settings were judged by the rules of books, so it is want of memory.
+fn want_of_memory(fault: BooksFault) -> AllocError
+    requires { fault ≡ BooksFault.NoMemory }
+{
+    match fault {
+        BooksFault::NoMemory => AllocError,
+        BooksFault::BadServers
+        | BooksFault::BadGroups
+        | BooksFault::BadShards
+        | BooksFault::BadDomains => unreachable!(),
+    }
 }
 
 /// A body without a request for each shard.

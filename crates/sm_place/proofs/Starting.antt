@@ -87,6 +87,7 @@ pub IsTallied-new : (servers : List ServerRow) (groups : List GroupRow) (shards 
     (replicate (length groups * r.width) 0) r
 IsTallied-new servers groups shards domains r ok ranked = record {
   has_ranges = record {
+    numbers = ok.of_servers.ids;
     servers_rise = ok.of_servers.ids_rise;
     states_len = length-replicate (length servers) Up;
     domains = ranked;

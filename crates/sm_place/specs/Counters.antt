@@ -1,5 +1,5 @@
 -- What the counters of the books keep: each is a sum or a count over all rows.
-use Rattle.std.specs.Prelude.{ℕ, List, ◌≡◌, ◌+◌, ◌*◌, ◌^◌, ◌<◌, ◌≤◌, length, map, slice_index, slice_index_or}
+use Rattle.std.specs.Prelude.{ℕ, All, List, ◌≡◌, ◌+◌, ◌*◌, ◌^◌, ◌<◌, ◌≤◌, length, map, slice_index, slice_index_or}
 use Rattle.std.specs.List.Sorted.{IsStrictlyIncreasing}
 use Rattle.sm_ranges.specs.declared.limits.TheConstants.{MAX_SERVER, MAX_SHARDS}
 use Rattle.sm_rows.specs.declared.limits.TheConstants.{MAX_GROUPS, MAX_LIMIT}
@@ -8,6 +8,7 @@ use Rattle.sm_rows.specs.declared.group_row.GroupRow.{GroupRow}
 use Rattle.sm_place.specs.declared.shard.Shard.{Shard}
 use Rattle.sm_place.specs.declared.server_state.ServerState.{ServerState}
 use Rattle.sm_place.specs.Books.{no_group, place_of, IsKnown, row_by_id, shard_at}
+use Rattle.sm_ranges.specs.ServerId.{IsServer}
 use Rattle.sm_ranges.specs.Stand.{AllNamed}
 use Rattle.sm_place.specs.Ranks.{Ranking, domain_cell, rank_of, AreRanked}
 use Rattle.sm_place.specs.Room.{load_on, count_in, HasRoom}
@@ -17,8 +18,9 @@ pub record HasPlaces (servers : List ServerRow) (places : List ℕ) : Type 0 whe
   pub len : length places ≡ MAX_SERVER + 1
   pub at : (a : ℕ) → a ≤ MAX_SERVER → slice_index places a ≡ place_of servers a
 
--- the numbers of the servers rise, and the rows keep to their ranges
+-- the numbers of the servers are such, and rise, and the rows keep to their ranges
 pub record HasRanges (servers : List ServerRow) (groups : List GroupRow) (states : List ServerState) (ranking : Ranking) : Type 0 where
+  pub numbers : All (λ row. IsServer row.id) servers
   pub servers_rise : IsStrictlyIncreasing (map (λ row. row.id) servers)
   pub states_len : length states ≡ length servers
   pub domains : AreRanked servers ranking

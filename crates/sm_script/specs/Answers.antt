@@ -1,5 +1,5 @@
 -- The text of a script's answers, each without its line feed.
-use Rattle.std.specs.Prelude.{ℕ, Bool, if◌then◌else◌, List, [], ◌∷◌, ◌++◌, length, codes, decimal, flat_map, Option, unwrap_or}
+use Rattle.std.specs.Prelude.{ℕ, Bool, if◌then◌else◌, List, [], ◌∷◌, ◌++◌, length, codes, decimal, flat_map, Option, None, Some, unwrap_or}
 use Rattle.std.specs.List.{join_with_byte}
 use Rattle.std.specs.Fmt.{signed_decimal}
 use Rattle.sm_desk.specs.declared.command.CommandFault.{CommandFault}
@@ -12,11 +12,16 @@ use Rattle.sm_ownership.specs.declared.admit_fault.AdmitFault.{AdmitFault}
 use Rattle.sm_ownership.specs.declared.admit_fault.AdmitFault.TheVariants as admit
 use Rattle.sm_ownership.specs.declared.change_fault.ChangeFault.TheVariants as change
 use Rattle.sm_ownership.specs.declared.record.Record.{Record}
+use Rattle.sm_place.specs.declared.place_fault.PlaceFault.TheVariants as place
+use Rattle.sm_place.specs.declared.plan.Move.{Move}
+use Rattle.sm_place.specs.Plans.{PlanView}
+use Rattle.sm_tasks.specs.declared.task_fault.ApproveFault.TheVariants as approve
+use Rattle.sm_tasks.specs.declared.task_fault.StoppedFault.TheVariants as stopped
 use Rattle.sm_ranges.specs.Stand.{other_of, owner_of}
 use Rattle.sm_ranges.specs.declared.stand.Stand.{Stand}
 use Rattle.sm_ranges.specs.declared.stand.Stand.TheVariants.{Vacant, Serving, Prepared, Forwarding, Taken, Paused}
 use Rattle.sm_script.specs.declared.answer.Answer.{Answer}
-use Rattle.sm_script.specs.declared.answer.Answer.TheVariants.{Made, Refused as IsRefused, Seen, Executed, Error}
+use Rattle.sm_script.specs.declared.answer.Answer.TheVariants.{Made, Refused as IsRefused, Seen, Executed, Planned, Error}
 use Rattle.sm_script.specs.declared.fault.LineFault.{LineFault}
 use Rattle.sm_script.specs.declared.fault.LineFault.TheVariants.{LineTooLong, UnknownWord, BadLine, BadNumber, BadKey, NotHere}
 use Rattle.sm_script.specs.declared.refused.Refused.{Refused}
@@ -41,6 +46,27 @@ command_fault_name (command.Change change.WrongPhase) = codes "WrongPhase"
 command_fault_name (command.Change change.SameServer) = codes "SameServer"
 command_fault_name (command.Change (change.Spent state)) = codes "Spent"
 command_fault_name (command.Change (change.Busy state)) = codes "Busy"
+command_fault_name (command.Place place.Leaving) = codes "Leaving"
+command_fault_name (command.Place place.NoCapacity) = codes "NoCapacity"
+command_fault_name (command.Place place.DomainLimit) = codes "DomainLimit"
+command_fault_name (command.Ask fault) = codes "NotUp"
+command_fault_name (command.Approve approve.NotAsked) = codes "NotAsked"
+command_fault_name (command.Approve approve.GlobalCap) = codes "GlobalCap"
+command_fault_name (command.Approve (approve.ShardCap shard)) = codes "ShardCap"
+command_fault_name (command.Approve (approve.GroupCap group)) = codes "GroupCap"
+command_fault_name (command.Approve (approve.DomainCap domain)) = codes "DomainCap"
+command_fault_name (command.Stopped stopped.NotApproved) = codes "NotApproved"
+command_fault_name (command.Stopped (stopped.StillServing shard)) = codes "StillServing"
+command_fault_name (command.Back fault) = codes "AlreadyUp"
+command_fault_name (command.Fail fault) = codes "AlreadyFailed"
+
+-- the shard, group or domain at which a command's refusal came
+abbrev pub command_fault_number : CommandFault → Option ℕ
+command_fault_number (command.Approve (approve.ShardCap shard)) = Some shard
+command_fault_number (command.Approve (approve.GroupCap group)) = Some group
+command_fault_number (command.Approve (approve.DomainCap domain)) = Some domain
+command_fault_number (command.Stopped (stopped.StillServing shard)) = Some shard
+command_fault_number fault = None
 
 -- the name of an admission's refusal
 abbrev pub admit_fault_name : AdmitFault → List ℕ
@@ -56,16 +82,28 @@ abbrev pub refusal_name : Refusal → List ℕ
 refusal_name request.TooManyHops = codes "TooManyHops"
 refusal_name (request.Admit fault) = admit_fault_name fault
 refusal_name request.KeptFull = codes "KeptFull"
+refusal_name request.Unreachable = codes "Unreachable"
 refusal_name request.NoMemory = codes "NoMemory"
 
 -- the name of a call's refusal
 abbrev pub refused_name : Refused → List ℕ
 refused_name refused.UnknownShard = codes "UnknownShard"
 refused_name refused.UnknownServer = codes "UnknownServer"
+refused_name refused.Unreachable = codes "Unreachable"
 refused_name refused.NotHeld = codes "NotHeld"
 refused_name (refused.Command fault) = command_fault_name fault
 refused_name (refused.Admit fault) = admit_fault_name fault
 refused_name (refused.Request refusal) = refusal_name refusal
+
+-- the number that the answer gives after it, where there is one
+abbrev pub refused_number : Refused → Option ℕ
+refused_number (refused.Command fault) = command_fault_number fault
+refused_number why = None
+
+-- a name, and the number after it
+abbrev pub numbered : List ℕ → Option ℕ → List ℕ
+numbered name None = name
+numbered name (Some number) = name ++ codes " " ++ decimal number
 
 -- the name of a kind of stand
 abbrev pub stand_name : Stand → List ℕ
@@ -120,10 +158,29 @@ reply_text TooLong = codes "reply TooLong"
 abbrev pub place_text : ℕ → ℕ → List ℕ
 place_text server place = codes " @" ++ decimal server ++ codes "#" ++ decimal place
 
+-- a move of a plan
+abbrev pub move_text : Move → List ℕ
+move_text one = codes " " ++ decimal one.shard ++ codes ">" ++ decimal one.to
+
+-- a shard that is left
+abbrev pub left_text : ℕ → List ℕ
+left_text shard = codes " " ++ decimal shard
+
+-- a plan: its moves, and the shards that are left
+abbrev pub moves_text : List Move → List ℕ
+moves_text moves = codes "plan" ++ flat_map move_text moves
+
+abbrev pub all_left_text : List ℕ → List ℕ
+all_left_text shards = codes " left" ++ flat_map left_text shards
+
+abbrev pub plan_text : PlanView → List ℕ
+plan_text plan = moves_text plan.moves ++ all_left_text plan.left
+
 -- the answer to a line
 abbrev pub answer_text : Answer → List ℕ
 answer_text Made = codes "ok"
-answer_text (IsRefused why) = codes "refused " ++ refused_name why
+answer_text (IsRefused why) = codes "refused " ++ numbered (refused_name why) (refused_number why)
+answer_text (Planned plan) = plan_text plan
 answer_text (Seen state) = record_text state
 answer_text (Executed reply server place) = reply_text reply ++ place_text server place
 answer_text (Error fault) = codes "error " ++ line_fault_name fault

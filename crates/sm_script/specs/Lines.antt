@@ -7,7 +7,7 @@ use Rattle.sm_script.specs.Answers.{line_fault_name}
 use Rattle.sm_script.specs.Words.{words_of}
 use Rattle.sm_script.specs.Numbers.{number, increment_of}
 use Rattle.sm_script.specs.Grammar.{word_among, first_words, request_words, shapes_of, arguments_fault}
-use Rattle.sm_desk.specs.declared.command.Command.TheVariants.{Change as ChangeOf}
+use Rattle.sm_desk.specs.declared.command.Command.TheVariants as command
 use Rattle.sm_ownership.specs.declared.change.Change.{Change}
 use Rattle.sm_ownership.specs.declared.change.Change.TheVariants as change
 use Rattle.sm_script.specs.declared.call.Call.{Call}
@@ -19,7 +19,7 @@ use Rattle.sm_script.specs.declared.fault.ParseFault.TheVariants.{Line, NoMemory
 use Rattle.sm_script.specs.declared.line.TheConstants.{MAX_LINE}
 use Rattle.sm_script.specs.declared.shape.Shape.TheVariants.{Server}
 use Rattle.sm_script.specs.declared.word.Word.{Word}
-use Rattle.sm_script.specs.declared.word.Word.TheVariants.{Assign, PrepareAdd, PrepareDrop, Add, Drop, Cancel, Pause, Resume, Reassign, Hold, Free, Checkpoint, Look, Get, Put, Append, Inc, Del, Scan}
+use Rattle.sm_script.specs.declared.word.Word.TheVariants.{Assign, PrepareAdd, PrepareDrop, Add, Drop, Cancel, Pause, Resume, Reassign, Ask, Approve, Stopped, Back, Fail, Place, Drain, Hold, Free, Checkpoint, Look, Get, Put, Append, Inc, Del, Scan}
 use Rattle.sm_service.specs.declared.request.Request.{Request}
 use Rattle.sm_service.specs.declared.request.Request.TheVariants.{Get as GetRequest, Put as PutRequest, Append as AppendRequest}
 use Rattle.sm_service.specs.declared.request.Request.TheVariants.{Inc as IncRequest, Del as DelRequest, Scan as ScanRequest}
@@ -41,7 +41,7 @@ request_with _ _ = Err NotHere
 
 -- a change of the shard
 abbrev pub change_call : ℕ → Change → Call
-change_call shard change = call.Control (ChangeOf shard change)
+change_call shard change = call.Control (command.Change shard change)
 
 -- the call that makes the request, where there is one
 abbrev pub with_request : (Request → Call) → Result Request LineFault → Result Call LineFault
@@ -63,6 +63,13 @@ call_with Hold (shard ∷ server ∷ []) = Ok (call.Hold (number shard) (number 
 call_with Free (shard ∷ []) = Ok (call.Free (number shard))
 call_with Checkpoint (shard ∷ server ∷ []) = Ok (call.Checkpoint (number shard) (number server))
 call_with Look (shard ∷ []) = Ok (call.Look (number shard))
+call_with Ask (server ∷ []) = Ok (call.Control (command.Ask (number server)))
+call_with Approve (server ∷ []) = Ok (call.Control (command.Approve (number server)))
+call_with Stopped (server ∷ []) = Ok (call.Control (command.Stopped (number server)))
+call_with Back (server ∷ []) = Ok (call.Control (command.Back (number server)))
+call_with Fail (server ∷ []) = Ok (call.Control (command.Fail (number server)))
+call_with Place [] = Ok call.Place
+call_with Drain (server ∷ []) = Ok (call.Drain (number server))
 call_with word words = with_request call.Request (request_with word words)
 
 -- the fault, or else the call

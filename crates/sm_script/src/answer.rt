@@ -1,11 +1,15 @@
-ghost use Rattle.std.specs.Prelude.{◌≡◌, ◌++◌, OnOk, OnErr};
+ghost use Rattle.std.specs.Prelude.{◌≡◌, ◌++◌, OnOk, OnErr, Some, codes};
+ghost use Rattle.sm_script.specs.Answers.{numbered, refused_name, refused_number};
 
 use crate::append::append_all;
 use crate::fault::LineFault;
+use crate::plan::append_plan;
 use crate::record::append_record;
 use crate::refused::Refused;
 use crate::reply::append_executed;
+use itoa::Buffer;
 use sm_ownership::record::Record;
+use sm_place::Plan;
 use sm_ranges::server_id::ServerId;
 use sm_service::reply::Reply;
 use std::alloc::AllocError;
@@ -26,6 +30,8 @@ pub enum Answer {
         server: ServerId,
         place: u64,
     },
+    /// Where shards would go, and which are left.
+    Planned(Plan),
     /// The line made no call.
     Error(LineFault),
 }
@@ -40,14 +46,38 @@ impl Answer {
     {
         match self {
             Answer::Made => append_all(out, &[b"ok"]),
-            Answer::Refused(refused) => append_all(out, &[b"refused ", refused.name().as_bytes()]),
+            Answer::Refused(refused) => append_refused(out, refused),
             Answer::Seen(record) => append_record(out, record),
             Answer::Executed {
                 reply,
                 server,
                 place,
             } => append_executed(out, reply, *server, *place),
+            Answer::Planned(plan) => append_plan(out, plan),
             Answer::Error(fault) => append_all(out, &[b"error ", fault.name().as_bytes()]),
         }
     }
+}
+
+// Appends the refusal's name, and the number after it where there is one.
+fn append_refused(out: &mut Vec<u8>, refused: &Refused) -> Result<(), AllocError>
+    ensures ok { OnOk result (out.new.items ≡ out.old.items ++ (codes "refused " ++ numbered (refused_name refused.now) (refused_number refused.now))) }
+    ensures err { OnErr result (out.new.items ≡ out.old.items) }
+{
+    match refused.number() {
+        Some(number) => append_numbered(out, refused.name().as_bytes(), number),
+        None => append_all(out, &[b"refused ", refused.name().as_bytes()]),
+    }
+}
+
+// Appends the name of a refusal, and the number after it.
+fn append_numbered(out: &mut Vec<u8>, name: &[u8], number: u16) -> Result<(), AllocError>
+    ensures ok { OnOk result (out.new.items ≡ out.old.items ++ (codes "refused " ++ numbered name.now (Some number))) }
+    ensures err { OnErr result (out.new.items ≡ out.old.items) }
+{
+    let mut buffer = Buffer::new();
+    append_all(
+        out,
+        &[b"refused ", name, b" ", buffer.format(number).as_bytes()],
+    )
 }

@@ -7,7 +7,8 @@ use sm_service::request::Request;
 /// What a line of a script asks for.
 #[derive(Debug, Drop)]
 pub enum Call {
-    /// A command of the control: `assign K A`, `drop K` and the other changes of a shard.
+    /// A command of the control: `assign K A`, `drop K` and the other changes of a shard, `ask A` and the other steps of a
+    /// server's restart.
     Control(Command),
     /// `hold K A`: the server is admitted to the shard without a request.
     Hold(ShardId, ServerId),
@@ -17,6 +18,10 @@ pub enum Call {
     Checkpoint(ShardId, ServerId),
     /// `look K`: the shard's record.
     Look(ShardId),
+    /// `place`: a plan for the shards without an owner.
+    Place,
+    /// `drain A`: a plan for the shards that the server serves.
+    Drain(ServerId),
     /// A request, to the owner in the record of its key's shard.
     Request(Request),
     /// `at A REQUEST`: a request, to this server.

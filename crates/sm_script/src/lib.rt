@@ -16,6 +16,7 @@ pub mod call;
 pub mod fault;
 pub mod line;
 mod number;
+mod plan;
 mod record;
 pub mod refused;
 mod reply;

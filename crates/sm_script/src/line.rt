@@ -10,6 +10,7 @@ use crate::request::request_with;
 use crate::shape::{Shape, arguments_fault, first_fault, takes_as_many};
 use crate::word::Word;
 use crate::words::Words;
+use sm_desk::command::Command;
 use sm_ownership::change::Change;
 use std::alloc::Global;
 
@@ -54,6 +55,24 @@ fn shard_call(word: Word, mut words: Words) -> Result<Call, LineFault>
     }
 }
 
+// A line of a server alone.
+fn server_call(word: Word, mut words: Words) -> Result<Call, LineFault>
+    requires shapes { shapes_of word ≡ Server ∷ [] }
+    requires right { arguments_fault (Server ∷ []) words ≡ None }
+    ensures { result ≡ call_with word words.entry }
+{
+    let server = server(words.next().unwrap());
+    match word {
+        Word::Ask => Ok(Call::Control(Command::Ask(server))),
+        Word::Approve => Ok(Call::Control(Command::Approve(server))),
+        Word::Stopped => Ok(Call::Control(Command::Stopped(server))),
+        Word::Back => Ok(Call::Control(Command::Back(server))),
+        Word::Fail => Ok(Call::Control(Command::Fail(server))),
+        Word::Drain => Ok(Call::Drain(server)),
+        _ => Err(LineFault::NotHere),
+    }
+}
+
 // The call of a word and the words after it, which are right.
 fn call_with(alloc: Global, word: Word, words: Words) -> Result<Call, ParseFault>
     requires { arguments_fault (shapes_of word) words ≡ None }
@@ -72,6 +91,10 @@ fn call_with(alloc: Global, word: Word, words: Words) -> Result<Call, ParseFault
         | Word::Resume
         | Word::Free
         | Word::Look => Ok(shard_call(word, words)?),
+        Word::Ask | Word::Approve | Word::Stopped | Word::Back | Word::Fail | Word::Drain => Ok(
+            server_call(word, words)?,
+        ),
+        Word::Place => Ok(Call::Place),
         _ => Ok(Call::Request(request_with(alloc, word, words)?)),
     }
 }

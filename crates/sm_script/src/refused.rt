@@ -1,10 +1,12 @@
 ghost use Rattle.std.specs.Prelude.{◌≡◌};
-ghost use Rattle.sm_script.specs.Answers.{command_fault_name, admit_fault_name, refusal_name};
+ghost use Rattle.sm_script.specs.Answers.{command_fault_name, command_fault_number, admit_fault_name, refusal_name};
 
 use sm_desk::command::CommandFault;
 use sm_envelope::refusal::Refusal;
 use sm_ownership::admit_fault::AdmitFault;
 use sm_ownership::change_fault::ChangeFault;
+use sm_place::PlaceFault;
+use sm_tasks::{ApproveFault, StoppedFault};
 
 /// Why a call of a script was refused.
 #[derive(Clone, Copy, Debug, PartialEq, Eq, Drop)]
@@ -13,6 +15,8 @@ pub enum Refused {
     UnknownShard,
     /// There is no such server.
     UnknownServer,
+    /// The server isn't reached: it is stopped, or has failed.
+    Unreachable,
     /// No server holds the shard without a request.
     NotHeld,
     /// Why a command of the control was refused.
@@ -24,7 +28,7 @@ pub enum Refused {
 }
 
 impl Refused {
-    ghost use Rattle.sm_script.specs.Answers.{refused_name};
+    ghost use Rattle.sm_script.specs.Answers.{refused_name, refused_number};
 
     /// The name that an answer gives it.
     pub fn name(self) -> &'static str
@@ -33,10 +37,22 @@ impl Refused {
         match self {
             Refused::UnknownShard => "UnknownShard",
             Refused::UnknownServer => "UnknownServer",
+            Refused::Unreachable => "Unreachable",
             Refused::NotHeld => "NotHeld",
             Refused::Command(fault) => command_fault_name(fault),
             Refused::Admit(fault) => admit_fault_name(fault),
             Refused::Request(refusal) => refusal_name(refusal),
+        }
+    }
+
+    /// The number that an answer gives after the name, where there is one: of the shard, group or domain at which the
+    /// refusal came.
+    pub fn number(self) -> Option<u16>
+        ensures { result ≡ refused_number self }
+    {
+        match self {
+            Refused::Command(fault) => command_fault_number(fault),
+            _ => None,
         }
     }
 }
@@ -52,6 +68,52 @@ fn command_fault_name(fault: CommandFault) -> &'static str
         CommandFault::Change(ChangeFault::SameServer) => "SameServer",
         CommandFault::Change(ChangeFault::Spent(_)) => "Spent",
         CommandFault::Change(ChangeFault::Busy(_)) => "Busy",
+        CommandFault::Place(PlaceFault::Leaving) => "Leaving",
+        CommandFault::Place(PlaceFault::NoCapacity) => "NoCapacity",
+        CommandFault::Place(PlaceFault::DomainLimit) => "DomainLimit",
+        CommandFault::Ask(_) => "NotUp",
+        CommandFault::Approve(ApproveFault::NotAsked) => "NotAsked",
+        CommandFault::Approve(ApproveFault::GlobalCap) => "GlobalCap",
+        CommandFault::Approve(ApproveFault::ShardCap(_)) => "ShardCap",
+        CommandFault::Approve(ApproveFault::GroupCap(_)) => "GroupCap",
+        CommandFault::Approve(ApproveFault::DomainCap(_)) => "DomainCap",
+        CommandFault::Stopped(StoppedFault::NotApproved) => "NotApproved",
+        CommandFault::Stopped(StoppedFault::StillServing(_)) => "StillServing",
+        CommandFault::Back(_) => "AlreadyUp",
+        CommandFault::Fail(_) => "AlreadyFailed",
+    }
+}
+
+// The shard, group or domain at which the refusal of a command came.
+fn command_fault_number(fault: CommandFault) -> Option<u16>
+    ensures { result ≡ command_fault_number fault }
+{
+    match fault {
+        CommandFault::Approve(fault) => approve_fault_number(fault),
+        CommandFault::Stopped(fault) => stopped_fault_number(fault),
+        _ => None,
+    }
+}
+
+// The shard, group or domain at which an approval was refused.
+fn approve_fault_number(fault: ApproveFault) -> Option<u16>
+    ensures { result ≡ command_fault_number (CommandFault.Approve fault) }
+{
+    match fault {
+        ApproveFault::ShardCap(k) => Some(k.number()),
+        ApproveFault::GroupCap(g) => Some(g),
+        ApproveFault::DomainCap(d) => Some(d),
+        _ => None,
+    }
+}
+
+// The shard that kept a server from being stopped.
+fn stopped_fault_number(fault: StoppedFault) -> Option<u16>
+    ensures { result ≡ command_fault_number (CommandFault.Stopped fault) }
+{
+    match fault {
+        StoppedFault::StillServing(k) => Some(k.number()),
+        StoppedFault::NotApproved => None,
     }
 }
 
@@ -77,6 +139,7 @@ fn refusal_name(refusal: Refusal) -> &'static str
         Refusal::TooManyHops => "TooManyHops",
         Refusal::Admit(fault) => admit_fault_name(fault),
         Refusal::KeptFull => "KeptFull",
+        Refusal::Unreachable => "Unreachable",
         Refusal::NoMemory => "NoMemory",
     }
 }

@@ -185,11 +185,10 @@ impl Word {
             | Word::Resume
             | Word::Publish
             | Word::Free => &[Shape::Shard],
-            Word::Assign
-            | Word::PrepareAdd
-            | Word::Reassign
-            | Word::Hold
-            | Word::Checkpoint => &[Shape::Shard, Shape::Server],
+            Word::Assign | Word::PrepareAdd | Word::Reassign | Word::Hold | Word::Checkpoint => &[
+                Shape::Shard,
+                Shape::Server,
+            ],
             Word::Ask | Word::Approve | Word::Stopped | Word::Back | Word::Fail | Word::Drain => &[
                 Shape::Server,
             ],

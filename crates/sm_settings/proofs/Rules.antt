@@ -20,7 +20,7 @@ use Rattle.sm_settings.specs.declared.settings.TheConstants.{MAX_OPS, MAX_KEPT, 
 use Rattle.sm_settings.specs.Members.{when}
 use Rattle.sm_settings.specs.SettingsLine.{SettingsValues, values_in, base_rules, base_verdict, rules, value_or_fault, verdict_of, with_domains}
 use Rattle.sm_settings.specs.SettingsRows.{rule_of_servers, rule_of_groups, rule_of_shards, rule_of_domains}
-use Rattle.sm_settings.specs.SettingsRules.{KeepsRules}
+use Rattle.sm_settings.specs.SettingsRules.{KeepsRules, PassTests}
 
 -- where a value is given, all tests passed and it is the one to give
 all_hold : {V F : Type 0} (rs : List (Bool × F)) (s v : V) → value_or_fault rs s ≡ Ok v → (list_all (λ r. r.0) rs ≡ true) × (s ≡ v)
@@ -51,6 +51,12 @@ domains_kept : (servers : List ServerRow) (rows : List DomainRow) → rule_of_do
 unfolding rule_of_domains
 domains_kept servers rows h = AreDomains-are_domains servers rows h
 
+tests_pass : (s : SettingsValues) → rule_of_servers s.servers ≡ true → rule_of_groups s.groups ≡ true
+    → rule_of_shards (length s.bounds) (length s.groups) s.shards ≡ true → rule_of_domains s.servers s.domains ≡ true → PassTests s
+unfolding PassTests rule_of_servers rule_of_groups rule_of_shards rule_of_domains
+tests_pass s servers groups shards domains =
+    (servers, groups, (and_parts (length s.shards == length s.bounds) (are_shards (length s.groups) s.shards) shards).1, domains)
+
 keeps_rules : (s : SettingsValues) (d : Data) → list_all (λ r. r.0) (rules d s) ≡ true → KeepsRules s
 keeps_rules s d all =
     let holds : (i : ℕ) → i < 11 → (get_or (rules d s) i (true, BadJson)).0 ≡ true =
@@ -73,6 +79,7 @@ keeps_rules s d all =
       some_workers = workers.0;
       few_workers = workers.1;
       domains = domains_kept s.servers s.domains (holds 10 (lit< tt));
+      tests = tests_pass s (holds 3 (lit< tt)) (holds 4 (lit< tt)) (holds 5 (lit< tt)) (holds 10 (lit< tt));
     }
 
 -- what is verdict_of good keeps every rule

@@ -1,9 +1,17 @@
 -- The rules that settings keep, as facts about their values.
-use Rattle.std.specs.Prelude.{◌≡◌, ◌≤◌, ◌<◌, ◌^◌, length}
+use Rattle.std.specs.Prelude.{◌≡◌, ◌≤◌, ◌<◌, ◌^◌, length, true}
 use Rattle.sm_ranges.specs.Ranges.{IsLayout}
+use Rattle.sm_rows.specs.Domains.{are_domains}
+use Rattle.sm_rows.specs.Rows.{are_groups, are_servers, are_shards}
 use Rattle.sm_rows.specs.Kept.{AreServers, AreGroups, AreShards, AreDomains}
 use Rattle.sm_settings.specs.declared.settings.TheConstants.{MAX_OPS, MAX_KEPT, MIN_CEILING, MAX_WORKERS}
 use Rattle.sm_settings.specs.SettingsLine.{SettingsValues}
+
+-- the tests of rows that settings pass
+unfoldable pub PassTests : SettingsValues → Type 0
+PassTests s =
+    (are_servers s.servers ≡ true) × (are_groups s.groups ≡ true) × (are_shards (length s.groups) s.shards ≡ true)
+    × (are_domains s.servers s.domains ≡ true)
 
 -- what holds of the values of every settings line that is accepted
 pub record KeepsRules (s : SettingsValues) : Type 0 where
@@ -20,3 +28,4 @@ pub record KeepsRules (s : SettingsValues) : Type 0 where
   pub some_workers : 1 ≤ s.workers
   pub few_workers : s.workers ≤ MAX_WORKERS
   pub domains : AreDomains s.servers s.domains
+  pub tests : PassTests s

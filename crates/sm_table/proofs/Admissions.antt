@@ -9,17 +9,11 @@ use Rattle.sm_ownership.specs.declared.record.Record.{Record}
 use Rattle.sm_ownership.specs.History.{vacant, record_at, after_kind, table_of, IsLegal}
 use Rattle.sm_ownership.specs.lemmas.Growth.{fits-push, table_of-push}
 use Rattle.sm_table.specs.declared.hands.InHand.{InHand}
-use Rattle.sm_table.specs.World.{WorldState, count_of, with_entry, with_hand, desk_of}
+use Rattle.sm_table.specs.World.{WorldState, count_of, with_entry, with_hand}
 use Rattle.sm_table.specs.Standing.{IsSound, with_admission}
 use Rattle.sm_table.specs.Bodies.{Past}
 use Rattle.sm_table.proofs.Pasts.{past_of-push_none}
 use Rattle.sm_table.proofs.Parts.{parts_of, Keeps}
-
--- an entry that leaves the stand of its shard leaves all stands
-pub stands-push : {Q : Type 0} (count ceiling : ℕ) (history : List (Entry Q)) (entry : Entry Q) → IsLegal count ceiling (history ++ entry ∷ []) → (after_kind (record_at (table_of count ceiling history) entry.shard) entry.kind).stand ≡ (record_at (table_of count ceiling history) entry.shard).stand → map (λ (state : Record). state.stand) (table_of count ceiling (history ++ entry ∷ [])) ≡ map (λ (state : Record). state.stand) (table_of count ceiling history)
-stands-push count ceiling history entry legal stays =
-    ap (map (λ (state : Record). state.stand)) (table_of-push count ceiling history entry (fits-push count ceiling history entry legal))
-    ∙ map-set_same (λ (state : Record). state.stand) (table_of count ceiling history) entry.shard (after_kind (record_at (table_of count ceiling history) entry.shard) entry.kind) vacant stays
 
 module _ {Q : Type 0} (w : WorldState Q) (server shard : ℕ) (mode : Mode) (hand : InHand Q) (pasts : List (Past Q)) where
   -- the world after the admission
@@ -31,9 +25,7 @@ module _ {Q : Type 0} (w : WorldState Q) (server shard : ℕ) (mode : Mode) (han
   entered_parts after =
       let entry : Entry Q = record { actor = server; shard = shard; kind = Admit server mode } in
       let grown = table_of-push (count_of w) w.frame.ceiling w.history entry (fits-push (count_of w) w.frame.ceiling w.history entry after.legal) in
-      let shown = stands-push (count_of w) w.frame.ceiling w.history entry after.legal refl in
-      ap (λ stands. record (with_admission (parts_of w pasts) shard hand) { desk = record { servers = w.frame.servers; stands = stands } }) (sym shown)
-      ∙ ap (λ records. record (with_admission (parts_of w pasts) shard hand) { desk = desk_of entered; records = records }) (sym grown)
+      ap (λ records. record (with_admission (parts_of w pasts) shard hand) { records = records }) (sym grown)
 
   -- and the pasts that it had
   pub entered_keeps : Keeps w pasts → Keeps entered pasts

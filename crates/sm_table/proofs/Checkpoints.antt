@@ -1,6 +1,6 @@
 -- A checkpoint of a shard, in the parts and in the world that they stand for.
 use Rattle.std.proofs.Common.{◌≡◌, ℕ, ◌<◌, ◌≤◌, true, false, List, [], ◌∷◌, ◌++◌, length, refl, sym, ap, subst, ◌∙◌, arith, ⊎_elim}
-use Rattle.std.specs.Prelude.{Option, None, OnOk, Result, Ok, Err, is_err, is_none, nat_lt, not, slice_set, ◌==◌}
+use Rattle.std.specs.Prelude.{Option, None, OnErr, OnOk, Result, Ok, Err, is_err, is_none, nat_lt, not, slice_set, ◌==◌}
 use Rattle.std.proofs.lemmas.Bool.{and_parts, cases_eq, lt-ltb, not-true}
 use Rattle.std.proofs.lemmas.Bool.Decides.{nat_tests}
 use Rattle.std.proofs.lemmas.List.{get_or-set_same, get_or-set_other, length-drop, length-set}
@@ -20,13 +20,13 @@ use Rattle.sm_table.specs.declared.world.Flight.{Flight}
 use Rattle.sm_table.specs.declared.hands.InHand.{InHand}
 use Rattle.sm_table.specs.declared.step.Step.TheVariants.{Checkpoint as CheckpointAt}
 use Rattle.sm_table.specs.declared.world_answer.WorldAnswer.TheVariants.{Made}
-use Rattle.sm_table.specs.declared.world_fault.WorldFault.TheVariants.{NoMemory}
+use Rattle.sm_table.specs.declared.world_fault.WorldFault.TheVariants.{NoMemory, UnknownShard}
 use Rattle.sm_desk.specs.Desk.{is_known, DeskView}
 use Rattle.sm_body.specs.Service.{Service}
-use Rattle.sm_table.specs.World.{WorldState, Plain, Unmade, checkpoint_ending, count_of, desk_of, outcome, with_entry, world_record, world_table}
+use Rattle.sm_table.specs.World.{WorldState, Plain, Unmade, checkpoint_ending, count_of, is_there, outcome, with_entry, world_record, world_table}
 use Rattle.sm_table.specs.Standing.{IsSound, WorldView, view_of, StandsFor, Follows}
 use Rattle.sm_table.specs.Bodies.{BodiesView, Past, kept_in, no_past, past_after, past_at, past_of}
-use Rattle.sm_table.proofs.Admissions.{stands-push}
+use Rattle.sm_table.proofs.Holding.{past_shards}
 use Rattle.sm_table.proofs.Pasts.{past_of-push, past_of-push_none, past_of-push_other}
 use Rattle.sm_table.proofs.Parts.{parts_of, Keeps, parts-from_StandsFor, Follows-unchanged, Follows-changed}
 
@@ -64,10 +64,6 @@ module _ {Q : Type 0} (w : WorldState Q) (server shard : ℕ) where
     records_based =
         table_of-push (count_of w) w.frame.ceiling between end (fits-push (count_of w) w.frame.ceiling between end sound.legal)
         ∙ ap (λ t. slice_set t shard (after_done (record_at t shard))) (table_of-push (count_of w) w.frame.ceiling w.history admission (fits-push (count_of w) w.frame.ceiling w.history admission legal))
-
-    desk_based : desk_of based_world ≡ desk_of w
-    desk_based = ap (λ stands. record { servers = w.frame.servers; stands = stands })
-        (stands-push (count_of w) w.frame.ceiling between end sound.legal refl ∙ stands-push (count_of w) w.frame.ceiling w.history admission legal refl)
 
   -- what the shards have applied
   past_based : past_of (between ++ end ∷ []) shard ≡ past_after (past_of w.history shard) ending
@@ -121,10 +117,10 @@ module _ {Q R : Type 0} (service : Service Q R) {bounds : List (List ℕ)} {desk
       (ap (λ all. record v { pasts = all; limits = bodies.limits }) pasts ∙ ap (λ all. record v { limits = all }) limits)
 
   -- the shard's state is its base
-  pub based_by : (admitted table : TableView) (bodies : BodiesView Q) → is_known v.desk.servers server ≡ true → None ≡ admit_fault v.ceiling (record_at v.records shard) server Direct → admitted ≡ table_admitted (record { records = v.records; ceiling = v.ceiling }) shard → table ≡ table_done admitted shard → bodies.pasts ≡ slice_set v.pasts shard (past_after (past_at v.pasts shard) Checkpoint) → bodies.limits ≡ v.limits → Follows (record v { records = table.records; ceiling = table.ceiling; pasts = bodies.pasts; limits = bodies.limits }) (Ok Made) (outcome service w Plain (CheckpointAt shard server))
+  pub based_by : (admitted table : TableView) (bodies : BodiesView Q) → is_known v.desk.books.servers server ≡ true → None ≡ admit_fault v.ceiling (record_at v.records shard) server Direct → admitted ≡ table_admitted (record { records = v.records; ceiling = v.ceiling }) shard → table ≡ table_done admitted shard → bodies.pasts ≡ slice_set v.pasts shard (past_after (past_at v.pasts shard) Checkpoint) → bodies.limits ≡ v.limits → Follows (record v { records = table.records; ceiling = table.ceiling; pasts = bodies.pasts; limits = bodies.limits }) (Ok Made) (outcome service w Plain (CheckpointAt shard server))
   based_by admitted table bodies knows is enters ends based limits =
       let inside : nat_lt shard (count_of w) ≡ true = lt-ltb _ _ there in
-      let known : is_known w.frame.servers server ≡ true = ap (λ desk. is_known desk.servers server) (sym stands.desk) ∙ knows in
+      let known : is_there w server ≡ true = ap (λ (desk : DeskView). is_known desk.books.servers server) (sym stands.desk) ∙ knows in
       let by_record : admit_fault w.frame.ceiling (world_record w shard) server Direct ≡ None =
       ap (λ ceiling. admit_fault ceiling (world_record w shard) server Direct) (sym stands.ceiling)
       ∙ ap (λ records. admit_fault v.ceiling (record_at records shard) server Direct) (sym stands.records)
@@ -136,8 +132,7 @@ module _ {Q R : Type 0} (service : Service Q R) {bounds : List (List ℕ)} {desk
       ∙ ap (λ all. record (after_table v) { pasts = all; limits = bodies.limits }) (based ∙ pasts_based)
       ∙ ap (λ all. record (after_table v) { pasts = pasts_after; limits = all }) limits
       ∙ ap (λ (u : WorldView Q). record (after_table u) { pasts = pasts_after }) (parts-from_StandsFor v w stands)
-      ∙ ap (λ records. record (parts_of w pasts_after) { records = records }) (sym (records_based w server shard sound))
-      ∙ ap (λ desk. record (parts_of (based_world w server shard) pasts_after) { desk = desk }) (sym (desk_based w server shard sound)))
+      ∙ ap (λ records. record (parts_of w pasts_after) { records = records }) (sym (records_based w server shard sound)))
       (λ _. Keeps-based)
     where
       after_table : WorldView Q → WorldView Q
@@ -147,6 +142,16 @@ module _ {Q R : Type 0} (service : Service Q R) {bounds : List (List ℕ)} {desk
 pub idle_admits : (ceiling : ℕ) (state : Record) (server : ℕ) → None ≡ admit_fault ceiling state server Direct → state.admitted ≡ false
 idle_admits ceiling state server none =
     not-true state.admitted (and_parts (not state.admitted) _ (sym (admit_fault-none ceiling state server Direct) ∙ ap is_none (sym none))).0
+
+-- there is no such shard
+pub no_base_there : {Q R : Type 0} (service : Service Q R) {bounds : List (List ℕ)} {desk_was : DeskView} {table_was : TableView} {bodies_was : BodiesView Q} {flights_was : List (Flight Q)} {hands_was : List (Option (InHand Q))} (now : WorldView Q) → view_of bounds desk_was table_was bodies_was flights_was hands_was ≡ now → (w : WorldState Q) → StandsFor now w → (shard server : ℕ) → length table_was.records ≤ shard → Follows {R = R} now (Err UnknownShard) (outcome service w Plain (CheckpointAt shard server))
+no_base_there service now same w given shard server past =
+    Follows-unchanged service w Plain (CheckpointAt shard server) now now (Err UnknownShard) given (rw (past_shards now same w given shard past) refl) refl
+
+-- what holds after a call that was refused
+pub on_err : {X E P : Type 0} (r : Result X E) → is_err r ≡ true → OnErr r P → P
+on_err (Ok x) refused holds = absurd cc
+on_err (Err e) refused holds = holds
 
 -- what holds after a call that wasn't refused
 pub on_ok : {X E P : Type 0} (r : Result X E) → is_err r ≡ false → OnOk r P → P

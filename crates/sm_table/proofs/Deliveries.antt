@@ -19,7 +19,8 @@ use Rattle.sm_body.specs.Service.{Service}
 use Rattle.sm_table.specs.World.{WorldState, Plain, world_record, hand_of, reached, after_hop, without_flight, mark_of, outcome}
 use Rattle.sm_table.specs.Standing.{WorldView, view_of, StandsFor, Follows, with_admission}
 use Rattle.sm_table.proofs.Admissions.{entered, entered_parts, entered_keeps}
-use Rattle.sm_desk.specs.Desk.{DeskView}
+use Rattle.sm_desk.specs.Desk.{DeskView, is_reached}
+use Rattle.std.proofs.lemmas.Bool.{cond_both}
 use Rattle.sm_ownership.specs.Tables.{TableView}
 use Rattle.sm_table.specs.Bodies.{BodiesView}
 use Rattle.sm_table.proofs.Parts.{parts_of, parts-from_StandsFor, Follows-unchanged, Follows-changed}
@@ -45,9 +46,9 @@ module _ {Q R : Type 0} (service : Service Q R) {bounds : List (List ℕ)} {desk
       Follows-unchanged service w Plain (Deliver place) now now (Err NoEnvelope) given (rw none refl) refl
 
 -- a hop is a plain step
-plain_hop : {Q : Type 0} (R : Type 0) (in_flight : List (Flight Q)) (sent : Result (ℕ × EnvelopeView Q (Unit {0})) (EnvelopeView Q (Unit {0}))) → mark_of (Ok (after_hop {R = R} in_flight sent).0) ≡ Plain
-plain_hop R in_flight (Ok hop) = refl
-plain_hop R in_flight (Err envelope) = refl
+plain_hop : {Q : Type 0} (R : Type 0) (desk : DeskView) (in_flight : List (Flight Q)) (sent : Result (ℕ × EnvelopeView Q (Unit {0})) (EnvelopeView Q (Unit {0}))) → mark_of (Ok (after_hop {R = R} desk in_flight sent).0) ≡ Plain
+plain_hop {Q = Q} R desk in_flight (Ok hop) = cond_both (is_reached desk hop.0) _ _ (λ (one : WorldAnswer R × List (Flight Q)). mark_of (Ok one.0) ≡ Plain) (λ _. refl) (λ _. refl)
+plain_hop R desk in_flight (Err envelope) = refl
 
 module _ {Q R : Type 0} (service : Service Q R) {bounds : List (List ℕ)} {desk_was : DeskView} {table_was : TableView} {bodies_was : BodiesView Q} {flights_was : List (Flight Q)} {hands_was : List (Option (InHand Q))} (now : WorldView Q) (same : view_of bounds desk_was table_was bodies_was flights_was hands_was ≡ now) (w : WorldState Q) (given : StandsFor now w) (place : ℕ) (flight : Flight Q) (there : slice_get flights_was place ≡ Some flight) (in_flight : List (Flight Q)) (gone : in_flight ≡ remove flights_was place) (shard : ℕ) (shard_is : shard ≡ flight.envelope.shard) (state : Record) (state_is : state ≡ record_at table_was.records shard) where
   abbrev v : WorldView Q
@@ -74,23 +75,24 @@ module _ {Q R : Type 0} (service : Service Q R) {bounds : List (List ℕ)} {desk
   abbrev FollowsHop : WorldAnswer R × List (Flight Q) → Type 0
   FollowsHop hop = Follows (record v { in_flight = hop.1 }) (Ok hop.0) (outcome service w (mark_of (Ok hop.0)) (Deliver place))
 
-  follows_hop : (to : ℕ) → forward_to state flight.to ≡ Some to → FollowsHop (after_hop in_flight (sent_on flight.envelope flight.to (Some to)))
+  follows_hop : (to : ℕ) → forward_to state flight.to ≡ Some to → FollowsHop (after_hop v.desk in_flight (sent_on flight.envelope flight.to (Some to)))
   follows_hop to forwards =
       let sent : Result (ℕ × EnvelopeView Q (Unit {0})) (EnvelopeView Q (Unit {0})) = sent_on flight.envelope flight.to (Some to) in
       let left : in_flight ≡ remove w.in_flight place = gone ∙ ap (λ flights. remove flights place) stands.in_flight in
       let onward : forward_to (world_record w flight.envelope.shard) flight.to ≡ Some to = ap (λ (s : Record). forward_to s flight.to) state_of_world ∙ forwards in
-      let hop : WorldAnswer R × List (Flight Q) = after_hop (remove w.in_flight place) sent in
-      subst (λ flights. FollowsHop (after_hop flights sent)) (sym left)
-      (subst (λ mark. Follows (record v { in_flight = hop.1 }) (Ok hop.0) (outcome service w mark (Deliver place))) (sym (plain_hop R (remove w.in_flight place) sent))
+      let hop : WorldAnswer R × List (Flight Q) = after_hop w.desk (remove w.in_flight place) sent in
+      subst (λ flights. FollowsHop (after_hop v.desk flights sent)) (sym left)
+      (subst (λ desk. FollowsHop (after_hop desk (remove w.in_flight place) sent)) (sym stands.desk)
+      (subst (λ mark. Follows (record v { in_flight = hop.1 }) (Ok hop.0) (outcome service w mark (Deliver place))) (sym (plain_hop R w.desk (remove w.in_flight place) sent))
       (Follows-changed service w Plain (Deliver place) (record v { in_flight = hop.1 }) (Ok hop.0) (record w { in_flight = hop.1 }) v.pasts stands.sound (rw found (rw onward refl))
       (λ _. ap (λ (u : WorldView Q). record u { in_flight = hop.1 }) (parts-from_StandsFor v w stands))
-      (λ _. record { bodies = stands.bodies; each = stands.pasts })))
+      (λ _. record { bodies = stands.bodies; each = stands.pasts }))))
 
-  -- the server forwards the request, or refuses it for want of a hop
-  pub forwarded_on : is_some (forward_to state flight.to) ≡ true → (answer : WorldAnswer R) (flights : List (Flight Q)) → (answer, flights) ≡ after_hop in_flight (forwarded flight.envelope state flight.to) → FollowsHop (answer, flights)
+  -- the server forwards the request, or refuses it where no hop is left or the next server isn't reached
+  pub forwarded_on : is_some (forward_to state flight.to) ≡ true → (answer : WorldAnswer R) (flights : List (Flight Q)) → (answer, flights) ≡ after_hop v.desk in_flight (forwarded flight.envelope state flight.to) → FollowsHop (answer, flights)
   forwarded_on some answer flights is = subst FollowsHop (sym is) (by (forward_to state flight.to) refl some)
     where
-      by : (to : Option ℕ) → forward_to state flight.to ≡ to → is_some to ≡ true → FollowsHop (after_hop in_flight (sent_on flight.envelope flight.to to))
+      by : (to : Option ℕ) → forward_to state flight.to ≡ to → is_some to ≡ true → FollowsHop (after_hop v.desk in_flight (sent_on flight.envelope flight.to to))
       by None forwards onward = absurd cc
       by (Some to) forwards onward = follows_hop to forwards
 

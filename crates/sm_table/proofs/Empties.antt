@@ -32,16 +32,12 @@ none_yet Q count shard =
     (λ (past : count ≤ shard). ap (λ (p : Past Q). length p.all) (get_or_past (replicate count nothing) shard nothing (omega (arith, length-replicate count nothing))))
     (cases_lt shard count)
 
-map-replicate : {A B : Type 0} (f : A → B) (count : ℕ) (x : A) → map f (replicate count x) ≡ replicate count (f x)
-map-replicate f zero x = refl
-map-replicate f (suc count) x = ap (λ rest. f x ∷ rest) (map-replicate f count x)
-
 module _ {Q : Type 0} {bounds : List (List ℕ)} {desk : DeskView} {table : TableView} {bodies : BodiesView Q} {in_flight : List (Flight Q)} {in_hand : List (Option (InHand Q))} where
   -- parts with a vacant record for each shard, where nothing is kept, in flight or in hand
-  pub StandsFor-empty : (frame : Frame) → IsFrame frame → bounds ≡ frame.bounds → desk.servers ≡ frame.servers → desk.stands ≡ replicate (length frame.bounds) Vacant → table.records ≡ replicate (length frame.bounds) vacant → table.ceiling ≡ frame.ceiling → bodies.pasts ≡ replicate (length frame.bounds) no_past → bodies.limits ≡ frame.limits → in_flight ≡ [] → in_hand ≡ replicate (length frame.bounds) None → StandsFor (view_of bounds desk table bodies in_flight in_hand) (empty_world frame)
-  StandsFor-empty frame is same servers stands records ceiling empty limits flights hands = record {
+  pub StandsFor-empty : (frame : Frame) → IsFrame frame → bounds ≡ frame.bounds → desk ≡ frame.start → table.records ≡ replicate (length frame.bounds) vacant → table.ceiling ≡ frame.ceiling → bodies.pasts ≡ replicate (length frame.bounds) no_past → bodies.limits ≡ frame.limits → in_flight ≡ [] → in_hand ≡ replicate (length frame.bounds) None → StandsFor (view_of bounds desk table bodies in_flight in_hand) (empty_world frame)
+  StandsFor-empty frame is same start records ceiling empty limits flights hands = record {
     bounds = same;
-    desk = ap (λ numbers. record { servers = numbers; stands = desk.stands }) servers ∙ ap (λ of_shards. record { servers = frame.servers; stands = of_shards }) (stands ∙ sym (map-replicate (λ (state : Record). state.stand) (length frame.bounds) vacant));
+    desk = start;
     records = records;
     ceiling = ceiling;
     bodies = ap length empty ∙ length-replicate (length frame.bounds) no_past;

@@ -20,12 +20,11 @@ use Rattle.sm_ownership.specs.History.{record_at, after_done, all_of, kept}
 use Rattle.sm_table.specs.Bodies.{BodiesView, Past, kept_in, no_past, past_after, past_at, past_of}
 use Rattle.sm_ownership.specs.Tables.{TableView, table_done}
 use Rattle.sm_body.specs.Service.{Service}
-use Rattle.sm_table.specs.World.{WorldState, Mark, Plain, Unserved, count_of, desk_of, ended, worked, served, outcome}
+use Rattle.sm_table.specs.World.{WorldState, Mark, Plain, Unserved, count_of, ended, worked, served, outcome}
 use Rattle.sm_table.specs.Standing.{IsSound, WorldView, view_of, StandsFor, Follows}
 use Rattle.sm_ownership.specs.lemmas.Growth.{fits-push, table_of-push}
 use Rattle.sm_table.proofs.Pasts.{past_of-push, past_of-push_none, past_of-push_other}
 use Rattle.sm_table.proofs.Parts.{parts_of, Keeps, parts-from_StandsFor, Follows-unchanged, Follows-changed}
-use Rattle.sm_table.proofs.Admissions.{stands-push}
 use Rattle.sm_desk.specs.Desk.{DeskView}
 use Rattle.sm_table.specs.declared.world.Flight.{Flight}
 use Rattle.sm_table.specs.lemmas.Entries.{hand_within}
@@ -59,9 +58,7 @@ module _ {Q : Type 0} (w : WorldState Q) (shard : ℕ) (server : ℕ) (ending : 
   done_parts_of pasts before after =
       let entry : Entry Q = record { actor = server; shard = shard; kind = Done ending } in
       let grown = table_of-push (count_of w) w.frame.ceiling w.history entry (fits-push (count_of w) w.frame.ceiling w.history entry after.legal) in
-      let shown = stands-push (count_of w) w.frame.ceiling w.history entry after.legal refl in
-      ap (λ stands. record (done_parts pasts (parts_of w before)) { desk = record { servers = w.frame.servers; stands = stands } }) (sym shown)
-      ∙ ap (λ records. record (done_parts pasts (parts_of w before)) { desk = desk_of (ended w shard server ending); records = records }) (sym grown)
+      ap (λ records. record (done_parts pasts (parts_of w before)) { records = records }) (sym grown)
 
 worked-none : {Q R : Type 0} (service : Service Q R) (w : WorldState Q) (mark : Mark) (shard server : ℕ) (work : Option (Work Q)) → None ≡ option_map (begun server) work → worked service w mark shard server work ≡ (Err NotHeld, w)
 worked-none service w mark shard server None none = refl

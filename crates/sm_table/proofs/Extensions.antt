@@ -4,8 +4,8 @@ use Rattle.std.specs.Prelude.{Option, Some, None, nat_lt, remove, slice_index_or
 use Rattle.std.proofs.lemmas.Bool.{cond_both}
 use Rattle.std.proofs.lemmas.List.{append-nil}
 use Rattle.sm_ownership.specs.declared.admit_fault.AdmitFault.{AdmitFault}
-use Rattle.sm_ownership.specs.declared.change.Change.{Change}
-use Rattle.sm_desk.specs.declared.command.Command.TheVariants.{Change as ChangeOf}
+use Rattle.sm_desk.specs.declared.command.Command.{Command}
+use Rattle.sm_desk.specs.declared.command.Command.TheVariants.{Change as ChangeOf, Ask, Approve, Stopped, Back, Fail}
 use Rattle.sm_desk.specs.declared.command.CommandFault.{CommandFault}
 use Rattle.sm_ownership.specs.declared.entry.Entry.{Entry}
 use Rattle.sm_table.specs.declared.world.Flight.{Flight}
@@ -13,11 +13,11 @@ use Rattle.sm_table.specs.declared.hands.InHand.{InHand}
 use Rattle.sm_table.specs.declared.hands.Work.{Work}
 use Rattle.sm_table.specs.declared.step.Step.{Step}
 use Rattle.sm_table.specs.declared.step.Step.TheVariants.{Control, Look, Send, Deliver, Finish, Lose, Hold, Free, Checkpoint}
-use Rattle.sm_desk.specs.Desk.{is_known}
+use Rattle.sm_desk.specs.Desk.{DeskView, commanded, is_reached}
 use Rattle.sm_envelope.specs.Envelope.{EnvelopeView}
 use Rattle.sm_ownership.specs.History.{kept}
 use Rattle.sm_body.specs.Service.{Service}
-use Rattle.sm_table.specs.World.{WorldState, Mark, Plain, Unmade, Unserved, Outcome, count_of, controlled, reached, arrived, without_flight, delivered, with_room, worked, served, held, after_hold, based, after_checkpoint, let_go, freed, next, world_after}
+use Rattle.sm_table.specs.World.{WorldState, Mark, Plain, Unmade, Unserved, Outcome, count_of, controlled, is_there, reached, arrived, without_flight, delivered, with_room, worked, served, held, after_hold, based, after_checkpoint, let_go, freed, next, world_after}
 
 -- the later world has the frame of the earlier one, and its history and then these entries
 pub record Extends {Q : Type 0} (w later : WorldState Q) : Type 0 where
@@ -39,9 +39,18 @@ module _ {Q : Type 0} (R : Type 0) (w : WorldState Q) where
   abbrev LeavesExtended : Outcome Q R → Type 0
   LeavesExtended outcome = Extends w outcome.1
 
-  extends_controlled : (shard : ℕ) (change : Change) (fault : Option CommandFault) → LeavesExtended (controlled w shard change fault)
-  extends_controlled shard change None = record { frame = refl; added = _; history = refl }
-  extends_controlled shard change (Some fault) = extends_itself w
+  -- the desk knows more
+  extends_desk : (desk : DeskView) → Extends w (record w { desk = desk })
+  extends_desk desk = record { frame = refl; added = []; history = sym (append-nil w.history) }
+
+  extends_controlled : (command : Command) (fault : Option CommandFault) → LeavesExtended (controlled w command fault)
+  extends_controlled (ChangeOf shard change) None = record { frame = refl; added = _; history = refl }
+  extends_controlled (Ask server) None = extends_desk (commanded w.desk (Ask server))
+  extends_controlled (Approve server) None = extends_desk (commanded w.desk (Approve server))
+  extends_controlled (Stopped server) None = extends_desk (commanded w.desk (Stopped server))
+  extends_controlled (Back server) None = extends_desk (commanded w.desk (Back server))
+  extends_controlled (Fail server) None = extends_desk (commanded w.desk (Fail server))
+  extends_controlled command (Some fault) = extends_itself w
 
   -- other envelopes are in flight
   extends_flights : (in_flight : List (Flight Q)) → Extends w (record w { in_flight = in_flight })
@@ -80,7 +89,7 @@ module _ {Q : Type 0} (R : Type 0) (w : WorldState Q) where
 
   extends_hold : (shard server : ℕ) → LeavesExtended (after_hold w shard server)
   extends_hold shard server = cond_both (nat_lt shard (count_of w)) _ _ LeavesExtended
-      (λ _. cond_both (is_known w.frame.servers server) _ _ LeavesExtended (λ _. extends_held shard server _) (λ _. extends_itself w))
+      (λ _. cond_both (is_there w server) _ _ LeavesExtended (λ _. extends_held shard server _) (λ _. extends_itself w))
       (λ _. extends_itself w)
 
   extends_based : (shard server : ℕ) (fault : Option AdmitFault) → LeavesExtended (based w shard server fault)
@@ -89,7 +98,7 @@ module _ {Q : Type 0} (R : Type 0) (w : WorldState Q) where
 
   extends_checkpoint : (shard server : ℕ) → LeavesExtended (after_checkpoint w shard server)
   extends_checkpoint shard server = cond_both (nat_lt shard (count_of w)) _ _ LeavesExtended
-      (λ _. cond_both (is_known w.frame.servers server) _ _ LeavesExtended (λ _. extends_based shard server _) (λ _. extends_itself w))
+      (λ _. cond_both (is_there w server) _ _ LeavesExtended (λ _. extends_based shard server _) (λ _. extends_itself w))
       (λ _. extends_itself w)
 
   extends_let_go : (shard server : ℕ) (work : Option (Work Q)) → LeavesExtended (let_go w shard server work)
@@ -102,10 +111,10 @@ module _ {Q : Type 0} (R : Type 0) (w : WorldState Q) where
 
 pub extends_next : {Q R : Type 0} (service : Service Q R) (w : WorldState Q) (mark : Mark) (step : Step Q) → Extends w (next service w mark step)
 extends_next service w Unmade step = extends_itself w
-extends_next {R = R} service w mark (Control (ChangeOf shard change)) = extends_controlled R w shard change _
+extends_next {R = R} service w mark (Control command) = extends_controlled R w command _
 extends_next {R = R} service w mark (Look shard) = cond_both (nat_lt shard (count_of w)) _ _ (LeavesExtended R w) (λ _. extends_itself w) (λ _. extends_itself w)
-extends_next {R = R} service w mark (Send to number request) = cond_both (is_known w.frame.servers to) _ _ (LeavesExtended R w)
-    (λ _. extends_flights R w _)
+extends_next {R = R} service w mark (Send to number request) = cond_both (is_there w to) _ _ (LeavesExtended R w)
+    (λ _. cond_both (is_reached w.desk to) _ _ (LeavesExtended R w) (λ _. extends_flights R w _) (λ _. extends_itself w))
     (λ _. extends_itself w)
 extends_next {R = R} service w mark (Deliver place) = extends_delivered R w place _
 extends_next {R = R} service w mark (Finish shard) = extends_served R w service mark shard _

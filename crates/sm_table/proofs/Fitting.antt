@@ -14,7 +14,7 @@ use Rattle.sm_table.specs.declared.hands.Work.{Work}
 use Rattle.sm_table.specs.lemmas.Entries.{hand_within, set-set}
 use Rattle.sm_ownership.specs.History.{vacant, record_at, after_admit, after_change, after_done}
 use Rattle.sm_ownership.specs.Tables.{TableView, table_admitted, table_changed, table_done, with_record}
-use Rattle.sm_desk.specs.Desk.{DeskView}
+use Rattle.sm_desk.specs.Desk.{DeskView, is_reached}
 use Rattle.sm_table.specs.Bodies.{BodiesView, Past, no_past, past_after, past_at}
 use Rattle.sm_table.specs.Standing.{IsTogether, view_of}
 use Rattle.sm_envelope.specs.Envelope.{EnvelopeView, forwarded, one_hop_more, sent_on}
@@ -132,6 +132,10 @@ module _ {Q : Type 0} {bounds : List (List ℕ)} {desk : DeskView} {table : Tabl
   IsTogether-in_flight : (flights : List (Flight Q)) → All IsShardThere flights → IsTogether (view_of bounds desk table bodies flights in_hand)
   IsTogether-in_flight flights all = record { layout = whole.layout; table = whole.table; bodies = whole.bodies; flights = all; admitted = whole.admitted; few = whole.few; low = whole.low }
 
+  -- with another desk
+  pub IsTogether-desk : (desk_now : DeskView) → IsTogether (view_of bounds desk_now table bodies in_flight in_hand)
+  IsTogether-desk desk_now = record { layout = whole.layout; table = whole.table; bodies = whole.bodies; flights = whole.flights; admitted = whole.admitted; few = whole.few; low = whole.low }
+
   -- with one more, for a shard that is there
   pub IsTogether-sent : (shard to number : ℕ) (request : Q) (envelope : EnvelopeView Q (Unit {0})) (flights : List (Flight Q)) → shard < length bounds → envelope ≡ direct number shard request → flights ≡ in_flight ++ flight_to to envelope ∷ [] → IsTogether (view_of bounds desk table bodies flights in_hand)
   IsTogether-sent shard to number request envelope flights within is flights_are =
@@ -143,19 +147,21 @@ module _ {Q : Type 0} {bounds : List (List ℕ)} {desk : DeskView} {table : Tabl
   flights-remove place = All-append IsShardThere _ _ (All-take IsShardThere place in_flight whole.flights) (All-drop IsShardThere (suc place) in_flight whole.flights)
 
   -- an envelope that is forwarded stays with its shard
-  flights-hop : (R : Type 0) (flights : List (Flight Q)) (envelope : EnvelopeView Q (Unit {0})) (from : ℕ) (to : Option ℕ) → All IsShardThere flights → envelope.shard < length in_hand → All IsShardThere (after_hop {R = R} flights (sent_on envelope from to)).1
-  flights-hop R flights envelope from None all there = all
-  flights-hop R flights envelope from (Some to) all there =
-      cond_both (nat_lt envelope.hops MOST_HOPS) _ _ (λ (sent : Result (ℕ × EnvelopeView Q (Unit {0})) (EnvelopeView Q (Unit {0}))). All IsShardThere (after_hop {R = R} flights sent).1)
+  flights-hop : (R : Type 0) (desk_then : DeskView) (flights : List (Flight Q)) (envelope : EnvelopeView Q (Unit {0})) (from : ℕ) (to : Option ℕ) → All IsShardThere flights → envelope.shard < length in_hand → All IsShardThere (after_hop {R = R} desk_then flights (sent_on envelope from to)).1
+  flights-hop R desk_then flights envelope from None all there = all
+  flights-hop R desk_then flights envelope from (Some to) all there =
+      cond_both (nat_lt envelope.hops MOST_HOPS) _ _ (λ (sent : Result (ℕ × EnvelopeView Q (Unit {0})) (EnvelopeView Q (Unit {0}))). All IsShardThere (after_hop {R = R} desk_then flights sent).1)
+      (λ _. cond_both (is_reached desk_then to) _ _ (λ (hop : WorldAnswer R × List (Flight Q)). All IsShardThere hop.1)
       (λ _. All-push IsShardThere flights (flight_to to (one_hop_more envelope from)) all there)
+      (λ _. all))
       (λ _. all)
 
   -- an envelope that came off the flights is forwarded, or refused
-  pub IsTogether-hop : {R : Type 0} (place : ℕ) (envelope : EnvelopeView Q (Unit {0})) (state : Record) (from : ℕ) (left flights : List (Flight Q)) (answer : WorldAnswer R) → left ≡ remove in_flight place → envelope.shard < length table.records → (answer, flights) ≡ after_hop left (forwarded envelope state from) → IsTogether (view_of bounds desk table bodies flights in_hand)
+  pub IsTogether-hop : {R : Type 0} (place : ℕ) (envelope : EnvelopeView Q (Unit {0})) (state : Record) (from : ℕ) (left flights : List (Flight Q)) (answer : WorldAnswer R) → left ≡ remove in_flight place → envelope.shard < length table.records → (answer, flights) ≡ after_hop desk left (forwarded envelope state from) → IsTogether (view_of bounds desk table bodies flights in_hand)
   IsTogether-hop {R = R} place envelope state from left flights answer left_is there hop =
       let all : All IsShardThere left = subst (All IsShardThere) (sym left_is) (flights-remove place) in
-      let onward = flights-hop R left envelope from (forward_to state from) all (omega (arith, there, whole.table)) in
-      let as_hopped : flights ≡ (after_hop {R = R} left (forwarded envelope state from)).1 = ap (λ (pair : WorldAnswer R × List (Flight Q)). pair.1) hop in
+      let onward = flights-hop R desk left envelope from (forward_to state from) all (omega (arith, there, whole.table)) in
+      let as_hopped : flights ≡ (after_hop {R = R} desk left (forwarded envelope state from)).1 = ap (λ (pair : WorldAnswer R × List (Flight Q)). pair.1) hop in
       IsTogether-in_flight flights (subst (All IsShardThere) (sym as_hopped) onward)
 
   -- or not in flight any more

@@ -1,7 +1,8 @@
 -- A server that holds a shard without a request, in the parts and in the world that they stand for.
-use Rattle.std.proofs.Common.{◌≡◌, ℕ, ◌<◌, true, false, List, length, refl, sym, ap, subst, ◌∙◌, arith}
+use Rattle.std.proofs.Common.{◌≡◌, ℕ, ◌<◌, ◌≤◌, true, false, List, length, refl, sym, ap, subst, ◌∙◌, arith}
 use Rattle.std.specs.Prelude.{Option, Some, None, Ok, Err, is_none, nat_lt, slice_index_or, slice_set}
 use Rattle.std.proofs.lemmas.Bool.{lt-ltb}
+use Rattle.std.proofs.lemmas.Bool.Decides.{nat_tests}
 use Rattle.sm_ownership.specs.declared.entry.Kind.TheVariants.{Done}
 use Rattle.sm_ownership.specs.declared.mode.Mode.TheVariants.{Direct}
 use Rattle.sm_ownership.specs.declared.entry.Ending.TheVariants.{Nothing}
@@ -13,11 +14,11 @@ use Rattle.sm_table.specs.declared.hands.InHand.{InHand}
 use Rattle.sm_table.specs.declared.hands.Work.{Work}
 use Rattle.sm_table.specs.declared.step.Step.TheVariants.{Hold, Free}
 use Rattle.sm_table.specs.declared.world_answer.WorldAnswer.TheVariants.{Made}
-use Rattle.sm_table.specs.declared.world_fault.WorldFault.TheVariants.{NotHeld}
+use Rattle.sm_table.specs.declared.world_fault.WorldFault.TheVariants.{NotHeld, UnknownShard}
 use Rattle.sm_desk.specs.Desk.{is_known, DeskView}
 use Rattle.sm_table.specs.Hands.{is_alone}
 use Rattle.sm_body.specs.Service.{Service}
-use Rattle.sm_table.specs.World.{WorldState, Plain, count_of, world_record, ended, let_go, freed, outcome}
+use Rattle.sm_table.specs.World.{WorldState, Plain, count_of, is_there, world_record, world_table, ended, let_go, freed, outcome}
 use Rattle.sm_table.specs.Standing.{WorldView, view_of, StandsFor, Follows, with_admission}
 use Rattle.sm_table.proofs.Admissions.{entered, entered_parts, entered_keeps}
 use Rattle.sm_table.proofs.Endings.{in_hand, done_parts, done_parts_of}
@@ -43,6 +44,18 @@ freed-not_alone : {Q R : Type 0} (w : WorldState Q) (shard : ℕ) (hand : Option
 freed-not_alone w shard None alone = refl
 freed-not_alone w shard (Some hand) alone = let_go-some w shard hand.server hand.work alone
 
+-- a shard past the records isn't there
+pub past_shards : {Q : Type 0} {bounds : List (List ℕ)} {desk_was : DeskView} {table_was : TableView} {bodies_was : BodiesView Q} {flights_was : List (Flight Q)} {hands_was : List (Option (InHand Q))} (now : WorldView Q) → view_of bounds desk_was table_was bodies_was flights_was hands_was ≡ now → (w : WorldState Q) → StandsFor now w → (shard : ℕ) → length table_was.records ≤ shard → nat_lt shard (count_of w) ≡ false
+past_shards {Q = Q} {table_was = table_was} now same w given shard past =
+    let shown : table_was.records ≡ world_table w = ap (λ (v : WorldView Q). v.records) same ∙ given.records in
+    let long = length-table_of (count_of w) w.frame.ceiling w.history in
+    let as_long : length table_was.records ≡ length (world_table w) = ap length shown in
+    grind (arith, nat_tests)
+
+pub not_a_shard : {Q R : Type 0} (service : Service Q R) {bounds : List (List ℕ)} {desk_was : DeskView} {table_was : TableView} {bodies_was : BodiesView Q} {flights_was : List (Flight Q)} {hands_was : List (Option (InHand Q))} (now : WorldView Q) → view_of bounds desk_was table_was bodies_was flights_was hands_was ≡ now → (w : WorldState Q) → StandsFor now w → (shard server : ℕ) → length table_was.records ≤ shard → Follows {R = R} now (Err UnknownShard) (outcome service w Plain (Hold shard server))
+not_a_shard service now same w given shard server past =
+    Follows-unchanged service w Plain (Hold shard server) now now (Err UnknownShard) given (rw (past_shards now same w given shard past) refl) refl
+
 module _ {Q R : Type 0} (service : Service Q R) {bounds : List (List ℕ)} {desk_was : DeskView} {table_was : TableView} {bodies_was : BodiesView Q} {flights_was : List (Flight Q)} {hands_was : List (Option (InHand Q))} (now : WorldView Q) (same : view_of bounds desk_was table_was bodies_was flights_was hands_was ≡ now) (w : WorldState Q) (given : StandsFor now w) (shard : ℕ) (within : shard < length table_was.records) where
   abbrev v : WorldView Q
   v = view_of bounds desk_was table_was bodies_was flights_was hands_was
@@ -54,10 +67,10 @@ module _ {Q R : Type 0} (service : Service Q R) {bounds : List (List ℕ)} {desk
   inside = let there : shard < count_of w = omega (arith, ap length stands.records, length-table_of (count_of w) w.frame.ceiling w.history) in lt-ltb _ _ there
 
   -- the server is admitted
-  pub held_by : (server : ℕ) (after : WorldView Q) → is_known v.desk.servers server ≡ true → None ≡ admit_fault v.ceiling (record_at v.records shard) server Direct → after ≡ with_admission v shard (record { server = server; work = None }) → Follows after (Ok Made) (outcome service w Plain (Hold shard server))
+  pub held_by : (server : ℕ) (after : WorldView Q) → is_known v.desk.books.servers server ≡ true → None ≡ admit_fault v.ceiling (record_at v.records shard) server Direct → after ≡ with_admission v shard (record { server = server; work = None }) → Follows after (Ok Made) (outcome service w Plain (Hold shard server))
   held_by server after knows is admitted =
       let hand : InHand Q = record { server = server; work = None } in
-      let known : is_known w.frame.servers server ≡ true = ap (λ desk. is_known desk.servers server) (sym stands.desk) ∙ knows in
+      let known : is_there w server ≡ true = ap (λ (desk : DeskView). is_known desk.books.servers server) (sym stands.desk) ∙ knows in
       let by_record : admit_fault w.frame.ceiling (world_record w shard) server Direct ≡ None =
       ap (λ ceiling. admit_fault ceiling (world_record w shard) server Direct) (sym stands.ceiling)
       ∙ ap (λ records. admit_fault v.ceiling (record_at records shard) server Direct) (sym stands.records)

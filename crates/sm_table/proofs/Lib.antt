@@ -11,6 +11,7 @@ pub mod Losses
 pub mod Maps
 pub mod Parts
 pub mod Pasts
+pub mod Restarts
 pub mod Runs
 pub mod Sends
 pub mod Tracing

@@ -11,13 +11,13 @@ use Rattle.sm_desk.specs.Desk.{DeskView}
 use Rattle.sm_ownership.specs.Tables.{TableView}
 use Rattle.sm_table.specs.Bodies.{BodiesView, Past, past_at, past_of}
 use Rattle.sm_body.specs.Service.{Service}
-use Rattle.sm_table.specs.World.{WorldState, Mark, Outcome, count_of, desk_of, world_table, outcome}
+use Rattle.sm_table.specs.World.{WorldState, Mark, Outcome, count_of, world_table, outcome}
 use Rattle.sm_table.specs.Standing.{IsSound, WorldView, view_of, StandsFor, Follows}
 use Rattle.sm_table.specs.lemmas.Soundness.{sound_next}
 
 -- the parts of a world, where the bodies have these pasts
 abbrev pub parts_of : {Q : Type 0} → WorldState Q → List (Past Q) → WorldView Q
-parts_of w pasts = record { bounds = w.frame.bounds; desk = desk_of w; records = world_table w; ceiling = w.frame.ceiling; pasts = pasts; limits = w.frame.limits; in_flight = w.in_flight; in_hand = w.in_hand }
+parts_of w pasts = record { bounds = w.frame.bounds; desk = w.desk; records = world_table w; ceiling = w.frame.ceiling; pasts = pasts; limits = w.frame.limits; in_flight = w.in_flight; in_hand = w.in_hand }
 
 -- the pasts are those of the world's shards
 pub record Keeps {Q : Type 0} (w : WorldState Q) (pasts : List (Past Q)) : Type 0 where
@@ -48,7 +48,7 @@ same_view v bounds desk records ceiling limits in_flight in_hand a b c d e f g =
 
 -- what stands for a world are its parts
 pub parts-from_StandsFor : {Q : Type 0} (v : WorldView Q) (w : WorldState Q) → StandsFor v w → v ≡ parts_of w v.pasts
-parts-from_StandsFor v w stands = same_view v w.frame.bounds (desk_of w) (world_table w) w.frame.ceiling w.frame.limits w.in_flight w.in_hand stands.bounds stands.desk stands.records stands.ceiling stands.limits stands.in_flight stands.in_hand
+parts-from_StandsFor v w stands = same_view v w.frame.bounds w.desk (world_table w) w.frame.ceiling w.frame.limits w.in_flight w.in_hand stands.bounds stands.desk stands.records stands.ceiling stands.limits stands.in_flight stands.in_hand
 
 -- a step that leaves the world leaves the parts
 pub Follows-unchanged : {Q R : Type 0} (service : Service Q R) (w : WorldState Q) (mark : Mark) (step : Step Q) (view now : WorldView Q) (answer : Result (WorldAnswer R) WorldFault) → StandsFor now w → outcome service w mark step ≡ (answer, w) → view ≡ now → Follows view answer (outcome service w mark step)

@@ -6,7 +6,7 @@ use Rattle.std.proofs.lemmas.Bool.{cond_both}
 use Rattle.std.proofs.lemmas.List.{take_at}
 use Rattle.sm_ownership.specs.declared.admit_fault.AdmitFault.{AdmitFault}
 use Rattle.sm_ownership.specs.declared.change.Change.{Change}
-use Rattle.sm_desk.specs.declared.command.Command.TheVariants.{Change as ChangeOf}
+use Rattle.sm_desk.specs.declared.command.Command.{Command}
 use Rattle.sm_desk.specs.declared.command.CommandFault.{CommandFault}
 use Rattle.sm_ownership.specs.declared.entry.Ending.TheVariants.{Request}
 use Rattle.sm_ownership.specs.declared.entry.Entry.{Entry}
@@ -16,13 +16,14 @@ use Rattle.sm_table.specs.declared.hands.InHand.{InHand}
 use Rattle.sm_table.specs.declared.hands.Work.{Work}
 use Rattle.sm_table.specs.declared.step.Step.{Step}
 use Rattle.sm_table.specs.declared.step.Step.TheVariants.{Control, Look, Send, Deliver, Finish, Lose, Hold, Free, Checkpoint}
+use Rattle.sm_table.specs.declared.world_answer.WorldAnswer.{WorldAnswer}
 use Rattle.sm_table.specs.declared.world_answer.WorldAnswer.TheVariants.{Replied}
 use Rattle.sm_ownership.specs.Rules.{forward_to}
-use Rattle.sm_desk.specs.Desk.{is_known}
+use Rattle.sm_desk.specs.Desk.{DeskView, is_reached}
 use Rattle.sm_envelope.specs.Envelope.{EnvelopeView}
 use Rattle.sm_ownership.specs.History.{all_of, kept, said}
 use Rattle.sm_body.specs.Service.{Service}
-use Rattle.sm_table.specs.World.{Frame, WorldState, Mark, Plain, Unmade, Unserved, Outcome, count_of, world_record, controlled, reached, after_hop, hopped, arrived, without_flight, delivered, with_room, worked, served, held, after_hold, based, after_checkpoint, let_go, freed, empty_world, answer, next, outcome, world_after, world_of}
+use Rattle.sm_table.specs.World.{Frame, WorldState, Mark, Plain, Unmade, Unserved, Outcome, count_of, world_record, controlled, is_there, reached, after_hop, hopped, arrived, without_flight, delivered, with_room, worked, served, held, after_hold, based, after_checkpoint, let_go, freed, empty_world, answer, next, outcome, world_after, world_of}
 use Rattle.sm_table.proofs.Extensions.{extends_after}
 use Rattle.sm_ownership.specs.lemmas.Requests.{all_of-append, all_of-push_some}
 
@@ -65,21 +66,21 @@ module _ {Q R : Type 0} (service : Service Q R) (w : WorldState Q) (number serve
   abbrev NeverReplied : Outcome Q R → Type 0
   NeverReplied outcome = outcome.0 ≡ Ok (Replied number server reply place) → ⊥
 
-  never_controlled : (shard : ℕ) (change : Change) (fault : Option CommandFault) → NeverReplied (controlled w shard change fault)
-  never_controlled shard change None answered = cc
-  never_controlled shard change (Some fault) answered = cc
+  never_controlled : (command : Command) (fault : Option CommandFault) → NeverReplied (controlled w command fault)
+  never_controlled command None answered = cc
+  never_controlled command (Some fault) answered = cc
 
   never_reached : (before : WorldState Q) (to : ℕ) (envelope : EnvelopeView Q (Unit {0})) (fault : Option AdmitFault) → NeverReplied (reached before to envelope fault)
   never_reached before to envelope None answered = cc
   never_reached before to envelope (Some fault) answered = cc
 
-  never_hopped : (before : WorldState Q) (in_flight : List (Flight Q)) (sent : Result (ℕ × EnvelopeView Q (Unit {0})) (EnvelopeView Q (Unit {0}))) → NeverReplied (hopped before (after_hop in_flight sent))
-  never_hopped before in_flight (Ok hop) answered = cc
-  never_hopped before in_flight (Err envelope) answered = cc
+  never_hopped : (before : WorldState Q) (desk : DeskView) (in_flight : List (Flight Q)) (sent : Result (ℕ × EnvelopeView Q (Unit {0})) (EnvelopeView Q (Unit {0}))) → NeverReplied (hopped before (after_hop desk in_flight sent))
+  never_hopped before desk in_flight (Ok hop) = cond_both (is_reached desk hop.0) _ _ (λ (one : WorldAnswer R × List (Flight Q)). NeverReplied (hopped before one)) (λ _ at. cc) (λ _ at. cc)
+  never_hopped before desk in_flight (Err envelope) = λ answered. cc
 
   never_arrived : (before : WorldState Q) (at : ℕ) (envelope : EnvelopeView Q (Unit {0})) (to : Option ℕ) → NeverReplied (arrived before at envelope to)
   never_arrived before at envelope None answered = never_reached before at envelope _ answered
-  never_arrived before at envelope (Some to) answered = never_hopped before before.in_flight _ answered
+  never_arrived before at envelope (Some to) answered = never_hopped before before.desk before.in_flight _ answered
 
   never_delivered : (at : ℕ) (flight : Option (Flight Q)) → NeverReplied (delivered w at flight)
   never_delivered at None answered = cc
@@ -91,7 +92,7 @@ module _ {Q R : Type 0} (service : Service Q R) (w : WorldState Q) (number serve
 
   never_hold : (shard by : ℕ) → NeverReplied (after_hold w shard by)
   never_hold shard by = cond_both (nat_lt shard (count_of w)) _ _ NeverReplied
-      (λ _. cond_both (is_known w.frame.servers by) _ _ NeverReplied (λ _. never_held shard by _) (λ _ at. cc))
+      (λ _. cond_both (is_there w by) _ _ NeverReplied (λ _. never_held shard by _) (λ _ at. cc))
       (λ _ at. cc)
 
   never_based : (shard by : ℕ) (fault : Option AdmitFault) → NeverReplied (based w shard by fault)
@@ -100,7 +101,7 @@ module _ {Q R : Type 0} (service : Service Q R) (w : WorldState Q) (number serve
 
   never_checkpoint : (shard by : ℕ) → NeverReplied (after_checkpoint w shard by)
   never_checkpoint shard by = cond_both (nat_lt shard (count_of w)) _ _ NeverReplied
-      (λ _. cond_both (is_known w.frame.servers by) _ _ NeverReplied (λ _. never_based shard by _) (λ _ at. cc))
+      (λ _. cond_both (is_there w by) _ _ NeverReplied (λ _. never_based shard by _) (λ _ at. cc))
       (λ _ at. cc)
 
   never_let_go : (shard by : ℕ) (work : Option (Work Q)) → NeverReplied (let_go w shard by work)
@@ -114,9 +115,9 @@ module _ {Q R : Type 0} (service : Service Q R) (w : WorldState Q) (number serve
   -- only `Finish` replies
   runs_step : (mark : Mark) (step : Step Q) → answer service w mark step ≡ Ok (Replied number server reply place) → (shard : ℕ) × (step ≡ Finish shard) × HasRun service w (outcome service w mark step) shard reply place
   runs_step Unmade step answered = absurd cc
-  runs_step mark (Control (ChangeOf shard change)) answered = absurd (never_controlled shard change _ answered)
+  runs_step mark (Control command) answered = absurd (never_controlled command _ answered)
   runs_step mark (Look shard) answered = absurd (cond_both (nat_lt shard (count_of w)) _ _ NeverReplied (λ _ at. cc) (λ _ at. cc) answered)
-  runs_step mark (Send to name request) answered = absurd (cond_both (is_known w.frame.servers to) _ _ NeverReplied (λ _ at. cc) (λ _ at. cc) answered)
+  runs_step mark (Send to name request) answered = absurd (cond_both (is_there w to) _ _ NeverReplied (λ _. cond_both (is_reached w.desk to) _ _ NeverReplied (λ _ at. cc) (λ _ at. cc)) (λ _ at. cc) answered)
   runs_step mark (Deliver at) answered = absurd (never_delivered at _ answered)
   runs_step mark (Finish shard) answered = (shard, refl, runs_served mark shard _ answered)
   runs_step mark (Lose at) answered = absurd (cond_both (nat_lt at (length w.in_flight)) _ _ NeverReplied (λ _ lost. cc) (λ _ lost. cc) answered)

@@ -6,10 +6,10 @@ use Rattle.sm_table.specs.declared.world.Flight.{Flight}
 use Rattle.sm_table.specs.declared.step.Step.TheVariants.{Send}
 use Rattle.sm_table.specs.declared.world_answer.WorldAnswer.TheVariants.{Sent}
 use Rattle.sm_table.specs.declared.world_fault.WorldFault.TheVariants.{NoMemory}
-use Rattle.sm_desk.specs.Desk.{is_known, DeskView}
+use Rattle.sm_desk.specs.Desk.{DeskView, is_known, is_reached}
 use Rattle.sm_body.specs.Service.{Service}
 use Rattle.sm_envelope.specs.Envelope.{EnvelopeView}
-use Rattle.sm_table.specs.World.{WorldState, Plain, Unmade, flight_to, outcome}
+use Rattle.sm_table.specs.World.{WorldState, Plain, Unmade, flight_to, is_there, outcome}
 use Rattle.sm_table.specs.Standing.{WorldView, view_of, StandsFor, Follows}
 use Rattle.sm_ownership.specs.Tables.{TableView}
 use Rattle.sm_table.specs.Bodies.{BodiesView}
@@ -29,13 +29,14 @@ module _ {Q R : Type 0} (service : Service Q R) {bounds : List (List ℕ)} {desk
   not_sent in_flight is = Follows-unchanged service w Unmade (Send to number request) (record v { in_flight = in_flight }) v (Err NoMemory) stands refl (ap (λ flights. record v { in_flight = flights }) is)
 
   -- the request is in flight
-  pub sent : (shard : ℕ) (envelope : EnvelopeView Q (Unit {0})) (in_flight : List (Flight Q)) → is_known v.desk.servers to ≡ true → shard ≡ shard_of now.bounds (service.key_of request) → envelope ≡ direct number shard request → in_flight ≡ v.in_flight ++ flight_to to envelope ∷ [] → Follows (record v { in_flight = in_flight }) (Ok Sent) (outcome service w Plain (Send to number request))
-  sent shard envelope in_flight known by_key envelope_is is =
-      let knows : is_known w.frame.servers to ≡ true = ap (λ desk. is_known desk.servers to) (sym stands.desk) ∙ known in
+  pub sent : (shard : ℕ) (envelope : EnvelopeView Q (Unit {0})) (in_flight : List (Flight Q)) → is_known v.desk.books.servers to ≡ true → is_reached v.desk to ≡ true → shard ≡ shard_of now.bounds (service.key_of request) → envelope ≡ direct number shard request → in_flight ≡ v.in_flight ++ flight_to to envelope ∷ [] → Follows (record v { in_flight = in_flight }) (Ok Sent) (outcome service w Plain (Send to number request))
+  sent shard envelope in_flight known reached by_key envelope_is is =
+      let knows : is_there w to ≡ true = ap (λ (desk : DeskView). is_known desk.books.servers to) (sym stands.desk) ∙ known in
+      let reaches : is_reached w.desk to ≡ true = ap (λ (desk : DeskView). is_reached desk to) (sym stands.desk) ∙ reached in
       let of_world : shard ≡ shard_of w.frame.bounds (service.key_of request) = by_key ∙ ap (λ bounds. shard_of bounds (service.key_of request)) given.bounds in
       let last : EnvelopeView Q (Unit {0}) = direct number (shard_of w.frame.bounds (service.key_of request)) request in
       let last_is : envelope ≡ last = envelope_is ∙ ap (λ k. direct number k request) of_world in
-      Follows-changed service w Plain (Send to number request) (record v { in_flight = in_flight }) (Ok Sent) (record w { in_flight = w.in_flight ++ flight_to to last ∷ [] }) v.pasts stands.sound (rw knows refl)
+      Follows-changed service w Plain (Send to number request) (record v { in_flight = in_flight }) (Ok Sent) (record w { in_flight = w.in_flight ++ flight_to to last ∷ [] }) v.pasts stands.sound (rw knows (rw reaches refl))
       (λ _. ap (λ all. record v { in_flight = all }) is
       ∙ ap (λ one. record v { in_flight = v.in_flight ++ flight_to to one ∷ [] }) last_is
       ∙ ap (λ (u : WorldView Q). record u { in_flight = u.in_flight ++ flight_to to last ∷ [] }) (parts-from_StandsFor v w stands))

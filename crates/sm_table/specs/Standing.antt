@@ -1,9 +1,9 @@
 -- When the parts of a `World` stand for a world of the definitions.
-use Rattle.std.specs.Prelude.{ℕ, Bool, true, false, Option, Some, None, Result, ◌≡◌, ◌<◌, ◌≤◌, ◌^◌, List, All, length, reverse, slice_index_or, slice_set}
+use Rattle.std.specs.Prelude.{ℕ, Bool, true, false, Option, Some, None, Result, ◌≡◌, ◌<◌, ◌≤◌, ◌^◌, List, [], ◌∷◌, All, length, map, replicate, reverse, slice_index_or, slice_set}
 use Rattle.std.specs.List.{list_all}
 use Rattle.sm_body.specs.Service.{Service}
 use Rattle.sm_ranges.specs.Ranges.{IsLayout}
-use Rattle.sm_ranges.specs.ServerId.{IsServer}
+use Rattle.sm_ranges.specs.declared.stand.Stand.TheVariants.{Vacant}
 use Rattle.sm_ranges.specs.Stand.{AllNamed}
 use Rattle.sm_ownership.specs.declared.entry.Entry.{Entry}
 use Rattle.sm_ownership.specs.declared.record.Record.{Record}
@@ -13,29 +13,52 @@ use Rattle.sm_table.specs.declared.world.Setup.{Setup}
 use Rattle.sm_table.specs.declared.step.Step.{Step}
 use Rattle.sm_table.specs.declared.world_answer.WorldAnswer.{WorldAnswer}
 use Rattle.sm_table.specs.declared.world_fault.WorldFault.{WorldFault}
-use Rattle.sm_desk.specs.Desk.{DeskView, is_known}
+use Rattle.sm_desk.specs.declared.command.Command.{Command}
+use Rattle.sm_desk.specs.Desk.{DeskView, commanded, desk_fault, is_known, stands_of}
+use Rattle.sm_place.specs.Sound.{AreSound}
+use Rattle.sm_rows.specs.declared.server_row.ServerRow.{ServerRow}
+use Rattle.sm_tasks.specs.Caps.{MeetsCaps}
 use Rattle.sm_ownership.specs.History.{after_admit, record_at, IsLegal, admits_only, is_admission_of, latest_of}
 use Rattle.sm_ownership.specs.Tables.{TableView}
 use Rattle.sm_table.specs.Bodies.{BodiesView, Past, past_at, past_of}
-use Rattle.sm_table.specs.World.{Frame, WorldState, Outcome, count_of, desk_of, mark_of, outcome, world_record, world_table}
+use Rattle.sm_table.specs.World.{Frame, WorldState, Outcome, count_of, mark_of, outcome, world_record, world_table}
 
--- a frame that a world can be made with: bounds of a layout, and servers by their numbers
+-- a frame that a world can be made with: bounds of a layout, and a desk whose books are sound and keep the caps, with a
+-- vacant shard for each range
 pub record IsFrame (frame : Frame) : Type 0 where
   pub layout : IsLayout frame.bounds
-  pub servers : All IsServer frame.servers
+  pub books : AreSound frame.start.books
+  pub caps : MeetsCaps frame.start.ops frame.start.books
+  pub vacant : stands_of frame.start ≡ replicate (length frame.bounds) Vacant
+
+-- the desk after these commands, the latest first
+abbrev pub desk_after : DeskView → List Command → DeskView
+desk_after desk [] = desk
+desk_after desk (command ∷ earlier) = commanded (desk_after desk earlier) command
+
+-- the desk refuses none of them
+abbrev pub AreLetThrough : DeskView → List Command → Type 0
+AreLetThrough desk [] = Unit {0}
+AreLetThrough desk (command ∷ earlier) = (desk_fault (desk_after desk earlier) command ≡ None) × AreLetThrough desk earlier
+
+-- commands that it didn't refuse have made the desk what it is
+pub record IsLedTo (start desk : DeskView) : Type 0 where
+  pub commands : List Command
+  pub leads : desk_after start commands ≡ desk
+  pub through : AreLetThrough start commands
 
 -- the frame of a world with this setup and with bodies of these limits
 abbrev pub setup_frame : Setup → List ℕ → Frame
-setup_frame setup limits = record { bounds = setup.layout; servers = setup.desk.servers; ceiling = setup.ceiling; limits = limits }
+setup_frame setup limits = record { bounds = setup.layout; start = setup.desk; ceiling = setup.ceiling; limits = limits }
 
 -- the server exists
-abbrev pub IsThere : List ℕ → ℕ → Type 0
+abbrev pub IsThere : List ServerRow → ℕ → Type 0
 IsThere servers server = is_known servers server ≡ true
 
 -- an envelope is for a shard that is there, and goes to a server that is
-pub record IsFlight {Q : Type 0} (frame : Frame) (flight : Flight Q) : Type 0 where
-  pub shard : flight.envelope.shard < length frame.bounds
-  pub server : is_known frame.servers flight.to ≡ true
+pub record IsFlight {Q : Type 0} (count : ℕ) (servers : List ServerRow) (flight : Flight Q) : Type 0 where
+  pub shard : flight.envelope.shard < count
+  pub server : IsThere servers flight.to
 
 -- a shard is admitted exactly where a server has it in hand, and then that server was admitted last
 abbrev pub AgreesWithHand : {Q : Type 0} → List (Entry Q) → Bool → ℕ → Option (InHand Q) → Type 0
@@ -45,10 +68,12 @@ AgreesWithHand history admitted shard (Some hand) = (admitted ≡ true) × (is_a
 -- what holds of each world that steps lead to
 pub record IsSound {Q : Type 0} (w : WorldState Q) : Type 0 where
   pub frame : IsFrame w.frame
+  pub desk : IsLedTo w.frame.start w.desk
+  pub stands : stands_of w.desk ≡ map (λ state. state.stand) (world_table w)
   pub legal : IsLegal (count_of w) w.frame.ceiling w.history
   pub own_server : list_all (λ entry. admits_only entry.actor entry.kind) w.history ≡ true
-  pub named : (shard : ℕ) → shard < count_of w → AllNamed (IsThere w.frame.servers) (world_record w shard).stand
-  pub flights : All (IsFlight w.frame) w.in_flight
+  pub named : (shard : ℕ) → shard < count_of w → AllNamed (IsThere w.desk.books.servers) (world_record w shard).stand
+  pub flights : All (IsFlight (count_of w) w.desk.books.servers) w.in_flight
   pub hands : length w.in_hand ≡ count_of w
   pub held : (shard : ℕ) → shard < count_of w → AgreesWithHand w.history (world_record w shard).admitted shard (slice_index_or w.in_hand shard None)
 
@@ -90,7 +115,7 @@ pub record IsTogether {Q : Type 0} (view : WorldView Q) : Type 0 where
 -- the parts are those of the world, which is one that steps lead to
 pub record StandsFor {Q : Type 0} (view : WorldView Q) (w : WorldState Q) : Type 0 where
   pub bounds : view.bounds ≡ w.frame.bounds
-  pub desk : view.desk ≡ desk_of w
+  pub desk : view.desk ≡ w.desk
   pub records : view.records ≡ world_table w
   pub ceiling : view.ceiling ≡ w.frame.ceiling
   pub bodies : length view.pasts ≡ count_of w

@@ -1,10 +1,9 @@
 -- The world: shards, servers and requests on their way, as one thread would run them. What each step answers, and what it leaves.
-use Rattle.std.specs.Prelude.{ℕ, Bool, true, false, Option, Some, None, Result, Ok, Err, nat_lt, if◌then◌else◌, List, [], ◌∷◌, ◌++◌, length, map, remove, replicate, slice_get, slice_index_or, slice_set}
+use Rattle.std.specs.Prelude.{ℕ, Bool, true, false, Option, Some, None, Result, Ok, Err, nat_lt, if◌then◌else◌, List, [], ◌∷◌, ◌++◌, length, remove, replicate, slice_get, slice_index_or, slice_set}
 use Rattle.std.specs.Option.{option_map, option_or}
 use Rattle.sm_body.specs.Service.{Service}
 use Rattle.sm_ranges.specs.Ranges.{shard_of}
 use Rattle.sm_ownership.specs.declared.admit_fault.AdmitFault.{AdmitFault}
-use Rattle.sm_ownership.specs.declared.change.Change.{Change}
 use Rattle.sm_desk.specs.declared.command.Command.{Command}
 use Rattle.sm_desk.specs.declared.command.Command.TheVariants.{Change as ChangeOf}
 use Rattle.sm_desk.specs.declared.command.CommandFault.{CommandFault}
@@ -19,29 +18,30 @@ use Rattle.sm_ownership.specs.declared.record.Record.{Record}
 use Rattle.sm_table.specs.declared.world.Flight.{Flight}
 use Rattle.sm_table.specs.declared.hands.InHand.{InHand}
 use Rattle.sm_table.specs.declared.hands.Work.{Work}
-use Rattle.sm_envelope.specs.declared.refusal.Refusal.TheVariants.{TooManyHops, Admit as NotAdmitted, KeptFull, NoMemory as NoMemoryFor}
+use Rattle.sm_envelope.specs.declared.refusal.Refusal.TheVariants.{TooManyHops, Unreachable as NotReached, Admit as NotAdmitted, KeptFull, NoMemory as NoMemoryFor}
 use Rattle.sm_table.specs.declared.step.Step.{Step}
 use Rattle.sm_table.specs.declared.step.Step.TheVariants.{Control, Look, Send, Deliver, Finish, Lose, Hold, Free, Checkpoint as CheckpointAt}
 use Rattle.sm_table.specs.declared.world_answer.WorldAnswer.{WorldAnswer}
 use Rattle.sm_table.specs.declared.world_answer.WorldAnswer.TheVariants.{Made, Seen, Sent, Began, Forwarded, Refused, Replied}
 use Rattle.sm_table.specs.declared.world_fault.WorldFault.{WorldFault}
-use Rattle.sm_table.specs.declared.world_fault.WorldFault.TheVariants.{Command as CommandRefused, Admit as AdmitRefused, UnknownShard, UnknownServer, NoEnvelope, NotHeld, NoMemory}
-use Rattle.sm_desk.specs.Desk.{DeskView, is_known, desk_fault}
+use Rattle.sm_table.specs.declared.world_fault.WorldFault.TheVariants.{Command as CommandRefused, Admit as AdmitRefused, UnknownShard, UnknownServer, Unreachable, NoEnvelope, NotHeld, NoMemory}
+use Rattle.sm_desk.specs.Desk.{DeskView, commanded, desk_fault, is_known, is_reached}
 use Rattle.sm_envelope.specs.Envelope.{EnvelopeView, sent_on}
 use Rattle.sm_ownership.specs.History.{all_of, kept, record_at, table_of}
 use Rattle.sm_ownership.specs.Rules.{admit_fault, forward_to}
 use Rattle.sm_ownership.specs.Tables.{record_fault}
 
--- what stays as it is made: the bounds of the shards, the servers, the greatest generation, and how many requests each shard keeps at most
+-- what stays as it is made: the bounds of the shards, the desk at the start, the greatest generation, and how many requests each shard keeps at most
 pub record Frame : Type 0 where
   pub bounds : List (List ℕ)
-  pub servers : List ℕ
+  pub start : DeskView
   pub ceiling : ℕ
   pub limits : List ℕ
 
--- a world: its history, the envelopes in flight, and by shard what the server that is admitted to it has in hand
+-- a world: its desk, its history, the envelopes in flight, and by shard what the server that is admitted to it has in hand
 pub record WorldState (Q : Type 0) : Type 0 where
   pub frame : Frame
+  pub desk : DeskView
   pub history : List (Entry Q)
   pub in_flight : List (Flight Q)
   pub in_hand : List (Option (InHand Q))
@@ -79,31 +79,38 @@ with_entry w actor shard kind = record w { history = w.history ++ record { actor
 abbrev pub with_hand : {Q : Type 0} → WorldState Q → ℕ → Option (InHand Q) → WorldState Q
 with_hand w shard hand = record w { in_hand = slice_set w.in_hand shard hand }
 
--- what the desk knows of the world: its servers, and the stands of its table
-abbrev pub desk_of : {Q : Type 0} → WorldState Q → DeskView
-desk_of w = record { servers = w.frame.servers; stands = map (λ state. state.stand) (world_table w) }
+-- whether the server exists
+abbrev pub is_there : {Q : Type 0} → WorldState Q → ℕ → Bool
+is_there w server = is_known w.desk.books.servers server
 
--- what the table refuses of a change that the desk lets through
-abbrev pub table_fault : ℕ → Record → Option CommandFault
-table_fault ceiling state = option_map (λ fault. ChangeRefused fault) (record_fault ceiling state)
+-- what the table refuses of a command that the desk lets through
+abbrev pub table_fault : {Q : Type 0} → WorldState Q → Command → Option CommandFault
+table_fault w (ChangeOf shard change) = option_map (λ fault. ChangeRefused fault) (record_fault w.frame.ceiling (world_record w shard))
+table_fault w command = None
 
-abbrev pub controlled : {Q R : Type 0} → WorldState Q → ℕ → Change → Option CommandFault → Outcome Q R
-controlled w shard change (Some fault) = (Err (CommandRefused fault), w)
-controlled w shard change None = (Ok Made, with_entry w 0 shard (Changed change))
+-- a change is an entry of the history, by actor 0; a step of a restart is none
+abbrev pub with_change : {Q : Type 0} → WorldState Q → Command → WorldState Q
+with_change w (ChangeOf shard change) = with_entry w 0 shard (Changed change)
+with_change w command = w
 
--- a command is carried out where neither the desk nor the table refuses it; the control is actor 0
+abbrev pub controlled : {Q R : Type 0} → WorldState Q → Command → Option CommandFault → Outcome Q R
+controlled w command (Some fault) = (Err (CommandRefused fault), w)
+controlled w command None = (Ok Made, record (with_change w command) { desk = commanded w.desk command })
+
+-- a command is carried out where neither the desk nor the table refuses it
 abbrev pub after_control : {Q R : Type 0} → WorldState Q → Command → Outcome Q R
-after_control w (ChangeOf shard change) =
-    controlled w shard change (option_or (desk_fault (desk_of w) (ChangeOf shard change)) (table_fault w.frame.ceiling (world_record w shard)))
+after_control w command = controlled w command (option_or (desk_fault w.desk command) (table_fault w command))
 
 abbrev pub after_look : {Q R : Type 0} → WorldState Q → ℕ → Outcome Q R
 after_look w shard = if nat_lt shard (count_of w) then (Ok (Seen (world_record w shard)), w) else (Err UnknownShard, w)
 
--- a direct envelope is put last in flight, for the shard whose range covers the request's key
+-- a direct envelope is put last in flight, for the shard whose range covers the request's key, where the server is reached
 abbrev pub after_send : {Q R : Type 0} → Service Q R → WorldState Q → ℕ → ℕ → Q → Outcome Q R
 after_send service w to number request =
-    if is_known w.frame.servers to
+    if is_there w to
+    then (if is_reached w.desk to
     then (Ok Sent, record w { in_flight = w.in_flight ++ record { to = to; envelope = record { number = number; shard = shard_of w.frame.bounds (service.key_of request); mode = Direct; hops = 0; request = request; note = tt } } ∷ [] })
+    else (Err Unreachable, w))
     else (Err UnknownServer, w)
 
 -- an envelope in flight to a server
@@ -119,10 +126,11 @@ abbrev pub reached : {Q R : Type 0} → WorldState Q → ℕ → EnvelopeView Q 
 reached w to envelope (Some fault) = (Ok (Refused (NotAdmitted fault)), w)
 reached w to envelope None = (Ok (Began to), with_hand (with_entry w to envelope.shard (Admit to envelope.mode)) envelope.shard (Some (hand_of to envelope)))
 
--- a hop puts the envelope last in flight; where none is left the request is refused
-abbrev pub after_hop : {Q R : Type 0} → List (Flight Q) → Result (ℕ × EnvelopeView Q (Unit {0})) (EnvelopeView Q (Unit {0})) → WorldAnswer R × List (Flight Q)
-after_hop in_flight (Ok hop) = (Forwarded hop.0, in_flight ++ flight_to hop.0 hop.1 ∷ [])
-after_hop in_flight (Err envelope) = (Refused TooManyHops, in_flight)
+-- a hop puts the envelope last in flight; where none is left, or the server isn't reached, the request is refused
+abbrev pub after_hop : {Q R : Type 0} → DeskView → List (Flight Q) → Result (ℕ × EnvelopeView Q (Unit {0})) (EnvelopeView Q (Unit {0})) → WorldAnswer R × List (Flight Q)
+after_hop desk in_flight (Ok hop) =
+    if is_reached desk hop.0 then (Forwarded hop.0, in_flight ++ flight_to hop.0 hop.1 ∷ []) else (Refused NotReached, in_flight)
+after_hop desk in_flight (Err envelope) = (Refused TooManyHops, in_flight)
 
 abbrev pub hopped : {Q R : Type 0} → WorldState Q → WorldAnswer R × List (Flight Q) → Outcome Q R
 hopped w hop = (Ok hop.0, record w { in_flight = hop.1 })
@@ -130,7 +138,7 @@ hopped w hop = (Ok hop.0, record w { in_flight = hop.1 })
 -- a server that forwards requests on the shard forwards the envelope; any other begins it or refuses it
 abbrev pub arrived : {Q R : Type 0} → WorldState Q → ℕ → EnvelopeView Q (Unit {0}) → Option ℕ → Outcome Q R
 arrived w at envelope None = reached w at envelope (admit_fault w.frame.ceiling (world_record w envelope.shard) at envelope.mode)
-arrived w at envelope (Some to) = hopped w (after_hop w.in_flight (sent_on envelope at (Some to)))
+arrived w at envelope (Some to) = hopped w (after_hop w.desk w.in_flight (sent_on envelope at (Some to)))
 
 abbrev pub without_flight : {Q : Type 0} → WorldState Q → ℕ → WorldState Q
 without_flight w place = record w { in_flight = remove w.in_flight place }
@@ -182,7 +190,7 @@ held w shard server None = (Ok Made, with_hand (with_entry w server shard (Admit
 abbrev pub after_hold : {Q R : Type 0} → WorldState Q → ℕ → ℕ → Outcome Q R
 after_hold w shard server =
     if nat_lt shard (count_of w)
-    then (if is_known w.frame.servers server then held w shard server (admit_fault w.frame.ceiling (world_record w shard) server Direct) else (Err UnknownServer, w))
+    then (if is_there w server then held w shard server (admit_fault w.frame.ceiling (world_record w shard) server Direct) else (Err UnknownServer, w))
     else (Err UnknownShard, w)
 
 abbrev pub let_go : {Q R : Type 0} → WorldState Q → ℕ → ℕ → Option (Work Q) → Outcome Q R
@@ -213,7 +221,7 @@ based w shard server None = (
 abbrev pub after_checkpoint : {Q R : Type 0} → WorldState Q → ℕ → ℕ → Outcome Q R
 after_checkpoint w shard server =
     if nat_lt shard (count_of w)
-    then (if is_known w.frame.servers server then based w shard server (admit_fault w.frame.ceiling (world_record w shard) server Direct) else (Err UnknownServer, w))
+    then (if is_there w server then based w shard server (admit_fault w.frame.ceiling (world_record w shard) server Direct) else (Err UnknownServer, w))
     else (Err UnknownShard, w)
 
 -- what a step that went so answers, and the world that it leaves
@@ -243,7 +251,7 @@ mark_of _ = Plain
 
 -- the world in which nothing has happened
 abbrev pub empty_world : {Q : Type 0} → Frame → WorldState Q
-empty_world frame = record { frame = frame; history = []; in_flight = []; in_hand = replicate (length frame.bounds) None }
+empty_world frame = record { frame = frame; desk = frame.start; history = []; in_flight = []; in_hand = replicate (length frame.bounds) None }
 
 -- the world after these steps, from this one on
 abbrev pub world_after : {Q R : Type 0} → Service Q R → WorldState Q → List (Mark × Step Q) → WorldState Q

@@ -1,6 +1,6 @@
 //! Laws of the definitions: what holds of every list of steps, and of every history.
 
-ghost use Rattle.std.specs.Prelude.{◌≡◌, ℕ, Some, Ok, List, ◌∷◌, ◌++◌, length};
+ghost use Rattle.std.specs.Prelude.{◌≡◌, ℕ, Some, Ok, List, ◌∷◌, ◌++◌, length, map};
 ghost use Rattle.sm_ownership.specs.declared.entry.Entry.{Entry};
 ghost use Rattle.sm_ownership.specs.History.{IsLegal, all_of, said};
 ghost use Rattle.sm_table.specs.declared.step.Step.{Step};
@@ -8,8 +8,12 @@ ghost use Rattle.sm_table.specs.declared.step.Step.TheVariants.{Finish};
 ghost use Rattle.sm_table.specs.declared.world_answer.WorldAnswer.TheVariants.{Replied};
 ghost use Rattle.sm_table.specs.Standing.{IsFrame};
 ghost use Rattle.sm_body.specs.Service.{Service};
-ghost use Rattle.sm_table.specs.World.{Frame, Mark, answer, world_of};
+ghost use Rattle.sm_table.specs.World.{Frame, Mark, answer, world_of, world_table};
+ghost use Rattle.sm_desk.specs.Desk.{stands_of};
+ghost use Rattle.sm_place.specs.Room.{HasRoom};
+ghost use Rattle.sm_tasks.specs.Caps.{MeetsCaps};
 
+use sm_desk::laws::{commands_keep_caps, commands_keep_soundness};
 pub use sm_ownership::laws::{
     accepted_is_admitted, admission_extends_history, admission_refused_exactly, all_grows,
     change_extends_history, change_refused_exactly, end_extends_history, executor_admitted,
@@ -42,3 +46,18 @@ pub fn one_run<Q, R>()
         × (place ≡ length (all_of before.history shard))
         × (said service.reply_of after.history shard place ≡ Some reply) }
 {}
+
+/// Whatever the steps, the desk has the stands of the table. There is room for them, and the caps of approved restarts hold.
+pub fn caps_and_room_hold<Q, R>()
+    ensures stands { (service : Service Q R) (frame : Frame) (steps : List (Mark × Step Q)) → IsFrame frame
+        → let w = world_of service frame steps in
+        stands_of w.desk ≡ map (λ state. state.stand) (world_table w) }
+    ensures room { (service : Service Q R) (frame : Frame) (steps : List (Mark × Step Q)) → IsFrame frame
+        → let books = (world_of service frame steps).desk.books in
+        HasRoom books.servers books.groups books.shards }
+    ensures caps { (service : Service Q R) (frame : Frame) (steps : List (Mark × Step Q)) → IsFrame frame
+        → MeetsCaps frame.start.ops (world_of service frame steps).desk.books }
+{
+    commands_keep_caps();
+    commands_keep_soundness();
+}

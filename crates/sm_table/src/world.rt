@@ -6,6 +6,7 @@ ghost use Rattle.sm_ranges.specs.declared.stand.Stand.TheVariants.{Vacant};
 ghost use Rattle.sm_ownership.specs.History.{record_at};
 ghost use Rattle.sm_ownership.specs.Rules.{admit_fault};
 ghost use Rattle.sm_envelope.specs.Envelope.{forwarded};
+ghost use Rattle.sm_desk.specs.Desk.{is_restart, stands_of};
 ghost use Rattle.sm_table.specs.Standing.{StandsFor, GoesAs, setup_frame, with_admission};
 ghost use Rattle.sm_table.specs.World.{Plain, after_hop, mark_of, may_go, empty_world};
 ghost use Rattle.sm_desk.specs.declared.command.Command.TheVariants.{Change as ChangeOf};
@@ -33,11 +34,11 @@ use std::alloc::{AllocError, Global};
 use std::marker::Model;
 
 /// What a world is made from, beside the bodies of its shards.
-#[derive(Debug, Drop)]
+#[derive(Drop)]
 pub struct Setup {
     /// Which shard a key belongs to.
     pub layout: Layout,
-    /// The servers that exist, and the stand of each shard.
+    /// What commands are checked against: a vacant shard for each range of the layout.
     pub desk: Desk,
     /// The greatest generation of a shard, 3 to 2^36 - 1.
     pub ceiling: u64,
@@ -50,8 +51,7 @@ pub struct Flight<Q: Drop> {
     pub envelope: Envelope<Q, ()>,
 }
 
-/// All shards and servers, and the requests on their way, as one thread runs them. Plans, restarts and published routes are no
-/// part of it.
+/// All shards and servers, and the requests on their way, as one thread runs them. Published routes are no part of it.
 #[derive(Drop)]
 pub struct World<S: Service> {
     layout: Layout,
@@ -78,7 +78,7 @@ impl<S: Service> World<S> {
     /// The world in which nothing has happened: no shard has an owner, and nothing is in flight.
     /// There is a body for each shard of the layout, in the initial state, and none has applied a request yet.
     pub fn new(alloc: Global, setup: Setup, bodies: Vec<S>) -> Result<World<S>, AllocError>
-        requires vacant { setup.desk.stands ≡ replicate (length setup.layout) Vacant }
+        requires vacant { stands_of setup.desk ≡ replicate (length setup.layout) Vacant }
         requires bodies { vec_len bodies ≡ length setup.layout }
         requires initial { All (λ body. S.base body ≡ S.initial) bodies.items }
         requires first { All (λ body. S.before body ≡ 0) bodies.items }
@@ -94,6 +94,7 @@ impl<S: Service> World<S> {
             ceiling,
         } = setup;
         let count = layout.count();
+        desk.soundness();
         Ok(World {
             table: Table::new(alloc, count, ceiling)?,
             bodies: Bodies::new(alloc, bodies)?,
@@ -120,6 +121,13 @@ impl<S: Service> World<S> {
         self.table.record(k)
     }
 
+    /// What commands are checked against.
+    pub fn desk(&self) -> &Desk
+        ensures { result.now ≡ self.now.desk }
+    {
+        &self.desk
+    }
+
     /// Makes a step. Where the world stands for one of the definitions, it answers as that one does, and then stands for
     /// the next. A step that a fault refuses changes nothing. Want of memory is told of a `Send` and of a
     /// `Checkpoint`, by `NoMemory`, and of a `Finish`, which then refuses its request; of no other step.
@@ -129,7 +137,7 @@ impl<S: Service> World<S> {
         ensures bounds { self.new.bounds ≡ self.old.bounds }
     {
         match step {
-            Step::Control(command) => self.control(&command),
+            Step::Control(command) => self.control(command),
             Step::Look(k) => self.look(k),
             Step::Send(to, number, request) => {
                 let k = self.shard_of(&request);
@@ -145,14 +153,27 @@ impl<S: Service> World<S> {
     }
 
     // Carries out a command, unless it is refused.
-    fn control(&mut self, command: &Command) -> Result<WorldAnswer<S::Reply>, WorldFault>
-        ensures stands { GoesAs (meaning_of S.initial S.next S.answer S.key_of) self.old result self.new (ControlOf command.now) }
-        ensures marks { may_go {Q = S.Request} (ControlOf command.now) (mark_of result) ≡ true }
+    fn control(&mut self, command: Command) -> Result<WorldAnswer<S::Reply>, WorldFault>
+        ensures stands { GoesAs (meaning_of S.initial S.next S.answer S.key_of) self.old result self.new (ControlOf command) }
+        ensures marks { may_go {Q = S.Request} (ControlOf command) (mark_of result) ≡ true }
         ensures bounds { self.new.bounds ≡ self.old.bounds }
     {
         match command {
-            Command::Change(k, change) => self.change(*k, change),
+            Command::Change(k, change) => self.change(k, &change),
+            _ => self.restart(command),
         }
+    }
+
+    // Makes a step of a server's restart, unless the desk refuses it.
+    fn restart(&mut self, command: Command) -> Result<WorldAnswer<S::Reply>, WorldFault>
+        requires { is_restart command ≡ true }
+        ensures stands { GoesAs (meaning_of S.initial S.next S.answer S.key_of) self.old result self.new (ControlOf command) }
+        ensures marks { may_go {Q = S.Request} (ControlOf command) (mark_of result) ≡ true }
+        ensures bounds { self.new.bounds ≡ self.old.bounds }
+    {
+        self.desk.check(&command)?;
+        self.desk.commit(command);
+        Ok(WorldAnswer::Made)
     }
 
     // Changes the stand of a shard, unless the desk or the table refuses it.
@@ -183,7 +204,7 @@ impl<S: Service> World<S> {
     }
 
     /// Puts a direct request for the server in flight, as `Step::Send` does, where `k` is the shard of the request's key. It
-    /// answers `Sent`, `UnknownServer` or `NoMemory`.
+    /// answers `Sent`, `UnknownServer`, `Unreachable` or `NoMemory`.
     pub fn send(
         &mut self,
         to: ServerId,
@@ -199,6 +220,9 @@ impl<S: Service> World<S> {
     {
         if !self.desk.knows(to) {
             return Err(WorldFault::UnknownServer);
+        }
+        if !self.desk.reaches(to) {
+            return Err(WorldFault::Unreachable);
         }
         let flight = Flight {
             to,
@@ -223,7 +247,7 @@ impl<S: Service> World<S> {
         let k = envelope.shard();
         let state = self.table.record(k);
         if state.forward_to(to).is_some() {
-            return Ok(send_on(&mut self.in_flight, &state, to, envelope));
+            return Ok(send_on(&mut self.in_flight, &self.desk, &state, to, envelope));
         }
         let number = envelope.number();
         let mode = envelope.mode();
@@ -357,19 +381,24 @@ impl<S: Service> World<S> {
     }
 }
 
-// The envelope reaches a server that forwards requests: it is put last in flight again, or refused where no hop is left.
+// The envelope reaches a server that forwards requests: it is put last in flight again, or refused where no hop is left
+// or the next server isn't reached.
 fn send_on<Q: Drop, R>(
     in_flight: &mut Vec<Flight<Q>>,
+    desk: &Desk,
     state: &Record,
     at: ServerId,
     envelope: Envelope<Q, ()>,
 ) -> WorldAnswer<R>
     requires room { vec_len in_flight.old < vec_capacity in_flight.old }
-    ensures hop { (result, in_flight.new.items) ≡ after_hop in_flight.old.items (forwarded envelope state.now at) }
+    ensures hop { (result, in_flight.new.items) ≡ after_hop desk.now in_flight.old.items (forwarded envelope state.now at) }
     ensures plain { mark_of (Ok result) ≡ Plain }
 {
     match envelope.forwarded(state, at) {
         Ok((to, envelope)) => {
+            if !desk.reaches(to) {
+                return WorldAnswer::Refused(Refusal::Unreachable);
+            }
             in_flight.push_reserved(Flight { to, envelope });
             WorldAnswer::Forwarded(to)
         }

@@ -17,6 +17,9 @@ pub enum WorldFault {
     /// There is no such server.
     #[error("there is no such server")]
     UnknownServer,
+    /// The server isn't reached: it is stopped, or has failed.
+    #[error("the server isn't reached")]
+    Unreachable,
     /// There is no envelope at this place.
     #[error("there is no envelope at this place")]
     NoEnvelope,

@@ -6,6 +6,7 @@ use sm_ownership::admit_fault::AdmitFault;
 use sm_ownership::change::Change;
 use sm_ownership::change_fault::ChangeFault;
 use sm_ownership::record::Record;
+use sm_place::PlaceFault;
 use sm_ranges::server_id::ServerId;
 use sm_ranges::shard_id::ShardId;
 use sm_ranges::stand::Stand;
@@ -13,6 +14,7 @@ use sm_script::{Answer, Call, LineFault, MAX_LINE, ParseFault, Refused, long_lin
 use sm_service::bytes::Bytes;
 use sm_service::reply::Reply;
 use sm_service::request::Request;
+use sm_tasks::ApproveFault;
 use std::alloc::{AllocError, Global};
 use std::test::Fail;
 
@@ -89,9 +91,11 @@ fn first_fault_of_a_line(rt: HostRuntime) -> Result<(), Fail> {
         ("hold 0 4096", "BadNumber"),
         ("free", "BadLine"),
         ("Add 0", "UnknownWord"),
-        ("ask 1", "NotHere"),
+        ("ask 1", ""),
+        ("ask 0", "BadNumber"),
+        ("drain", "BadLine"),
         ("publish 0", "NotHere"),
-        ("place", "NotHere"),
+        ("place", ""),
         ("place ", "BadLine"),
         ("", ""),
         ("# get", ""),
@@ -139,10 +143,25 @@ fn shown_change(alloc: Global, shard: ShardId, change: Change) -> Result<String,
     }
 }
 
+// What a command of the control asks for.
+fn shown_command(alloc: Global, command: &Command) -> Result<String, AllocError> {
+    let (word, server) = match command {
+        Command::Change(shard, change) => return shown_change(alloc, *shard, *change),
+        Command::Ask(server) => ("ask", *server),
+        Command::Approve(server) => ("approve", *server),
+        Command::Stopped(server) => ("stopped", *server),
+        Command::Back(server) => ("back", *server),
+        Command::Fail(server) => ("fail", *server),
+    };
+    format!(in alloc; "{word} {}", server.number())
+}
+
 // What a call asks for.
 fn shown(alloc: Global, call: &Call) -> Result<String, AllocError> {
     match call {
-        Call::Control(Command::Change(shard, change)) => shown_change(alloc, *shard, *change),
+        Call::Control(command) => shown_command(alloc, command),
+        Call::Place => format!(in alloc; "place"),
+        Call::Drain(server) => format!(in alloc; "drain {}", server.number()),
         Call::Hold(shard, server) => {
             format!(in alloc; "hold {} {}", shard.number(), server.number())
         }
@@ -176,6 +195,13 @@ fn calls_of_lines(rt: HostRuntime) -> Result<(), Fail> {
         (b"free 11", "free 11"),
         (b"checkpoint 12 13", "checkpoint 12 13"),
         (b"look 0", "look 0"),
+        (b"ask 1", "ask 1"),
+        (b"approve 2", "approve 2"),
+        (b"stopped 3", "stopped 3"),
+        (b"back 4", "back 4"),
+        (b"fail 4095", "fail 4095"),
+        (b"place", "place"),
+        (b"drain 5", "drain 5"),
         (b"get \xff", "get [255]"),
         (b"put m  a b ", "put [109] [32, 97, 32, 98, 32]"),
         (b"put m", "put [109] []"),
@@ -272,6 +298,14 @@ fn texts_of_answers(rt: HostRuntime) -> Result<(), Fail> {
             "refused WrongPhase",
         ),
         (Answer::Refused(Refused::NotHeld), "refused NotHeld"),
+        (
+            Answer::Refused(Refused::Command(CommandFault::Place(PlaceFault::NoCapacity))),
+            "refused NoCapacity",
+        ),
+        (
+            Answer::Refused(Refused::Command(CommandFault::Approve(ApproveFault::DomainCap(7)))),
+            "refused DomainCap 7",
+        ),
         (
             Answer::Seen(record(Stand::Forwarding { owner, next }, false, 5)),
             "Forwarding 1 2 idle 5",

@@ -1,7 +1,41 @@
+ghost use Rattle.std.specs.Prelude.{◌≡◌, IfOk, map, replicate};
+ghost use Rattle.sm_ranges.specs.declared.stand.Stand.TheVariants.{Vacant};
+ghost use Rattle.sm_tasks.specs.Caps.{MeetsCaps};
+
+use sm_place::Books;
+use sm_ranges::server_id::ServerId;
 use sm_ranges::shard_id::ShardId;
+use sm_rows::{GroupRow, ServerRow, ShardRow, equal_domains};
+use sm_tasks::laws::all_up_meets_caps;
+use std::alloc::Global;
 use std::test::Fail;
 
 // The shard of this number.
 pub fn shard(number: u16) -> Result<ShardId, Fail> {
     Ok(ShardId::new(number).ok_or("a shard's number")?)
+}
+
+// Books of servers in a domain each, and of so many vacant shards of one group. No more than one of the shards may be down.
+pub fn new_books(alloc: Global, count: usize, servers: &[ServerId]) -> Result<Books, Fail>
+    ensures caps { IfOk result (λ books. MeetsCaps 1 books) }
+    ensures vacant { IfOk result (λ books. map (λ shard. shard.stand) books.shards ≡ replicate count Vacant) }
+{
+    let mut rows = Vec::new(alloc);
+    for server in servers {
+        rows.push(ServerRow {
+            id: *server,
+            domain: server.number(),
+            capacity: 4,
+        })?;
+    }
+    let row = ShardRow {
+        group: 0,
+        load: 1,
+        cap: 1,
+    };
+    let shards = vec![in alloc; row; count]?;
+    let domains = equal_domains(alloc, &rows, 1)?;
+    all_up_meets_caps();
+    let group = GroupRow { limit: 4, down: 1 };
+    Ok(Books::new(alloc, &rows, &[group], &shards, &domains)?)
 }

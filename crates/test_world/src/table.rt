@@ -1,4 +1,4 @@
-use crate::common::shard;
+use crate::common::{new_books, shard};
 use sm_desk::{Command, CommandFault, Desk};
 use sm_envelope::Refusal;
 use sm_ownership::admit_fault::AdmitFault;
@@ -14,6 +14,7 @@ use sm_service::counter_text::CounterText;
 use sm_service::reply::Reply;
 use sm_service::request::Request;
 use sm_table::{Setup, Step, World, WorldAnswer, WorldFault};
+use sm_tasks::{AlreadyFailed, Tasks};
 use std::alloc::Global;
 use std::process::Abort;
 use std::test::Fail;
@@ -27,7 +28,7 @@ fn new_world(alloc: Global) -> Result<World<CounterText>, Fail> {
         ServerId::of(3),
         ServerId::of(4),
     ];
-    let desk = Desk::plain(alloc, layout.count(), &servers)?;
+    let desk = Desk::new(new_books(alloc, layout.count(), &servers)?, Tasks::new(1));
     let mut bodies = Vec::new(alloc);
     for _ in 0..layout.count() {
         bodies.push(CounterText::new(alloc, 2))?;
@@ -44,6 +45,7 @@ fn new_world(alloc: Global) -> Result<World<CounterText>, Fail> {
 #[derive(Clone, Copy, Drop)]
 enum Act {
     Change(ShardId, Change),
+    Restart(Command),
     Look(ShardId),
     Send(ServerId, u64, u8),
     Deliver(usize),
@@ -57,6 +59,7 @@ enum Act {
 fn step_of(alloc: Global, act: Act) -> Result<Step<Request>, Fail> {
     let step = match act {
         Act::Change(k, change) => Step::Control(Command::Change(k, change)),
+        Act::Restart(command) => Step::Control(command),
         Act::Look(k) => Step::Look(k),
         Act::Send(to, number, key) => Step::Send(
             to,
@@ -260,6 +263,33 @@ fn makes_no_checkpoint(rt: HostRuntime) -> Result<(), Fail> {
     ];
     let mut world = new_world(rt.alloc())?;
     follow(&rt, rt.alloc(), &mut world, &cases)
+}
+
+#[test]
+fn reaches_no_failed_server(rt: HostRuntime) -> Result<(), Fail> {
+    let (one, two, k) = (ServerId::of(1), ServerId::of(2), shard(1)?);
+    let failed = WorldFault::Command(CommandFault::Fail(AlreadyFailed));
+    let cases = [
+        (Act::Change(k, Change::Assign(one)), Told::Made),
+        (Act::Change(k, Change::PrepareAddShard(two)), Told::Made),
+        (Act::Change(k, Change::PrepareDropShard), Told::Made),
+        (Act::Send(one, 7, b'm'), Told::Sent),
+        (Act::Restart(Command::Fail(two)), Told::Made),
+        (Act::Restart(Command::Fail(two)), Told::Fault(failed)),
+        (Act::Deliver(0), Told::Refused(Refusal::Unreachable)),
+        (Act::Deliver(0), Told::Fault(WorldFault::NoEnvelope)),
+        (
+            Act::Send(two, 8, b'm'),
+            Told::Fault(WorldFault::Unreachable),
+        ),
+        (Act::Restart(Command::Back(two)), Told::Made),
+        (Act::Send(one, 9, b'm'), Told::Sent),
+        (Act::Deliver(0), Told::Forwarded(two)),
+    ];
+    let mut world = new_world(rt.alloc())?;
+    follow(&rt, rt.alloc(), &mut world, &cases)?;
+    assert!(rt; world.desk().reaches(two));
+    Ok(())
 }
 
 #[test]

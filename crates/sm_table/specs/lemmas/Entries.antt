@@ -1,11 +1,12 @@
 -- The entries that steps write keep a world sound.
 use Rattle.std.proofs.Common.{◌≡◌, ◌≢◌, ℕ, zero, suc, ◌<◌, ◌≤◌, Bool, true, false, not, ◌&&◌, ◌||◌, List, [], ◌∷◌, ◌++◌, length, refl, sym, ap, subst, ◌∙◌, arith, ⊎_elim}
-use Rattle.std.specs.Prelude.{Option, Some, None, map, reverse, slice_set, slice_index_or, nat_lt, is_none, ◌==◌, if◌then◌else◌}
+use Rattle.std.specs.Prelude.{All, Option, Some, None, map, unwrap_or, reverse, slice_set, slice_index_or, nat_lt, is_none, ◌==◌, if◌then◌else◌}
 use Rattle.std.specs.List.{list_all}
 use Rattle.std.specs.Option.{option_map}
 use Rattle.std.proofs.lemmas.Bool.{true≢false, cases_eq, cases_lt, eq-eqb, ne_eqb, and_parts, and_from, lt-ltb, eqb-true, not-true}
 use Rattle.std.proofs.lemmas.Bool.Decides.{nat_tests}
-use Rattle.std.proofs.lemmas.List.{reverse-append, get_or-set_same, get_or-set_other, get_or_past, get_or-map, length-map, length-set, set-get_or}
+use Rattle.std.proofs.lemmas.List.{reverse-append, get_or-set_same, get_or-set_other, get_or_past, get_or-map, length-map, length-set, map-set, set-get_or}
+use Rattle.std.proofs.Math.Seq.{map-set_same}
 use Rattle.std.proofs.lemmas.List.Folds.{list_all-append}
 use Rattle.sm_ranges.specs.ServerId.{IsServer}
 use Rattle.sm_ranges.specs.Stand.{AllNamed}
@@ -19,17 +20,21 @@ use Rattle.sm_ownership.specs.declared.mode.Mode.{Mode}
 use Rattle.sm_ownership.specs.declared.mode.Mode.TheVariants.{Direct}
 use Rattle.sm_ownership.specs.declared.record.Record.{Record}
 use Rattle.sm_table.specs.declared.hands.InHand.{InHand}
-use Rattle.sm_ownership.specs.Rules.{phase_fault, admit_fault}
+use Rattle.sm_ownership.specs.Rules.{phase_fault, admit_fault, stand_after}
+use Rattle.sm_desk.specs.declared.command.Command.{Command}
+use Rattle.sm_desk.specs.declared.command.Command.TheVariants.{Change as ChangeOf, Ask, Approve, Stopped, Back, Fail}
 use Rattle.sm_desk.specs.declared.command.CommandFault.TheVariants.{Change as ChangeRefused}
-use Rattle.sm_desk.specs.Desk.{stand_at, desk_change_fault}
+use Rattle.sm_desk.specs.Desk.{DeskView, commanded, desk_fault, stands_of}
+use Rattle.sm_place.specs.Books.{moved, no_shard, shard_at}
+use Rattle.sm_place.specs.declared.shard.Shard.{Shard}
 use Rattle.sm_desk.specs.lemmas.Changes.{let_through}
-use Rattle.sm_ownership.specs.History.{vacant, after_kind, admits_only, acts_as, fits}
-use Rattle.sm_table.specs.World.{WorldState, count_of, world_table, world_record, with_entry, with_hand, desk_of, table_fault, ended}
-use Rattle.sm_table.specs.Standing.{IsThere, AgreesWithHand, IsSound}
+use Rattle.sm_ownership.specs.History.{vacant, after_change, after_kind, admits_only, acts_as, fits}
+use Rattle.sm_table.specs.World.{WorldState, count_of, world_table, world_record, with_entry, with_hand, table_fault, ended}
+use Rattle.sm_table.specs.Standing.{AgreesWithHand, AreLetThrough, IsFlight, IsLedTo, IsSound, IsThere, desk_after}
 use Rattle.sm_ownership.specs.lemmas.Faults.{change_fits-no_fault, admit_fault-none}
 use Rattle.sm_ownership.specs.Tables.{record_fault}
 use Rattle.sm_table.specs.lemmas.Names.{names_after}
-use Rattle.sm_ownership.specs.lemmas.Growth.{length-table_of, legal-push, record_at-push, record_at-push_other}
+use Rattle.sm_ownership.specs.lemmas.Growth.{length-table_of, legal-push, record_at-push, record_at-push_other, table_of-push}
 
 list_all-reverse : {X : Type 0} (test : X → Bool) (xs : List X) → list_all test (reverse xs) ≡ list_all test xs
 list_all-reverse test [] = refl
@@ -87,18 +92,29 @@ set-set [] i a b = refl
 set-set (x ∷ xs) zero a b = refl
 set-set (x ∷ xs) (suc i) a b = ap (λ rest. x ∷ rest) (set-set xs i a b)
 
--- an entry that may come next in a world, and what is then in hand
-record IsNext {Q : Type 0} (w : WorldState Q) (entry : Entry Q) (hands : List (Option (InHand Q))) : Type 0 where
+-- a further command that the desk doesn't refuse
+pub led_on : (start desk : DeskView) (command : Command) → IsLedTo start desk → desk_fault desk command ≡ None → IsLedTo start (commanded desk command)
+led_on start desk command led through = record {
+  commands = command ∷ led.commands;
+  leads = ap (λ one. commanded one command) led.leads;
+  through = (ap (λ one. desk_fault one command) led.leads ∙ through, led.through);
+}
+
+-- an entry that may come next in a world, and what the desk knows and what is in hand then
+record IsNext {Q : Type 0} (w : WorldState Q) (entry : Entry Q) (desk : DeskView) (hands : List (Option (InHand Q))) : Type 0 where
+  led : IsLedTo w.frame.start desk
+  stands : stands_of desk ≡ map (λ (state : Record). state.stand) (slice_set (world_table w) entry.shard (after_kind (world_record w entry.shard) entry.kind))
+  servers : desk.books.servers ≡ w.desk.books.servers
   fit : fits w.frame.ceiling (reverse w.history) (world_table w) entry ≡ true
   own_server : admits_only entry.actor entry.kind ≡ true
   places : length hands ≡ count_of w
   others : (shard : ℕ) → shard ≢ entry.shard → slice_index_or hands shard None ≡ slice_index_or w.in_hand shard None
-  named : AllNamed (IsThere w.frame.servers) (after_kind (world_record w entry.shard) entry.kind).stand
+  named : AllNamed (IsThere desk.books.servers) (after_kind (world_record w entry.shard) entry.kind).stand
   here : AgreesWithHand (w.history ++ entry ∷ []) (after_kind (world_record w entry.shard) entry.kind).admitted entry.shard (slice_index_or hands entry.shard None)
 
-module _ {Q : Type 0} (w : WorldState Q) (entry : Entry Q) (hands : List (Option (InHand Q))) (sound : IsSound w) (next : IsNext w entry hands) where
+module _ {Q : Type 0} (w : WorldState Q) (entry : Entry Q) (desk : DeskView) (hands : List (Option (InHand Q))) (sound : IsSound w) (next : IsNext w entry desk hands) where
   abbrev grown : WorldState Q
-  grown = record w { history = w.history ++ entry ∷ []; in_hand = hands }
+  grown = record w { desk = desk; history = w.history ++ entry ∷ []; in_hand = hands }
 
   abbrev HeldAt : ℕ → Type 0
   HeldAt shard = AgreesWithHand grown.history (world_record grown shard).admitted shard (slice_index_or hands shard None)
@@ -116,23 +132,26 @@ module _ {Q : Type 0} (w : WorldState Q) (entry : Entry Q) (hands : List (Option
       held_other w.history entry (world_record grown shard).admitted shard (slice_index_or hands shard None) other (rw (next.others shard apart) before)
 
   abbrev NamedAt : ℕ → Type 0
-  NamedAt shard = AllNamed (IsThere w.frame.servers) (world_record grown shard).stand
+  NamedAt shard = AllNamed (IsThere desk.books.servers) (world_record grown shard).stand
 
   named_own : NamedAt entry.shard
-  named_own = subst (λ (state : Record). AllNamed (IsThere w.frame.servers) state.stand) (sym (record_at-push (count_of w) w.frame.ceiling w.history entry next.fit)) next.named
+  named_own = subst (λ (state : Record). AllNamed (IsThere desk.books.servers) state.stand) (sym (record_at-push (count_of w) w.frame.ceiling w.history entry next.fit)) next.named
 
   named_apart : (shard : ℕ) → shard < count_of w → shard ≢ entry.shard → NamedAt shard
   named_apart shard within apart =
-      subst (λ (state : Record). AllNamed (IsThere w.frame.servers) state.stand) (sym (record_at-push_other (count_of w) w.frame.ceiling w.history entry shard apart next.fit)) (sound.named shard within)
+      subst (λ (state : Record). AllNamed (IsThere desk.books.servers) state.stand) (sym (record_at-push_other (count_of w) w.frame.ceiling w.history entry shard apart next.fit))
+      (subst (λ servers. AllNamed (IsThere servers) (world_record w shard).stand) (sym next.servers) (sound.named shard within))
 
   -- a world stays sound with an entry that may come next
   grown_sound : IsSound grown
   grown_sound = record {
     frame = sound.frame;
+    desk = next.led;
+    stands = next.stands ∙ ap (map (λ (state : Record). state.stand)) (sym (table_of-push (count_of w) w.frame.ceiling w.history entry next.fit));
     legal = legal-push (count_of w) w.frame.ceiling w.history entry sound.legal next.fit;
     own_server = list_all-append _ w.history (entry ∷ []) ∙ rw (sound.own_server, next.own_server) refl;
     named = λ shard within. ⊎_elim (λ same. subst NamedAt (sym same) named_own) (named_apart shard within) (cases_eq shard entry.shard);
-    flights = sound.flights;
+    flights = subst (λ servers. All (IsFlight (count_of w) servers) w.in_flight) (sym next.servers) sound.flights;
     hands = next.places;
     held = λ shard within. ⊎_elim (λ same. subst HeldAt (sym same) held_own) (held_apart shard within) (cases_eq shard entry.shard);
   }
@@ -154,28 +173,51 @@ module _ {Q : Type 0} (w : WorldState Q) (sound : IsSound w) where
   long_table : length (world_table w) ≡ count_of w
   long_table = length-table_of (count_of w) w.frame.ceiling w.history
 
+  -- an entry that leaves the stand of its shard leaves all stands
+  stands_stay : (shard : ℕ) (after : Record) → after.stand ≡ (world_record w shard).stand → stands_of w.desk ≡ map (λ (state : Record). state.stand) (slice_set (world_table w) shard after)
+  stands_stay shard after stays = sound.stands ∙ sym (map-set_same (λ (state : Record). state.stand) (world_table w) shard after vacant stays)
+
+  -- the desk has a shard for each record, of its stand
+  pub shards_long : length w.desk.books.shards ≡ length (world_table w)
+  shards_long = omega (arith, ap length sound.stands, length-map w.desk.books.shards (λ (one : Shard). one.stand), length-map (world_table w) (λ (one : Record). one.stand))
+
+  pub same_stand : (shard : ℕ) → shard < length w.desk.books.shards → (shard_at w.desk.books.shards shard).stand ≡ (world_record w shard).stand
+  same_stand shard below =
+      let long = shards_long in
+      let inside : shard < length (world_table w) = omega arith in
+      sym (get_or-map (λ (one : Shard). one.stand) w.desk.books.shards shard no_shard Vacant below)
+      ∙ ap (λ all. slice_index_or all shard Vacant) sound.stands
+      ∙ get_or-map (λ (one : Record). one.stand) (world_table w) shard vacant Vacant inside
+
   -- a change that neither the desk nor the table refuses
-  pub sound_change : (shard : ℕ) (change : Change) → desk_change_fault (desk_of w) shard change ≡ None → table_fault w.frame.ceiling (world_record w shard) ≡ None → IsSound (with_entry w 0 shard (Changed change))
+  pub sound_change : (shard : ℕ) (change : Change) → desk_fault w.desk (ChangeOf shard change) ≡ None → table_fault w (ChangeOf shard change) ≡ None → IsSound (record (with_entry w 0 shard (Changed change)) { desk = commanded w.desk (ChangeOf shard change) })
   sound_change shard change desk table =
       let state = world_record w shard in
-      let stands = map (λ (one : Record). one.stand) (world_table w) in
-      let allowed = let_through (desk_of w) shard change desk in
-      let long = length-map (world_table w) (λ (one : Record). one.stand) in
+      let shards = w.desk.books.shards in
+      let allowed = let_through w.desk.books shard change desk in
       let below = allowed.within in
       let count = long_table in
+      let long = shards_long in
       let inside : shard < length (world_table w) = omega arith in
       let within : shard < count_of w = omega arith in
-      let stand : stand_at stands shard ≡ state.stand = get_or-map (λ (one : Record). one.stand) (world_table w) shard vacant Vacant inside in
+      let stand : (shard_at shards shard).stand ≡ state.stand = same_stand shard below in
       let phase : phase_fault state.stand change ≡ None = ap (λ at. phase_fault at change) (sym stand) ∙ allowed.phase in
       let free : record_fault w.frame.ceiling state ≡ None = not_mapped (λ fault. ChangeRefused fault) (record_fault w.frame.ceiling state) table in
       let idle : state.admitted ≡ false = not_busy (nat_lt state.generation w.frame.ceiling) state.admitted _ _ free in
       let entry : Entry Q = record { actor = 0; shard = shard; kind = Changed change } in
-      grown_sound w entry w.in_hand sound (record {
+      grown_sound w entry (commanded w.desk (ChangeOf shard change)) w.in_hand sound (record {
+        led = led_on w.frame.start w.desk (ChangeOf shard change) sound.desk desk;
+        stands =
+            map-set (λ (one : Shard). one.stand) shards shard (moved (shard_at shards shard) (unwrap_or (stand_after (shard_at shards shard).stand change) (shard_at shards shard).stand))
+            ∙ ap (λ at. slice_set (map (λ (one : Shard). one.stand) shards) shard (unwrap_or (stand_after at change) at)) stand
+            ∙ ap (λ all. slice_set all shard (unwrap_or (stand_after state.stand change) state.stand)) sound.stands
+            ∙ sym (map-set (λ (one : Record). one.stand) (world_table w) shard (after_change state change));
+        servers = refl;
         fit = and_from _ _ (lt-ltb _ _ inside) (change_fits-no_fault w.frame.ceiling state change ∙ and_from _ _ (ap is_none phase) (ap is_none free));
         own_server = refl;
         places = sound.hands;
         others = λ _ _. refl;
-        named = names_after w.frame.servers state.stand change (sound.named shard within) allowed.known;
+        named = names_after w.desk.books.servers state.stand change (sound.named shard within) allowed.known;
         here = held_idle w.history (w.history ++ entry ∷ []) state.admitted shard (slice_index_or w.in_hand shard None) idle (sound.held shard within);
       })
 
@@ -189,7 +231,10 @@ module _ {Q : Type 0} (w : WorldState Q) (sound : IsSound w) where
       let accepted = sym (admit_fault-none w.frame.ceiling (world_record w shard) server mode) ∙ ap is_none none in
       let placed : slice_index_or (slice_set w.in_hand shard (Some hand)) shard None ≡ Some hand = get_or-set_same w.in_hand shard (Some hand) None (omega arith) in
       let entry : Entry Q = record { actor = server; shard = shard; kind = Admit server mode } in
-      grown_sound w entry (slice_set w.in_hand shard (Some hand)) sound (record {
+      grown_sound w entry w.desk (slice_set w.in_hand shard (Some hand)) sound (record {
+        led = sound.desk;
+        stands = stands_stay shard (after_kind {Q = Q} (world_record w shard) (Admit server mode)) refl;
+        servers = refl;
         fit = and_from _ _ (lt-ltb _ _ inside) (and_from _ _ (not_zero server is.0) (and_from _ _ alone accepted));
         own_server = eq-eqb server server refl;
         places = length-set w.in_hand shard (Some hand) ∙ sound.hands;
@@ -207,7 +252,10 @@ module _ {Q : Type 0} (w : WorldState Q) (sound : IsSound w) where
       let inside : shard < length (world_table w) = omega arith in
       let held : AgreesWithHand w.history (world_record w shard).admitted shard (Some hand) = subst (λ one. AgreesWithHand w.history (world_record w shard).admitted shard one) is (sound.held shard (omega arith)) in
       let freed : slice_index_or (slice_set w.in_hand shard None) shard None ≡ None = get_or-set_same w.in_hand shard None None there in
-      grown_sound w (record { actor = hand.server; shard = shard; kind = Done ending }) (slice_set w.in_hand shard None) sound (record {
+      grown_sound w (record { actor = hand.server; shard = shard; kind = Done ending }) w.desk (slice_set w.in_hand shard None) sound (record {
+        led = sound.desk;
+        stands = stands_stay shard (after_kind {Q = Q} (world_record w shard) (Done ending)) refl;
+        servers = refl;
         fit = and_from _ _ (lt-ltb _ _ inside) (and_from _ _ held.0 held.1);
         own_server = refl;
         places = length-set w.in_hand shard None ∙ sound.hands;

@@ -21,8 +21,8 @@ pub returns : goal.returns
 returns g c =
     let bodies : length c.args.bodies.items ≡ length c.args.setup.layout = omega (arith, c.args.bodies.ok.0, c.requires.bodies) in
     StandsFor-empty (setup_frame c.args.setup (map g.S.Service.limit c.args.bodies.items))
-    (record { layout = c.count-count.ensures.is_layout; servers = subst (λ desk. All IsServer desk.servers) c.desk.view_is c.desk.invariant })
-    refl refl c.requires.vacant
+    (record { layout = c.count-count.ensures.is_layout; books = c.soundness.ensures.books; caps = c.soundness.ensures.caps; vacant = c.requires.vacant })
+    refl refl
     (c.in_ok-new.ensures.records ∙ ap (λ count. replicate count vacant) c.count-count.ensures.value)
     c.in_ok-new.ensures.ceiling
     (c.in_ok-new-2.ensures.pasts ∙ ap (λ count. replicate count no_past) bodies)

@@ -19,4 +19,4 @@ invariant_of-self-2 g c =
 pub returns-clause-stands : goal.returns-clause-stands
 returns-clause-stands g c = λ w stands.
     let pushed = c.if-is_err.ensures.negation in
-    sent (meaning_of g.S.Service.initial g.S.Service.next g.S.Service.answer g.S.Service.key_of) c.args.self.now c.self.view_is w stands c.args.to c.args.number c.args.request c.args.k c.new.result c.push.new.self.items (sym c.if-not-knows.ensures) c.requires.shard c.new.ensures (rw pushed at c.push.ensures.items)
+    sent (meaning_of g.S.Service.initial g.S.Service.next g.S.Service.answer g.S.Service.key_of) c.args.self.now c.self.view_is w stands c.args.to c.args.number c.args.request c.args.k c.new.result c.push.new.self.items (sym c.if-not-knows.ensures) (sym c.if-not-reaches.ensures) c.requires.shard c.new.ensures (rw pushed at c.push.ensures.items)

@@ -3,7 +3,7 @@ use Rattle.sm_service.specs.declared.request.Request.{Request}
 use Rattle.sm_table.specs.Standing.{WorldView}
 use Rattle.sm_model.specs.Sessions.{GivesAnswer}
 use Rattle.sm_model.proofs.Answering.{gives_answer, has_answer, idle_after}
-use Rattle.sm_model.proofs.session.ModelSession.run.Goals as goal
+use Rattle.sm_model.proofs.session.ModelSession.make.Goals as goal
 
 pub answer_of-requires : goal.answer_of-requires
 answer_of-requires c = has_answer _ _ _ _ c.self.invariant c.carry_out.ensures
@@ -14,4 +14,4 @@ invariant_of-self c = idle_after _ _ _ _ c.self.invariant c.carry_out.ensures
 pub returns : goal.returns
 returns c =
     subst (λ (before : WorldView Request). IfOk c.answer_of.result (λ answer. GivesAnswer before c.args.call answer c.carry_out.new.world)) c.self.view_is
-    (gives_answer _ _ _ _ c.answer_of.result c.answer_of.ensures.ok c.carry_out.ensures)
+    (gives_answer _ _ _ _ c.answer_of.result c.answer_of.ensures.ok c.requires c.carry_out.ensures)

@@ -1,0 +1,93 @@
+ghost use Rattle.std.specs.Prelude.{◌≡◌, ◌<◌, IfSome, None, length};
+ghost use Rattle.std.specs.Result.{result_err};
+ghost use Rattle.sm_place.specs.Books.{IsKnown};
+ghost use Rattle.sm_desk.specs.Desk.{books_changed, desk_change_fault, resume_fault, resumed, room_fault};
+
+use crate::command::CommandFault;
+use sm_ownership::change::Change;
+use sm_ownership::change_fault::ChangeFault;
+use sm_place::laws::{fewer_names_leave_room, fit_leaves_room};
+use sm_place::{Books, PlaceFault};
+use sm_ranges::server_id::ServerId;
+use sm_ranges::shard_id::ShardId;
+use sm_ranges::stand::Stand;
+
+/// Whether the books allow the change, or the first fault that applies.
+pub(crate) fn check_change(books: &Books, k: ShardId, change: &Change) -> Result<(), CommandFault>
+    ensures { result_err result ≡ desk_change_fault books.now k change.now }
+{
+    if k.index() >= books.shards().len() {
+        return Err(ChangeFault::UnknownShard.into());
+    }
+    if let Some(server) = change.newly_named() {
+        if !books.knows(server) {
+            return Err(CommandFault::UnknownServer);
+        }
+    }
+    books.soundness();
+    let stand = books.stand(k);
+    if let Err(fault) = change.apply_to(stand) {
+        return Err(ChangeFault::from(fault).into());
+    }
+    if let Err(fault) = check_room(books, k, change.newly_named()) {
+        return Err(fault);
+    }
+    check_resumed(books, resumed(&stand, change))
+}
+
+// Whether the shard has room on the server that a change newly names.
+fn check_room(books: &Books, k: ShardId, server: Option<ServerId>) -> Result<(), CommandFault>
+    requires shard { k < length books.now.shards }
+    requires known { IfSome server (IsKnown books.now.servers) }
+    ensures { result_err result ≡ room_fault books.now k server }
+{
+    match server {
+        Some(a) => match books.fits(k, a) {
+            Ok(()) => Ok(()),
+            Err(fault) => Err(CommandFault::Place(fault)),
+        },
+        None => Ok(()),
+    }
+}
+
+// Whether the owner that is to execute again isn't leaving.
+fn check_resumed(books: &Books, owner: Option<ServerId>) -> Result<(), CommandFault>
+    requires { IfSome owner (IsKnown books.now.servers) }
+    ensures { result_err result ≡ resume_fault books.now owner }
+{
+    match owner {
+        Some(a) => if books.state(a).is_leaving() {
+            Err(CommandFault::Place(PlaceFault::Leaving))
+        } else {
+            Ok(())
+        },
+        None => Ok(()),
+    }
+}
+
+// The owner that the change has execute again.
+fn resumed(stand: &Stand, change: &Change) -> Option<ServerId>
+    ensures { result ≡ resumed stand.now change.now }
+{
+    match *stand {
+        Stand::Paused(owner) => match *change {
+            Change::Resume => Some(owner),
+            _ => None,
+        },
+        _ => None,
+    }
+}
+
+/// Makes a change that isn't refused.
+pub(crate) fn commit_change(books: &mut Books, k: ShardId, change: Change)
+    requires { desk_change_fault books.old k change ≡ None }
+    ensures { books.new ≡ books_changed books.old k change }
+{
+    books.soundness();
+    fit_leaves_room();
+    fewer_names_leave_room();
+    let stand = books.stand(k);
+    if let Ok(stand) = change.apply_to(stand) {
+        books.set_stand(k, stand);
+    }
+}
