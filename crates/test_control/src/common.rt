@@ -1,0 +1,113 @@
+//! Boards with a control, of which each test makes one.
+ghost use Rattle.std.specs.Prelude.{◌≡◌, ◌<◌, ◌≤◌, [], All, IfOk, IfSome, length};
+ghost use Rattle.sm_ranges.specs.declared.limits.TheConstants.{MAX_SERVER};
+ghost use Rattle.sm_ranges.specs.declared.stand.Stand.TheVariants.{Vacant};
+
+use sm_control::{Control, ControlFault};
+use sm_desk::{Command, Desk};
+use sm_ownership::record::Record;
+use sm_place::Books;
+use sm_ranges::{ServerId, ShardId, Stand};
+use sm_rows::limits::MAX_DOMAIN_DOWN;
+use sm_rows::{GroupRow, ServerRow, ShardRow, equal_domains};
+use sm_rule::Board;
+use sm_service::CounterText;
+use sm_tasks::Tasks;
+use sm_tasks::laws::all_up_meets_caps;
+use std::alloc::{AllocError, Global};
+use std::test::Fail;
+
+// The shard with this number.
+pub(crate) fn shard(number: u16) -> ShardId
+    requires { number < 4096 }
+    ensures { result ≡ number }
+{
+    let Some(k) = ShardId::new(number) else {
+        unreachable!()
+    };
+    k
+}
+
+// So many bodies that have applied nothing yet.
+fn bodies(alloc: Global, count: usize) -> Result<Vec<CounterText>, AllocError>
+    ensures length { IfOk result (λ bodies. length bodies.items ≡ count) }
+    ensures initial { IfOk result (λ bodies. All (λ body. body.base ≡ []) bodies.items) }
+    ensures before { IfOk result (λ bodies. All (λ body. body.before ≡ 0) bodies.items) }
+    ensures empty { IfOk result (λ bodies. All (λ body. body.requests ≡ []) bodies.items) }
+{
+    let mut bodies = Vec::with_capacity(alloc, count)?;
+    for _body in 0..count {
+        bodies.push(CounterText::new(alloc, 2_000))?;
+    }
+    Ok(bodies)
+}
+
+fn server_row(id: ServerId, domain: u16) -> ServerRow {
+    ServerRow {
+        id,
+        domain,
+        capacity: 2,
+    }
+}
+
+// A desk for so many shards of load 1, of which the first may not be down, and servers 1 to 3 of capacity 2, the first in a
+// domain of its own. One shard of the group and one server may be down.
+fn desk_of(alloc: Global, count: usize) -> Result<Desk, Fail>
+    ensures count { IfOk result (λ desk. length desk.books.shards ≡ count) }
+    ensures vacant { IfOk result (λ desk. All (λ shard. shard.stand ≡ Vacant) desk.books.shards) }
+{
+    let servers = [
+        server_row(ServerId::of(1), 0),
+        server_row(ServerId::of(2), 1),
+        server_row(ServerId::of(3), 1),
+    ];
+    let group = GroupRow { limit: 2, down: 1 };
+    let mut shards = vec![in alloc; ShardRow {
+        group: 0,
+        load: 1,
+        cap: 1
+    }; count]?;
+    if let Some(first) = shards.first_mut() {
+        first.cap = 0;
+    }
+    let domains = equal_domains(alloc, &servers, MAX_DOMAIN_DOWN)?;
+    let books = Books::new(alloc, &servers, &[group], &shards, &domains)?;
+    all_up_meets_caps();
+    Ok(Desk::new(books, Tasks::new(1)))
+}
+
+/// A board with its control.
+#[derive(Drop)]
+pub(crate) struct Running {
+    pub(crate) board: Board<CounterText>,
+    pub(crate) control: Control<CounterText>,
+    ghost tied: { control.chair.board ≡ board },
+}
+
+impl Running {
+    /// Whether the control answers the command so.
+    pub(crate) fn answers(&mut self, command: Command, answer: Result<(), ControlFault>) -> bool {
+        self.control.command(&self.board, command) == answer
+    }
+}
+
+/// A board with so many vacant shards below this ceiling, and its control.
+pub(crate) fn new_running(alloc: Global, count: usize, ceiling: u64) -> Result<Running, Fail>
+    ensures { IfOk result (λ running. running.board.limits.count ≡ count) }
+{
+    let desk = desk_of(alloc, count)?;
+    let bodies = bodies(alloc, count)?;
+    let (board, chair) = Board::make(alloc, bodies, ceiling)?;
+    Ok(Running {
+        board,
+        control: Control::new(chair, desk),
+    })
+}
+
+pub(crate) fn idle(stand: Stand, generation: u64) -> Record {
+    Record {
+        stand,
+        admitted: false,
+        generation,
+    }
+}

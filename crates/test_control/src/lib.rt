@@ -1,0 +1,9 @@
+//! Tests of the control of a running board.
+#![tactic(auto)]
+
+#[cfg(test)]
+mod calls;
+#[cfg(test)]
+mod common;
+#[cfg(test)]
+mod threads;
