@@ -121,6 +121,7 @@ executed {Q} {R} service helper after shell request answer shard before note sha
       number = number;
       server = begun.own_server;
       board = ap (λ (one : PassValue Q). one.board) own_adds.1;
+      number_is = number_stays helper answer.note shell.shard (Done (Request request)) own_adds;
       seen = adds_begins helper answer.note shell.shard (Done (Request request)) own_adds;
       executed = is_answer service helper shell.shard shell.mode request answer before begun own_adds own_all place reply;
     }

@@ -1,2 +1,3 @@
+mod Beginnings
 pub mod Helpers
 pub mod Outcomes

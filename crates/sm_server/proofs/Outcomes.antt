@@ -29,6 +29,7 @@ use Rattle.sm_server.specs.declared.refusal.Refusal.TheVariants.{WrongShard, Too
 use Rattle.sm_server.specs.Answers.{AnswerValue, run_of}
 use Rattle.sm_server.specs.Running.{HasBegun, HasRefused, IsHelper, Ran, WantsRoom, turned_away, turned_by}
 use Rattle.sm_server.specs.Serving.{IsHandedBack, IsPoint, IsUnserved, NotForwarding, RefusedFor, Sent, Served, is_of_shard, limit_of, requests_in}
+use Rattle.sm_server.proofs.Beginnings.{none_begins}
 use Rattle.sm_server.proofs.Helpers.{none_grows}
 
 abbrev pub with_note : {Q : Type 0} → Sent Q → PassValue Q → Sent Q
@@ -137,6 +138,12 @@ module _ {Q R : Type 0} (service : Service Q R) (before helper : PassValue Q) (e
     begun_begins : Begins helper.seen begun.seen
     begun_begins = adds_begins helper begun envelope.shard _ admitted.2
 
+    begun_number : begun.number ≡ helper.number
+    begun_number = ap (λ (pass : PassValue Q). pass.number) admitted.2.1
+
+    told_none : NoneBy helper.number envelope.note.seen
+    told_none = none_begins helper.number envelope.note.seen helper.seen is.told is.none
+
     seen_since : (later : List (Entry Q)) → Begins begun.seen later → Begins before.seen later
     seen_since later more = begins_begins before.seen helper.seen later is.seen (begins_begins helper.seen begun.seen later begun_begins more)
 
@@ -174,6 +181,8 @@ module _ {Q R : Type 0} (service : Service Q R) (before helper : PassValue Q) (e
         board = ran.board ∙ begun_board;
         seen = seen_since answer.note.seen ran.seen;
         told = told_since answer.note.seen ran.seen;
+        unseen = subst (λ n. NoneBy n before.seen) (sym (ran.number_is ∙ begun_number)) (none_begins helper.number before.seen helper.seen is.seen is.none);
+        untold = subst (λ n. NoneBy n envelope.note.seen) (sym (ran.number_is ∙ begun_number)) told_none;
         executed = ran.executed;
       },
     )

@@ -54,6 +54,7 @@ pub record HasRun {Q R : Type 0} (service : Service Q R) (helper : PassValue Q) 
   pub number : answer.number ≡ shell.number
   pub server : helper.server ≡ Some answer.server
   pub board : answer.note.board ≡ helper.board
+  pub number_is : answer.note.number ≡ helper.number
   pub seen : Begins helper.seen answer.note.seen
   pub executed : IsAnswer service shell.shard shell.mode request answer
 

@@ -6,7 +6,7 @@ use Rattle.sm_envelope.specs.Envelope.{EnvelopeView, one_hop_more, shell_of}
 use Rattle.sm_envelope.specs.declared.envelope.TheConstants.{MOST_HOPS}
 use Rattle.sm_ownership.specs.declared.entry.Ending.TheVariants.{Nothing}
 use Rattle.sm_ownership.specs.declared.entry.Entry.{Entry}
-use Rattle.sm_ownership.specs.History.{ending_of, kept, request_of}
+use Rattle.sm_ownership.specs.History.{NoneBy, ending_of, kept, request_of}
 use Rattle.sm_ownership.specs.Rules.{forward_to}
 use Rattle.sm_ranges.specs.Ranges.{shard_of}
 use Rattle.sm_rule.specs.declared.admit_refusal.AdmitRefusal.{AdmitRefusal}
@@ -33,13 +33,16 @@ is_here service bounds count envelope = nat_lt envelope.shard count && (shard_of
 abbrev pub requests_in : {Q : Type 0} → List (Entry Q) → List Q
 requests_in entries = filter_map (λ entry. request_of (ending_of entry.kind)) entries
 
--- the request was executed once: the answer's history extends what the pass and the envelope's note had seen
+-- the request was executed once: the answer's history extends what the pass and the envelope's note had seen, and the entries by
+-- which it was executed come after all of that
 pub record IsAnswered {Q R : Type 0} (service : Service Q R) (before : PassValue Q) (envelope : Sent Q) (answer : AnswerValue Q R) : Type 0 where
   pub number : answer.number ≡ envelope.number
   pub server : before.server ≡ Some answer.server
   pub board : answer.note.board ≡ before.board
   pub seen : Begins before.seen answer.note.seen
   pub told : Begins envelope.note.seen answer.note.seen
+  pub unseen : NoneBy answer.note.number before.seen
+  pub untold : NoneBy answer.note.number envelope.note.seen
   pub executed : IsAnswer service envelope.shard envelope.mode envelope.request answer
 
 -- an envelope comes back with its request, and with its note or one that has seen more and executed nothing
