@@ -1,18 +1,12 @@
 -- What the control answers of a shard's route.
-use Rattle.std.specs.Prelude.{ℕ, Bool, true, false, ◌≡◌, Option, Some, None, Result, Ok, Err, if◌then◌else◌, length, nat_lt, not}
-use Rattle.sm_ranges.specs.declared.stand.Stand.{Stand}
-use Rattle.sm_ranges.specs.declared.stand.Stand.TheVariants.{Vacant}
-use Rattle.sm_ranges.specs.Stand.{owner_of}
+use Rattle.std.specs.Prelude.{ℕ, ◌≡◌, Option, Some, None, Result, Ok, Err, if◌then◌else◌, length, nat_lt, not}
+use Rattle.sm_ranges.specs.Stand.{is_vacant, owner_of}
 use Rattle.sm_ownership.specs.declared.route.Route.{Route}
 use Rattle.sm_place.specs.Books.{BooksView, shard_at}
 use Rattle.sm_rule.specs.Changes.{ChairLooks, ChairValue, record_at_chair}
 use Rattle.sm_control.specs.declared.route_fault.RouteFault.{RouteFault}
 use Rattle.sm_control.specs.declared.route_fault.RouteFault.TheVariants.{UnknownShard, WrongPhase}
 use Rattle.sm_control.specs.Controls.{ControlValue}
-
-abbrev pub is_vacant : Stand → Bool
-is_vacant Vacant = true
-is_vacant stand = false
 
 -- the first reason for which a shard has no route
 abbrev pub route_fault : BooksView → ℕ → Option RouteFault

@@ -1,5 +1,5 @@
 -- The servers that a stand names.
-use Rattle.std.specs.Prelude.{ℕ, Bool, false, Option, Some, None, IfSome, unwrap_or, ◌==◌, ◌||◌}
+use Rattle.std.specs.Prelude.{ℕ, Bool, true, false, Option, Some, None, IfSome, unwrap_or, ◌==◌, ◌||◌}
 use Rattle.sm_ranges.specs.declared.stand.Stand.{Stand}
 use Rattle.sm_ranges.specs.declared.stand.Stand.TheVariants.{Vacant, Serving, Prepared, Forwarding, Taken, Paused}
 
@@ -11,6 +11,11 @@ owner_of (Prepared owner next) = Some owner
 owner_of (Forwarding owner next) = Some owner
 owner_of (Taken owner previous) = Some owner
 owner_of (Paused owner) = Some owner
+
+-- whether it names none
+abbrev pub is_vacant : Stand → Bool
+is_vacant Vacant = true
+is_vacant stand = false
 
 -- the next or previous server that a stand names
 abbrev pub other_of : Stand → Option ℕ

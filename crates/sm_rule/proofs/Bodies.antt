@@ -1,15 +1,14 @@
 -- What has become of a body since its admission, and how the entry says it.
-use Rattle.std.proofs.Common.{◌≡◌, ℕ, suc, ◌+◌, ◌-◌, ◌<◌, ◌≤◌, List, [], ◌∷◌, ◌++◌, length, drop, take, refl, sym, ap, ◌∙◌, subst, arith, length-append, length-drop, take-append-drop}
-use Rattle.std.specs.Prelude.{All, Option, Some, None, IfSome, fold}
-use Rattle.std.proofs.lemmas.List.{drop-append-le, take-append-le, take_all}
+use Rattle.std.proofs.Common.{◌≡◌, ℕ, ◌<◌, ◌≤◌, List, [], ◌∷◌, ◌++◌, length, refl, ap, ◌∙◌, subst, arith, length-drop}
+use Rattle.std.specs.Prelude.{All, Option, Some, None, IfSome}
+use Rattle.std.proofs.lemmas.List.{drop-append-le}
 use Rattle.std.proofs.lemmas.List.Elements.{All-nil, All-cons, All-head, All-tail}
 use Rattle.std.proofs.Math.Seq.{drop-length}
-use Rattle.core.proofs.iter.runs.Lists.{fold-append}
 use Rattle.sm_ownership.specs.declared.entry.Ending.{Ending}
 use Rattle.sm_ownership.specs.declared.entry.Ending.TheVariants.{Nothing, Request, Checkpoint}
 use Rattle.sm_rule.specs.declared.limits.Limits.{Limits}
 use Rattle.sm_rule.specs.declared.view.Held.{Held}
-use Rattle.sm_rule.specs.Bodies.{Keeps, all_after, checkpoint_ending, ending_between, first_after}
+use Rattle.sm_rule.specs.Bodies.{Keeps, all_after, ending_between, first_after}
 use Rattle.sm_rule.specs.Passes.{IsHeldOf}
 use Rattle.sm_rule.specs.Views.{EndsWith, all_held, first_held, list_held}
 

@@ -3,7 +3,6 @@ use Rattle.std.proofs.Common.{◌≡◌, ◌≢◌, ℕ, ◌+◌, ◌≤◌, fal
 use Rattle.std.specs.Prelude.{reverse, ◌==◌}
 use Rattle.std.proofs.lemmas.Bool.{cases_eq, ne_eqb}
 use Rattle.std.proofs.lemmas.List.{reverse-append, reverse-reverse}
-use Rattle.sm_ownership.specs.declared.change.Change.{Change}
 use Rattle.sm_ownership.specs.declared.entry.Ending.{Ending}
 use Rattle.sm_ownership.specs.declared.entry.Ending.TheVariants.{Nothing, Request, Checkpoint}
 use Rattle.sm_ownership.specs.declared.entry.Entry.{Entry}

@@ -41,6 +41,7 @@ pub struct Board<S: Service> {
 
 impl<S: Service> Model for Board<S> {
     ghost use Rattle.std.specs.Prelude.{◌≡◌, ◌<◌, ◌≤◌, ◌^◌};
+    ghost use Rattle.sm_ranges.specs.declared.limits.TheConstants.{MAX_SHARDS};
     ghost use Rattle.sm_rule.specs.Boards.{BoardValue, limits_of};
 
     ghost Value = { BoardValue };
@@ -52,7 +53,7 @@ impl<S: Service> Model for Board<S> {
 
     ghost invariant = { λ board. (board.table.shared.key.count ≡ board.count) × (board.table.shared.key.ceiling ≡ board.ceiling)
         × (board.count ≡ board.table.shared.table_id.words) × (board.count ≡ board.table.shared.table_id.slots)
-        × (1 ≤ board.count) × (board.count ≤ 4096) × (board.ceiling < 2 ^ 36) };
+        × (1 ≤ board.count) × (board.count ≤ MAX_SHARDS) × (board.ceiling < 2 ^ 36) };
 }
 
 impl<S: Service> Board<S> {

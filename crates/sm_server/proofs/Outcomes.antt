@@ -1,14 +1,13 @@
 -- What the steps of a server tell together.
-use Rattle.std.proofs.Common.{◌≡◌, ◌≢◌, ◌<◌, ◌≤◌, ℕ, ◌+◌, Bool, true, false, List, [], ◌∷◌, ◌++◌, length, refl, sym, ap, ◌∙◌, subst, ◌⊎◌, inl, inr, arith}
+use Rattle.std.proofs.Common.{◌≡◌, ◌<◌, ◌≤◌, ℕ, ◌+◌, Bool, true, List, [], length, refl, sym, ap, ◌∙◌, subst, inl, inr, arith}
 use Rattle.std.specs.Prelude.{Option, Some, None, nat_lt}
 use Rattle.std.proofs.lemmas.Bool.{cond_both}
 use Rattle.std.proofs.lemmas.Bool.Decides.{nat_tests}
 use Rattle.std.proofs.lemmas.List.{append-nil}
 use Rattle.sm_body.specs.Service.{Service}
-use Rattle.sm_envelope.specs.Envelope.{EnvelopeView, ShellView, one_hop_more, shell_of, whole}
+use Rattle.sm_envelope.specs.Envelope.{ShellView, shell_of, whole}
 use Rattle.sm_envelope.specs.declared.envelope.TheConstants.{MOST_HOPS}
 use Rattle.sm_ownership.specs.declared.admit_fault.AdmitFault.{AdmitFault}
-use Rattle.sm_ownership.specs.declared.entry.Ending.TheVariants.{Nothing, Request}
 use Rattle.sm_ownership.specs.declared.entry.Entry.{Entry}
 use Rattle.sm_ownership.specs.declared.mode.Mode.{Mode}
 use Rattle.sm_ownership.specs.declared.mode.Mode.TheVariants.{Forwarded}
@@ -21,16 +20,16 @@ use Rattle.sm_rule.specs.Admissions.{PassAdmitted, Races, RefusedBy, fault_for}
 use Rattle.sm_rule.specs.Boards.{BoardValue, limit_at}
 use Rattle.sm_rule.specs.Passes.{PassLooks, PassValue, own, record_of}
 use Rattle.sm_rule.specs.Views.{Begins}
-use Rattle.sm_rule.specs.lemmas.Passing.{adds_begins, begins_begins, looks_begins, looks_refused, own_none}
+use Rattle.sm_rule.specs.lemmas.Passing.{adds_begins, begins_begins, looks_begins, own_none}
 use Rattle.sm_server.specs.declared.outcome.Outcome.{Outcome}
 use Rattle.sm_server.specs.declared.outcome.Outcome.TheVariants.{Answered, Forward, Refused}
 use Rattle.sm_server.specs.declared.refusal.Refusal.{Refusal}
 use Rattle.sm_server.specs.declared.refusal.Refusal.TheVariants.{WrongShard, TooManyHops, Admit as NotAdmitted, KeptFull, NoMemory}
-use Rattle.sm_server.specs.Answers.{AnswerValue, run_of}
-use Rattle.sm_server.specs.Running.{HasBegun, HasRefused, IsHelper, Ran, WantsRoom, turned_away, turned_by}
+use Rattle.sm_server.specs.Answers.{AnswerValue}
+use Rattle.sm_server.specs.Running.{HasRefused, IsHelper, Ran, WantsRoom, turned_away, turned_by}
 use Rattle.sm_server.specs.Serving.{IsHandedBack, IsPoint, IsUnserved, NotForwarding, RefusedFor, Sent, Served, is_of_shard, limit_of, requests_in}
 use Rattle.sm_server.proofs.Beginnings.{none_begins}
-use Rattle.sm_server.proofs.Helpers.{none_grows}
+use Rattle.sm_server.proofs.Helpers.{helper_before, none_grows}
 
 abbrev pub with_note : {Q : Type 0} → Sent Q → PassValue Q → Sent Q
 with_note envelope note = whole (shell_of envelope) envelope.request note
@@ -98,7 +97,7 @@ module _ {Q R : Type 0} (service : Service Q R) (before after : PassValue Q) (en
   turned (admission.Refused fault state) refused = turned_to fault state (forward_to state server) refused refl
 
 -- the record that the pass read refuses its server
-pub looked_away : {Q R : Type 0} (service : Service Q R) (before after : PassValue Q) (envelope : Sent Q) (server : ℕ) (fault : AdmitFault) (state : Record) → PassLooks before after → before.server ≡ Some server → state ≡ record_of after envelope.shard → Some fault ≡ fault_for before.board.limits.ceiling state (Some server) envelope.mode → Served {R = R} service true before after envelope (turned_by (forward_to state server) fault state server envelope)
+looked_away : {Q R : Type 0} (service : Service Q R) (before after : PassValue Q) (envelope : Sent Q) (server : ℕ) (fault : AdmitFault) (state : Record) → PassLooks before after → before.server ≡ Some server → state ≡ record_of after envelope.shard → Some fault ≡ fault_for before.board.limits.ceiling state (Some server) envelope.mode → Served {R = R} service true before after envelope (turned_by (forward_to state server) fault state server envelope)
 looked_away service before after envelope server fault state looks own_server read refused =
     turned service before after envelope envelope after server own_server refl (handed_same envelope) (point_same before after envelope looks) (admission.Refused fault state)
     (read, ap (λ some. fault_for before.board.limits.ceiling state some envelope.mode) own_server ∙ sym refused)
@@ -113,7 +112,7 @@ module _ {Q R : Type 0} (service : Service Q R) (before helper : PassValue Q) (e
       (free, (race.0, begins_begins before.seen helper.seen race.0 is.seen race.1, race.2, race.3, race.4, race.5))
 
   -- the helper was refused, and becomes the envelope's note
-  pub helper_away : (after point : PassValue Q) (server : ℕ) (refusal : AdmitRefusal) → before.server ≡ Some server → PassLooks helper point → RefusedBy helper point envelope.shard envelope.mode refusal → Served {R = R} service true before after envelope (turned_away refusal server (with_note envelope point))
+  helper_away : (after point : PassValue Q) (server : ℕ) (refusal : AdmitRefusal) → before.server ≡ Some server → PassLooks helper point → RefusedBy helper point envelope.shard envelope.mode refusal → Served {R = R} service true before after envelope (turned_away refusal server (with_note envelope point))
   helper_away after point server refusal own_server looks refused =
       let point_board : point.board ≡ before.board = ap (λ (pass : PassValue Q). pass.board) looks.1 ∙ is.board in
       let more : Begins helper.seen point.seen = looks_begins helper point looks in
@@ -172,7 +171,7 @@ module _ {Q R : Type 0} (service : Service Q R) (before helper : PassValue Q) (e
     here_for TooManyHops limit count room = absurd room
     here_for (NotAdmitted refusal) limit count room = absurd room
 
-    pub helper_ran : (outcome : Outcome (AnswerValue Q R) (Sent Q)) → Ran service begun (shell_of envelope) envelope.request outcome → Served service true before after envelope outcome
+    helper_ran : (outcome : Outcome (AnswerValue Q R) (Sent Q)) → Ran service begun (shell_of envelope) envelope.request outcome → Served service true before after envelope outcome
     helper_ran (Answered answer) ran = (
       refl,
       record {
@@ -199,10 +198,46 @@ module _ {Q R : Type 0} (service : Service Q R) (before helper : PassValue Q) (e
       refused_for refusal back (unserved refusal back ran) (subst (λ (one : BoardValue). WantsRoom refusal (limit_at one.limits envelope.shard) (length (kept back.note.seen envelope.shard))) begun_board ran.room),
     )
 
--- an envelope that is for another shard comes back as it was
-pub elsewhere : {Q R : Type 0} (service : Service Q R) (here : Bool) (before after : PassValue Q) (envelope : Sent Q) → here ≡ false → Served {R = R} service here before after envelope (Refused WrongShard envelope)
-elsewhere service here before after envelope not_here = (not_here, handed_same envelope, refl, refl)
-
 -- what is told of an envelope that is here
-pub is_told : {Q R : Type 0} (service : Service Q R) (here : Bool) (before after : PassValue Q) (envelope : Sent Q) (outcome : Outcome (AnswerValue Q R) (Sent Q)) → here ≡ true → Served service true before after envelope outcome → Served service here before after envelope outcome
-is_told service here before after envelope outcome is told = subst (λ (b : Bool). Served service b before after envelope outcome) (sym is) told
+pub is_told : {Q R : Type 0} (service : Service Q R) (tested here : Bool) (before after : PassValue Q) (envelope : Sent Q) (outcome : Outcome (AnswerValue Q R) (Sent Q)) → tested ≡ here → tested ≡ true → Served service true before after envelope outcome → Served service here before after envelope outcome
+is_told service tested here before after envelope outcome is_here is told = subst (λ (b : Bool). Served service b before after envelope outcome) (sym is ∙ is_here) told
+
+-- the record of the envelope's shard refuses the pass's server, which is here
+pub looked_away_here : {Q R : Type 0} (service : Service Q R) (tested here : Bool) (before after : PassValue Q) (envelope : Sent Q) (own : Option ℕ) (server shard : ℕ) (mode : Mode) (board : BoardValue) (found : Option AdmitFault) (fault : AdmitFault) (state : Record) (outcome : Outcome (AnswerValue Q R) (Sent Q)) → tested ≡ here → tested ≡ true → PassLooks before after → before.board ≡ board → own ≡ before.server → own ≡ Some server → shard ≡ envelope.shard → mode ≡ envelope.mode → state ≡ record_of after shard → found ≡ fault_for board.limits.ceiling state (Some server) mode → found ≡ Some fault → outcome ≡ turned_by (forward_to state server) fault state server envelope → Served service here before after envelope outcome
+looked_away_here {Q} {R} service tested here before after envelope own server shard mode board found fault state outcome is_here is_true looks of_board own_is server_is shard_is mode_is state_is found_is fault_is outcome_is =
+    let own_server : before.server ≡ Some server = sym own_is ∙ server_is in
+    let read : state ≡ record_of after envelope.shard = state_is ∙ ap (record_of after) shard_is in
+    let refused : Some fault ≡ fault_for before.board.limits.ceiling state (Some server) envelope.mode =
+    sym fault_is ∙ (found_is ∙ (λ i. fault_for (sym of_board i).limits.ceiling state (Some server) (mode_is i))) in
+    is_told service tested here before after envelope outcome is_here is_true
+    (subst (λ (one : Outcome (AnswerValue Q R) (Sent Q)). Served service true before after envelope one) (sym outcome_is) (looked_away service before after envelope server fault state looks own_server read refused))
+
+-- an envelope that was taken apart, and a helper of a pass that has looked, which met its note
+module _ {Q R : Type 0} (service : Service Q R) (before pass helper note : PassValue Q) (envelope : Sent Q) (shell : ShellView) (request : Q) (shard server : ℕ) (mode : Mode) (board : BoardValue)
+    (looks : PassLooks before pass) (server_is : pass.server ≡ Some server) (of_pass : pass.board ≡ board) (of_note : envelope.note.board ≡ board)
+    (shell_is : shell ≡ shell_of envelope) (request_is : request ≡ envelope.request) (note_is : note ≡ envelope.note) (is : IsHelper pass note helper) (shard_is : shard ≡ shell.shard) (mode_is : mode ≡ shell.mode) where
+  same_board : envelope.note.board ≡ before.board
+  same_board = of_note ∙ (sym of_pass ∙ ap (λ (one : PassValue Q). one.board) looks.1)
+
+  is_own : IsHelper before envelope.note helper
+  is_own = helper_before before pass envelope.note helper looks (subst (λ (told : PassValue Q). IsHelper pass told helper) note_is is)
+
+  shard_of : shard ≡ envelope.shard
+  shard_of = shard_is ∙ ap (λ (one : ShellView). one.shard) shell_is
+
+  mode_of : mode ≡ envelope.mode
+  mode_of = mode_is ∙ ap (λ (one : ShellView). one.mode) shell_is
+
+  pub went_in : (after begun : PassValue Q) (outcome : Outcome (AnswerValue Q R) (Sent Q)) → PassAdmitted helper shard mode begun → Ran service begun shell request outcome → Served service true before after envelope outcome
+  went_in after begun outcome admitted ran =
+      helper_ran service before helper envelope same_board is_own after begun
+      (subst (λ (pair : ℕ × Mode). PassAdmitted helper pair.0 pair.1 begun) (λ i. (shard_of i, mode_of i)) admitted) outcome
+      (subst (λ (pair : ShellView × Q). Ran service begun pair.0 pair.1 outcome) (λ i. (shell_is i, request_is i)) ran)
+
+  pub went_back : (after point told : PassValue Q) (refusal : AdmitRefusal) (back : Sent Q) (outcome : Outcome (AnswerValue Q R) (Sent Q)) → PassLooks helper point → RefusedBy helper point shard mode refusal → told ≡ point → back ≡ whole shell request told → outcome ≡ turned_away refusal server back → Served service true before after envelope outcome
+  went_back after point told refusal back outcome helper_looks refused told_is back_is outcome_is =
+      let own_server : before.server ≡ Some server = sym (ap (λ (one : PassValue Q). one.server) looks.1) ∙ server_is in
+      let back_whole : back ≡ with_note envelope point = back_is ∙ (λ i. whole (shell_is i) (request_is i) (told_is i)) in
+      subst (λ (one : Outcome (AnswerValue Q R) (Sent Q)). Served service true before after envelope one) (sym (outcome_is ∙ ap (turned_away refusal server) back_whole))
+      (helper_away service before helper envelope same_board is_own after point server refusal own_server helper_looks
+      (subst (λ (pair : ℕ × Mode). RefusedBy helper point pair.0 pair.1 refusal) (λ i. (shard_of i, mode_of i)) refused))

@@ -1,6 +1,5 @@
 -- What a checkpoint of a shard leaves.
 use Rattle.std.specs.Prelude.{ℕ, ◌≡◌}
-use Rattle.sm_ownership.specs.declared.entry.Ending.{Ending}
 use Rattle.sm_ownership.specs.declared.entry.Ending.TheVariants.{Nothing}
 use Rattle.sm_ownership.specs.declared.entry.Kind.TheVariants.{Done}
 use Rattle.sm_ownership.specs.declared.mode.Mode.TheVariants.{Direct}

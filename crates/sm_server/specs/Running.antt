@@ -1,9 +1,9 @@
 -- The steps of a server on an envelope, which no public clause names.
-use Rattle.std.specs.Prelude.{ℕ, ◌≡◌, ◌≢◌, ◌≤◌, ◌<◌, ◌^◌, nat_lt, List, [], ◌∷◌, Option, Some, None, if◌then◌else◌, length, drop, take, fold}
+use Rattle.std.specs.Prelude.{ℕ, ◌≡◌, ◌≤◌, ◌<◌, nat_lt, [], ◌∷◌, Option, Some, None, if◌then◌else◌, length}
 use Rattle.sm_body.specs.Service.{Service}
 use Rattle.sm_body.specs.declared.service.ApplyFault.{ApplyFault}
 use Rattle.sm_body.specs.declared.service.ApplyFault.TheVariants as apply
-use Rattle.sm_envelope.specs.Envelope.{EnvelopeView, ShellView, one_hop_more, shell_of, whole}
+use Rattle.sm_envelope.specs.Envelope.{EnvelopeView, ShellView, one_hop_more, shell_of}
 use Rattle.sm_envelope.specs.declared.envelope.TheConstants.{MOST_HOPS}
 use Rattle.sm_ownership.specs.declared.admit_fault.AdmitFault.{AdmitFault}
 use Rattle.sm_ownership.specs.declared.entry.Ending.TheVariants.{Nothing}
@@ -15,8 +15,7 @@ use Rattle.sm_ownership.specs.Rules.{forward_to}
 use Rattle.sm_rule.specs.declared.admit_refusal.AdmitRefusal.{AdmitRefusal}
 use Rattle.sm_rule.specs.declared.admit_refusal.AdmitRefusal.TheVariants as admission
 use Rattle.sm_rule.specs.Passes.{PassValue, own}
-use Rattle.sm_rule.specs.Views.{Begins, entry_of, list_held}
-use Rattle.sm_rule.specs.declared.view.Held.{Held}
+use Rattle.sm_rule.specs.Views.{Begins, entry_of}
 use Rattle.sm_server.specs.declared.outcome.Outcome.{Outcome}
 use Rattle.sm_server.specs.declared.outcome.Outcome.TheVariants.{Answered, Forward, Refused}
 use Rattle.sm_server.specs.declared.refusal.Refusal.{Refusal}

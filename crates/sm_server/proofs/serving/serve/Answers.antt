@@ -1,26 +1,17 @@
-use Rattle.std.proofs.Common.{◌≡◌, ◌∙◌, Some, ap, subst, sym}
 use Rattle.sm_body.specs.Service.{meaning_of}
-use Rattle.sm_rule.specs.Admissions.{fault_for}
-use Rattle.sm_rule.specs.Passes.{record_of}
-use Rattle.sm_server.specs.Serving.{Served, is_here}
-use Rattle.sm_server.proofs.Outcomes.{elsewhere, is_told, looked_away}
+use Rattle.sm_server.specs.Serving.{is_here}
+use Rattle.sm_server.proofs.Outcomes.{is_told, looked_away_here}
 use Rattle.sm_server.proofs.serving.serve.Goals as goal
 
 pub returns-in-Some-refusal-clause-served : goal.returns-in-Some-refusal-clause-served
 returns-in-Some-refusal-clause-served g c =
     let service = meaning_of g.S.Service.initial g.S.Service.next g.S.Service.answer g.S.Service.key_of in
-    let here = is_here service c.args.layout.now c.args.board.now.limits.count c.args.envelope in
-    let state = c.look-state.result in
-    let own_server = sym c.server.ensures ∙ c.in-Some.is in
-    let read = c.look-state.ensures.state ∙ ap (λ k. record_of c.look-state.new.pass k) c.shard.ensures in
-    let refused = sym c.in-Some-refusal.is ∙ (c.refusal.ensures ∙ (λ i. fault_for (sym c.requires.board i).limits.ceiling state (Some c.in-Some.server) (c.mode.ensures i))) in
-    let told = looked_away service c.args.pass.now c.look-state.new.pass c.args.envelope c.in-Some.server c.in-Some-refusal.fault state c.look-state.ensures.seen own_server read refused in
-    is_told service here c.args.pass.now c.look-state.new.pass c.args.envelope c.turned_by.result (sym c.has_shard.ensures ∙ c.if-not-has_shard.false)
-    (subst (λ outcome. Served service _ c.args.pass.now c.look-state.new.pass c.args.envelope outcome) (sym c.turned_by.ensures) told)
+    looked_away_here service c.has_shard.result (is_here service c.args.layout.now c.args.board.now.limits.count c.args.envelope) c.args.pass.now c.look-state.new.pass c.args.envelope c.server.result c.in-Some.server c.shard.result c.mode.result c.args.board.now c.refusal.result c.in-Some-refusal.fault c.look-state.result c.turned_by.result
+    c.has_shard.ensures c.if-not-has_shard.false c.look-state.ensures.seen c.requires.board c.server.ensures c.in-Some.is c.shard.ensures c.mode.ensures c.look-state.ensures.state c.refusal.ensures c.in-Some-refusal.is c.turned_by.ensures
 
 pub returns-in-None-clause-served : goal.returns-in-None-clause-served
 returns-in-None-clause-served g c =
     let service = meaning_of g.S.Service.initial g.S.Service.next g.S.Service.answer g.S.Service.key_of in
     let here = is_here service c.args.layout.now c.args.board.now.limits.count c.args.envelope in
-    is_told service here c.args.pass.now c.begin.new.pass c.args.envelope c.begin.result (sym c.has_shard.ensures ∙ c.if-not-has_shard.false)
+    is_told service c.has_shard.result here c.args.pass.now c.begin.new.pass c.args.envelope c.begin.result c.has_shard.ensures c.if-not-has_shard.false
     (c.begin.ensures.served c.args.pass.now c.look-state.ensures.seen)

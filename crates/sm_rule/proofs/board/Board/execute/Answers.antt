@@ -1,4 +1,5 @@
 use Rattle.std.proofs.Common.{◌∙◌, ap}
+use Rattle.std.specs.Prelude.{fold}
 use Rattle.sm_ownership.specs.declared.entry.Ending.TheVariants.{Nothing, Request as Requested}
 use Rattle.sm_rule.specs.Views.{all_held, first_held}
 use Rattle.sm_rule.specs.lemmas.Resting.{ends_applied, lent_rests, rests_same, state_after}
@@ -24,7 +25,8 @@ returns-in-Ok-clause-all g c =
 pub returns-in-Ok-clause-reply : goal.returns-in-Ok-clause-reply
 returns-in-Ok-clause-reply g c =
     let before = lent_rests g.S.Service.initial g.S.Service.next g.S.Service.base g.S.Service.before g.S.Service.requests c.args.pass.now.held c.args.permit.body c.body.result.now c.body.ensures.value c.requires.body in
-    c.in-Ok.ensures.reply ∙ ap (λ state. g.S.Service.answer state c.args.request) (state_after g.S.Service.initial g.S.Service.next g.S.Service.base g.S.Service.before g.S.Service.requests c.body.result.now (first_held c.args.pass.now.held) (all_held c.args.pass.now.held) before)
+    ◌∙◌ {b = g.S.Service.answer (fold g.S.Service.next (g.S.Service.base c.body.result.now) (g.S.Service.requests c.body.result.now)) c.args.request} c.in-Ok.ensures.reply
+    (ap (λ state. g.S.Service.answer state c.args.request) (state_after g.S.Service.initial g.S.Service.next g.S.Service.base g.S.Service.before g.S.Service.requests c.body.result.now (first_held c.args.pass.now.held) (all_held c.args.pass.now.held) before))
 
 pub returns-in-Err-clause-refused : goal.returns-in-Err-clause-refused
 returns-in-Err-clause-refused g c =

@@ -1,6 +1,8 @@
-use Rattle.std.proofs.Common.{◌≡◌, sym, ap, ◌∙◌, subst, arith}
+use Rattle.std.proofs.Common.{◌≡◌, ◌∷◌, sym, ap, ◌∙◌, subst, arith}
+use Rattle.std.specs.Prelude.{Some}
 use mathlib.Core.Option.{none}
-use Rattle.atomic_table.specs.Table.{Allows, step}
+use Rattle.atomic_table.specs.Seated.{TableId}
+use Rattle.atomic_table.specs.Table.{Allows, rest, step}
 use Rattle.sm_ownership.specs.declared.entry.Kind.TheVariants.{Done}
 use Rattle.sm_ownership.specs.History.{after_done}
 use Rattle.sm_word.specs.Word.{word_of}
@@ -43,7 +45,7 @@ store-requires g c =
     (c.done_word-word.ensures c.permit.inside.state c.permit.invariant.2 (sym c.permit.invariant.3) ∙ ap (λ one. word_of (after_done one)) state) gains same_limit in
     let small = bounds id view c.args.pass.now c.args.permit of_pass c.requires.permit c.pass.invariant.0.3 in
     let kind = c.requires.kind ∙ ap Done (ending_is g.S.Service.initial g.S.Service.next g.S.Service.base g.S.Service.before g.S.Service.requests c.args.pass.now.held c.args.permit.body ending small.0 c.requires.body.1) in (
-      out.0 ∙ (ap (λ p. p.board.id) of_pass ∙ ap (λ b. b.id) board),
+      ◌∙◌ {A = TableId} {a = c.exchange.new.seat.table_id} out.0 (ap (λ p. p.board.id) of_pass ∙ ap (λ b. b.id) board),
       omega arith,
       subst (λ one. Allows (Rule keeps g.S.Service.limit key) c.self.inside.table.shared.table_id.slots c.exchange.new.seat.id c.exchange.new.seat.me c.index-at.result (λ _. c.done_word-word.result) (λ _. Stored one (step c.self.inside.table.shared.table_id.slots c.index-at.result c.done_word-word.result 0 none) c.exchange.new.seat.me c.done_word-word.result)) (sym kind) allowed,
     )
@@ -53,21 +55,21 @@ returns-clause-done g c = λ ending ends.
     let shard = ap (λ p. p.shard) c.permit.view_is in
     let small = bounds c.pass.inside.seat.table_id c.pass.inside.seat.me.0 c.args.pass.now c.args.permit c.pass.view_is c.requires.permit c.pass.invariant.0.3 in
     let kind = c.requires.kind ∙ ap Done (ending_is g.S.Service.initial g.S.Service.next g.S.Service.base g.S.Service.before g.S.Service.requests c.args.pass.now.held c.args.permit.body ending small.0 ends) in
-    ended_adds c.args.pass.now c.pass.inside.seat.table_id c.pass.inside.seat.me.0 c.store.new.seat.me.0 c.exchange.new.seat.me _ c.args.permit.shard c.index-at.result g.B.Asks.kind ending c.pass.view_is c.exchange.ensures.3 (c.index-at.ensures.value ∙ shard) kind c.store.new.seat.table_id (c.store.ensures.0 ∙ c.exchange.ensures.0) c.store.ensures.2.0
+    ended_adds c.args.pass.now c.pass.inside.seat.table_id c.pass.inside.seat.me.0 c.store.new.seat.me.0 c.exchange.new.seat.me ((c.index-at.result, Some c.permit.inside.body) ∷ rest c.pass.inside.seat.me.1) c.args.permit.shard c.index-at.result g.B.Asks.kind ending c.pass.view_is c.exchange.ensures.3 (c.index-at.ensures.value ∙ shard) kind c.store.new.seat.table_id (c.store.ensures.0 ∙ c.exchange.ensures.0) c.store.ensures.2.0
 
 pub returns-clause-all : goal.returns-clause-all
 returns-clause-all g c = λ ending ends.
     let shard = ap (λ p. p.shard) c.permit.view_is in
     let small = bounds c.pass.inside.seat.table_id c.pass.inside.seat.me.0 c.args.pass.now c.args.permit c.pass.view_is c.requires.permit c.pass.invariant.0.3 in
     let kind = c.requires.kind ∙ ap Done (ending_is g.S.Service.initial g.S.Service.next g.S.Service.base g.S.Service.before g.S.Service.requests c.args.pass.now.held c.args.permit.body ending small.0 ends) in
-    ended_all c.args.pass.now c.pass.inside.seat.table_id c.pass.inside.seat.me.0 c.store.new.seat.me.0 c.exchange.new.seat.me _ c.args.permit.shard c.index-at.result g.B.Asks.kind ending c.pass.view_is c.exchange.ensures.3 (c.index-at.ensures.value ∙ shard) kind c.store.ensures.2.2
+    ended_all c.args.pass.now c.pass.inside.seat.table_id c.pass.inside.seat.me.0 c.store.new.seat.me.0 c.exchange.new.seat.me ((c.index-at.result, Some c.permit.inside.body) ∷ rest c.pass.inside.seat.me.1) c.args.permit.shard c.index-at.result g.B.Asks.kind ending c.pass.view_is c.exchange.ensures.3 (c.index-at.ensures.value ∙ shard) kind c.store.ensures.2.2
 
 pub returns-clause-body : goal.returns-clause-body
 returns-clause-body g c =
     let shard = ap (λ p. p.shard) c.permit.view_is in
     let small = bounds c.pass.inside.seat.table_id c.pass.inside.seat.me.0 c.args.pass.now c.args.permit c.pass.view_is c.requires.permit c.pass.invariant.0.3 in
     let kind = c.requires.kind ∙ ap Done (ending_is g.S.Service.initial g.S.Service.next g.S.Service.base g.S.Service.before g.S.Service.requests c.args.pass.now.held c.args.permit.body c.requires.body.0 small.0 c.requires.body.1) in
-    ended_body c.args.pass.now c.pass.inside.seat.table_id c.pass.inside.seat.me.0 c.store.new.seat.me.0 c.exchange.new.seat.me _ c.args.permit.shard c.index-at.result g.B.Asks.kind c.requires.body.0 c.pass.view_is c.exchange.ensures.3 (c.index-at.ensures.value ∙ shard) kind c.store.ensures.2.2 c.store.ensures.2.3
+    ended_body c.args.pass.now c.pass.inside.seat.table_id c.pass.inside.seat.me.0 c.store.new.seat.me.0 c.exchange.new.seat.me ((c.index-at.result, Some c.permit.inside.body) ∷ rest c.pass.inside.seat.me.1) c.args.permit.shard c.index-at.result g.B.Asks.kind c.requires.body.0 c.pass.view_is c.exchange.ensures.3 (c.index-at.ensures.value ∙ shard) kind c.store.ensures.2.2 c.store.ensures.2.3
     (Keeps g.S.Service.initial g.S.Service.next g.S.Service.base g.S.Service.before g.S.Service.requests) c.args.permit.body c.requires.body.1
 
 pub returns-clause-kept : goal.returns-clause-kept
@@ -75,6 +77,6 @@ returns-clause-kept g c =
     let shard = ap (λ p. p.shard) c.permit.view_is in
     let small = bounds c.pass.inside.seat.table_id c.pass.inside.seat.me.0 c.args.pass.now c.args.permit c.pass.view_is c.requires.permit c.pass.invariant.0.3 in
     let kind = c.requires.kind ∙ ap Done (ending_is g.S.Service.initial g.S.Service.next g.S.Service.base g.S.Service.before g.S.Service.requests c.args.pass.now.held c.args.permit.body c.requires.body.0 small.0 c.requires.body.1) in
-    let rests = ended_body c.args.pass.now c.pass.inside.seat.table_id c.pass.inside.seat.me.0 c.store.new.seat.me.0 c.exchange.new.seat.me _ c.args.permit.shard c.index-at.result g.B.Asks.kind c.requires.body.0 c.pass.view_is c.exchange.ensures.3 (c.index-at.ensures.value ∙ shard) kind c.store.ensures.2.2 c.store.ensures.2.3
+    let rests = ended_body c.args.pass.now c.pass.inside.seat.table_id c.pass.inside.seat.me.0 c.store.new.seat.me.0 c.exchange.new.seat.me ((c.index-at.result, Some c.permit.inside.body) ∷ rest c.pass.inside.seat.me.1) c.args.permit.shard c.index-at.result g.B.Asks.kind c.requires.body.0 c.pass.view_is c.exchange.ensures.3 (c.index-at.ensures.value ∙ shard) kind c.store.ensures.2.2 c.store.ensures.2.3
     (Keeps g.S.Service.initial g.S.Service.next g.S.Service.base g.S.Service.before g.S.Service.requests) c.args.permit.body c.requires.body.1 in
     sym rests.2
