@@ -2,7 +2,7 @@
 ghost use Rattle.std.specs.Prelude.{◌≡◌, ◌<◌, [], All, length, None, IsTrue, IfSome};
 ghost use Rattle.sm_ownership.specs.Rules.{phase_fault};
 
-use sm_body::service::Service;
+use sm_body::service::{ApplyFault, Service};
 use sm_ownership::change::Change;
 use sm_ownership::mode::Mode;
 use sm_ranges::server_id::ServerId;
@@ -44,6 +44,29 @@ pub(crate) fn board_of_one<S: Service>(
     }
 }
 
+// What the shard's body replies under an admission of the pass, or why it refuses; none where the pass isn't admitted.
+pub(crate) fn executed<S: Service>(
+    board: &Board<S>,
+    pass: &mut Pass<S>,
+    k: ShardId,
+    request: S::Request,
+) -> Option<Result<S::Reply, ApplyFault>>
+    requires board { pass.old.board ≡ board.now }
+    requires shard { k < board.now.limits.count }
+    requires free { pass.old.held ≡ None }
+    ensures board { pass.new.board ≡ board.now }
+    ensures free { pass.new.held ≡ None }
+{
+    let Ok(permit) = board.admit(pass, k, Mode::Direct) else {
+        return None;
+    };
+    let (applied, _) = board.execute(pass, permit, request);
+    match applied {
+        Ok(reply) => Some(Ok(reply)),
+        Err((_, fault)) => Some(Err(fault)),
+    }
+}
+
 // What the shard's body replies under an admission of the pass; none where the pass isn't admitted, or the request not applied.
 pub(crate) fn served<S: Service>(
     board: &Board<S>,
@@ -57,11 +80,7 @@ pub(crate) fn served<S: Service>(
     ensures board { pass.new.board ≡ board.now }
     ensures free { pass.new.held ≡ None }
 {
-    let Ok(permit) = board.admit(pass, k, Mode::Direct) else {
-        return None;
-    };
-    let (applied, _) = board.execute(pass, permit, request);
-    applied.ok()
+    executed(board, pass, k, request)?.ok()
 }
 
 // Has the shard's body make a checkpoint under an admission of the pass, and whether it was made.

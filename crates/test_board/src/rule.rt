@@ -242,7 +242,7 @@ fn chair_knows_the_stand(rt: HostRuntime) -> Result<(), Fail> {
     Ok(())
 }
 
-// While a pass is admitted, another one sees that, and the chair can't change the stand.
+// While a pass is admitted, the chair can't change the stand, and the refused change leaves the record as it was.
 #[test]
 fn admitted_shard_is_busy(rt: HostRuntime) -> Result<(), Fail> {
     let (owner, k) = (ServerId::of(1), shard(0));
@@ -254,6 +254,7 @@ fn admitted_shard_is_busy(rt: HostRuntime) -> Result<(), Fail> {
     };
     let busy = ChangeRefusal::Busy(serving(owner, true, 2));
     assert!(rt; pause_refusal(&board, &mut chair, k) == Some(busy));
+    assert!(rt; board.look(&mut pass, k) == serving(owner, true, 2));
     assert!(rt; board.finish(&mut pass, permit).generation == 3);
     Ok(())
 }
@@ -270,6 +271,7 @@ fn generations_are_spent(rt: HostRuntime) -> Result<(), Fail> {
     assert!(rt; is_refused(&board, &mut pass, k, AdmitFault::Spent, last));
     let no_more = ChangeRefusal::Spent(serving(owner, false, 3));
     assert!(rt; pause_refusal(&board, &mut chair, k) == Some(no_more));
+    assert!(rt; board.look(&mut pass, k) == serving(owner, false, 3));
     Ok(())
 }
 
