@@ -1,3 +1,2 @@
-mod Beginnings
 pub mod Helpers
 pub mod Outcomes

@@ -28,7 +28,7 @@ use Rattle.sm_server.specs.declared.refusal.Refusal.TheVariants.{WrongShard, Too
 use Rattle.sm_server.specs.Answers.{AnswerValue}
 use Rattle.sm_server.specs.Running.{HasRefused, IsHelper, Ran, WantsRoom, turned_away, turned_by}
 use Rattle.sm_server.specs.Serving.{IsHandedBack, IsPoint, IsUnserved, NotForwarding, RefusedFor, Sent, Served, is_of_shard, limit_of, requests_in}
-use Rattle.sm_server.proofs.Beginnings.{none_begins}
+use Rattle.sm_server.specs.lemmas.Beginnings.{none_begins}
 use Rattle.sm_server.proofs.Helpers.{helper_before, none_grows}
 
 abbrev pub with_note : {Q : Type 0} → Sent Q → PassValue Q → Sent Q

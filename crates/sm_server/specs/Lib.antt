@@ -2,3 +2,4 @@ pub mod Answers
 pub mod Basing
 pub mod Running
 pub mod Serving
+pub mod lemmas

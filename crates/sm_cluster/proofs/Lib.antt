@@ -1,0 +1,5 @@
+pub mod Calling
+pub mod Placing
+pub mod Replying
+pub mod Stopping
+pub mod Travelling

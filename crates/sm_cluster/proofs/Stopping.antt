@@ -1,0 +1,44 @@
+-- What a closed board leaves to the clients that came back.
+use Rattle.std.proofs.Common.{◌≡◌, ◌<◌, ℕ, false, List, ◌++◌, length, arith, subst}
+use Rattle.std.specs.Prelude.{All, Option, Some, slice_get}
+use mathlib.Core.Option.{some}
+use lib.ListN.{get_elem?}
+use Rattle.std.proofs.lemmas.List.Elements.{All-weaker}
+use Rattle.std.proofs.lemmas.Option.{get_or_from_slice_get, slice_get_within}
+use Rattle.sm_body.specs.Service.{Service}
+use Rattle.sm_ownership.specs.declared.mode.Mode.{Mode}
+use Rattle.sm_ownership.specs.declared.record.Record.{Record}
+use Rattle.sm_ownership.specs.History.{all_of, first_of}
+use Rattle.sm_rule.specs.Changes.{ChairValue}
+use Rattle.sm_rule.specs.Closing.{WasClosed}
+use Rattle.sm_rule.specs.Passes.{PassValue}
+use Rattle.sm_rule.specs.Views.{Begins}
+use Rattle.sm_rule.specs.lemmas.Passing.{begins_begins}
+use Rattle.sm_server.specs.Answers.{AnswerValue, IsAnswer}
+use Rattle.sm_cluster.specs.Calls.{ClientValue}
+use Rattle.sm_cluster.specs.Clusters.{WasStopped}
+use Rattle.sm_cluster.proofs.Placing.{stands_in}
+
+pub all_of_nobody : {X : Type 0} (P : X → Type 0) (xs : List X) → length xs ≡ 0 → All P xs
+all_of_nobody P xs none k d less = absurd (omega (arith, none, less))
+
+-- what the closing pass had seen extends what each client had
+pub closed_stopped : {S Q : Type 0} (keeps : S → ℕ → List Q → Type 0) (limit : S → ℕ) (chair : ChairValue Q) (closer : PassValue Q) (clients : List (ClientValue Q)) (rows : List (Record × Option S)) → WasClosed keeps limit chair closer rows → All (λ client. Begins client.pass.seen closer.seen) clients → WasStopped keeps limit chair clients rows
+closed_stopped {S} {Q} keeps limit chair closer clients rows closed told = (
+  closed.0,
+  closed.1,
+  closed.2,
+  All-weaker (λ (client : ClientValue Q). Begins client.pass.seen closer.seen) (λ (client : ClientValue Q). Begins client.pass.seen (chair.seen ++ closed.0))
+      (λ client seen. begins_begins client.pass.seen closer.seen (chair.seen ++ closed.0) seen closed.3) clients told,
+  closed.4,
+)
+
+-- what a client that came back had learned is among the requests on which the body of its shard rests
+pub lasts : {S Q R : Type 0} (service : Service Q R) (keeps : S → ℕ → List Q → Type 0) (limit : S → ℕ) (chair : ChairValue Q) (clients : List (ClientValue Q)) (rows : List (Record × Option S))
+    (client : ClientValue Q) (at shard : ℕ) (mode : Mode) (request : Q) (answer : AnswerValue Q R) (row : Record × Option S) → WasStopped keeps limit chair clients rows → slice_get clients at ≡ Some client → IsAnswer service shard mode request answer → Begins answer.note.seen client.pass.seen → get_elem? rows shard ≡ some row → row.0.admitted ≡ false → (body : S) × (first : ℕ) × (all : List Q) × (row.1 ≡ Some body) × keeps body first all × (slice_get all answer.place ≡ Some request)
+lasts {S} {Q} service keeps limit chair clients rows client at shard mode request answer row stopped there is learned at_row idle =
+    let history = chair.seen ++ stopped.0 in
+    let told : Begins client.pass.seen history =
+    subst (λ (one : ClientValue Q). Begins one.pass.seen history) (get_or_from_slice_get clients at client client there) (stopped.3 at client (slice_get_within clients at client there)) in
+    let left = (stopped.4.1 shard row at_row).2 idle in
+    (left.0, first_of history shard, all_of history shard, left.1, left.2, stands_in service shard mode request answer is history (begins_begins answer.note.seen client.pass.seen history learned told))

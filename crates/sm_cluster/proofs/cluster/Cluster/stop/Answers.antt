@@ -1,0 +1,20 @@
+use Rattle.std.proofs.Common.{◌≡◌, ◌∙◌, rules, subst}
+use Rattle.sm_rule.specs.Bodies.{Keeps}
+use Rattle.sm_rule.specs.Changes.{ChairValue}
+use Rattle.sm_rule.specs.Closing.{WasClosed}
+use Rattle.sm_cluster.proofs.Stopping.{closed_stopped}
+use Rattle.sm_cluster.proofs.cluster.Cluster.stop.Goals as goal
+
+pub told-closer-requires-after_bounds : goal.told-closer-requires-after_bounds
+told-closer-requires-after_bounds g c κs within =
+    let board : c.args.self.control.chair.board ≡ c.deref-2.result.now = search rules in
+    λ k d less. (c.requires.clients k d less).0 ∙ board
+
+pub returns-in-Ok : goal.returns-in-Ok
+returns-in-Ok g c =
+    let keeps = Keeps g.S.Service.initial g.S.Service.next g.S.Service.base g.S.Service.before g.S.Service.requests in
+    let chair_is : c.into_parts-chair.result.0 ≡ c.args.self.control.chair = search rules in
+    let closed = subst (λ (chair : ChairValue g.row.S-Request.Denot). WasClosed keeps g.S.Service.limit chair c.told-closer.result c.close.result.items) chair_is c.close.ensures in
+    record {
+      stopped = closed_stopped keeps g.S.Service.limit c.args.self.control.chair c.told-closer.result c.args.clients.items c.close.result.items closed c.told-closer.ensures.seen;
+    }

@@ -1,0 +1,20 @@
+use Rattle.std.proofs.Common.{◌≡◌, ◌+◌, ◌∷◌, [], ◌∙◌, ap, length, length-append, rules, subst, sym}
+use Rattle.std.specs.Arc.{arc_value}
+use Rattle.std.specs.Prelude.{All, ℕ}
+use Rattle.std.proofs.lemmas.List.Elements.{All-push}
+use Rattle.sm_cluster.specs.Calls.{ClientValue}
+use Rattle.sm_cluster.proofs.cluster.starting.clients_of.Goals as goal
+
+pub loop-router-preserved : goal.loop-router-preserved
+loop-router-preserved g c =
+    let was = c.loop-router.invariant in
+    let made = c.loop-router.clients.items in
+    let grown = c.in_ok-push.ensures.items in
+    let board : c.new.result.pass.board ≡ arc_value c.args.board.now = search rules in
+    let bounds : c.new.result.bounds ≡ (arc_value c.args.network.now).layout = search rules in (
+      ap length grown ∙ (length-append made (c.new.result ∷ []) ∙ (ap (λ (n : ℕ). n + 1) was.0 ∙ sym (length-append c.loop-router.yielded (c.in-Some.router ∷ [])))),
+      subst (All (λ (client : ClientValue g.row.S-Request.Denot). client.pass.board ≡ arc_value c.args.board.now)) (sym grown)
+          (All-push (λ (client : ClientValue g.row.S-Request.Denot). client.pass.board ≡ arc_value c.args.board.now) made c.new.result was.1 board),
+      subst (All (λ (client : ClientValue g.row.S-Request.Denot). client.bounds ≡ (arc_value c.args.network.now).layout)) (sym grown)
+          (All-push (λ (client : ClientValue g.row.S-Request.Denot). client.bounds ≡ (arc_value c.args.network.now).layout) made c.new.result was.2 bounds),
+    )

@@ -1,0 +1,11 @@
+use Rattle.std.proofs.Common.{◌≡◌, length}
+use Rattle.std.specs.Arc.{arc_value}
+use Rattle.std.specs.Prelude.{All}
+use Rattle.sm_cluster.proofs.cluster.starting.clients_of.Given as goal
+
+-- a client was made for each router so far
+abbrev pub invariant-loop-router : goal.invariant-loop-router
+invariant-loop-router g l =
+    (length l.clients.items ≡ length l.yielded)
+    × All (λ client. client.pass.board ≡ arc_value l.board) l.clients.items
+    × All (λ client. client.bounds ≡ (arc_value l.network).layout) l.clients.items

@@ -1,0 +1,4 @@
+pub mod Calls
+pub mod Clusters
+pub mod Replies
+pub mod Telling

@@ -1,0 +1,47 @@
+-- What may be sent as the reply to a call.
+use Rattle.std.specs.Prelude.{ℕ, ◌≡◌, List, [], ◌∷◌, Option, Some, None, length}
+use mathlib.Core.Option.{some}
+use lib.ListN.{get_elem?}
+use Rattle.sm_body.specs.Service.{Service}
+use Rattle.sm_ownership.specs.declared.mode.Mode.{Mode}
+use Rattle.sm_ownership.specs.History.{NoneBy}
+use Rattle.sm_rule.specs.Views.{Begins}
+use Rattle.sm_server.specs.Answers.{AnswerValue, IsAnswer}
+use Rattle.sm_server.specs.Serving.{Sent}
+use Rattle.sm_cluster.specs.declared.reply.Reply.{Reply}
+use Rattle.sm_cluster.specs.declared.reply.Reply.TheVariants.{Answered, Refused}
+
+-- an answer to the call whose envelope was first sent so: its history extends what the envelope's note had seen, by the entries by
+-- which the request was executed among others
+pub record IsAnswerTo {Q R : Type 0} (service : Service Q R) (sent : Sent Q) (answer : AnswerValue Q R) : Type 0 where
+  pub number : answer.number ≡ sent.number
+  pub board : answer.note.board ≡ sent.note.board
+  pub told : Begins sent.note.seen answer.note.seen
+  pub untold : NoneBy answer.note.number sent.note.seen
+  pub mode : Mode
+  pub executed : IsAnswer service sent.shard mode sent.request answer
+
+-- the envelope of that call on its way: with its number, shard and request, and with a note that has seen what the first one had
+pub record IsOnTheWay {Q : Type 0} (sent envelope : Sent Q) : Type 0 where
+  pub number : envelope.number ≡ sent.number
+  pub shard : envelope.shard ≡ sent.shard
+  pub request : envelope.request ≡ sent.request
+  pub board : envelope.note.board ≡ sent.note.board
+  pub told : Begins sent.note.seen envelope.note.seen
+
+-- what may be sent as the reply to a call: nothing before it is known
+abbrev pub Fits : {Q R : Type 0} → Service Q R → Option (Sent Q) → Reply (AnswerValue Q R) (Sent Q) → Type 0
+Fits service None reply = ⊥
+Fits service (Some sent) (Answered answer) = IsAnswerTo service sent answer
+Fits service (Some sent) (Refused fault envelope) = IsOnTheWay sent envelope
+
+abbrev pub AllFit : {T : Type 0} → (T → Type 0) → List T → Type 0
+AllFit Fit [] = Unit {0}
+AllFit Fit (reply ∷ replies) = Fit reply × AllFit Fit replies
+
+-- the rule of a reply's channel: each pass knows the same call, and each reply fits it; before the call is known there is one pass
+pub record HoldsReplies {Q R : Type 0} (service : Service Q R) (replies : List (Reply (AnswerValue Q R) (Sent Q))) (views : List (Option (Sent Q))) : Type 0 where
+  pub asked : Option (Sent Q)
+  pub agree : (pass : ℕ) (view : Option (Sent Q)) → get_elem? views pass ≡ some view → view ≡ asked
+  pub fit : AllFit (Fits service asked) replies
+  pub alone : asked ≡ None → length views ≡ 1

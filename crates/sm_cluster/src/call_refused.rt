@@ -1,0 +1,29 @@
+use sm_server::Refusal;
+use thiserror::Error;
+
+/// Why a call was not answered.
+#[derive(Clone, Copy, Debug, PartialEq, Eq, Drop, Error)]
+pub enum CallFault {
+    /// The client's router has no route of the key's shard.
+    #[error("no route is known")]
+    NoRoute,
+    /// The door of the server was shut, at the call or at a forward.
+    #[error("the server is out of reach")]
+    Unreachable,
+    /// A server refused the request.
+    #[error("{0}")]
+    Refused(Refusal),
+    /// Memory for the way was refused.
+    #[error("out of memory")]
+    NoMemory,
+    /// The message was let go with no reply, as where its server was stopped.
+    #[error("no reply will come")]
+    Closed,
+}
+
+/// A call that was not answered, and its request, but where the message was let go.
+#[derive(Debug, Drop)]
+pub struct CallRefused<Q: Drop> {
+    pub fault: CallFault,
+    pub back: Option<Q>,
+}

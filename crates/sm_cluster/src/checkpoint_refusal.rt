@@ -1,0 +1,16 @@
+use sm_server::CheckpointFault;
+use thiserror::Error;
+
+/// Why a shard made no checkpoint: the first reason that applies, in this order.
+#[derive(Clone, Copy, Debug, PartialEq, Eq, Drop, Error)]
+pub enum CheckpointRefusal {
+    /// There is no such shard.
+    #[error("there is no such shard")]
+    UnknownShard,
+    /// There is no such server.
+    #[error("there is no such server")]
+    UnknownServer,
+    /// The server was not admitted to the shard, or memory was refused.
+    #[error("{0}")]
+    Checkpoint(CheckpointFault),
+}

@@ -1,0 +1,214 @@
+ghost use Rattle.std.specs.Prelude.{◌≡◌, ◌<◌, ◌⊎◌, None, Some, IfErr, IfOk};
+ghost use Rattle.std.specs.Arc.{arc_value};
+ghost use Rattle.sm_body.specs.Service.{meaning_of};
+ghost use Rattle.sm_ownership.specs.Routes.{routes_of};
+ghost use Rattle.sm_publish.specs.Seen.{Extends};
+ghost use Rattle.sm_ranges.specs.Ranges.{shard_of};
+ghost use Rattle.sm_rule.specs.Passes.{PassLooks, record_of};
+ghost use Rattle.sm_rule.specs.Views.{IsMet};
+ghost use Rattle.sm_server.specs.Serving.{Sent};
+ghost use Rattle.sm_cluster.specs.Calls.{Gives, HandsBack, IsAnswerFor, client_reading, client_seeing};
+
+use crate::call_refused::{CallFault, CallRefused};
+use crate::message::Message;
+use crate::network::Network;
+use crate::reply::{Reply, reply_channel};
+use crate::told::Told;
+use sm_body::service::Service;
+use sm_envelope::envelope::Envelope;
+use sm_ownership::record::Record;
+use sm_ownership::route::Route;
+use sm_publish::Router;
+use sm_ranges::server_id::ServerId;
+use sm_ranges::shard_id::ShardId;
+use sm_rule::board::Board;
+use sm_rule::note::Note;
+use sm_rule::pass::Pass;
+use sm_server::Answer;
+use std::alloc::Global;
+use std::marker::Model;
+use std::sync::{Arc, Wait};
+
+/// A client of a cluster. It may move to any thread, and may be dropped.
+///
+/// Contracts see its pass, its router, and the bounds of the shards.
+#[derive(Drop)]
+pub struct Client<S: Service> {
+    board: Arc<Board<S>>,
+    network: Arc<Network<S>>,
+    pass: Pass<S>,
+    router: Router,
+}
+
+impl<S: Service> Model for Client<S> {
+    ghost use Rattle.std.specs.Prelude.{◌≡◌, None};
+    ghost use Rattle.std.specs.Arc.{arc_value};
+    ghost use Rattle.sm_cluster.specs.Calls.{ClientValue};
+
+    ghost Value = { ClientValue S.Request };
+
+    ghost view = { λ client. record { pass = client.pass; router = client.router; bounds = (arc_value client.network).layout } };
+
+    ghost invariant = { λ client. (client.pass.board ≡ arc_value client.board) × (client.pass.held ≡ None) };
+}
+
+impl<S: Service> Client<S> {
+    /// A client that has seen what the board has at some moment, and no route.
+    pub(crate) fn new(board: Arc<Board<S>>, network: Arc<Network<S>>, router: Router) -> Client<S>
+        ensures board { result.pass.board ≡ arc_value board }
+        ensures router { result.router ≡ router }
+        ensures bounds { result.bounds ≡ (arc_value network).layout }
+    {
+        let pass = board.pass(None);
+        Client {
+            board,
+            network,
+            pass,
+            router,
+        }
+    }
+
+    /// Has a server answer the request: the one of the route that the client's router gives of the key. The answer's history
+    /// extends all that the client had seen. A request that was not answered comes back, but after `Closed`.
+    pub fn call<R: Wait>(
+        &mut self,
+        rt: &R,
+        alloc: Global,
+        number: u64,
+        request: S::Request,
+    ) -> Result<Answer<S>, CallRefused<S::Request>>
+        ensures answer { IfOk result (λ answer. Gives (meaning_of S.initial S.next S.answer S.key_of) self.old number request answer) }
+        ensures back { IfErr result (λ refused. HandsBack request refused) }
+        ensures later { Extends self.new.router.seen self.old.router.seen }
+        ensures unchanged { self.new ≡ client_reading self.old self.new.router }
+    {
+        let Some(route) = self.route(S::key(&request)) else {
+            return Err(CallRefused {
+                fault: CallFault::NoRoute,
+                back: Some(request),
+            });
+        };
+        self.call_at(rt, alloc, route.server, number, request)
+    }
+
+    /// Has this server answer the request, or one that it forwards it to. The answer's history extends all that the client had
+    /// seen. A request that was not answered comes back, but after `Closed`.
+    pub fn call_at<R: Wait>(
+        &mut self,
+        rt: &R,
+        alloc: Global,
+        server: ServerId,
+        number: u64,
+        request: S::Request,
+    ) -> Result<Answer<S>, CallRefused<S::Request>>
+        ensures answer { IfOk result (λ answer. Gives (meaning_of S.initial S.next S.answer S.key_of) self.old number request answer) }
+        ensures back { IfErr result (λ refused. HandsBack request refused) }
+        ensures unchanged { self.new ≡ self.old }
+    {
+        let k = self.network.layout().shard_of(S::key(&request));
+        self.send(rt, alloc, server, k, number, request)
+    }
+
+    // Sends the request to the server, and waits for the reply.
+    fn send<R: Wait>(
+        &mut self,
+        rt: &R,
+        alloc: Global,
+        server: ServerId,
+        k: ShardId,
+        number: u64,
+        request: S::Request,
+    ) -> Result<Answer<S>, CallRefused<S::Request>>
+        ensures answer { IfOk result (λ answer. IsAnswerFor (meaning_of S.initial S.next S.answer S.key_of) self.old.pass k number request answer) }
+        ensures back { IfErr result (λ refused. HandsBack request refused) }
+        ensures unchanged { self.new ≡ self.old }
+    {
+        let Ok(board) = Arc::try_clone(&self.board) else {
+            return Err(CallRefused {
+                fault: CallFault::NoMemory,
+                back: Some(request),
+            });
+        };
+        let note = board.note(&mut self.pass);
+        let envelope = Envelope::new(number, k, request, note);
+        let Ok((sender, receiver)) = reply_channel::<S>(alloc, &envelope) else {
+            return Err(handed_back(CallFault::NoMemory, envelope));
+        };
+        let message = Message::new(board, envelope, sender);
+        if let Err(unsent) = self.network.send(rt, server, message) {
+            return Err(handed_back(unsent.fault, unsent.message.into_envelope()));
+        }
+        match receiver.receive(rt) {
+            Ok(Reply::Answered(answer)) => return Ok(answer),
+            Ok(Reply::Refused(fault, envelope)) => Err(handed_back(fault, envelope)),
+            Err(_) => Err(CallRefused {
+                fault: CallFault::Closed,
+                back: None,
+            }),
+        }
+    }
+
+    /// The shard's record after all that the client then has seen.
+    pub fn look(&mut self, k: ShardId) -> Record
+        requires { k < self.old.pass.board.limits.count }
+        ensures seen { PassLooks self.old.pass self.new.pass }
+        ensures state { result ≡ record_of self.new.pass k }
+        ensures unchanged { self.new ≡ client_seeing self.old self.new.pass }
+    {
+        self.board.look(&mut self.pass, k)
+    }
+
+    /// The route of the key's shard that was published last of those that the client's router has then seen, or none where it
+    /// has seen none, or the read is refused.
+    pub fn route(&mut self, key: &[u8]) -> Option<Route>
+        ensures later { Extends self.new.router.seen self.old.router.seen }
+        ensures route { (result ≡ routes_of self.new.router.seen (shard_of self.old.bounds key.now))
+            ⊎ ((result ≡ None) × (self.new.router.seen ≡ self.old.router.seen)) }
+        ensures unchanged { self.new ≡ client_reading self.old self.new.router }
+    {
+        self.router.route(self.network.layout(), key)
+    }
+
+    /// Learns an answer: the client then has seen the history that the answer's note tells.
+    pub fn learn(&mut self, answer: Answer<S>) -> Told<S::Reply>
+        requires { answer.note.board ≡ self.old.pass.board }
+        ensures told { result ≡ record { number = answer.number; server = answer.server; reply = answer.reply; place = answer.place } }
+        ensures seen { PassLooks self.old.pass self.new.pass }
+        ensures met { IsMet answer.note.number answer.note.seen self.new.pass.seen }
+        ensures unchanged { self.new ≡ client_seeing self.old self.new.pass }
+    {
+        let number = answer.number();
+        let server = answer.server();
+        let place = answer.place();
+        let (reply, note) = answer.parts();
+        self.board.meet(&mut self.pass, note);
+        Told {
+            number,
+            server,
+            reply,
+            place,
+        }
+    }
+
+    /// The client's pass, as where the cluster stops.
+    pub(crate) fn into_pass(self) -> Pass<S>
+        ensures pass { result ≡ self.pass }
+        ensures free { result.held ≡ None }
+    {
+        self.pass
+    }
+}
+
+// A call that was not answered, with its request.
+fn handed_back<S: Service>(
+    fault: CallFault,
+    envelope: Envelope<S::Request, Note<S>>,
+) -> CallRefused<S::Request>
+    ensures { result ≡ record { fault = fault; back = Some envelope.request } }
+{
+    let (request, _, _) = envelope.parts();
+    CallRefused {
+        fault,
+        back: Some(request),
+    }
+}

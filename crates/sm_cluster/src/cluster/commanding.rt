@@ -1,0 +1,102 @@
+//! Commands, plans and publications.
+ghost use Rattle.std.specs.Prelude.{◌≡◌, Err, IfOk, IsOkUnless, None, OnErr, Some, false, true};
+ghost use Rattle.sm_control.specs.Controls.{Commanded};
+ghost use Rattle.sm_control.specs.Routes.{IsRouteOf};
+ghost use Rattle.sm_desk.specs.Desk.{desk_fault, is_known};
+ghost use Rattle.sm_place.specs.Plans.{KeepsRoom, assign_plan, drain_plan, servers_but, shards_to_move};
+ghost use Rattle.sm_publish.specs.Publishing.{with_route};
+ghost use Rattle.sm_cluster.specs.Clusters.{cluster_commanded};
+
+use super::Cluster;
+use crate::publish_refusal::PublishRefusal;
+use sm_body::service::Service;
+use sm_control::{ControlFault, DrainFault};
+use sm_desk::Command;
+use sm_ownership::route::Route;
+use sm_place::Plan;
+use sm_ranges::server_id::ServerId;
+use sm_ranges::shard_id::ShardId;
+use std::alloc::{AllocError, Global};
+use std::sync::Wait;
+
+impl<S: Service> Cluster<S> {
+    /// Makes the command, or answers the first fault that applies. A server's door shuts where it failed or was stopped, and opens
+    /// where it is back.
+    pub fn command(&mut self, command: Command) -> Result<(), ControlFault>
+        ensures answer { Commanded (desk_fault self.old.control.desk command) self.old.control self.new.control command result }
+        ensures board { self.new.control.chair.board ≡ self.old.control.chair.board }
+        ensures unchanged { self.new ≡ cluster_commanded self.old self.new.control }
+    {
+        let door = door_after(&command);
+        match self.control.command(&*self.board, command) {
+            Ok(()) => {
+                self.network.set_door(door);
+                Ok(())
+            }
+            Err(fault) => Err(fault),
+        }
+    }
+
+    /// Publishes the shard's owner and its generation, and gives that route; or answers why there is none, or why it isn't published.
+    pub fn publish<R: Wait>(&mut self, rt: &R, k: ShardId) -> Result<Route, PublishRefusal>
+        ensures route { IfOk result (λ route. IsRouteOf self.new.control.chair k route) }
+        ensures published { IfOk result (λ route. self.new.map.map ≡ with_route self.old.map.map route) }
+        ensures refused { OnErr result (self.new.map ≡ self.old.map) }
+        ensures desk { self.new.control.desk ≡ self.old.control.desk }
+        ensures board { self.new.control.chair.board ≡ self.old.control.chair.board }
+    {
+        let route = match self.control.route(&*self.board, k) {
+            Ok(route) => route,
+            Err(fault) => return Err(PublishRefusal::Route(fault)),
+        };
+        let Route {
+            shard,
+            server,
+            generation,
+        } = route;
+        let published = Route {
+            shard,
+            server,
+            generation,
+        };
+        match self.publisher.publish(rt, published) {
+            Ok(()) => Ok(Route {
+                shard,
+                server,
+                generation,
+            }),
+            Err(fault) => Err(PublishRefusal::Publish(fault)),
+        }
+    }
+
+    /// Each vacant shard by number goes to the lowest-numbered server that it fits, earlier moves counted as made.
+    /// The shards that fit no server in their turn are left.
+    pub fn plan_assign(&self, alloc: Global) -> Result<Plan, AllocError>
+        ensures plan { IfOk result (λ plan. plan ≡ assign_plan self.now.control.desk.books) }
+        ensures keeps_room { let books = self.now.control.desk.books in IfOk result (λ plan. KeepsRoom books (shards_to_move None books.shards)
+            (servers_but None books.servers) plan.moves plan.left) }
+    {
+        self.control.plan_assign(alloc)
+    }
+
+    /// Each shard that the server serves, by number, goes to the lowest-numbered other server that it fits, earlier moves
+    /// counted as wholly migrated; or the first fault that applies.
+    pub fn plan_drain(&self, alloc: Global, a: ServerId) -> Result<Plan, DrainFault>
+        ensures plan { IfOk result (λ plan. plan ≡ drain_plan self.now.control.desk.books a) }
+        ensures keeps_room { let books = self.now.control.desk.books in IfOk result (λ plan. KeepsRoom books (shards_to_move (Some a) books.shards)
+            (servers_but (Some a) books.servers) plan.moves plan.left) }
+        ensures unknown { is_known self.now.control.desk.books.servers a ≡ false → result ≡ Err DrainFault.UnknownServer }
+        ensures known { is_known self.now.control.desk.books.servers a ≡ true → IsOkUnless result DrainFault.NoMemory }
+    {
+        self.control.plan_drain(alloc, a)
+    }
+}
+
+// Which door such a command opens or shuts once it is made.
+fn door_after(command: &Command) -> Option<(ServerId, bool)> {
+    match command {
+        Command::Stopped(server) | Command::Fail(server) => Some((*server, false)),
+        Command::Back(server) => Some((*server, true)),
+        _ => None,
+    }
+}

@@ -1,0 +1,195 @@
+//! The start of a cluster.
+ghost use Rattle.std.specs.Prelude.{◌≡◌, ◌<◌, ◌^◌, All, IfOk, None, [], length};
+ghost use Rattle.std.specs.Arc.{arc_value};
+ghost use Rattle.sm_ranges.specs.declared.stand.Stand.TheVariants.{Vacant};
+ghost use Rattle.sm_rule.specs.Boards.{make_fault};
+ghost use Rattle.sm_cluster.specs.Clusters.{IsClientOf};
+
+use super::Cluster;
+use crate::MAX_WORKERS;
+use crate::client::Client;
+use crate::crew::{Crew, Inbox};
+use crate::gate::Gate;
+use crate::network::{Network, network_of};
+use crate::setup::Setup;
+use crate::start_fault::StartFault;
+use sm_body::service::Service;
+use sm_control::Control;
+use sm_desk::Desk;
+use sm_publish::{Publisher, Router};
+use sm_rule::board::Board;
+use std::alloc::{AllocError, Global};
+use std::sync::{Arc, Wait};
+use std::thread::Threads;
+
+// What a cluster is made of before its threads are started.
+#[derive(Drop)]
+struct Parts<S: Service> {
+    board: Arc<Board<S>>,
+    network: Arc<Network<S>>,
+    control: Control<S>,
+    inboxes: Vec<Inbox<S>>,
+}
+
+impl<S: Service + 'static> Cluster<S>
+where
+    S::Request: 'static,
+    S::Reply: 'static,
+{
+    /// Starts so many workers for each server, and makes so many clients, 1 to 2^32 - 1; or answers the first fault that applies,
+    /// and the workers that were started are stopped. The bodies have applied nothing yet.
+    pub fn start<
+        G: Gate + Send + Sync + Drop + 'static,
+        R: Threads + Wait + Clone + Send + Drop + 'static,
+    >(
+        rt: &R,
+        alloc: Global,
+        setup: Setup,
+        bodies: Vec<S>,
+        workers: u32,
+        clients: usize,
+        gate: G,
+    ) -> Result<(Cluster<S>, Vec<Client<S>>), StartFault>
+        requires sizes { make_fault (length bodies.items) setup.ceiling ≡ None }
+        requires shards { length setup.desk.books.shards ≡ length bodies.items }
+        requires vacant { All (λ shard. shard.stand ≡ Vacant) setup.desk.books.shards }
+        requires initial { All (λ body. S.base body ≡ S.initial) bodies.items }
+        requires before { All (λ body. S.before body ≡ 0) bodies.items }
+        requires empty { All (λ body. S.requests body ≡ []) bodies.items }
+        requires clients { (0 < clients) × (clients < 2 ^ 32) }
+        ensures seen { IfOk result (λ made. made.0.control.chair.seen ≡ []) }
+        ensures desk { IfOk result (λ made. made.0.control.desk ≡ setup.desk) }
+        ensures count { IfOk result (λ made. made.0.control.chair.board.limits.count ≡ length bodies.items) }
+        ensures bounds { IfOk result (λ made. made.0.bounds ≡ setup.layout) }
+        ensures clients { IfOk result (λ made. length made.1.items ≡ clients) }
+        ensures theirs { IfOk result (λ made. All (IsClientOf made.0) made.1.items) }
+    {
+        if is_too_many(&setup.desk, workers) {
+            return Err(StartFault::TooManyWorkers);
+        }
+        let shards = bodies.len();
+        let parts = parts_of(alloc, setup, bodies)?;
+        let Ok(gate) = Arc::new(alloc, gate) else {
+            return Err(StartFault::NoMemory);
+        };
+        let (publisher, routers) = Publisher::new(rt, alloc, shards, clients)?;
+        match clients_of(alloc, &parts.board, &parts.network, routers) {
+            Ok(clients) => match manned(rt, alloc, parts, publisher, workers, &gate) {
+                Ok(cluster) => Ok((cluster, clients)),
+                Err(fault) => Err(fault),
+            },
+            Err(_) => {
+                publisher.end(rt);
+                Err(StartFault::NoMemory)
+            }
+        }
+    }
+}
+
+// Whether all servers together would have more workers than a cluster may.
+fn is_too_many(desk: &Desk, workers: u32) -> bool {
+    let servers = desk.books().rows().len();
+    servers > MAX_WORKERS as usize || servers as u64 * u64::from(workers) > u64::from(MAX_WORKERS)
+}
+
+// A board with its control, and the ways to its servers.
+fn parts_of<S: Service>(alloc: Global, setup: Setup, bodies: Vec<S>) -> Result<Parts<S>, StartFault>
+    requires sizes { make_fault (length bodies.items) setup.ceiling ≡ None }
+    requires shards { length setup.desk.books.shards ≡ length bodies.items }
+    requires vacant { All (λ shard. shard.stand ≡ Vacant) setup.desk.books.shards }
+    requires initial { All (λ body. S.base body ≡ S.initial) bodies.items }
+    requires before { All (λ body. S.before body ≡ 0) bodies.items }
+    requires empty { All (λ body. S.requests body ≡ []) bodies.items }
+    ensures seen { IfOk result (λ parts. parts.control.chair.seen ≡ []) }
+    ensures desk { IfOk result (λ parts. parts.control.desk ≡ setup.desk) }
+    ensures count { IfOk result (λ parts. parts.control.chair.board.limits.count ≡ length bodies.items) }
+    ensures board { IfOk result (λ parts. parts.control.chair.board ≡ arc_value parts.board) }
+    ensures bounds { IfOk result (λ parts. (arc_value parts.network).layout ≡ setup.layout) }
+{
+    let Setup {
+        layout,
+        desk,
+        ceiling,
+    } = setup;
+    let Ok((board, chair)) = Board::make(alloc, bodies, ceiling) else {
+        return Err(StartFault::NoMemory);
+    };
+    let control = Control::new(chair, desk);
+    let Ok(board) = Arc::new(alloc, board) else {
+        return Err(StartFault::NoMemory);
+    };
+    let (network, inboxes) = network_of(alloc, layout, control.desk().books().rows())?;
+    Ok(Parts {
+        board,
+        network,
+        control,
+        inboxes,
+    })
+}
+
+// A client for each of the routers.
+fn clients_of<S: Service>(
+    alloc: Global,
+    board: &Arc<Board<S>>,
+    network: &Arc<Network<S>>,
+    routers: Vec<Router>,
+) -> Result<Vec<Client<S>>, AllocError>
+    ensures count { IfOk result (λ clients. length clients.items ≡ length routers.items) }
+    ensures boards { IfOk result (λ clients. All (λ client. client.pass.board ≡ arc_value board.now) clients.items) }
+    ensures bounds { IfOk result (λ clients. All (λ client. client.bounds ≡ (arc_value network.now).layout) clients.items) }
+{
+    let mut clients = Vec::new(alloc);
+    for router in routers {
+        let board = Arc::try_clone(board)?;
+        let network = Arc::try_clone(network)?;
+        clients.push(Client::new(board, network, router))?;
+    }
+    Ok(clients)
+}
+
+// The cluster of these parts, whose workers are started; where that is refused, those that were started are stopped.
+fn manned<
+    S: Service + 'static,
+    G: Gate + Send + Sync + Drop + 'static,
+    R: Threads + Wait + Clone + Send + Drop + 'static,
+>(
+    rt: &R,
+    alloc: Global,
+    parts: Parts<S>,
+    publisher: Publisher,
+    workers: u32,
+    gate: &Arc<G>,
+) -> Result<Cluster<S>, StartFault>
+where
+    S::Request: 'static,
+    S::Reply: 'static,
+    requires { parts.control.chair.board ≡ arc_value parts.board }
+    ensures control { IfOk result (λ cluster. cluster.control ≡ parts.control) }
+    ensures bounds { IfOk result (λ cluster. cluster.bounds ≡ (arc_value parts.network).layout) }
+{
+    let Parts {
+        board,
+        network,
+        control,
+        inboxes,
+    } = parts;
+    let Ok(shared) = Arc::try_clone(&network) else {
+        publisher.end(rt);
+        return Err(StartFault::NoMemory);
+    };
+    let mut crew = Crew::new(alloc, shared);
+    match crew.start(rt, alloc, gate, inboxes.as_slice(), workers) {
+        Ok(()) => Ok(Cluster {
+            board,
+            network,
+            control,
+            publisher,
+            crew,
+        }),
+        Err(fault) => {
+            crew.stop(rt);
+            publisher.end(rt);
+            Err(fault)
+        }
+    }
+}

@@ -1,0 +1,64 @@
+//! The end of a cluster.
+ghost use Rattle.std.specs.Prelude.{◌≡◌, All, IfOk, None};
+ghost use Rattle.sm_rule.specs.Bodies.{Keeps};
+ghost use Rattle.sm_rule.specs.Views.{Begins};
+ghost use Rattle.sm_cluster.specs.Clusters.{IsClientOf, WasStopped};
+
+use super::Cluster;
+use crate::client::Client;
+use crate::stop_fault::StopFault;
+use sm_body::service::Service;
+use sm_ownership::record::Record;
+use sm_rule::board::Board;
+use sm_rule::pass::Pass;
+use std::sync::{Arc, Wait};
+use std::thread::Threads;
+
+impl<S: Service> Cluster<S> {
+    /// Shuts all doors, stops and joins the workers, and closes the board: each shard's record, and the body of each idle one, after
+    /// one legal history that extends what the control had seen by entries of passes, and extends what each of these clients
+    /// had seen.
+    pub fn stop<R: Threads + Wait>(
+        self,
+        rt: &R,
+        clients: Vec<Client<S>>,
+    ) -> Result<Vec<(Record, Option<S>)>, StopFault>
+        requires clients { All (IsClientOf self) clients.items }
+        ensures stopped { IfOk result (λ rows. WasStopped (Keeps S.initial S.next S.base S.before S.requests) S.limit self.control.chair clients.items rows.items) }
+    {
+        let Cluster {
+            board,
+            network,
+            control,
+            publisher,
+            crew,
+        } = self;
+        network.shut();
+        drop(network);
+        let closer = told(&*board, clients);
+        let all_stopped = crew.stop(rt);
+        publisher.end(rt);
+        if !all_stopped {
+            return Err(StopFault::NoMemory);
+        }
+        let (chair, _) = control.into_parts();
+        match Arc::try_unwrap(board) {
+            Ok(board) => Ok(board.close(chair, closer)),
+            Err(_) => Err(StopFault::ClientOut),
+        }
+    }
+}
+
+// A new pass that has seen what each of the clients has.
+fn told<S: Service>(board: &Board<S>, clients: Vec<Client<S>>) -> Pass<S>
+    requires { All (λ client. client.pass.board ≡ board.now) clients.items }
+    ensures board { result.board ≡ board.now }
+    ensures free { result.held ≡ None }
+    ensures seen { All (λ client. Begins client.pass.seen result.seen) clients.items }
+{
+    let mut closer = board.pass(None);
+    for client in clients {
+        board.meet(&mut closer, client.into_pass().into_note());
+    }
+    closer
+}

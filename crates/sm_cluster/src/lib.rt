@@ -1,0 +1,33 @@
+//! Servers as threads: each request travels in a message through inboxes, and its reply brings home the history that has it.
+#![tactic(auto)]
+
+pub mod call_refused;
+pub mod checkpoint_refusal;
+pub mod client;
+pub mod cluster;
+mod crew;
+pub mod gate;
+pub mod laws;
+mod message;
+mod network;
+pub mod publish_refusal;
+mod reply;
+pub mod setup;
+pub mod start_fault;
+pub mod stop_fault;
+pub mod told;
+mod worker;
+
+pub use call_refused::{CallFault, CallRefused};
+pub use checkpoint_refusal::CheckpointRefusal;
+pub use client::Client;
+pub use cluster::Cluster;
+pub use gate::{Gate, Open};
+pub use publish_refusal::PublishRefusal;
+pub use setup::Setup;
+pub use start_fault::StartFault;
+pub use stop_fault::StopFault;
+pub use told::Told;
+
+/// How many workers a cluster has at most.
+pub const MAX_WORKERS: u32 = 64;

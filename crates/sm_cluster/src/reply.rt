@@ -1,0 +1,180 @@
+//! The channel on which one call is answered, under a rule that knows the call.
+ghost use Rattle.std.specs.Prelude.{◌≡◌, ⊤, Option, Some, None, IfOk};
+ghost use Rattle.crossbeam_channel.specs.Claims as claims;
+ghost use Rattle.crossbeam_channel.specs.Claims.{IsSeatAt};
+ghost use Rattle.crossbeam_channel.specs.Ends.{receives_on, sends_on};
+ghost use Rattle.sm_body.specs.Service.{meaning_of};
+ghost use Rattle.sm_server.specs.Serving.{Sent};
+ghost use Rattle.sm_cluster.specs.Replies.{Fits, HoldsReplies};
+
+use crate::call_refused::CallFault;
+use crossbeam_channel::protocol::{Lesson, Outcome, Protocol, Split};
+use crossbeam_channel::{Pass, RecvError, RuledReceiver, RuledSender, bounded_with};
+use sm_body::service::Service;
+use sm_envelope::envelope::Envelope;
+use sm_rule::note::Note;
+use sm_server::Answer;
+use std::alloc::{AllocError, Global};
+use std::marker::{Brand, Model, PhantomData};
+use std::sync::Wait;
+
+/// What a client is told of its call: the answer, or why its envelope comes back.
+#[derive(Drop)]
+pub(crate) enum Reply<A: Drop, E: Drop> {
+    Answered(A),
+    Refused(CallFault, E),
+}
+
+pub(crate) type ReplyOf<S, Q> = Reply<Answer<S>, Envelope<Q, Note<S>>>;
+
+/// What a pass of a reply's channel knows: the envelope of the call, once it was sent. No value of it is made.
+pub(crate) struct Asked<Q> {
+    request: PhantomData<Q>,
+}
+
+impl<Q> Model for Asked<Q> {
+    ghost Value = { Option (Sent Q) };
+
+    ghost view = { λ _. None };
+}
+
+/// The rule of a reply's channel: what it holds are replies to the one call that all its passes know.
+pub(crate) struct ReplyRule<S> {
+    service: PhantomData<S>,
+}
+
+impl<S: Service> Protocol<ReplyOf<S, S::Request>, Asked<S::Request>> for ReplyRule<S> {
+    ghost holds = { HoldsReplies (meaning_of S.initial S.next S.answer S.key_of) };
+
+    ghost first = { None };
+}
+
+/// The call that a channel is made for. Each call picks it.
+pub(crate) trait Asking<Q> {
+    ghost asked: { Option (Sent Q) };
+}
+
+impl<Q> Asking<Q> for Brand {
+    ghost asked = { None };
+}
+
+/// The first pass learns the call, and is cut in two.
+pub(crate) struct Learns<J> {
+    asking: PhantomData<J>,
+}
+
+impl<Q, J: Asking<Q>> Split<Asked<Q>> for Learns<J> {
+    ghost left = { λ known. J.asked };
+
+    ghost right = { λ known. J.asked };
+}
+
+/// A reply is sent.
+pub(crate) struct SendsReply;
+
+impl<T, V> Outcome<T, V> for SendsReply {
+    ghost then = { λ known reply after. after ≡ known };
+}
+
+impl<T, V> Lesson<T, V> for SendsReply {
+    ghost fact = { λ known replies. ⊤ };
+}
+
+/// A reply is received.
+pub(crate) struct ReceivesReply<S> {
+    service: PhantomData<S>,
+}
+
+impl<S: Service> Outcome<ReplyOf<S, S::Request>, Asked<S::Request>> for ReceivesReply<S> {
+    ghost then = { λ known reply after. Fits (meaning_of S.initial S.next S.answer S.key_of) known reply };
+}
+
+impl<S: Service> Lesson<ReplyOf<S, S::Request>, Asked<S::Request>> for ReceivesReply<S> {
+    ghost fact = { λ known replies. ⊤ };
+}
+
+/// The end on which the reply to one call is sent. Contracts see the envelope of the call as it was first sent.
+#[derive(Drop)]
+pub(crate) struct ReplySender<S: Service> {
+    sender: RuledSender<ReplyOf<S, S::Request>, Asked<S::Request>, ReplyRule<S>>,
+    pass: Pass<ReplyOf<S, S::Request>, Asked<S::Request>>,
+}
+
+impl<S: Service> Model for ReplySender<S> {
+    ghost Value = { Option (Sent S.Request) };
+
+    ghost view = { λ end. claims.view end.pass };
+
+    ghost invariant = { λ end. IsSeatAt (sends_on end.sender) end.pass };
+}
+
+/// The end on which the reply to one call is received.
+#[derive(Drop)]
+pub(crate) struct ReplyReceiver<S: Service> {
+    receiver: RuledReceiver<ReplyOf<S, S::Request>, Asked<S::Request>, ReplyRule<S>>,
+    pass: Pass<ReplyOf<S, S::Request>, Asked<S::Request>>,
+}
+
+impl<S: Service> Model for ReplyReceiver<S> {
+    ghost Value = { Option (Sent S.Request) };
+
+    ghost view = { λ end. claims.view end.pass };
+
+    ghost invariant = { λ end. IsSeatAt (receives_on end.receiver) end.pass };
+}
+
+impl<S: Service> ReplySender<S> {
+    /// Sends the reply. It is lost where the caller is gone.
+    pub(crate) fn send<R: Wait>(self, rt: &R, reply: ReplyOf<S, S::Request>)
+        requires { Fits (meaning_of S.initial S.next S.answer S.key_of) self reply }
+    {
+        let ReplySender { sender, mut pass } = self;
+        let _ = sender.send_as::<SendsReply, R>(rt, &mut pass, reply);
+    }
+}
+
+impl<S: Service> ReplyReceiver<S> {
+    /// Waits for the reply, or for the sender to be gone.
+    pub(crate) fn receive<R: Wait>(self, rt: &R) -> Result<ReplyOf<S, S::Request>, RecvError>
+        ensures { IfOk result (λ reply. Fits (meaning_of S.initial S.next S.answer S.key_of) self reply) }
+    {
+        let ReplyReceiver { receiver, mut pass } = self;
+        receiver.recv_as::<ReceivesReply<S>, R>(rt, &mut pass)
+    }
+}
+
+// The two ends of a channel whose passes know the call that `J` tells.
+fn channel_as<S: Service, J: Asking<S::Request>>(
+    alloc: Global,
+    _envelope: &Envelope<S::Request, Note<S>>,
+) -> Result<(ReplySender<S>, ReplyReceiver<S>), AllocError>
+    requires { J.asked ≡ Some _envelope.now }
+    ensures sender { IfOk result (λ ends. ends.0 ≡ Some _envelope.now) }
+    ensures receiver { IfOk result (λ ends. ends.1 ≡ Some _envelope.now) }
+{
+    let (sender, receiver, mut pass) = bounded_with::<
+        ReplyOf<S, S::Request>,
+        Asked<S::Request>,
+        ReplyRule<S>,
+        Global,
+    >(alloc, 1)?;
+    let other = sender.another::<Learns<J>>(&mut pass);
+    Ok((
+        ReplySender {
+            sender,
+            pass: other,
+        },
+        ReplyReceiver { receiver, pass },
+    ))
+}
+
+/// The two ends of a new channel for the reply to the call of this envelope.
+pub(crate) fn reply_channel<S: Service>(
+    alloc: Global,
+    envelope: &Envelope<S::Request, Note<S>>,
+) -> Result<(ReplySender<S>, ReplyReceiver<S>), AllocError>
+    ensures sender { IfOk result (λ ends. ends.0 ≡ Some envelope.now) }
+    ensures receiver { IfOk result (λ ends. ends.1 ≡ Some envelope.now) }
+{
+    channel_as::<S, Brand>(alloc, envelope)
+}

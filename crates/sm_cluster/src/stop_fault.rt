@@ -1,0 +1,12 @@
+use thiserror::Error;
+
+/// Why a cluster gave nothing at its stop.
+#[derive(Clone, Copy, Debug, PartialEq, Eq, Drop, Error)]
+pub enum StopFault {
+    /// A client neither came back nor was dropped. All workers were stopped.
+    #[error("a client is out")]
+    ClientOut,
+    /// Memory was refused to tell some workers to stop, which go on.
+    #[error("out of memory")]
+    NoMemory,
+}

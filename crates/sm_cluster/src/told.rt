@@ -1,0 +1,14 @@
+use sm_ranges::server_id::ServerId;
+
+/// What a client learned of an answer.
+#[derive(Clone, Copy, Debug, PartialEq, Eq, Drop)]
+pub struct Told<R> {
+    /// The number of the call.
+    pub number: u64,
+    /// The server that executed the request.
+    pub server: ServerId,
+    /// The reply.
+    pub reply: R,
+    /// How many requests of the shard were executed before this one.
+    pub place: u64,
+}
