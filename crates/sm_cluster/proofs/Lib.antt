@@ -1,5 +1,6 @@
 pub mod Calling
 pub mod Placing
+pub mod Publishing
 pub mod Replying
 pub mod Stopping
 pub mod Travelling

@@ -20,6 +20,9 @@ pub record ClusterValue (Q : Type 0) : Type 0 where
 abbrev pub cluster_commanded : {Q : Type 0} → ClusterValue Q → ControlValue Q → ClusterValue Q
 cluster_commanded cluster control = record cluster { control = control }
 
+abbrev pub cluster_publishing : {Q : Type 0} → ClusterValue Q → ControlValue Q → PublisherView → ClusterValue Q
+cluster_publishing cluster control map = record cluster { control = control; map = map }
+
 -- a client of the cluster: of its board, and with its bounds
 abbrev pub IsClientOf : {Q : Type 0} → ClusterValue Q → ClientValue Q → Type 0
 IsClientOf cluster client = (client.pass.board ≡ cluster.control.chair.board) × (client.bounds ≡ cluster.bounds)

@@ -1,4 +1,6 @@
+pub mod Basing
 pub mod Calls
 pub mod Clusters
+pub mod Publications
 pub mod Replies
 pub mod Telling

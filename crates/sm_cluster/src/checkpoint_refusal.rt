@@ -14,3 +14,14 @@ pub enum CheckpointRefusal {
     #[error("{0}")]
     Checkpoint(CheckpointFault),
 }
+
+impl From<CheckpointFault> for CheckpointRefusal {
+    ghost use Rattle.std.specs.Prelude.{◌≡◌};
+    ghost use Rattle.sm_cluster.specs.declared.checkpoint_refusal.CheckpointRefusal.TheVariants.{Checkpoint};
+
+    ghost from_gives = { λ fault refusal. refusal ≡ Checkpoint fault };
+
+    fn from(fault: CheckpointFault) -> CheckpointRefusal {
+        CheckpointRefusal::Checkpoint(fault)
+    }
+}

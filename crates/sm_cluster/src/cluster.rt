@@ -1,3 +1,5 @@
+ghost use Rattle.std.specs.Prelude.{◌≡◌};
+
 mod basing;
 mod commanding;
 mod starting;
@@ -7,7 +9,9 @@ use crate::crew::Crew;
 use crate::network::Network;
 use sm_body::service::Service;
 use sm_control::Control;
+use sm_desk::Desk;
 use sm_publish::Publisher;
+use sm_ranges::layout::Layout;
 use sm_rule::board::Board;
 use std::marker::Model;
 use std::sync::Arc;
@@ -33,4 +37,20 @@ impl<S: Service> Model for Cluster<S> {
     ghost view = { λ cluster. record { control = cluster.control; map = cluster.publisher; bounds = (arc_value cluster.network).layout } };
 
     ghost invariant = { λ cluster. cluster.control.chair.board ≡ arc_value cluster.board };
+}
+
+impl<S: Service> Cluster<S> {
+    /// The control's desk.
+    pub fn desk(&self) -> &Desk
+        ensures { result.now ≡ self.now.control.desk }
+    {
+        self.control.desk()
+    }
+
+    /// Which shard a key belongs to.
+    pub fn layout(&self) -> &Layout
+        ensures { result.now ≡ self.now.bounds }
+    {
+        self.network.layout()
+    }
 }

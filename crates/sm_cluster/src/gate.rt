@@ -8,7 +8,7 @@ pub trait Gate {
 }
 
 /// The gate that holds nobody.
-#[derive(Drop)]
+#[derive(Clone, Copy, Debug, Drop)]
 pub struct Open;
 
 impl Gate for Open {

@@ -19,17 +19,18 @@ const STOP_TRIES: u32 = 1_000;
 
 /// The way to the inbox of one server. What finds it shut isn't sent.
 #[derive(Drop)]
-pub(crate) struct Door<S: Service> {
-    pub(crate) server: ServerId,
-    pub(crate) is_open: AtomicBool,
-    pub(crate) inbox: Sender<Parcel<S>>,
+struct Door<S: Service> {
+    is_open: AtomicBool,
+    inbox: Sender<Parcel<S>>,
 }
 
 /// The doors of all servers, and how the key space is cut into shards. Clients and workers share it.
 #[derive(Drop)]
 pub(crate) struct Network<S: Service> {
     pub(crate) layout: Layout,
-    pub(crate) doors: Vec<Door<S>>,
+    // By rising numbers, each with its door at the same place.
+    servers: Vec<ServerId>,
+    doors: Vec<Door<S>>,
 }
 
 /// A message that was not sent, and why.
@@ -39,20 +40,21 @@ pub(crate) struct Unsent<S: Service> {
     pub(crate) message: Message<S>,
 }
 
-/// The doors of these servers, all open, and their inboxes.
+/// The doors of these servers, all open, and their inboxes. The rows stand by rising numbers.
 pub(crate) fn network_of<S: Service>(
     alloc: Global,
     layout: Layout,
-    servers: &[ServerRow],
+    rows: &[ServerRow],
 ) -> Result<(Arc<Network<S>>, Vec<Inbox<S>>), AllocError>
     ensures { IfOk result (λ made. (arc_value made.0).layout ≡ layout) }
 {
+    let mut servers = Vec::new(alloc);
     let mut doors = Vec::new(alloc);
     let mut inboxes = Vec::new(alloc);
-    for row in servers {
+    for row in rows {
         let (inbox, parcels) = unbounded(alloc)?;
+        servers.push(row.id)?;
         doors.push(Door {
-            server: row.id,
             is_open: AtomicBool::new(true),
             inbox,
         })?;
@@ -61,7 +63,12 @@ pub(crate) fn network_of<S: Service>(
             parcels,
         })?;
     }
-    Ok((Arc::new(alloc, Network { layout, doors })?, inboxes))
+    let network = Network {
+        layout,
+        servers,
+        doors,
+    };
+    Ok((Arc::new(alloc, network)?, inboxes))
 }
 
 impl<S: Service> Network<S> {
@@ -139,6 +146,9 @@ impl<S: Service> Network<S> {
     }
 
     fn door(&self, server: ServerId) -> Option<&Door<S>> {
-        self.doors.iter().find(|door| door.server == server)
+        match self.servers.binary_search(&server) {
+            Ok(at) => self.doors.get(at),
+            Err(_) => None,
+        }
     }
 }

@@ -12,3 +12,25 @@ pub enum PublishRefusal {
     #[error("{0}")]
     Publish(PublishFault),
 }
+
+impl From<RouteFault> for PublishRefusal {
+    ghost use Rattle.std.specs.Prelude.{◌≡◌};
+    ghost use Rattle.sm_cluster.specs.declared.publish_refusal.PublishRefusal.TheVariants.{Route};
+
+    ghost from_gives = { λ fault refusal. refusal ≡ Route fault };
+
+    fn from(fault: RouteFault) -> PublishRefusal {
+        PublishRefusal::Route(fault)
+    }
+}
+
+impl From<PublishFault> for PublishRefusal {
+    ghost use Rattle.std.specs.Prelude.{◌≡◌};
+    ghost use Rattle.sm_cluster.specs.declared.publish_refusal.PublishRefusal.TheVariants.{Publish};
+
+    ghost from_gives = { λ fault refusal. refusal ≡ Publish fault };
+
+    fn from(fault: PublishFault) -> PublishRefusal {
+        PublishRefusal::Publish(fault)
+    }
+}

@@ -7,14 +7,18 @@ ghost use Rattle.sm_body.specs.Service.{meaning_of};
 ghost use Rattle.sm_server.specs.Serving.{Sent};
 ghost use Rattle.sm_cluster.specs.Replies.{Fits, HoldsReplies};
 
+use crate::LOOKS;
 use crate::call_refused::CallFault;
 use crossbeam_channel::protocol::{Lesson, Outcome, Protocol, Split};
-use crossbeam_channel::{Pass, RecvError, RuledReceiver, RuledSender, bounded_with};
+use crossbeam_channel::{
+    Pass, RecvError, RuledReceiver, RuledSender, TryRecvError, bounded_with,
+};
 use sm_body::service::Service;
 use sm_envelope::envelope::Envelope;
 use sm_rule::note::Note;
 use sm_server::Answer;
 use std::alloc::{AllocError, Global};
+use std::hint;
 use std::marker::{Brand, Model, PhantomData};
 use std::sync::Wait;
 
@@ -134,11 +138,18 @@ impl<S: Service> ReplySender<S> {
 }
 
 impl<S: Service> ReplyReceiver<S> {
-    /// Waits for the reply, or for the sender to be gone.
+    /// Waits for the reply, for which it looks some times before it sleeps, or for the sender to be gone.
     pub(crate) fn receive<R: Wait>(self, rt: &R) -> Result<ReplyOf<S, S::Request>, RecvError>
         ensures { IfOk result (λ reply. Fits (meaning_of S.initial S.next S.answer S.key_of) self reply) }
     {
         let ReplyReceiver { receiver, mut pass } = self;
+        for _ in 0..LOOKS {
+            match receiver.try_recv_as::<ReceivesReply<S>, R>(rt, &mut pass) {
+                Ok(reply) => return Ok(reply),
+                Err(TryRecvError::Disconnected) => return Err(RecvError),
+                Err(TryRecvError::Empty) => hint::spin_loop(),
+            }
+        }
         receiver.recv_as::<ReceivesReply<S>, R>(rt, &mut pass)
     }
 }

@@ -1,4 +1,5 @@
 //! A worker serves what comes into its inbox.
+use crate::LOOKS;
 use crate::gate::Gate;
 use crate::message::Parcel;
 use crate::network::Network;
@@ -7,9 +8,6 @@ use sm_body::service::Service;
 use sm_ranges::server_id::ServerId;
 use std::hint;
 use std::sync::Wait;
-
-// How often a worker looks into an empty inbox before it sleeps.
-const LOOKS: u32 = 200;
 
 /// Serves what comes, until it is told to stop.
 pub(crate) fn work<S: Service, G: Gate, R: Wait>(

@@ -1,11 +1,11 @@
 //! Commands, plans and publications.
-ghost use Rattle.std.specs.Prelude.{◌≡◌, Err, IfOk, IsOkUnless, None, OnErr, Some, false, true};
+ghost use Rattle.std.specs.Prelude.{◌≡◌, Err, IfOk, IsOkUnless, None, Some, false, true};
 ghost use Rattle.sm_control.specs.Controls.{Commanded};
-ghost use Rattle.sm_control.specs.Routes.{IsRouteOf};
+ghost use Rattle.sm_control.specs.Routes.{route_fault};
 ghost use Rattle.sm_desk.specs.Desk.{desk_fault, is_known};
 ghost use Rattle.sm_place.specs.Plans.{KeepsRoom, assign_plan, drain_plan, servers_but, shards_to_move};
-ghost use Rattle.sm_publish.specs.Publishing.{with_route};
 ghost use Rattle.sm_cluster.specs.Clusters.{cluster_commanded};
+ghost use Rattle.sm_cluster.specs.Publications.{Published};
 
 use super::Cluster;
 use crate::publish_refusal::PublishRefusal;
@@ -38,35 +38,26 @@ impl<S: Service> Cluster<S> {
     }
 
     /// Publishes the shard's owner and its generation, and gives that route; or answers why there is none, or why it isn't published.
+    /// It may wait for clients that are reading.
     pub fn publish<R: Wait>(&mut self, rt: &R, k: ShardId) -> Result<Route, PublishRefusal>
-        ensures route { IfOk result (λ route. IsRouteOf self.new.control.chair k route) }
-        ensures published { IfOk result (λ route. self.new.map.map ≡ with_route self.old.map.map route) }
-        ensures refused { OnErr result (self.new.map ≡ self.old.map) }
-        ensures desk { self.new.control.desk ≡ self.old.control.desk }
-        ensures board { self.new.control.chair.board ≡ self.old.control.chair.board }
+        ensures { Published (route_fault self.old.control.desk.books k) self.old self.new k result }
     {
-        let route = match self.control.route(&*self.board, k) {
-            Ok(route) => route,
-            Err(fault) => return Err(PublishRefusal::Route(fault)),
-        };
         let Route {
             shard,
             server,
             generation,
-        } = route;
+        } = self.control.route(&*self.board, k)?;
         let published = Route {
             shard,
             server,
             generation,
         };
-        match self.publisher.publish(rt, published) {
-            Ok(()) => Ok(Route {
-                shard,
-                server,
-                generation,
-            }),
-            Err(fault) => Err(PublishRefusal::Publish(fault)),
-        }
+        self.publisher.publish(rt, published)?;
+        Ok(Route {
+            shard,
+            server,
+            generation,
+        })
     }
 
     /// Each vacant shard by number goes to the lowest-numbered server that it fits, earlier moves counted as made.

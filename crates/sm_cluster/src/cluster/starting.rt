@@ -1,5 +1,5 @@
 //! The start of a cluster.
-ghost use Rattle.std.specs.Prelude.{◌≡◌, ◌<◌, ◌^◌, All, IfOk, None, [], length};
+ghost use Rattle.std.specs.Prelude.{◌≡◌, ◌≢◌, ◌<◌, ◌≤◌, ◌*◌, ◌^◌, ◌↔◌, All, Err, IfErr, IfOk, IsTrue, None, [], length};
 ghost use Rattle.std.specs.Arc.{arc_value};
 ghost use Rattle.sm_ranges.specs.declared.stand.Stand.TheVariants.{Vacant};
 ghost use Rattle.sm_rule.specs.Boards.{make_fault};
@@ -36,8 +36,8 @@ where
     S::Request: 'static,
     S::Reply: 'static,
 {
-    /// Starts so many workers for each server, and makes so many clients, 1 to 2^32 - 1; or answers the first fault that applies,
-    /// and the workers that were started are stopped. The bodies have applied nothing yet.
+    /// Starts so many workers for each server, at least one, and makes so many clients, 1 to 2^32 - 1; or answers the first fault
+    /// that applies, and the workers that were started are stopped and joined. The bodies have applied nothing yet.
     pub fn start<
         G: Gate + Send + Sync + Drop + 'static,
         R: Threads + Wait + Clone + Send + Drop + 'static,
@@ -56,7 +56,10 @@ where
         requires initial { All (λ body. S.base body ≡ S.initial) bodies.items }
         requires before { All (λ body. S.before body ≡ 0) bodies.items }
         requires empty { All (λ body. S.requests body ≡ []) bodies.items }
+        requires workers { 0 < workers }
         requires clients { (0 < clients) × (clients < 2 ^ 32) }
+        ensures too_many { MAX_WORKERS < length setup.desk.books.servers * workers → result ≡ Err StartFault.TooManyWorkers }
+        ensures enough { length setup.desk.books.servers * workers ≤ MAX_WORKERS → IfErr result (λ fault. fault ≢ StartFault.TooManyWorkers) }
         ensures seen { IfOk result (λ made. made.0.control.chair.seen ≡ []) }
         ensures desk { IfOk result (λ made. made.0.control.desk ≡ setup.desk) }
         ensures count { IfOk result (λ made. made.0.control.chair.board.limits.count ≡ length bodies.items) }
@@ -87,7 +90,10 @@ where
 }
 
 // Whether all servers together would have more workers than a cluster may.
-fn is_too_many(desk: &Desk, workers: u32) -> bool {
+fn is_too_many(desk: &Desk, workers: u32) -> bool
+    requires { 0 < workers }
+    ensures { IsTrue result ↔ MAX_WORKERS < length desk.now.books.servers * workers }
+{
     let servers = desk.books().rows().len();
     servers > MAX_WORKERS as usize || servers as u64 * u64::from(workers) > u64::from(MAX_WORKERS)
 }

@@ -1,0 +1,27 @@
+-- What a checkpoint of a cluster's shard leaves.
+use Rattle.std.specs.Prelude.{ℕ, ◌≡◌, [], Some, Result, Ok, Err}
+use Rattle.sm_ownership.specs.History.{kept}
+use Rattle.sm_rule.specs.declared.permit.Front.{Front}
+use Rattle.sm_rule.specs.Passes.{PassValue, record_of}
+use Rattle.sm_rule.specs.Views.{Begins}
+use Rattle.sm_server.specs.Basing.{CheckpointRefused, HasMadeCheckpoint}
+use Rattle.sm_cluster.specs.declared.checkpoint_refusal.CheckpointRefusal.{CheckpointRefusal}
+use Rattle.sm_cluster.specs.declared.checkpoint_refusal.CheckpointRefusal.TheVariants.{Checkpoint}
+use Rattle.sm_cluster.specs.Clusters.{ClusterValue}
+
+-- what the pass that makes a checkpoint, as it was before and is after, leaves and answers
+abbrev pub BasesOrRefuses : {Q : Type 0} → PassValue Q → ℕ → PassValue Q → Result Front CheckpointRefusal → Type 0
+BasesOrRefuses before shard after (Ok front) =
+    HasMadeCheckpoint before shard after × (kept after.seen shard ≡ [])
+    × (front ≡ record { shard = shard; generation = (record_of after shard).generation })
+BasesOrRefuses before shard after (Err (Checkpoint fault)) = CheckpointRefused before shard after fault
+BasesOrRefuses before shard after (Err refusal) = ⊥
+
+-- a new pass of the server, which had seen all that the control has, made the checkpoint or was refused
+pub record IsBasedBy {Q : Type 0} (cluster : ClusterValue Q) (shard server : ℕ) (result : Result Front CheckpointRefusal) : Type 0 where
+  pub before : PassValue Q
+  pub after : PassValue Q
+  pub board : before.board ≡ cluster.control.chair.board
+  pub server_is : before.server ≡ Some server
+  pub seen : Begins cluster.control.chair.seen before.seen
+  pub made : BasesOrRefuses before shard after result
