@@ -1,5 +1,5 @@
 -- What a closed board leaves to the clients that came back.
-use Rattle.std.proofs.Common.{◌≡◌, ◌<◌, ℕ, false, List, ◌++◌, length, arith, subst}
+use Rattle.std.proofs.Common.{◌≡◌, ℕ, false, List, ◌++◌, length, arith, subst}
 use Rattle.std.specs.Prelude.{All, Option, Some, slice_get}
 use mathlib.Core.Option.{some}
 use lib.ListN.{get_elem?}

@@ -5,7 +5,6 @@ use Rattle.sm_ownership.specs.declared.entry.Entry.{Entry}
 use Rattle.sm_ownership.specs.declared.record.Record.{Record}
 use Rattle.sm_ownership.specs.History.{IsLegal, NoneBy}
 use Rattle.sm_publish.specs.Publishing.{PublisherView}
-use Rattle.sm_rule.specs.declared.limits.Limits.{Limits}
 use Rattle.sm_rule.specs.Changes.{ChairValue}
 use Rattle.sm_rule.specs.Closing.{AreLeft}
 use Rattle.sm_rule.specs.Views.{Begins}

@@ -1,4 +1,6 @@
 //! The threads of a cluster: for each server a team of workers, which share an inbox.
+ghost use Rattle.std.specs.Prelude.{◌≢◌, IfErr};
+
 use crate::gate::Gate;
 use crate::message::Parcel;
 use crate::network::Network;
@@ -47,6 +49,7 @@ impl Team {
         S::Reply: 'static,
         G: Gate + Send + Sync + Drop + 'static,
         R: Threads + Wait + Clone + Send + Drop + 'static,
+        ensures { IfErr result (λ fault. fault ≢ StartFault.TooManyWorkers) }
     {
         let Ok(theirs) = rt.clone() else {
             return Err(StartFault::NoMemory);
@@ -83,6 +86,7 @@ impl Team {
         S::Reply: 'static,
         G: Gate + Send + Sync + Drop + 'static,
         R: Threads + Wait + Clone + Send + Drop + 'static,
+        ensures { IfErr result (λ fault. fault ≢ StartFault.TooManyWorkers) }
     {
         for _ in 0..workers {
             self.start_worker(rt, network, gate, parcels)?;
@@ -129,6 +133,7 @@ impl<S: Service> Crew<S> {
         S::Reply: 'static,
         G: Gate + Send + Sync + Drop + 'static,
         R: Threads + Wait + Clone + Send + Drop + 'static,
+        ensures { IfErr result (λ fault. fault ≢ StartFault.TooManyWorkers) }
     {
         for inbox in inboxes {
             self.teams.reserve(1)?;

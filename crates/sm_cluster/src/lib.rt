@@ -1,4 +1,15 @@
 //! Servers as threads: each request travels in a message through inboxes, and its reply brings home the history that has it.
+//!
+//! A worker serves a message's envelope by a new pass of its server:
+//!
+//! ```rust
+//! let envelope = Envelope::new(7, k, request, note);
+//! let answer = match serve(&board, &layout, &mut pass, envelope) {
+//!     Outcome::Answered(answer) => answer,
+//!     _ => return Err("not answered by the owner".into()),
+//! };
+//! assert_eq!(rt; (answer.number(), answer.place()), (7, 0));
+//! ```
 #![tactic(auto)]
 
 pub mod call_refused;

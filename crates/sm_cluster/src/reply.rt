@@ -10,9 +10,7 @@ ghost use Rattle.sm_cluster.specs.Replies.{Fits, HoldsReplies};
 use crate::LOOKS;
 use crate::call_refused::CallFault;
 use crossbeam_channel::protocol::{Lesson, Outcome, Protocol, Split};
-use crossbeam_channel::{
-    Pass, RecvError, RuledReceiver, RuledSender, TryRecvError, bounded_with,
-};
+use crossbeam_channel::{Pass, RecvError, RuledReceiver, RuledSender, TryRecvError, bounded_with};
 use sm_body::service::Service;
 use sm_envelope::envelope::Envelope;
 use sm_rule::note::Note;

@@ -106,6 +106,7 @@ fn parts_of<S: Service>(alloc: Global, setup: Setup, bodies: Vec<S>) -> Result<P
     requires initial { All (λ body. S.base body ≡ S.initial) bodies.items }
     requires before { All (λ body. S.before body ≡ 0) bodies.items }
     requires empty { All (λ body. S.requests body ≡ []) bodies.items }
+    ensures fault { IfErr result (λ fault. fault ≢ StartFault.TooManyWorkers) }
     ensures seen { IfOk result (λ parts. parts.control.chair.seen ≡ []) }
     ensures desk { IfOk result (λ parts. parts.control.desk ≡ setup.desk) }
     ensures count { IfOk result (λ parts. parts.control.chair.board.limits.count ≡ length bodies.items) }
@@ -170,6 +171,7 @@ where
     S::Request: 'static,
     S::Reply: 'static,
     requires { parts.control.chair.board ≡ arc_value parts.board }
+    ensures fault { IfErr result (λ fault. fault ≢ StartFault.TooManyWorkers) }
     ensures control { IfOk result (λ cluster. cluster.control ≡ parts.control) }
     ensures bounds { IfOk result (λ cluster. cluster.bounds ≡ (arc_value parts.network).layout) }
 {

@@ -1,8 +1,6 @@
-use Rattle.std.proofs.Common.{rules, ◌≡◌, ◌∙◌, ap, sym, subst}
-use Rattle.std.specs.Prelude.{ℕ, Some}
+use Rattle.std.proofs.Common.{rules, ◌≡◌}
 use Rattle.sm_body.specs.Service.{meaning_of}
 use Rattle.sm_rule.specs.Views.{Begins}
-use Rattle.sm_server.specs.Serving.{Sent}
 use Rattle.sm_cluster.specs.Replies.{IsAnswerTo}
 use Rattle.sm_cluster.proofs.Calling.{answers_for}
 use Rattle.sm_cluster.proofs.client.Client.send.Goals as goal

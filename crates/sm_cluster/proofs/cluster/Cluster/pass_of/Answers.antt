@@ -1,7 +1,12 @@
+use Rattle.std.proofs.Common.{subst}
+use Rattle.sm_rule.specs.Views.{Begins}
 use Rattle.sm_rule.specs.lemmas.Passing.{begins_begins, met_begins}
+use Rattle.sm_cluster.specs.Clusters.{ClusterValue}
 use Rattle.sm_cluster.proofs.cluster.Cluster.pass_of.Goals as goal
 
 pub returns-clause-seen : goal.returns-clause-seen
 returns-clause-seen g c =
-    begins_begins c.args.self.now.control.chair.seen c.note-note.result.seen c.meet.new.pass.seen c.note-note.ensures.seen
-    (met_begins c.note-note.result.number c.note-note.result.seen c.meet.new.pass.seen c.meet.ensures.met)
+    let note = c.note-note.result in
+    let seen = c.meet.new.pass.seen in
+    subst (λ (cluster : ClusterValue g.row.S-Request.Denot). Begins cluster.control.chair.seen seen) c.self.view_is
+    (begins_begins c.self.inside.control.chair.seen note.seen seen c.note-note.ensures.seen (met_begins note.number note.seen seen c.meet.ensures.met))
