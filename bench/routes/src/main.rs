@@ -1,15 +1,25 @@
-//! The counterpart of crates/bench_publish in Rust: reads of a map of 4,096 routes beside a publisher that never rests,
-//! by arc-swap (the publisher copies the map) and by a lock for readers and a writer.
+//! The counterpart of crates/bench_publish in Rust: reads of a map of 4,096 routes beside a publisher at the pace that it is given, by
+//! arc-swap (the publisher copies the map) and by a lock for readers and a writer; and look-ups of bounds alone.
 
 use arc_swap::ArcSwap;
 use std::hint::black_box;
 use std::sync::atomic::{AtomicBool, Ordering};
 use std::sync::{Arc, RwLock};
 use std::thread;
-use std::time::Instant;
+use std::time::{Duration, Instant};
 
 const SHARDS: u16 = 4096;
 const READS: u64 = 2_000_000;
+const LONG_BOUND: usize = 40;
+const FIRST_CHOICE: u64 = 88_172_645_463_325_252;
+
+/// How often the publisher publishes a route while routers read.
+#[derive(Clone, Copy, PartialEq)]
+enum Pace {
+    AtRest,
+    EachMillisecond,
+    NeverRests,
+}
 
 #[derive(Clone, Copy)]
 #[allow(dead_code)]
@@ -56,6 +66,18 @@ fn bound_of(shard: u16) -> [u8; 2] {
     shard.to_be_bytes()
 }
 
+/// The same with 38 bytes before it.
+fn long_bound_of(shard: u16) -> [u8; LONG_BOUND] {
+    let mut bound = [b'a'; LONG_BOUND];
+    bound[LONG_BOUND - 2..].copy_from_slice(&bound_of(shard));
+    bound
+}
+
+/// The bounds of all shards, which have the bytes of the long ones from this one on.
+fn bounds_of(from: usize) -> Vec<Vec<u8>> {
+    (0..SHARDS).map(|shard| if shard == 0 { Vec::new() } else { long_bound_of(shard)[from..].to_vec() }).collect()
+}
+
 fn next(state: u64) -> u64 {
     let state = state ^ (state << 13);
     let state = state ^ (state >> 7);
@@ -63,7 +85,7 @@ fn next(state: u64) -> u64 {
 }
 
 fn read_all(routes: &impl Routes, bounds: &[Vec<u8>]) -> (u64, u64) {
-    let (mut choice, mut found) = (88_172_645_463_325_252, 0);
+    let (mut choice, mut found) = (FIRST_CHOICE, 0);
     let start = Instant::now();
     for _ in 0..READS {
         choice = next(choice);
@@ -74,39 +96,74 @@ fn read_all(routes: &impl Routes, bounds: &[Vec<u8>]) -> (u64, u64) {
     (start.elapsed().as_nanos() as u64, found)
 }
 
-fn measure(routes: &impl Routes, readers: usize, bounds: &[Vec<u8>]) {
+fn look_up_all(bounds: &[Vec<u8>], from: usize) -> (u64, u64) {
+    let (mut choice, mut sum) = (FIRST_CHOICE, 0);
+    let start = Instant::now();
+    for _ in 0..READS {
+        choice = next(choice);
+        let key = long_bound_of((choice >> 40) as u16 & (SHARDS - 1));
+        let shard = bounds.partition_point(|bound| bound.as_slice() <= black_box(&key[from..])) - 1;
+        sum += shard as u64;
+    }
+    (start.elapsed().as_nanos() as u64, sum)
+}
+
+fn publish_until(routes: &impl Routes, pace: Pace, stop: &AtomicBool) -> u64 {
+    if pace == Pace::AtRest {
+        return 0;
+    }
+    let start = Instant::now();
+    for turn in 0.. {
+        if stop.load(Ordering::SeqCst) {
+            return turn;
+        }
+        if pace == Pace::EachMillisecond {
+            thread::sleep(Duration::from_millis(turn).saturating_sub(start.elapsed()));
+        }
+        routes.publish(Route { shard: (turn % u64::from(SHARDS)) as u16, server: 1, generation: 2 + turn / u64::from(SHARDS) });
+    }
+    unreachable!()
+}
+
+fn measure(routes: &impl Routes, readers: usize, pace: Pace) {
+    let bounds = &bounds_of(LONG_BOUND - 2);
     for shard in 0..SHARDS {
         routes.publish(Route { shard, server: 1, generation: 1 });
     }
     let stop = AtomicBool::new(false);
     thread::scope(|scope| {
-        scope.spawn(|| {
-            for generation in 2.. {
-                for shard in 0..SHARDS {
-                    if stop.load(Ordering::SeqCst) {
-                        return;
-                    }
-                    routes.publish(Route { shard, server: 1, generation });
-                }
-            }
-        });
+        let publisher = scope.spawn(|| publish_until(routes, pace, &stop));
         let threads: Vec<_> = (0..readers).map(|_| scope.spawn(|| read_all(routes, bounds))).collect();
-        for thread in threads {
-            let (nanoseconds, found) = thread.join().unwrap();
-            println!("{} {}", nanoseconds / (READS / 1000), found);
-        }
+        let reads: Vec<_> = threads.into_iter().map(|thread| thread.join().unwrap()).collect();
         stop.store(true, Ordering::SeqCst);
+        let published = publisher.join().unwrap();
+        for (nanoseconds, found) in reads {
+            println!("{} {} {}", nanoseconds / (READS / 1000), found, published);
+        }
     });
+}
+
+fn pace_of(word: &str) -> Pace {
+    match word {
+        "rest" => Pace::AtRest,
+        "millisecond" => Pace::EachMillisecond,
+        "always" => Pace::NeverRests,
+        _ => panic!("rest, millisecond or always"),
+    }
 }
 
 fn main() {
     let words: Vec<String> = std::env::args().collect();
-    let readers = words[2].parse().expect("a number of readers");
-    let bounds: Vec<Vec<u8>> = (0..SHARDS).map(|shard| if shard == 0 { Vec::new() } else { bound_of(shard).to_vec() }).collect();
     let map: Map = vec![None; usize::from(SHARDS)];
+    let number = |at: usize| words[at].parse().expect("a number");
     match words[1].as_str() {
-        "arc-swap" => measure(&Swapped(ArcSwap::from_pointee(map)), readers, &bounds),
-        "lock" => measure(&Locked(RwLock::new(map)), readers, &bounds),
-        _ => panic!("arc-swap or lock"),
+        "arc-swap" => measure(&Swapped(ArcSwap::from_pointee(map)), number(2), pace_of(&words[3])),
+        "lock" => measure(&Locked(RwLock::new(map)), number(2), pace_of(&words[3])),
+        "bounds" => {
+            let from = LONG_BOUND - number(2);
+            let (nanoseconds, sum) = look_up_all(&bounds_of(from), from);
+            println!("{} {}", nanoseconds / (READS / 1000), sum);
+        }
+        _ => panic!("arc-swap, lock or bounds"),
     }
 }

@@ -1,6 +1,8 @@
-//! Times the reads of a published map of 4,096 shards beside a publisher that never rests, for the number of readers that it
-//! is given. Without one it only says how it is run, so that its output is the same each time.
+//! Times the reads of a published map of 4,096 shards beside a publisher at the pace that it is given, or the look-ups of a
+//! layout alone. Without arguments it only says how it is run, so that its output is the same each time.
 #![tactic(auto)]
+
+ghost use Rattle.std.specs.Prelude.{◌≤◌, ◌<◌};
 
 use sm_ownership::route::Route;
 use sm_publish::publisher::Publisher;
@@ -14,7 +16,7 @@ use std::rt::Clock;
 use std::sync::Wait;
 use std::sync::atomic::{AtomicBool, Ordering};
 use std::thread::Threads;
-use std::time::Instant;
+use std::time::{Duration, Instant};
 use std::{env, io, thread};
 
 const SHARDS: u16 = 4096;
@@ -22,6 +24,29 @@ const SHARDS: u16 = 4096;
 const MOST_READERS: usize = 8;
 
 const READS: u64 = 2_000_000;
+
+const LONG_BOUND: usize = 40;
+
+const FIRST_CHOICE: u64 = 88_172_645_463_325_252;
+
+/// How often the publisher publishes a route while routers read.
+#[derive(Clone, Copy)]
+enum Pace {
+    AtRest,
+    EachMillisecond,
+    NeverRests,
+}
+
+/// What is timed.
+#[derive(Clone, Copy)]
+enum Task {
+    /// The reads of so many routers beside a publisher.
+    Reads { readers: usize, pace: Pace },
+    /// The look-ups of a layout with bounds of 2 bytes.
+    ShortBounds,
+    /// The same with bounds of 40 bytes that differ in the last two.
+    LongBounds,
+}
 
 /// A router, the state of its pseudo-random choice of keys, and what it has measured.
 #[derive(Drop)]
@@ -35,6 +60,15 @@ struct Reader {
 /// The lower bound of a shard's keys.
 fn bound_of(shard: u16) -> [u8; 2] {
     [(shard >> 8) as u8, (shard & 255) as u8]
+}
+
+/// The same with 38 bytes before it.
+fn long_bound_of(shard: u16) -> [u8; LONG_BOUND] {
+    let [high, low] = bound_of(shard);
+    let mut bound = [b'a'; LONG_BOUND];
+    bound[LONG_BOUND - 2] = high;
+    bound[LONG_BOUND - 1] = low;
+    bound
 }
 
 /// The next state of a pseudo-random choice (xorshift64).
@@ -70,41 +104,90 @@ fn read_all<R: Clock>(rt: &R, reader: &mut Reader, layout: &Layout) -> io::Resul
     Ok(())
 }
 
-/// Publishes newer routes of all shards in turn until it is told to stop.
-fn publish_until<R: Wait>(rt: &R, publisher: &mut Publisher, stop: &AtomicBool) -> u64 {
-    for generation in 2..u64::MAX {
-        for shard in 0..SHARDS {
-            if stop.load(Ordering::SeqCst) {
-                return generation;
-            }
-            if let Some(route) = route_of(shard, generation) {
-                let _refused = publisher.publish(rt, route).is_err();
-            }
-        }
+/// Looks up keys chosen at random, which are the bounds from this byte on, and answers the nanoseconds and the sum of the
+/// shards' numbers.
+fn look_up_all<R: Clock>(rt: &R, layout: &Layout, from: usize) -> io::Result<(u64, u64)>
+    requires { from ≤ 40 }
+{
+    let mut choice = FIRST_CHOICE;
+    let mut sum = 0u64;
+    let start = Instant::now(rt)?;
+    for _ in 0..READS {
+        choice = next(choice);
+        let key = long_bound_of(((choice >> 40) & 4095) as u16);
+        let shard = layout.shard_of(&key[from..]);
+        sum = sum.wrapping_add(u64::from(shard.number()));
     }
-    u64::MAX
+    let nanoseconds = u64::try_from(start.elapsed(rt)?.as_nanos()).unwrap_or(u64::MAX);
+    Ok((nanoseconds, sum))
 }
 
-/// The layout of all shards.
-fn layout_of(alloc: Global) -> Option<Layout> {
-    let mut bounds: Vec<[u8; 2]> = Vec::new(alloc);
-    for shard in 0..SHARDS {
-        bounds.push(bound_of(shard)).ok()?;
+/// Sleeps until so many milliseconds have passed since the start.
+fn sleep_until<R: Clock>(rt: &R, start: Instant, milliseconds: u64) -> io::Result<()> {
+    let due = Duration::from_millis(milliseconds);
+    thread::sleep(rt, due.saturating_sub(start.elapsed(rt)?));
+    Ok(())
+}
+
+/// Publishes newer routes of all shards in turn until it is told to stop, and answers how many.
+fn publish_until<R: Clock + Wait>(
+    rt: &R,
+    publisher: &mut Publisher,
+    pace: Pace,
+    stop: &AtomicBool,
+) -> io::Result<u64> {
+    if let Pace::AtRest = pace {
+        return Ok(0);
     }
+    let start = Instant::now(rt)?;
+    for turn in 0..u64::MAX {
+        if stop.load(Ordering::SeqCst) {
+            return Ok(turn);
+        }
+        if let Pace::EachMillisecond = pace {
+            sleep_until(rt, start, turn)?;
+        }
+        let shard = (turn % SHARDS as u64) as u16;
+        if let Some(route) = route_of(shard, 2 + turn / SHARDS as u64) {
+            let _refused = publisher.publish(rt, route).is_err();
+        }
+    }
+    Ok(u64::MAX)
+}
+
+/// The bounds of all shards, of 40 bytes.
+fn bounds_of(alloc: Global) -> Result<Vec<[u8; LONG_BOUND]>, AllocError> {
+    let mut bounds = Vec::with_capacity(alloc, SHARDS as usize)?;
+    for shard in 0..SHARDS {
+        bounds.push(long_bound_of(shard))?;
+    }
+    Ok(bounds)
+}
+
+/// The layout of all shards, whose bounds have the bytes from this one on.
+fn layout_of(alloc: Global, from: usize) -> Option<Layout>
+    requires { from ≤ 40 }
+{
+    let bounds = bounds_of(alloc).ok()?;
     let mut slices: Vec<&[u8]> = Vec::new(alloc);
     for bound in bounds.iter() {
         slices
-            .push(if slices.is_empty() { b"" } else { &bound[..] })
+            .push(if slices.is_empty() {
+                b""
+            } else {
+                &bound[from..]
+            })
             .ok()?;
     }
     Layout::new(alloc, &slices).ok()
 }
 
-/// Publishes every shard once, and then reads with all readers beside the publisher; false where a call was refused.
+/// Publishes every shard once, reads with all readers beside the publisher, and answers how many routes were published meanwhile.
 fn measure<R: Threads + Sync + Clock + Wait>(
     rt: &R,
     publisher: &mut Publisher,
     readers: &mut [Reader],
+    pace: Pace,
     layout: &Layout,
 ) -> u64 {
     for shard in 0..SHARDS {
@@ -113,9 +196,9 @@ fn measure<R: Threads + Sync + Clock + Wait>(
         }
     }
     let stop = AtomicBool::new(false);
-    let (rounds, ()) = thread::join(
+    let (published, ()) = thread::join(
         rt,
-        || publish_until(rt, publisher, &stop),
+        || publish_until(rt, publisher, pace, &stop).unwrap_or(u64::MAX),
         || {
             thread::for_each_mut(
                 rt,
@@ -128,7 +211,7 @@ fn measure<R: Threads + Sync + Clock + Wait>(
             stop.store(true, Ordering::SeqCst);
         },
     );
-    rounds
+    published
 }
 
 /// A reader with each router.
@@ -137,7 +220,7 @@ fn readers_of(alloc: Global, routers: Vec<Router>) -> Result<Vec<Reader>, AllocE
     for router in routers {
         readers.push(Reader {
             router,
-            choice: 88_172_645_463_325_252,
+            choice: FIRST_CHOICE,
             found: 0,
             nanoseconds: 0,
         })?;
@@ -145,40 +228,95 @@ fn readers_of(alloc: Global, routers: Vec<Router>) -> Result<Vec<Reader>, AllocE
     Ok(readers)
 }
 
-/// The number of readers that the command line asks for.
-fn asked(rt: &HostRuntime) -> io::Result<Option<usize>> {
-    let Some(word) = env::args(rt)?.nth(1) else {
-        return Ok(None);
-    };
-    Ok(word.parse().ok())
+/// The pace that a word names.
+fn pace_of(word: &str) -> Option<Pace> {
+    match word {
+        "rest" => Some(Pace::AtRest),
+        "millisecond" => Some(Pace::EachMillisecond),
+        "always" => Some(Pace::NeverRests),
+        _ => None,
+    }
 }
 
-fn main(rt: HostRuntime) -> anyhow::Result<ExitCode> {
-    let alloc = rt.alloc();
-    let readers = asked(&rt)?.unwrap_or(0);
-    if readers == 0 || readers > MOST_READERS {
-        println!(rt; "usage: bench_publish READERS, 1 to {MOST_READERS}")?;
-        return Ok(ExitCode::SUCCESS);
+/// What the command line asks for.
+fn asked(rt: &HostRuntime) -> io::Result<Option<Task>> {
+    let mut words = env::args(rt)?.skip(1);
+    let (Some(first), Some(second)) = (words.next(), words.next()) else {
+        return Ok(None);
+    };
+    Ok(match first.as_str() {
+        "bounds" if second.as_str() == "2" => Some(Task::ShortBounds),
+        "bounds" if second.as_str() == "40" => Some(Task::LongBounds),
+        _ => reads_of(&first, &second),
+    })
+}
+
+fn reads_of(readers: &str, pace: &str) -> Option<Task> {
+    Some(Task::Reads {
+        readers: readers.parse().ok()?,
+        pace: pace_of(pace)?,
+    })
+}
+
+/// Times the look-ups, and prints picoseconds and the sum of the shards.
+fn time_look_ups(rt: &HostRuntime, from: usize) -> anyhow::Result<ExitCode>
+    requires { from ≤ 40 }
+{
+    let Some(layout) = layout_of(rt.alloc(), from) else {
+        return Ok(ExitCode::FAILURE);
+    };
+    let (nanoseconds, sum) = look_up_all(rt, &layout, from)?;
+    println!(rt; "{} {}", nanoseconds / (READS / 1000), sum)?;
+    Ok(ExitCode::SUCCESS)
+}
+
+/// Times the reads of 1 to 8 readers, and answers the readers, and how many routes were published meanwhile.
+fn time_reads<R: Threads + Sync + Clock + Wait>(
+    rt: &R,
+    alloc: Global,
+    count: usize,
+    pace: Pace,
+) -> Option<(Vec<Reader>, u64)> {
+    if count == 0 || count > MOST_READERS {
+        return None;
     }
-    let Some(layout) = layout_of(alloc) else {
-        return Ok(ExitCode::FAILURE);
+    let layout = layout_of(alloc, LONG_BOUND - 2)?;
+    let (mut publisher, routers) = Publisher::new(rt, alloc, SHARDS as usize, count).ok()?;
+    let Ok(mut readers) = readers_of(alloc, routers) else {
+        publisher.end(rt);
+        return None;
     };
-    let Ok((mut publisher, routers)) = Publisher::new(&rt, alloc, SHARDS as usize, readers) else {
-        return Ok(ExitCode::FAILURE);
-    };
-    let Ok(mut all) = readers_of(alloc, routers) else {
-        publisher.end(&rt);
-        return Ok(ExitCode::FAILURE);
-    };
-    let rounds = measure(&rt, &mut publisher, &mut all, &layout);
-    publisher.end(&rt);
-    for reader in all.iter() {
+    let published = measure(rt, &mut publisher, &mut readers, pace, &layout);
+    publisher.end(rt);
+    Some((readers, published))
+}
+
+/// Prints for each reader picoseconds, how many routes it found, and how many were published meanwhile.
+fn print_reads(rt: &HostRuntime, readers: &[Reader], published: u64) -> anyhow::Result<()> {
+    for reader in readers {
         println!(rt;
             "{} {} {}",
             reader.nanoseconds / (READS / 1000),
             reader.found,
-            rounds
+            published
         )?;
+    }
+    Ok(())
+}
+
+fn main(rt: HostRuntime) -> anyhow::Result<ExitCode> {
+    match asked(&rt)? {
+        Some(Task::Reads { readers, pace }) => {
+            let Some((readers, published)) = time_reads(&rt, rt.alloc(), readers, pace) else {
+                return Ok(ExitCode::FAILURE);
+            };
+            print_reads(&rt, &readers, published)?;
+        }
+        Some(Task::ShortBounds) => return time_look_ups(&rt, LONG_BOUND - 2),
+        Some(Task::LongBounds) => return time_look_ups(&rt, 0),
+        None => {
+            println!(rt; "usage: bench_publish READERS rest|millisecond|always, or bounds 2|40")?;
+        }
     }
     Ok(ExitCode::SUCCESS)
 }
