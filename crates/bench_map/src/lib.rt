@@ -95,9 +95,9 @@ fn written_over(
 fn lengthened(alloc: Global, keys: &[u8], texts: &[u8], order: &[u32]) -> Result<u64, AllocError> {
     let mut map = map_of(alloc, keys, texts)?;
     for at in order {
-        let key = row(keys, KEY_BYTES, *at);
-        if let Some(Val::Text(_)) = map.get(key) {
-            map.append(key, row(texts, TEXT_BYTES, *at))?;
+        let position = map.locate(row(keys, KEY_BYTES, *at));
+        if let Some(Val::Text(_)) = map.get_at(position) {
+            map.append_at(position, row(texts, TEXT_BYTES, *at))?;
         }
     }
     Ok(sum_of(&map, keys))

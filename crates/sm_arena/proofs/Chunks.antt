@@ -2,7 +2,7 @@
 use Rattle.std.proofs.Common.{◌≡◌, ℕ, zero, suc, ◌+◌, ◌*◌, ◌^◌, ◌<◌, ◌≤◌, ◌-◌, List, [], ◌∷◌, ◌++◌, length, take, drop, get_or, set, replicate, refl, sym, ap, subst, ◌∙◌, arith, inl, inr, ◌⊎◌}
 use Rattle.std.proofs.Math.Seq.{drop-append_seam, take-add}
 use Rattle.std.proofs.lemmas.Bool.{cases_lt}
-use Rattle.std.proofs.lemmas.List.{append-nil, append_assoc, length-append, length-set, length-take, length-drop, length-map, take-append-le, drop-append-le, drop-drop, drop-take, take-take, set-set, set-get_or, map-append, map-set, get_or-map, get_or-set_same, get_or-set_other}
+use Rattle.std.proofs.lemmas.List.{append-nil, append_assoc, length-append, length-set, length-take, length-drop, length-map, take-append-le, drop-append-le, drop-drop, drop-take, take-take, set-set, set-get_or, map-append, map-set, get_or-map, get_or-take, get_or-append_right, get_or-set_same, get_or-set_other, set-append_right, take-map}
 use Rattle.std.proofs.lemmas.List.Sums.{sum_by-cons, sum_by-append, sum_by-set}
 use Rattle.std.proofs.lemmas.List.Folds.{sum_by-replicate}
 use Rattle.sm_arena.specs.declared.span.Span.{Span}
@@ -128,6 +128,19 @@ module _ (old : List Block) (place : ℕ) (piece : List ℕ) (inside : place < l
     room = room;
     sizes = map-set (λ (b : Block). b.size) old place block' ∙ (ap (λ (n : ℕ). set (sizes_in old) place n) (size ∙ sym was_size) ∙ set-get_or (sizes_in old) place 0);
   }
+
+-- what lies in an earlier block
+pub reads_earlier : (blocks : List Block) (place : ℕ) (s : Span) → s.chunk < place → bytes_at (chunks_in (take place blocks)) s ≡ bytes_at (chunks_in blocks) s
+reads_earlier blocks place s lt =
+    ap (λ (l : List ℕ). take s.length (drop s.start l)) (ap (λ (l : List (List ℕ)). get_or l s.chunk []) (sym (take-map (λ (b : Block). b.chunk.bytes) place blocks)) ∙ get_or-take place (chunks_in blocks) s.chunk [] lt)
+
+-- a piece is written into the first block behind so many others
+pub fills_behind : (old front back : List Block) (place : ℕ) (piece : List ℕ) (block block' : Block) → old ≡ front ++ back → length front ≡ place → place < length old → get_or back 0 block ≡ block → block'.chunk.bytes ≡ block.chunk.bytes ++ piece → block'.size ≡ block.size → IsFilled old place piece (front ++ set back 0 block')
+fills_behind old front back place piece block block' split count inside at bytes size =
+    let none : place - place ≡ 0 = omega arith in
+    let read : get_or old place block ≡ block = ap (λ (l : List Block). get_or l place block) split ∙ (get_or-append_right front back place place block count (omega arith) ∙ (ap (λ (n : ℕ). get_or back n block) none ∙ at)) in
+    let here : set old place block' ≡ front ++ set back 0 block' = ap (λ (l : List Block). set l place block') split ∙ (set-append_right front back place place block' count (omega arith) ∙ ap (λ (n : ℕ). front ++ set back n block') none) in
+    subst (λ (l : List Block). IsFilled old place piece l) here (fills old place piece inside block block' read bytes size)
 
 pub fills_nothing : (old : List Block) (place : ℕ) → IsFilled old place [] old
 fills_nothing old place = record {

@@ -130,11 +130,7 @@ impl Blocks {
         requires { length (bytes_at (chunks_in self.now.blocks.items) span) ≡ span.length }
         ensures { result.now ≡ bytes_at (chunks_in self.now.blocks.items) span }
     {
-        if span.length == 0 {
-            return &[];
-        }
-        let start = span.start as usize;
-        &self.blocks[span.chunk as usize].bytes()[start..start + span.length as usize]
+        piece_in(&self.blocks, span)
     }
 
     // How many bytes are written in a block.
@@ -160,13 +156,17 @@ impl Blocks {
         }
     }
 
-    // Writes the bytes at a span once more, into a block that has room for them: part by part, as the span may lie in
-    // that very block.
+    // Writes the bytes at a span once more, into a block that has room for them: at once from an earlier block, and else part
+    // by part, as the span may lie in that very block.
     fn copy(&mut self, span: Span, place: u32)
         requires inside { length (bytes_at (chunks_in self.old.blocks.items) span) ≡ span.length }
         requires room { HasSpace self.old.blocks.items place span.length }
         ensures { IsFilled self.old.blocks.items place (bytes_at (chunks_in self.old.blocks.items) span) self.new.blocks.items }
     {
+        if span.chunk < place {
+            copy_up(&mut self.blocks, span, place);
+            return;
+        }
         let mut copied = 0;
         while copied < span.length {
             let part = Span {
@@ -240,6 +240,29 @@ impl Blocks {
         self.least = next_least(self.least, size);
         Ok(())
     }
+}
+
+// The bytes at a span inside the blocks.
+fn piece_in(blocks: &[Block], span: Span) -> &[u8]
+    requires { length (bytes_at (chunks_in blocks.now) span) ≡ span.length }
+    ensures { result.now ≡ bytes_at (chunks_in blocks.now) span }
+{
+    if span.length == 0 {
+        return &[];
+    }
+    let start = span.start as usize;
+    &blocks[span.chunk as usize].bytes()[start..start + span.length as usize]
+}
+
+// Writes the bytes at a span of an earlier block into a block that has room for them.
+fn copy_up(blocks: &mut [Block], span: Span, place: u32)
+    requires inside { length (bytes_at (chunks_in blocks.old) span) ≡ span.length }
+    requires room { HasSpace blocks.old place span.length }
+    requires earlier { span.chunk < place }
+    ensures { IsFilled blocks.old place (bytes_at (chunks_in blocks.old) span) blocks.new }
+{
+    let (before, rest) = blocks.split_at_mut(place as usize);
+    rest[0].write(piece_in(before, span));
 }
 
 // The least of the sizes of blocks that holds so many bytes, or just so many where none does.

@@ -7,3 +7,4 @@ pub mod Entries
 pub mod Search
 pub mod Indexes
 pub mod Edits
+mod Positions

@@ -9,3 +9,4 @@ pub mod Places
 pub mod Blocks
 pub mod Index
 pub mod Kept
+pub mod Position

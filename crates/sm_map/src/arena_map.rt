@@ -7,12 +7,14 @@ ghost use Rattle.sm_map.specs.KeyMap.{held_at, holding, without, within, text_of
 ghost use Rattle.sm_map.specs.KeyMap.{Text as HeldText};
 ghost use Rattle.sm_map.specs.ArenaMap.{IsRewrite, IsRemoval, IsAddition};
 ghost use Rattle.sm_map.specs.Blocks.{number_of, HasEntry, IsGap, IsStop};
+ghost use Rattle.sm_map.specs.Position.{IsPositionIn};
 ghost use Rattle.sm_map.specs.Val.{held_of, row_of};
 
 use crate::block::MOST_ENTRIES;
 use crate::entry::Entry;
 use crate::index::Index;
 use crate::place::Place;
+use crate::position::Position;
 use crate::slot::Slot;
 use crate::val::Val;
 use sm_arena::arena::Arena;
@@ -96,7 +98,26 @@ impl ArenaMap {
     pub fn get(&self, key: &[u8]) -> Option<Val<'_>>
         ensures { option_map held_of result ≡ held_at self.now.pairs key.now }
     {
-        match self.find(key) {
+        self.get_at(self.locate(key))
+    }
+
+    /// Where the pair of the key stands, or would go, so that several calls for one key search for it once.
+    pub fn locate<'k>(&self, key: &'k [u8]) -> Position<'k>
+        ensures position { IsPositionIn self.now result }
+        ensures key { result.key.now ≡ key.now }
+    {
+        Position {
+            key,
+            place: self.find(key),
+        }
+    }
+
+    /// What the key at the position holds, or none where it holds nothing.
+    pub fn get_at(&self, position: Position<'_>) -> Option<Val<'_>>
+        requires { IsPositionIn self.now position }
+        ensures { option_map held_of result ≡ held_at self.now.pairs position.entry.key.now }
+    {
+        match position.place {
             Ok(place) => Some(self.pair_at(place).1),
             Err(_) => None,
         }
@@ -112,9 +133,24 @@ impl ArenaMap {
         ensures dead { OnOk result (self.new.dead ≡ self.old.dead + length (text_at self.old.pairs key.now)) }
         ensures err { OnErr result (self.new ≡ self.old) }
     {
-        match self.find(key) {
+        let position = self.locate(key);
+        self.put_at(position, value)
+    }
+
+    /// Makes the key at the position hold the value, as [`ArenaMap::put`] does.
+    ///
+    /// # Errors
+    ///
+    /// `AllocError` where memory is refused, or key and text have 2^32 bytes or more; the map is then as it was.
+    pub fn put_at(&mut self, position: Position<'_>, value: Val<'_>) -> Result<(), AllocError>
+        requires { IsPositionIn self.old position }
+        ensures ok { OnOk result (self.new.pairs ≡ holding self.old.pairs position.entry.key.now (held_of value.entry)) }
+        ensures dead { OnOk result (self.new.dead ≡ self.old.dead + length (text_at self.old.pairs position.entry.key.now)) }
+        ensures err { OnErr result (self.new ≡ self.old) }
+    {
+        match position.place {
             Ok(place) => self.write_at(place, value),
-            Err(place) => self.insert_at(place, key, value),
+            Err(place) => self.insert_at(place, position.key, value),
         }
     }
 
@@ -129,8 +165,24 @@ impl ArenaMap {
         ensures dead { OnOk result (self.new.dead ≡ self.old.dead + length (text_at self.old.pairs key.now)) }
         ensures err { OnErr result (self.new ≡ self.old) }
     {
-        match self.find(key) {
-            Ok(place) => self.append_at(place, tail),
+        let position = self.locate(key);
+        self.append_at(position, tail)
+    }
+
+    /// Makes the key at the position, which holds a text, hold that text followed by the tail, as [`ArenaMap::append`] does.
+    ///
+    /// # Errors
+    ///
+    /// `AllocError` where memory is refused, or the whole text has 2^32 bytes or more; the map is then as it was.
+    pub fn append_at(&mut self, position: Position<'_>, tail: &[u8]) -> Result<(), AllocError>
+        requires position { IsPositionIn self.old position }
+        requires text { HoldsText self.old.pairs position.key.now }
+        ensures ok { OnOk result (self.new.pairs ≡ holding self.old.pairs position.entry.key.now (HeldText (text_at self.old.pairs position.entry.key.now ++ tail.now))) }
+        ensures dead { OnOk result (self.new.dead ≡ self.old.dead + length (text_at self.old.pairs position.entry.key.now)) }
+        ensures err { OnErr result (self.new ≡ self.old) }
+    {
+        match position.place {
+            Ok(place) => self.lengthen_at(place, tail),
             Err(_) => unreachable!(),
         }
     }
@@ -260,7 +312,7 @@ impl ArenaMap {
     }
 
     // Writes its text followed by the tail over the text of the pair at a place.
-    fn append_at(&mut self, place: Place, tail: &[u8]) -> Result<(), AllocError>
+    fn lengthen_at(&mut self, place: Place, tail: &[u8]) -> Result<(), AllocError>
         requires entry { HasEntry self.old.blocks place }
         requires text { HoldsAt (λ pair. IsText pair.value) self.old.pairs (number_of self.old.blocks place) }
         ensures ok { OnOk result (HoldsAt (λ pair. IsRewrite self.old (number_of self.old.blocks place) pair (HeldText (text_of (Some pair.value) ++ tail.now)) self.new) self.old.pairs (number_of self.old.blocks place)) }

@@ -15,9 +15,11 @@ mod block;
 mod entry;
 mod index;
 mod place;
+pub mod position;
 mod room;
 mod slot;
 pub mod val;
 
 pub use arena_map::ArenaMap;
+pub use position::Position;
 pub use val::Val;

@@ -131,13 +131,14 @@ fn put(map: &mut ArenaMap, key: &Key, text: &Bytes) -> Result<Reply, AllocError>
     ensures after { OnOk result (map.new.pairs ≡ after map.old.pairs (Request.Put key.now text.now)) }
     ensures err { OnErr result (map.new ≡ map.old) }
 {
-    if let Some(Val::Count(_)) = map.get(key.as_bytes()) {
+    let position = map.locate(key.as_bytes());
+    if let Some(Val::Count(_)) = map.get_at(position) {
         return Ok(Reply::WrongKind);
     }
     if text.as_bytes().len() > MAX_TEXT {
         return Ok(Reply::TooLong);
     }
-    map.put(key.as_bytes(), Val::Text(text.as_bytes()))?;
+    map.put_at(position, Val::Text(text.as_bytes()))?;
     Ok(Reply::Done)
 }
 
@@ -146,7 +147,8 @@ fn inc(map: &mut ArenaMap, key: &Key, amount: i64) -> Result<Reply, AllocError>
     ensures after { OnOk result (map.new.pairs ≡ after map.old.pairs (Request.Inc key.now amount)) }
     ensures err { OnErr result (map.new ≡ map.old) }
 {
-    let sum = match map.get(key.as_bytes()) {
+    let position = map.locate(key.as_bytes());
+    let sum = match map.get_at(position) {
         None => amount,
         Some(Val::Text(_)) => return Ok(Reply::WrongKind),
         Some(Val::Count(count)) => match sum_of(count, amount) {
@@ -154,7 +156,7 @@ fn inc(map: &mut ArenaMap, key: &Key, amount: i64) -> Result<Reply, AllocError>
             Some(sum) => sum,
         },
     };
-    map.put(key.as_bytes(), Val::Count(sum))?;
+    map.put_at(position, Val::Count(sum))?;
     Ok(Reply::Count(sum))
 }
 
@@ -163,7 +165,8 @@ fn append(map: &mut ArenaMap, key: &Key, tail: &Bytes) -> Result<Reply, AllocErr
     ensures after { OnOk result (map.new.pairs ≡ after map.old.pairs (Request.Append key.now tail.now)) }
     ensures err { OnErr result (map.new ≡ map.old) }
 {
-    let length = match map.get(key.as_bytes()) {
+    let position = map.locate(key.as_bytes());
+    let length = match map.get_at(position) {
         None => return put(map, key, tail),
         Some(Val::Count(_)) => return Ok(Reply::WrongKind),
         Some(Val::Text(text)) => text.len(),
@@ -171,7 +174,7 @@ fn append(map: &mut ArenaMap, key: &Key, tail: &Bytes) -> Result<Reply, AllocErr
     if length + tail.as_bytes().len() > MAX_TEXT {
         return Ok(Reply::TooLong);
     }
-    map.append(key.as_bytes(), tail.as_bytes())?;
+    map.append_at(position, tail.as_bytes())?;
     Ok(Reply::Done)
 }
 

@@ -62,6 +62,20 @@ fn puts_gets_and_removes(rt: HostRuntime) -> Result<(), Fail> {
 }
 
 #[test]
+fn one_search_serves_several_calls(rt: HostRuntime) -> Result<(), Fail> {
+    let mut map = ArenaMap::new(rt.alloc());
+    let position = map.locate(b"a");
+    assert_eq!(rt; map.get_at(position), None);
+    map.put_at(position, Val::Text(b"x"))?;
+    let position = map.locate(b"a");
+    if let Some(Val::Text(_)) = map.get_at(position) {
+        map.append_at(position, b"y")?;
+    }
+    assert_eq!(rt; map.get(b"a"), Some(Val::Text(b"xy")));
+    Ok(())
+}
+
+#[test]
 fn arena_and_rebuild(rt: HostRuntime) -> Result<(), Fail> {
     let mut map = ArenaMap::new(rt.alloc());
     made(&mut map, Step::Put(b"a", Val::Text(b"x")))?;

@@ -1,38 +1,31 @@
-use Rattle.std.proofs.Common.{◌≡◌, ◌++◌, Some, subst}
-use Rattle.std.specs.List.{HoldsAt}
+use Rattle.std.proofs.Common.{Some, [], ◌++◌}
 use Rattle.sm_map.specs.KeyMap.{Pair, text_of}
-use Rattle.sm_map.specs.ArenaMap.{MapValue, IsRewrite}
 use Rattle.sm_map.specs.KeyMap.{Text as HeldText}
-use Rattle.sm_map.specs.Entry.{pair_of}
-use Rattle.sm_map.specs.Blocks.{entries_in, number_of}
-use Rattle.sm_map.proofs.Entries.{slot_readable, pair_there}
-use Rattle.sm_map.proofs.Blocks.{number_inside}
-use Rattle.sm_map.proofs.Edits.{old_forgettable, rewrite_kept, lengthened, kept_by, same_map, through}
+use Rattle.sm_map.proofs.KeyMaps.{rewrite_holds, rewrite_dead, held_here, text_here, held_nowhere}
+use Rattle.sm_map.proofs.Positions.{place_there, gap_there}
 use Rattle.sm_map.proofs.arena_map.ArenaMap.append_at.Goals as goal
 
-pub concat-requires-clause-readable : goal.concat-requires-clause-readable
-concat-requires-clause-readable c = slot_readable _ _ (number_inside c.self.inside.index.blocks c.args.place (rw (← c.self.view_is) at c.requires.entry)) _ c.entry-before.ensures _ c.self.invariant
-
-pub concat-requires-clause-text : goal.concat-requires-clause-text
-concat-requires-clause-text c =
-    let within = number_inside c.self.inside.index.blocks c.args.place (rw (← c.self.view_is) at c.requires.entry) in
-    let there = pair_there (entries_in c.self.inside.index.blocks) _ within _ c.entry-before.ensures c.self.inside.arena.placed in
-    let text = rw (← c.self.view_is) at c.requires.text in
-    let pair = pair_of c.self.inside.arena.placed c.entry-before.result in
-    subst (λ (p : Pair). p.value ≡ HeldText (text_of (Some p.value))) (there pair) (text pair)
-
-pub forget-requires : goal.forget-requires
-forget-requires c =
-    let within = number_inside c.self.inside.index.blocks c.args.place (rw (← c.self.view_is) at c.requires.entry) in
-    old_forgettable _ _ c.self.invariant _ within _ c.entry-before.ensures _ _ c.in_ok-slot.ensures.stored
-
-pub invariant_of-self-2 : goal.invariant_of-self-2
-invariant_of-self-2 c =
-    let within = number_inside c.self.inside.index.blocks c.args.place (rw (← c.self.view_is) at c.requires.entry) in
-    kept_by _ _ _ _ c.forget.ensures c.set.ensures (rewrite_kept _ _ c.self.invariant _ within _ c.entry-before.ensures _ _ c.in_ok-slot.ensures.stored)
+pub lengthen_at-requires-clause-text : goal.lengthen_at-requires-clause-text
+lengthen_at-requires-clause-text c d =
+    let there = place_there _ c.args.position c.requires.position _ c.in-Ok.is in
+    let held = held_here _ _ c.requires.position.rising _ there.1 d in
+    let text = text_here _ _ c.requires.position.rising _ there.1 d in
+    cc
 
 pub returns-clause-ok : goal.returns-clause-ok
 returns-clause-ok c =
-    let within = number_inside c.self.inside.index.blocks c.args.place (rw (← c.self.view_is) at c.requires.entry) in
-    through (λ (old new : MapValue). HoldsAt (λ (pair : Pair). IsRewrite old (number_of old.blocks c.args.place) pair (HeldText (text_of (Some pair.value) ++ c.args.tail.now)) new) old.pairs (number_of old.blocks c.args.place)) _ _ _ _ c.self.view_is (same_map _ _ _ _ _ c.forget.ensures c.set.ensures)
-    (lengthened _ _ c.self.invariant _ within _ c.entry-before.ensures _ _ c.in_ok-slot.ensures.stored _ _ _ c.in_ok-slot.ensures.reads)
+    let there = place_there _ c.args.position c.requires.position _ c.in-Ok.is in
+    let any : Pair = record { key = c.args.position.key.now; value = HeldText [] } in
+    rw (text_here _ _ c.requires.position.rising _ there.1 any) (rewrite_holds _ _ _ c.requires.position.rising _ _ there.1 (λ (pair : Pair). HeldText (text_of (Some pair.value) ++ c.args.tail.now)) any c.lengthen_at.ensures.ok)
+
+pub returns-clause-dead : goal.returns-clause-dead
+returns-clause-dead c =
+    let there = place_there _ c.args.position c.requires.position _ c.in-Ok.is in
+    rewrite_dead _ _ _ c.requires.position.rising _ _ there.1 (λ (pair : Pair). HeldText (text_of (Some pair.value) ++ c.args.tail.now)) (record { key = c.args.position.key.now; value = HeldText [] }) c.lengthen_at.ensures.ok
+
+-- the key holds a text, so it is there
+pub unreachable-requires : goal.unreachable-requires
+unreachable-requires c =
+    let there = gap_there _ c.args.position c.requires.position _ c.in-Err.is in
+    let none = held_nowhere _ _ c.requires.position.rising _ there.1 in
+    cc
