@@ -1,10 +1,10 @@
 -- What blocks hold: the entry at a place, what an edit of one block leaves, and how places count.
 use Rattle.std.proofs.Common.{◌≡◌, true, false, ℕ, zero, suc, ◌<◌, ◌≤◌, ◌+◌, ◌-◌, List, [], ◌∷◌, ◌++◌, length, sum, get_or, set, take, drop, refl, sym, ap, ◌∙◌, arith, inl, inr, ◌⊎◌, append_assoc}
-use Rattle.std.specs.List.{insert, remove}
+use Rattle.std.specs.List.{between, insert, remove}
 use Rattle.std.proofs.lemmas.Bool.{cases_lt}
-use Rattle.std.proofs.lemmas.List.{length-map, length-take, length-drop, take-append-drop, take-take, get_or-map, take-map, take_all, set_split, set-get_or, set-append_left, set-append_right, map-append, map-set}
+use Rattle.std.proofs.lemmas.List.{length-map, length-take, length-drop, take-append-drop, take-take, get_or-map, get_or_default, take-map, take_all, set_split, set-get_or, set-append_left, set-append_right, map-append, map-set}
 use Rattle.std.proofs.lemmas.List.Concat.{flat_map-append, length-flat_map, get_or-flat_map}
-use Rattle.std.proofs.lemmas.List.Edits.{length-insert, insert-append_left, insert-append_right, remove-append_left, remove-append_right}
+use Rattle.std.proofs.lemmas.List.Edits.{length-insert, length-between, get_or-between, insert-append_left, insert-append_right, remove-append_left, remove-append_right}
 use Rattle.std.proofs.lemmas.List.Sums.{sum-map, sum_by_more, sum_by-take-le}
 use Rattle.sm_arena.specs.Pieces.{Places}
 use Rattle.sm_map.specs.KeyMap.{Pair}
@@ -179,6 +179,31 @@ stop_inside lengths place (inr end) less = absurd (omega (arith, ap sum (take_al
 pub entry_read : (blocks : List BlockValue) (place : Place) (block : BlockValue) → HasEntry (lengths_in blocks) place → block ≡ get_or blocks place.block block → (e d : Entry) → e ≡ get_or block.entries place.offset d → e ≡ get_or (entries_in blocks) (number_of (lengths_in blocks) place) d
 entry_read blocks place block has read e d is = is ∙ (ap (λ (x : BlockValue). get_or x.entries place.offset d) read ∙ sym (entry_there blocks place block has d))
 
+-- the entries that stand from a place on in its block
+pub entries_read : (blocks : List BlockValue) (place : Place) (high : ℕ) (block : BlockValue) (part : List Entry) → place.block < length (lengths_in blocks) → high ≤ get_or (lengths_in blocks) place.block 0 → block ≡ get_or blocks place.block block → part ≡ between place.offset high block.entries → (k : ℕ) → k < length part → (d : Entry) → get_or part k (get_or (entries_in blocks) (number_of (lengths_in blocks) place + k) d) ≡ get_or (entries_in blocks) (number_of (lengths_in blocks) place + k) d
+entries_read blocks place high block part lt le read is k less d =
+    let inside : place.block < length blocks = omega (arith, lt, blocks_counted blocks) in
+    let long : high ≤ length block.entries = omega (arith, le, length_there blocks place.block block inside, ap (λ (x : BlockValue). length x.entries) read) in
+    let count : length part ≡ high - place.offset = ap (λ (l : List Entry). length l) is ∙ length-between block.entries place.offset high long in
+    let there : Place = record { block = place.block; offset = place.offset + k } in
+    let has : HasEntry (lengths_in blocks) there = (lt, omega (arith, less, count, le)) in
+    let same : number_of (lengths_in blocks) there ≡ number_of (lengths_in blocks) place + k = omega arith in
+    let x : Entry = get_or (entries_in blocks) (number_of (lengths_in blocks) place + k) d in
+    let within : number_of (lengths_in blocks) place + k < length (entries_in blocks) = omega (arith, number_inside blocks there has, same) in
+    (λ i. get_or (is i) k x)
+    ∙ (get_or-between block.entries place.offset high k x (omega (arith, less, count))
+    ∙ (ap (λ (b : BlockValue). get_or b.entries (place.offset + k) x) read
+    ∙ (sym (entry_there blocks there block has x)
+    ∙ (ap (λ (n : ℕ). get_or (entries_in blocks) n x) same
+    ∙ get_or_default (entries_in blocks) (number_of (lengths_in blocks) place + k) x d within))))
+
+-- an item of these
+pub item_there : (blocks : List BlockValue) (place : Place) (high : ℕ) (items : List Entry) → place.block < length (lengths_in blocks) → high ≤ get_or (lengths_in blocks) place.block 0 → place.offset + length items ≡ high → ((k : ℕ) → k < length items → (d : Entry) → get_or items k (get_or (entries_in blocks) (number_of (lengths_in blocks) place + k) d) ≡ get_or (entries_in blocks) (number_of (lengths_in blocks) place + k) d) → (k : ℕ) → k < length items → (e : Entry) → (number_of (lengths_in blocks) place + k < length (entries_in blocks)) × ((d : Entry) → get_or items k e ≡ get_or (entries_in blocks) (number_of (lengths_in blocks) place + k) d)
+item_there blocks place high items lt le count each k less e =
+    let there : Place = record { block = place.block; offset = place.offset + k } in
+    let has : HasEntry (lengths_in blocks) there = (lt, omega (arith, less, count, le)) in
+    (omega (arith, number_inside blocks there has), λ d. get_or_default items k e (get_or (entries_in blocks) (number_of (lengths_in blocks) place + k) d) less ∙ each k less d)
+
 -- behind all blocks stand all entries before
 pub past_number : (blocks : List BlockValue) (place : Place) → place.block ≡ length blocks → place.offset ≡ 0 → number_of (lengths_in blocks) place ≡ length (entries_in blocks)
 past_number blocks place past first = omega (arith, first, ap sum (take_all place.block (lengths_in blocks) (omega (arith, past, blocks_counted blocks))), all_entries blocks)
@@ -240,3 +265,15 @@ not_before lengths first second one other is = elim (cases_lt second.block first
   | inl less ↦ stops_ordered lengths second first other one less
   | inr more ↦ (let same : second.block ≡ first.block = grind (arith, nat_tests) in let le : second.offset ≤ first.offset = grind (arith, nat_tests) in omega (arith, le, ap (λ (n : ℕ). sum (take n lengths)) same))
 ]
+
+-- the pairs from a place on in its block stand before a place in a later one
+pub part_before : (lengths : List ℕ) (first second : Place) (high : ℕ) → HasEntry lengths first → precedes first second ≡ true → high ≤ get_or lengths first.block 0 → (first.block ≡ second.block → high ≤ second.offset) → sum (take first.block lengths) + high ≤ number_of lengths second
+part_before lengths first second high has is within here = by (reads_before first second is)
+  where
+    by : (first.block < second.block) ⊎ ((first.block ≡ second.block) × (first.offset < second.offset)) → sum (take first.block lengths) + high ≤ number_of lengths second
+    by (inl less) =
+        let next = sum_by_more (λ (n : ℕ). n) lengths first.block 0 has.0 in
+        let part = sum_by-take-le (λ (n : ℕ). n) (take second.block lengths) (first.block + 1) in
+        let same = ap sum (take-take (first.block + 1) second.block lengths (omega arith)) in
+        omega (arith, next, part, same, within)
+    by (inr same) = omega (arith, here same.0, ap (λ (n : ℕ). sum (take n lengths)) same.0)

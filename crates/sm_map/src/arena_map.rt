@@ -1,5 +1,5 @@
-ghost use Rattle.std.specs.Prelude.{◌≡◌, ◌<◌, ◌≤◌, ◌+◌, ◌++◌, [], Some, length, map, sum, slice_index, take, is_some, IfOk, IfErr, OnOk, OnErr};
-ghost use Rattle.std.specs.List.{HoldsAt};
+ghost use Rattle.std.specs.Prelude.{◌≡◌, ◌<◌, ◌≤◌, ◌+◌, ◌++◌, ℕ, true, [], Some, length, map, sum, slice_index, take, is_some, IfOk, IfErr, OnOk, OnErr};
+ghost use Rattle.std.specs.List.{HoldsAt, between};
 ghost use Rattle.std.specs.Option.{option_map};
 ghost use Rattle.sm_ranges.specs.Keyed.{IsKeyPlace, IsKeyGap};
 ghost use Rattle.sm_map.specs.KeyMap.{key_of, IsKeyMap, IsText, HoldsText, IsEdgeOf};
@@ -7,6 +7,7 @@ ghost use Rattle.sm_map.specs.KeyMap.{held_at, holding, without, within, text_of
 ghost use Rattle.sm_map.specs.KeyMap.{Text as HeldText};
 ghost use Rattle.sm_map.specs.ArenaMap.{IsRewrite, IsRemoval, IsAddition};
 ghost use Rattle.sm_map.specs.Blocks.{number_of, HasEntry, IsGap, IsStop};
+ghost use Rattle.sm_map.specs.Places.{precedes};
 ghost use Rattle.sm_map.specs.Position.{IsPositionIn};
 ghost use Rattle.sm_map.specs.Val.{held_of, row_of};
 
@@ -219,8 +220,12 @@ impl ArenaMap {
         let mut place = self.edge(low);
         let mut rows = Vec::with_capacity(self.alloc, place.most_before(end).min(max))?;
         while rows.len() < max && place.precedes(end) {
-            rows.push(self.pair_at(place))?;
-            place = self.index.after(place);
+            let high = self.part_end(place, end, max - rows.len());
+            rows = self.with_rows(rows, place, high)?;
+            place = self.index.stop(Place {
+                block: place.block,
+                offset: high,
+            });
         }
         Ok(rows)
     }
@@ -296,6 +301,44 @@ impl ArenaMap {
     {
         let entry = self.index.entry(place);
         (self.arena.get(entry.key), entry.slot.read(&self.arena))
+    }
+
+    // Where the pairs from a place on end in its block that come before another place, and are so many at most.
+    fn part_end(&self, place: Place, end: Place, most: usize) -> usize
+        requires place { HasEntry self.now.blocks place }
+        requires end { IsStop self.now.blocks end }
+        requires order { precedes place end ≡ true }
+        requires most { 0 < most }
+        ensures within { result ≤ slice_index self.now.blocks place.block }
+        ensures more { place.offset < result }
+        ensures most { result ≤ place.offset + most }
+        ensures before { number_of self.now.blocks (record { block = place.block; offset = result }) ≤ number_of self.now.blocks end }
+    {
+        let high = if place.block == end.block {
+            end.offset
+        } else {
+            self.index.block_len(place.block)
+        };
+        high.min(place.offset.saturating_add(most))
+    }
+
+    // The rows, and behind them those of the pairs from a place up to another one of its block.
+    fn with_rows<'a>(
+        &'a self,
+        rows: Vec<(&'a [u8], Val<'a>)>,
+        place: Place,
+        high: usize,
+    ) -> Result<Vec<(&'a [u8], Val<'a>)>, AllocError>
+        requires block { place.block < length self.now.blocks }
+        requires order { (place.offset ≤ high) × (high ≤ slice_index self.now.blocks place.block) }
+        ensures count { IfOk result (λ more. length more.items + place.offset ≡ length rows.entry.items + high) }
+        ensures rows { IfOk result (λ more. (start : ℕ) → start ≤ number_of self.now.blocks place → map row_of rows.entry.items ≡ between start (number_of self.now.blocks place) self.now.pairs → map row_of more.items ≡ between start (sum (take place.block self.now.blocks) + high) self.now.pairs) }
+    {
+        let mut rows = rows;
+        for entry in self.index.entries(place, high) {
+            rows.push((self.arena.get(entry.key), entry.slot.read(&self.arena)))?;
+        }
+        Ok(rows)
     }
 
     // Writes the value over that of the pair at a place.

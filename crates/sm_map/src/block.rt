@@ -1,5 +1,5 @@
 ghost use Rattle.std.specs.Prelude.{◌≡◌, ◌<◌, ◌≤◌, ◌+◌, ◌-◌, [], length, take, drop, slice_set, IfOk, IfErr, OnOk};
-ghost use Rattle.std.specs.List.{HoldsAt, insert, remove};
+ghost use Rattle.std.specs.List.{HoldsAt, between, insert, remove};
 ghost use Rattle.sm_map.specs.KeyMap.{key_of, IsKeyMap};
 ghost use Rattle.sm_ranges.specs.Keyed.{IsKeyPlace, IsKeyGap};
 ghost use Rattle.sm_map.specs.Entry.{pairs_of, HasKeys};
@@ -65,6 +65,14 @@ impl Block {
         ensures { HoldsAt (λ entry. result ≡ entry) self.now.entries at }
     {
         self.entries[at]
+    }
+
+    // The entries from one place up to another.
+    pub(crate) fn entries(&self, low: usize, high: usize) -> &[Entry]
+        requires { (low ≤ high) × (high ≤ length self.now.entries) }
+        ensures { result.now ≡ between low high self.now.entries }
+    {
+        &self.entries[low..high]
     }
 
     // Writes over an entry.

@@ -1,4 +1,4 @@
-ghost use Rattle.std.specs.Prelude.{◌≡◌, ◌<◌, ◌≤◌, ◌+◌, [], All, length, slice_index, slice_set, IfOk, IfErr};
+ghost use Rattle.std.specs.Prelude.{◌≡◌, ◌<◌, ◌≤◌, ◌+◌, ℕ, [], All, length, slice_index, slice_index_or, slice_set, IfOk, IfErr};
 ghost use Rattle.std.specs.Vec.{vec_len, vec_capacity};
 ghost use Rattle.std.specs.List.{HoldsAt, insert, remove};
 ghost use Rattle.sm_ranges.specs.Keyed.{IsKeyPlace, IsKeyGap};
@@ -108,6 +108,16 @@ impl Index {
         ensures { HoldsAt (λ entry. result ≡ entry) (entries_in self.now.blocks) (number_of (lengths_in self.now.blocks) place) }
     {
         self.blocks[place.block].entry(place.offset)
+    }
+
+    // The entries from a place up to another one of its block.
+    pub(crate) fn entries(&self, place: Place, high: usize) -> &[Entry]
+        requires block { place.block < length (lengths_in self.now.blocks) }
+        requires order { (place.offset ≤ high) × (high ≤ slice_index (lengths_in self.now.blocks) place.block) }
+        ensures count { place.offset + length result.now ≡ high }
+        ensures each { (k : ℕ) → k < length result.now → HoldsAt (λ entry. slice_index_or result.now k entry ≡ entry) (entries_in self.now.blocks) (number_of (lengths_in self.now.blocks) place + k) }
+    {
+        self.blocks[place.block].entries(place.offset, high)
     }
 
     // The place of the first entry, or the end.
