@@ -239,27 +239,6 @@ reads_before first second is = elim (cases_lt first.block second.block) [
   | inr more ↦ inr (grind (arith, nat_tests), grind (arith, nat_tests))
 ]
 
-pub precedes_has : (lengths : List ℕ) (first second : Place) → IsStop lengths first → IsStop lengths second → precedes first second ≡ true → HasEntry lengths first
-precedes_has lengths first second (inl has) stop is = has
-precedes_has lengths first second (inr end) stop is = past (reads_before first second is) stop
-  where
-    past : (first.block < second.block) ⊎ ((first.block ≡ second.block) × (first.offset < second.offset)) → IsStop lengths second → HasEntry lengths first
-    past (inl less) (inl has) = absurd (omega (arith, end.0, has.0))
-    past (inl less) (inr also) = absurd (omega (arith, end.0, also.0))
-    past (inr same) (inl has) = absurd (omega (arith, end.0, has.0, same.0))
-    past (inr same) (inr also) = absurd (omega (arith, also.1, same.1))
-
-pub precedes_less : (lengths : List ℕ) (first second : Place) → IsStop lengths first → IsStop lengths second → precedes first second ≡ true → number_of lengths first < number_of lengths second
-precedes_less lengths first second one other is = by (precedes_has lengths first second one other is) (reads_before first second is)
-  where
-    by : HasEntry lengths first → (first.block < second.block) ⊎ ((first.block ≡ second.block) × (first.offset < second.offset)) → number_of lengths first < number_of lengths second
-    by has (inl less) =
-        let next = sum_by_more (λ (n : ℕ). n) lengths first.block 0 has.0 in
-        let part = sum_by-take-le (λ (n : ℕ). n) (take second.block lengths) (first.block + 1) in
-        let same = ap sum (take-take (first.block + 1) second.block lengths (omega arith)) in
-        omega (arith, next, part, same, has.1)
-    by has (inr same) = omega (arith, same.1, ap (λ (n : ℕ). sum (take n lengths)) same.0)
-
 pub not_before : (lengths : List ℕ) (first second : Place) → IsStop lengths first → IsStop lengths second → precedes first second ≡ false → number_of lengths second ≤ number_of lengths first
 not_before lengths first second one other is = elim (cases_lt second.block first.block) [
   | inl less ↦ stops_ordered lengths second first other one less
