@@ -1,4 +1,6 @@
+pub mod Acking
 pub mod Calling
+pub mod Holding
 pub mod Placing
 pub mod Publishing
 pub mod Replying

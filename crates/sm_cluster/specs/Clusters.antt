@@ -1,20 +1,30 @@
 -- Clusters as contracts see them, and what one gives at its stop.
-use Rattle.std.specs.Prelude.{ℕ, ◌≡◌, All, List, ◌++◌, Option}
+use Rattle.std.specs.Prelude.{ℕ, ◌≡◌, ◌≤◌, ◌<◌, true, false, All, List, ◌++◌, Option, Some, None, slice_set}
 use Rattle.sm_control.specs.Controls.{ControlValue}
+use Rattle.sm_desk.specs.Desk.{is_known}
+use Rattle.sm_ownership.specs.declared.entry.Ending.TheVariants.{Nothing}
 use Rattle.sm_ownership.specs.declared.entry.Entry.{Entry}
+use Rattle.sm_ownership.specs.declared.entry.Kind.TheVariants.{Done}
 use Rattle.sm_ownership.specs.declared.record.Record.{Record}
 use Rattle.sm_ownership.specs.History.{IsLegal, NoneBy}
 use Rattle.sm_publish.specs.Publishing.{PublisherView}
 use Rattle.sm_rule.specs.Changes.{ChairValue}
 use Rattle.sm_rule.specs.Closing.{AreLeft}
+use Rattle.sm_rule.specs.Passes.{PassAdds, PassValue}
 use Rattle.sm_rule.specs.Views.{Begins}
+use Rattle.sm_cluster.specs.declared.hold_fault.FreeFault.{FreeFault}
+use Rattle.sm_cluster.specs.declared.hold_fault.FreeFault.TheVariants as free
+use Rattle.sm_cluster.specs.declared.hold_fault.HoldFault.{HoldFault}
+use Rattle.sm_cluster.specs.declared.hold_fault.HoldFault.TheVariants as hold
 use Rattle.sm_cluster.specs.Calls.{ClientValue}
+use Rattle.sm_cluster.specs.Holding.{AreEndedIn, IsHold, IsTold, IsTurnedAway, hold_at}
 
--- a cluster: its control, the published map, and the bounds of the shards
+-- a cluster: its control, the published map, the bounds of the shards, and the pass by which each shard is held, if any
 pub record ClusterValue (Q : Type 0) : Type 0 where
   pub control : ControlValue Q
   pub map : PublisherView
   pub bounds : List (List ℕ)
+  pub holds : List (Option (PassValue Q))
 
 abbrev pub cluster_commanded : {Q : Type 0} → ClusterValue Q → ControlValue Q → ClusterValue Q
 cluster_commanded cluster control = record cluster { control = control }
@@ -22,16 +32,53 @@ cluster_commanded cluster control = record cluster { control = control }
 abbrev pub cluster_publishing : {Q : Type 0} → ClusterValue Q → ControlValue Q → PublisherView → ClusterValue Q
 cluster_publishing cluster control map = record cluster { control = control; map = map }
 
+abbrev pub cluster_holding : {Q : Type 0} → ClusterValue Q → ℕ → Option (PassValue Q) → ClusterValue Q
+cluster_holding cluster shard hold = record cluster { holds = slice_set cluster.holds shard hold }
+
+-- the cluster has the shard and the server
+abbrev pub KnowsBoth : {Q : Type 0} → ClusterValue Q → ℕ → ℕ → Type 0
+KnowsBoth cluster shard server =
+    (shard < cluster.control.chair.board.limits.count) × (is_known cluster.control.desk.books.servers server ≡ true)
+
+-- the shard is held by a new pass of the server, and nothing else has changed
+abbrev pub HasHeld : {Q : Type 0} → ClusterValue Q → ℕ → ℕ → ClusterValue Q → Type 0
+HasHeld {Q} before shard server after =
+    KnowsBoth before shard server
+    × (pass : PassValue Q) × IsHold before.control.chair shard server pass × (after ≡ cluster_holding before shard (Some pass))
+
+-- why a shard isn't held: the first fault that applies
+abbrev pub HoldRefused : {Q : Type 0} → ClusterValue Q → ℕ → ℕ → HoldFault → Type 0
+HoldRefused cluster shard server hold.UnknownShard = cluster.control.chair.board.limits.count ≤ shard
+HoldRefused cluster shard server hold.UnknownServer =
+    (shard < cluster.control.chair.board.limits.count) × (is_known cluster.control.desk.books.servers server ≡ false)
+HoldRefused {Q} cluster shard server (hold.Admit refusal) =
+    KnowsBoth cluster shard server
+    × (pass : PassValue Q) × IsTold cluster.control.chair server pass × IsTurnedAway pass shard refusal
+
+-- the pass that held the shard has ended its admission with nothing, and nothing else has changed
+abbrev pub HasFreed : {Q : Type 0} → ClusterValue Q → ℕ → ClusterValue Q → Type 0
+HasFreed {Q} before shard after =
+    (pass : PassValue Q) × (ended : PassValue Q) × (hold_at before.holds shard ≡ Some pass)
+    × PassAdds pass shard (Done Nothing) ended × (after ≡ cluster_holding before shard None)
+
+-- why a shard isn't freed: the first fault that applies
+abbrev pub FreeRefused : {Q : Type 0} → ClusterValue Q → ℕ → FreeFault → Type 0
+FreeRefused cluster shard free.UnknownShard = cluster.control.chair.board.limits.count ≤ shard
+FreeRefused cluster shard free.NotHeld =
+    (shard < cluster.control.chair.board.limits.count) × (hold_at cluster.holds shard ≡ None)
+
 -- a client of the cluster: of its board, and with its bounds
 abbrev pub IsClientOf : {Q : Type 0} → ClusterValue Q → ClientValue Q → Type 0
 IsClientOf cluster client = (client.pass.board ≡ cluster.control.chair.board) × (client.bounds ≡ cluster.bounds)
 
--- the rows are those of all shards after one legal history, to which passes alone have added since the chair last looked, and
--- which extends what each client that came back had seen
-abbrev pub WasStopped : {S Q : Type 0} → (S → ℕ → List Q → Type 0) → (S → ℕ) → ChairValue Q → List (ClientValue Q) → List (Record × Option S) → Type 0
-WasStopped {S} {Q} keeps limit chair clients rows =
+-- the rows are those of all shards after one legal history, to which passes alone have added since the chair last looked, which
+-- extends what each client that came back had seen, and in which each hold was ended
+abbrev pub WasStopped : {S Q : Type 0} → (S → ℕ → List Q → Type 0) → (S → ℕ) → ClusterValue Q → List (ClientValue Q) → List (Record × Option S) → Type 0
+WasStopped {S} {Q} keeps limit cluster clients rows =
+    let chair = cluster.control.chair in
     (later : List (Entry Q))
     × IsLegal chair.board.limits.count chair.board.limits.ceiling (chair.seen ++ later)
     × NoneBy 0 later
     × All (λ client. Begins client.pass.seen (chair.seen ++ later)) clients
     × AreLeft keeps limit chair.board.limits (chair.seen ++ later) rows
+    × AreEndedIn (chair.seen ++ later) cluster.holds

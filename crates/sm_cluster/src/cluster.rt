@@ -2,10 +2,12 @@ ghost use Rattle.std.specs.Prelude.{◌≡◌};
 
 mod basing;
 mod commanding;
+mod holding;
 mod starting;
 mod stopping;
 
 use crate::crew::Crew;
+use crate::holds::Holds;
 use crate::network::Network;
 use sm_body::service::Service;
 use sm_control::Control;
@@ -24,6 +26,7 @@ pub struct Cluster<S: Service> {
     network: Arc<Network<S>>,
     control: Control<S>,
     publisher: Publisher,
+    holds: Holds<S>,
     crew: Crew<S>,
 }
 
@@ -31,12 +34,13 @@ impl<S: Service> Model for Cluster<S> {
     ghost use Rattle.std.specs.Prelude.{◌≡◌};
     ghost use Rattle.std.specs.Arc.{arc_value};
     ghost use Rattle.sm_cluster.specs.Clusters.{ClusterValue};
+    ghost use Rattle.sm_cluster.specs.Holding.{AreHoldsOn};
 
     ghost Value = { ClusterValue S.Request };
 
-    ghost view = { λ cluster. record { control = cluster.control; map = cluster.publisher; bounds = (arc_value cluster.network).layout } };
+    ghost view = { λ cluster. record { control = cluster.control; map = cluster.publisher; bounds = (arc_value cluster.network).layout; holds = cluster.holds } };
 
-    ghost invariant = { λ cluster. cluster.control.chair.board ≡ arc_value cluster.board };
+    ghost invariant = { λ cluster. (cluster.control.chair.board ≡ arc_value cluster.board) × AreHoldsOn (arc_value cluster.board) cluster.holds };
 }
 
 impl<S: Service> Cluster<S> {

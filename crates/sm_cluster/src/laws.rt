@@ -9,11 +9,10 @@ ghost use Rattle.sm_ownership.specs.declared.record.Record.{Record};
 ghost use Rattle.sm_ownership.specs.History.{all_of};
 ghost use Rattle.sm_ranges.specs.Ranges.{shard_of};
 ghost use Rattle.sm_rule.specs.Bodies.{Keeps};
-ghost use Rattle.sm_rule.specs.Changes.{ChairValue};
 ghost use Rattle.sm_rule.specs.Views.{Begins};
 ghost use Rattle.sm_server.specs.Answers.{AnswerValue, IsAnswer};
 ghost use Rattle.sm_cluster.specs.Calls.{ClientValue, Gives};
-ghost use Rattle.sm_cluster.specs.Clusters.{WasStopped};
+ghost use Rattle.sm_cluster.specs.Clusters.{ClusterValue, WasStopped};
 
 use sm_body::service::Service;
 
@@ -42,10 +41,10 @@ pub fn answers_agree<Q, R>()
 /// Nothing acknowledged is lost: what a client that came back had learned is among the requests on which the body rests that the
 /// stop gives for its shard.
 pub fn answers_last<S: Service>()
-    ensures { (chair : ChairValue S.Request) (clients : List (ClientValue S.Request)) (rows : List (Record × Option S))
+    ensures { (cluster : ClusterValue S.Request) (clients : List (ClientValue S.Request)) (rows : List (Record × Option S))
         (client : ClientValue S.Request) (at shard : ℕ) (mode : Mode) (request : S.Request) (answer : AnswerValue S.Request S.Reply) (row : Record × Option S)
         → let keeps = Keeps S.initial S.next S.base S.before S.requests in
-        WasStopped keeps S.limit chair clients rows → slice_get clients at ≡ Some client
+        WasStopped keeps S.limit cluster clients rows → slice_get clients at ≡ Some client
         → IsAnswer (meaning_of S.initial S.next S.answer S.key_of) shard mode request answer → Begins answer.note.seen client.pass.seen
         → get_elem? rows shard ≡ some row → row.0.admitted ≡ false
         → (body : S) × (first : ℕ) × (all : List S.Request) × (row.1 ≡ Some body) × keeps body first all × (slice_get all answer.place ≡ Some request) }

@@ -1,15 +1,17 @@
 //! The start of a cluster.
-ghost use Rattle.std.specs.Prelude.{◌≡◌, ◌≢◌, ◌<◌, ◌≤◌, ◌*◌, ◌^◌, ◌↔◌, All, Err, IfErr, IfOk, IsTrue, None, [], length};
+ghost use Rattle.std.specs.Prelude.{◌≡◌, ◌≢◌, ◌<◌, ◌≤◌, ◌*◌, ◌^◌, ◌↔◌, All, Err, IfErr, IfOk, IsTrue, None, [], length, replicate};
 ghost use Rattle.std.specs.Arc.{arc_value};
 ghost use Rattle.sm_ranges.specs.declared.stand.Stand.TheVariants.{Vacant};
 ghost use Rattle.sm_rule.specs.Boards.{make_fault};
 ghost use Rattle.sm_cluster.specs.Clusters.{IsClientOf};
+ghost use Rattle.sm_cluster.specs.Holding.{AreHoldsOn};
 
 use super::Cluster;
 use crate::MAX_WORKERS;
 use crate::client::Client;
 use crate::crew::{Crew, Inbox};
 use crate::gate::Gate;
+use crate::holds::Holds;
 use crate::network::{Network, network_of};
 use crate::setup::Setup;
 use crate::start_fault::StartFault;
@@ -64,6 +66,7 @@ where
         ensures desk { IfOk result (λ made. made.0.control.desk ≡ setup.desk) }
         ensures count { IfOk result (λ made. made.0.control.chair.board.limits.count ≡ length bodies.items) }
         ensures bounds { IfOk result (λ made. made.0.bounds ≡ setup.layout) }
+        ensures holds { IfOk result (λ made. made.0.holds ≡ replicate (length bodies.items) None) }
         ensures clients { IfOk result (λ made. length made.1.items ≡ clients) }
         ensures theirs { IfOk result (λ made. All (IsClientOf made.0) made.1.items) }
     {
@@ -174,6 +177,7 @@ where
     ensures fault { IfErr result (λ fault. fault ≢ StartFault.TooManyWorkers) }
     ensures control { IfOk result (λ cluster. cluster.control ≡ parts.control) }
     ensures bounds { IfOk result (λ cluster. cluster.bounds ≡ (arc_value parts.network).layout) }
+    ensures holds { IfOk result (λ cluster. cluster.holds ≡ replicate parts.control.chair.board.limits.count None) }
 {
     let Parts {
         board,
@@ -186,12 +190,14 @@ where
         return Err(StartFault::NoMemory);
     };
     let mut crew = Crew::new(alloc, shared);
-    match crew.start(rt, alloc, gate, inboxes.as_slice(), workers) {
-        Ok(()) => Ok(Cluster {
+    let started = crew.start(rt, alloc, gate, inboxes.as_slice(), workers);
+    match room_once(started, alloc, &*board) {
+        Ok(holds) => Ok(Cluster {
             board,
             network,
             control,
             publisher,
+            holds,
             crew,
         }),
         Err(fault) => {
@@ -200,4 +206,20 @@ where
             Err(fault)
         }
     }
+}
+
+// Room for holds, once all workers were started.
+fn room_once<S: Service>(
+    started: Result<(), StartFault>,
+    alloc: Global,
+    board: &Board<S>,
+) -> Result<Holds<S>, StartFault>
+    requires { IfErr started (λ fault. fault ≢ StartFault.TooManyWorkers) }
+    ensures fault { IfErr result (λ fault. fault ≢ StartFault.TooManyWorkers) }
+    ensures none { IfOk result (λ holds. holds ≡ replicate board.now.limits.count None) }
+    ensures theirs { IfOk result (λ holds. AreHoldsOn board.now holds) }
+{
+    started?;
+    let holds = Holds::new(alloc, board)?;
+    Ok(holds)
 }

@@ -15,27 +15,29 @@ use std::sync::{Arc, Wait};
 use std::thread::Threads;
 
 impl<S: Service> Cluster<S> {
-    /// Shuts all doors, stops and joins the workers, and closes the board: each shard's record, and the body of each idle one, after
-    /// one legal history that extends what the control had seen by entries of passes, and extends what each of these clients
-    /// had seen.
+    /// Shuts all doors, frees what is held, stops and joins the workers, and closes the board: each shard's record, and the body of
+    /// each idle one, after one legal history that extends what the control had seen by entries of passes, extends what each of
+    /// these clients had seen, and has the end of each hold.
     pub fn stop<R: Threads + Wait>(
         self,
         rt: &R,
         clients: Vec<Client<S>>,
     ) -> Result<Vec<(Record, Option<S>)>, StopFault>
         requires clients { All (IsClientOf self) clients.items }
-        ensures stopped { IfOk result (λ rows. WasStopped (Keeps S.initial S.next S.base S.before S.requests) S.limit self.control.chair clients.items rows.items) }
+        ensures stopped { IfOk result (λ rows. WasStopped (Keeps S.initial S.next S.base S.before S.requests) S.limit self clients.items rows.items) }
     {
         let Cluster {
             board,
             network,
             control,
             publisher,
+            holds,
             crew,
         } = self;
         network.shut();
         drop(network);
-        let closer = told(&*board, clients);
+        let mut closer = told(&*board, clients);
+        holds.end(&*board, &mut closer);
         let all_stopped = crew.stop(rt);
         publisher.end(rt);
         if !all_stopped {

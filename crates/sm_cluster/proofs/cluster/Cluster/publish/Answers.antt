@@ -16,7 +16,7 @@ returns-in_err-publish g c =
     let route = c.in_ok-shard.field-0 in
     let is = c.self.view_is in
     let said = c.in_err-publish.ensures in
-    let after : ClusterValue g.row.S-Request.Denot = record { control = c.route.new.self; map = c.publish.new.self; bounds = (arc_value c.self.inside.network).layout } in
+    let after : ClusterValue g.row.S-Request.Denot = record { control = c.route.new.self; map = c.publish.new.self; bounds = (arc_value c.self.inside.network).layout; holds = c.self.inside.holds } in
     let routed : Routed (route_fault c.args.self.now.control.desk.books c.args.k) c.args.self.now.control after.control c.args.k (Ok route) =
     subst (λ (cluster : ClusterValue g.row.S-Request.Denot). Routed (route_fault cluster.control.desk.books c.args.k) cluster.control after.control c.args.k (Ok route)) is c.in_ok-shard.ensures.answer in
     let why : IsMapFault (publish_fault c.args.self.now.map.map route) refused =

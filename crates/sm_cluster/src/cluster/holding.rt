@@ -1,0 +1,54 @@
+//! Admissions without a request, each by a new pass.
+ghost use Rattle.std.specs.Prelude.{◌≡◌, IfErr, OnErr, OnOk};
+ghost use Rattle.sm_cluster.specs.Clusters.{FreeRefused, HasFreed, HasHeld, HoldRefused};
+
+use super::Cluster;
+use crate::hold::Hold;
+use crate::hold_fault::{FreeFault, HoldFault};
+use sm_body::service::Service;
+use sm_ranges::server_id::ServerId;
+use sm_ranges::shard_id::ShardId;
+
+impl<S: Service> Cluster<S> {
+    /// Has the server admitted to the shard for a direct request that never comes, until the shard is freed or the cluster
+    /// stopped; or answers the first fault that applies. It takes no memory.
+    pub fn hold(&mut self, k: ShardId, a: ServerId) -> Result<(), HoldFault>
+        ensures held { OnOk result (HasHeld self.old k a self.new) }
+        ensures refused { IfErr result (λ fault. HoldRefused self.old k a fault) }
+        ensures unchanged { OnErr result (self.new ≡ self.old) }
+    {
+        if k.index() >= self.board.count() as usize {
+            return Err(HoldFault::UnknownShard);
+        }
+        if !self.control.desk().knows(a) {
+            return Err(HoldFault::UnknownServer);
+        }
+        let pass = self.pass_of(a);
+        match Hold::begin(&*self.board, pass, k) {
+            Ok(hold) => {
+                self.holds.put(&*self.board, k, hold);
+                Ok(())
+            }
+            Err(refusal) => Err(HoldFault::Admit(refusal)),
+        }
+    }
+
+    /// Ends the admission of a held shard with nothing, or answers the first fault that applies. A shard that is admitted for a
+    /// request isn't held.
+    pub fn free(&mut self, k: ShardId) -> Result<(), FreeFault>
+        ensures freed { OnOk result (HasFreed self.old k self.new) }
+        ensures refused { IfErr result (λ fault. FreeRefused self.old k fault) }
+        ensures unchanged { OnErr result (self.new ≡ self.old) }
+    {
+        if k.index() >= self.board.count() as usize {
+            return Err(FreeFault::UnknownShard);
+        }
+        match self.holds.take(&*self.board, k) {
+            Some(hold) => {
+                hold.end(&*self.board);
+                Ok(())
+            }
+            None => Err(FreeFault::NotHeld),
+        }
+    }
+}
