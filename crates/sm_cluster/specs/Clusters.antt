@@ -8,7 +8,6 @@ use Rattle.sm_ownership.specs.declared.entry.Kind.TheVariants.{Done}
 use Rattle.sm_ownership.specs.declared.record.Record.{Record}
 use Rattle.sm_ownership.specs.History.{IsLegal, NoneBy}
 use Rattle.sm_publish.specs.Publishing.{PublisherView}
-use Rattle.sm_rule.specs.Changes.{ChairValue}
 use Rattle.sm_rule.specs.Closing.{AreLeft}
 use Rattle.sm_rule.specs.Passes.{PassAdds, PassValue}
 use Rattle.sm_rule.specs.Views.{Begins}

@@ -211,8 +211,7 @@ fn learn<S: Service, R: Wait>(
 }
 
 // The request of a call that is made anew: its shard was admitted for another one.
-fn made_anew<Q: Drop>(refused: CallRefused<Q>) -> Option<Q>
-{
+fn made_anew<Q: Drop>(refused: CallRefused<Q>) -> Option<Q> {
     match refused.fault {
         CallFault::Refused(Refusal::Admit(AdmitRefusal::Refused(AdmitFault::Admitted, _))) => {
             refused.back

@@ -26,8 +26,7 @@ returns-clause-freed g c =
       | in-Some w ↦
           let hold = w.in-Some.hold in
           let found : hold_at c.self.inside.holds c.args.k ≡ Some hold = sym w.in-Some.ensures.taken in
-          rw w.result-is
-          (
+          rw w.result-is (
             hold,
             w.end.result,
             subst (λ (all : List (Option (PassValue g.row.S-Request.Denot))). hold_at all c.args.k ≡ Some hold) holds found,

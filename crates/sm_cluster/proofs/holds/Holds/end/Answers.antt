@@ -1,7 +1,6 @@
 use Rattle.std.proofs.Common.{◌≡◌, ◌∙◌, List, length, refl, rules, subst, sym}
 use Rattle.std.specs.Prelude.{ℕ, Option}
 use Rattle.std.proofs.lemmas.Option.{IfSome_then}
-use Rattle.sm_ownership.specs.declared.entry.Entry.{Entry}
 use Rattle.sm_rule.specs.Passes.{PassValue}
 use Rattle.sm_rule.specs.lemmas.Passing.{begins_begins}
 use Rattle.sm_cluster.specs.Holding.{AreEndedIn, HasEndedIn, HoldsShard}

@@ -1,4 +1,4 @@
-use Rattle.std.proofs.Common.{◌≡◌, ◌<◌, ◌∙◌, None, Some, ap, arith, length, rules, slice_index_or, slice_set, subst, sym}
+use Rattle.std.proofs.Common.{◌≡◌, ◌∙◌, None, Some, ap, arith, length, rules, slice_index_or, slice_set, subst, sym}
 use Rattle.sm_cluster.specs.Holding.{AreHoldsOn, hold_at}
 use Rattle.sm_cluster.proofs.Holding.{at_place, holds_put}
 use Rattle.sm_cluster.proofs.holds.Holds.put.Goals as goal
