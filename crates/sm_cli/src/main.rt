@@ -43,6 +43,18 @@ Looking, holding and checkpoints, as look 0:
   hold K A, free K  server A is admitted to shard K without a request; its end
   checkpoint K A    server A makes what shard K holds its base: it has room for requests again
 
+Published routes, as publish 0, and client get m:
+  publish K         the owner of shard K at its generation becomes the route of its keys
+  route KEY         the published route of the key's shard
+  client REQUEST    a request by that route, which may be old
+
+Restarts, failures and plans, as ask 1, approve 1, drain 1:
+  ask A, approve A  a restart of server A is asked for; it is approved
+  stopped A, back A server A was stopped; it is up again
+  fail A            server A has failed
+  place             where the vacant shards would go
+  drain A           where the shards that server A serves would go
+
 Each command has one answer line. An empty line and a line that begins with # have none.
 
 Example:

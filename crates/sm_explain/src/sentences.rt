@@ -62,7 +62,7 @@ const REFUSALS: [Entry; 35] = [
     ),
     (
         "WrongPhase",
-        "the change doesn't begin from the shard's stand, which look K tells",
+        "the change doesn't begin from the shard's stand, which look K tells; a vacant shard has no route to publish",
     ),
     ("SameServer", "the new server is the shard's owner already"),
     (

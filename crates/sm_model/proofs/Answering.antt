@@ -1,5 +1,5 @@
 -- What the step that ends a call, and the call's answer, say of each other.
-use Rattle.std.proofs.Common.{◌≡◌, true, false, ap, sym, ◌∙◌, subst, refl, Ok, Err, Result, Some, is_some, IfOk}
+use Rattle.std.proofs.Common.{◌≡◌, true, ap, sym, ◌∙◌, subst, refl, Ok, Err, Result, Some, is_some, IfOk}
 use Rattle.std.specs.declared.alloc.AllocError.{AllocError}
 use Rattle.sm_envelope.specs.declared.refusal.Refusal.TheVariants as refusal
 use Rattle.sm_script.specs.declared.answer.Answer.{Answer}
@@ -8,12 +8,12 @@ use Rattle.sm_service.specs.declared.reply.Reply.{Reply}
 use Rattle.sm_service.specs.declared.request.Request.{Request}
 use Rattle.sm_table.specs.declared.step.Step.{Step}
 use Rattle.sm_table.specs.declared.world_answer.WorldAnswer.{WorldAnswer}
-use Rattle.sm_table.specs.declared.world_answer.WorldAnswer.TheVariants.{Made, Seen, Sent, Began, Forwarded, Refused, Replied}
+use Rattle.sm_table.specs.declared.world_answer.WorldAnswer.TheVariants.{Made, Seen, Sent, Began, Forwarded, Refused, Replied, Way}
 use Rattle.sm_table.specs.declared.world_fault.WorldFault.{WorldFault}
 use Rattle.sm_table.specs.declared.world_fault.WorldFault.TheVariants as fault
 use Rattle.sm_table.specs.Standing.{Follows, WorldView}
 use Rattle.sm_table.specs.World.{WorldState, Mark, Plain, mark_of, outcome}
-use Rattle.sm_model.specs.Calls.{answer_of, counter_text, is_plan, stepped}
+use Rattle.sm_model.specs.Calls.{answer_of, counter_text, ends_in_step, stepped}
 use Rattle.sm_model.proofs.Planning.{answered-steps}
 use Rattle.sm_model.specs.Sessions.{Ends, GivesAnswer, HasAnswer, IsIdle}
 
@@ -24,6 +24,7 @@ plain_of_answer (Ok (Seen state)) some = refl
 plain_of_answer (Ok Sent) some = refl
 plain_of_answer (Ok (Began server)) some = refl
 plain_of_answer (Ok (Forwarded server)) some = refl
+plain_of_answer (Ok (Way route)) some = refl
 plain_of_answer (Ok (Refused refusal.TooManyHops)) some = refl
 plain_of_answer (Ok (Refused (refusal.Admit reason))) some = refl
 plain_of_answer (Ok (Refused refusal.Unreachable)) some = refl
@@ -37,6 +38,8 @@ plain_of_answer (Err fault.UnknownServer) some = refl
 plain_of_answer (Err fault.Unreachable) some = refl
 plain_of_answer (Err fault.NoEnvelope) some = refl
 plain_of_answer (Err fault.NotHeld) some = refl
+plain_of_answer (Err fault.OldRoute) some = refl
+plain_of_answer (Err fault.WrongPhase) some = refl
 plain_of_answer (Err fault.NoMemory) some = cc
 
 -- a step that went as it should is one with ample memory
@@ -53,7 +56,7 @@ idle_after before after call ended idle ends = (ends idle.0 idle.1).0
 
 -- the answer to a call that ended as it should
 pub gives_answer : (before after : WorldView Request) (call : Call) (ended : Result (WorldAnswer Reply) WorldFault) (result : Result Answer AllocError)
-    → IfOk result (λ answer. answer_of ended ≡ Some answer) → is_plan call ≡ false → Ends before call ended after → IfOk result (λ answer. GivesAnswer before call answer after)
+    → IfOk result (λ answer. answer_of ended ≡ Some answer) → ends_in_step call ≡ true → Ends before call ended after → IfOk result (λ answer. GivesAnswer before call answer after)
 gives_answer before after call ended (Ok answer) is steps ends =
     λ w at. let end = (ends w at).1 (plain_of_answer ended (ap is_some is)) in (answered-steps w call steps ∙ (sym (ap answer_of end.answered) ∙ is), end.stands)
 gives_answer before after call ended (Err fault) is steps ends = tt

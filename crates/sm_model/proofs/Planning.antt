@@ -1,7 +1,12 @@
--- Plans that a script asks for, and the answers to all other calls.
-use Rattle.std.proofs.Common.{◌≡◌, ℕ, Bool, true, false, Option, Some, None, is_some, refl, ap, sym, ◌∙◌}
+-- Calls that may make no step, and the answers to all others.
+use Rattle.std.proofs.Common.{◌≡◌, ◌<◌, ℕ, Bool, true, false, List, Option, Some, None, is_some, length, refl, ap, slice_index_or, subst, sym, ◌∙◌, arith, IfOk, Ok, Err, Result}
+use Rattle.std.proofs.lemmas.List.FromFn.{get_or-map-range_with_len}
 use Rattle.std.specs.Option.{option_or}
+use Rattle.std.specs.declared.alloc.AllocError.{AllocError}
 use Rattle.sm_desk.specs.Desk.{DeskView, is_known}
+use Rattle.sm_ownership.specs.declared.route.Route.{Route}
+use Rattle.sm_ownership.specs.Routes.{routes_of}
+use Rattle.sm_ranges.specs.Ranges.{shard_of}
 use Rattle.sm_place.specs.Plans.{PlanView, assign_plan, drain_plan}
 use Rattle.sm_script.specs.declared.answer.Answer.{Answer}
 use Rattle.sm_script.specs.declared.answer.Answer.TheVariants.{Planned, Refused as IsRefused}
@@ -9,22 +14,26 @@ use Rattle.sm_script.specs.declared.call.Call.{Call}
 use Rattle.sm_script.specs.declared.call.Call.TheVariants as call
 use Rattle.sm_script.specs.declared.refused.Refused.TheVariants as refused
 use Rattle.sm_service.specs.declared.request.Request.{Request}
-use Rattle.sm_table.specs.Standing.{WorldView}
-use Rattle.sm_table.specs.World.{WorldState, is_there}
-use Rattle.sm_model.specs.Calls.{answer_of, answered, called, drained, is_plan, plan_answer}
+use Rattle.sm_service.specs.Service.{key_of_request}
+use Rattle.sm_table.specs.Standing.{StandsFor, WorldView}
+use Rattle.sm_table.specs.World.{WorldState, count_of, is_there}
+use Rattle.sm_model.specs.Calls.{answer_of, answer_without_steps, answered, called, drained, ends_in_step, requested_by, route_for, shard_for, unless_route}
 use Rattle.sm_model.specs.Sessions.{GivesAnswer, IsAt}
 
--- a call that asks for no plan has the answer to its last step
-pub answered-steps : (w : WorldState Request) (asked : Call) → is_plan asked ≡ false → answered w asked ≡ answer_of (called w asked).0
+-- a call that ends in a step has the answer to that
+pub answered-steps : (w : WorldState Request) (asked : Call) → ends_in_step asked ≡ true → answered w asked ≡ answer_of (called w asked).0
 answered-steps w (call.Control command) steps = refl
 answered-steps w (call.Hold shard server) steps = refl
 answered-steps w (call.Free shard) steps = refl
 answered-steps w (call.Checkpoint shard server) steps = refl
+answered-steps w (call.Publish shard) steps = refl
+answered-steps w (call.Route key) steps = refl
 answered-steps w (call.Look shard) steps = refl
 answered-steps w call.Place steps = absurd cc
 answered-steps w (call.Drain server) steps = absurd cc
 answered-steps w (call.Request request) steps = refl
 answered-steps w (call.RequestAt server request) steps = refl
+answered-steps w (call.RequestByRoute request) steps = absurd cc
 
 some_or : {X : Type 0} (first second : Option X) → is_some second ≡ true → is_some (option_or first second) ≡ true
 some_or None second some = some
@@ -32,7 +41,7 @@ some_or (Some x) second some = refl
 
 -- where its last step has an answer, a call has one
 pub answered-some : (w : WorldState Request) (asked : Call) → is_some (answer_of (called w asked).0) ≡ true → is_some (answered w asked) ≡ true
-answered-some w asked some = some_or (plan_answer w asked) (answer_of (called w asked).0) some
+answered-some w asked some = some_or (answer_without_steps w asked) (answer_of (called w asked).0) some
 
 -- a plan by the books of a session
 pub gives_plan : (view : WorldView Request) (plan : PlanView) → plan ≡ assign_plan view.desk.books → GivesAnswer view call.Place (Planned plan) view
@@ -55,3 +64,41 @@ gives_unknown view server knows = λ w at.
     let there : is_there w server ≡ false = known_there view w server false at knows in
     let unknown : drained w server ≡ IsRefused refused.UnknownServer = rw there refl in
     (ap (λ one. Some one) unknown, at)
+
+-- ---- the published route of a request's shard
+
+route_is : (view : WorldView Request) (w : WorldState Request) (request : Request) (shard : ℕ) (route : Option Route)
+    → StandsFor view w → shard < length view.bounds → shard ≡ shard_of view.bounds (key_of_request request) → route ≡ slice_index_or view.routes shard None
+    → route_for w request ≡ route
+route_is view w request shard route stands within is read =
+    let there : shard < count_of w = subst (λ (bounds : List (List ℕ)). shard < length bounds) stands.bounds within in
+    let shard_is : shard ≡ shard_for w request = is ∙ ap (λ bounds. shard_of bounds (key_of_request request)) stands.bounds in
+    sym (
+    read
+    ∙ ap (λ (routes : List (Option Route)). slice_index_or routes shard None) stands.routes
+    ∙ get_or-map-range_with_len (routes_of w.publications) 0 (count_of w) shard shard None there (omega arith)
+    ∙ ap (routes_of w.publications) shard_is
+    )
+
+-- what a client's request comes to by a route
+abbrev GivesBy : WorldState Request → Request → Answer → WorldView Request → Option Route → Type 0
+GivesBy w request answer after route =
+    let went = requested_by w request (shard_for w request) route in
+    (option_or (unless_route route) (answer_of went.0) ≡ Some answer) × IsAt after went.1
+
+-- there is none
+pub gives_no_route : (read before : WorldView Request) → read ≡ before → (request : Request) (shard : ℕ) (route : Option Route)
+    → shard < length read.bounds → shard ≡ shard_of read.bounds (key_of_request request) → route ≡ slice_index_or read.routes shard None → route ≡ None
+    → GivesAnswer before (call.RequestByRoute request) (IsRefused refused.NoRoute) before
+gives_no_route read before same request shard route within is found none = λ w at.
+    let stands : StandsFor read w = subst (λ view. StandsFor view w) (sym same) at.world in
+    subst (GivesBy w request (IsRefused refused.NoRoute) before) (sym (route_is read w request shard route stands within is found ∙ none)) (refl, at)
+
+-- there is one: the request goes to its server
+pub gives_by_route : (read before after : WorldView Request) → read ≡ before → (request : Request) (shard : ℕ) (found : Option Route) (route : Route) (result : Result Answer AllocError)
+    → shard < length read.bounds → shard ≡ shard_of read.bounds (key_of_request request) → found ≡ slice_index_or read.routes shard None → found ≡ Some route
+    → IfOk result (λ answer. GivesAnswer before (call.RequestAt route.server request) answer after) → IfOk result (λ answer. GivesAnswer before (call.RequestByRoute request) answer after)
+gives_by_route read before after same request shard found route (Ok answer) within is there some gives = λ w at.
+    let stands : StandsFor read w = subst (λ view. StandsFor view w) (sym same) at.world in
+    subst (GivesBy w request answer after) (sym (route_is read w request shard found stands within is there ∙ some)) (gives w at)
+gives_by_route read before after same request shard found route (Err fault) within is there some gives = tt

@@ -21,7 +21,7 @@ use Rattle.sm_table.specs.declared.hands.Work.{Work}
 use Rattle.sm_table.specs.declared.step.Step.{Step}
 use Rattle.sm_table.specs.declared.step.Step.TheVariants.{Send, Finish, Checkpoint}
 use Rattle.sm_table.specs.declared.world_answer.WorldAnswer.{WorldAnswer}
-use Rattle.sm_table.specs.declared.world_answer.WorldAnswer.TheVariants.{Made, Seen, Sent, Began, Forwarded, Refused, Replied}
+use Rattle.sm_table.specs.declared.world_answer.WorldAnswer.TheVariants.{Made, Seen, Sent, Began, Forwarded, Refused, Replied, Way}
 use Rattle.sm_table.specs.declared.world_fault.WorldFault.{WorldFault}
 use Rattle.sm_table.specs.declared.world_fault.WorldFault.TheVariants as fault
 use Rattle.sm_table.specs.Standing.{Follows, GoesAs, StandsFor, WorldView}
@@ -146,6 +146,7 @@ ends_unsent before after server request sent stands unsent = λ w at.
 sent_is : (result : Result (WorldAnswer Reply) WorldFault) → is_sent result ≡ true → result ≡ Ok Sent
 sent_is (Ok Sent) is = refl
 sent_is (Ok Made) is = cc
+sent_is (Ok (Way route)) is = cc
 sent_is (Ok (Seen state)) is = cc
 sent_is (Ok (Began server)) is = cc
 sent_is (Ok (Forwarded server)) is = cc
@@ -158,6 +159,7 @@ begun_is (Ok (Began server)) is = (server, refl)
 begun_is (Ok Sent) is = absurd cc
 begun_is (Ok (Forwarded server)) is = absurd cc
 begun_is (Ok Made) is = absurd cc
+begun_is (Ok (Way route)) is = absurd cc
 begun_is (Ok (Seen state)) is = absurd cc
 begun_is (Ok (Refused reason)) is = absurd cc
 begun_is (Ok (Replied number server reply place)) is = absurd cc

@@ -10,29 +10,31 @@ use Rattle.sm_ranges.specs.Stand.{owner_of}
 use Rattle.sm_script.specs.declared.call.Call.{Call}
 use Rattle.sm_script.specs.declared.call.Call.TheVariants as call
 use Rattle.sm_ownership.specs.declared.admit_fault.AdmitFault.{AdmitFault}
+use Rattle.sm_ownership.specs.declared.route.Route.{Route}
+use Rattle.sm_ownership.specs.Routes.{is_old, record_route, routes_of}
 use Rattle.sm_desk.specs.declared.command.CommandFault.{CommandFault}
 use Rattle.sm_table.specs.declared.world.Flight.{Flight}
 use Rattle.sm_table.specs.declared.hands.InHand.{InHand}
 use Rattle.sm_table.specs.declared.hands.Work.{Work}
 use Rattle.sm_ownership.specs.declared.entry.Ending.TheVariants.{Nothing}
 use Rattle.sm_ownership.specs.declared.mode.Mode.TheVariants.{Direct}
-use Rattle.sm_table.specs.declared.step.Step.TheVariants.{Control, Look, Send, Deliver, Finish, Hold, Free, Checkpoint}
+use Rattle.sm_table.specs.declared.step.Step.TheVariants.{Control, Look, Send, Deliver, Finish, Hold, Free, Checkpoint, Publish, RouteOf}
 use Rattle.sm_table.specs.declared.world_answer.WorldAnswer.{WorldAnswer}
-use Rattle.sm_table.specs.declared.world_answer.WorldAnswer.TheVariants.{Forwarded, Seen, Sent, Refused}
+use Rattle.sm_table.specs.declared.world_answer.WorldAnswer.TheVariants.{Made, Forwarded, Seen, Sent, Refused}
 use Rattle.sm_table.specs.declared.world_fault.WorldFault.{WorldFault}
-use Rattle.sm_table.specs.declared.world_fault.WorldFault.TheVariants.{Unreachable, UnknownServer, UnknownShard}
+use Rattle.sm_table.specs.declared.world_fault.WorldFault.TheVariants.{OldRoute, Unreachable, UnknownServer, UnknownShard}
 use Rattle.sm_desk.specs.declared.command.Command.{Command}
 use Rattle.sm_desk.specs.declared.command.Command.TheVariants.{Change as ChangeOf, Ask, Approve, Stopped, Back, Fail}
 use Rattle.sm_desk.specs.Desk.{is_reached}
 use Rattle.sm_envelope.specs.Envelope.{EnvelopeView, one_hop_more, sent_on}
 use Rattle.sm_envelope.specs.declared.envelope.TheConstants.{MOST_HOPS}
-use Rattle.sm_table.specs.World.{WorldState, Plain, after_hop, arrived, based, controlled, count_of, ended, flight_to, freed, hand_of, held, hopped, is_there, let_go, reached, served, with_room, worked, world_record}
+use Rattle.sm_table.specs.World.{WorldState, Plain, after_hop, arrived, based, controlled, count_of, ended, flight_to, freed, hand_of, held, hopped, is_there, let_go, published, reached, served, with_room, worked, world_record}
 use Rattle.sm_ownership.specs.History.{kept}
 use Rattle.sm_ownership.specs.Rules.{admit_fault, forward_to}
 use Rattle.sm_envelope.specs.declared.refusal.Refusal.TheVariants.{KeptFull, Unreachable as NotReached}
 use Rattle.sm_table.specs.Standing.{IsSound}
 use Rattle.sm_table.specs.lemmas.Soundness.{shard_within, sound_next}
-use Rattle.sm_model.specs.Calls.{Stepped, after_arrival, after_hops, after_sending, answer_of, called, counter_text, is_begun, is_forwarded, is_sent, requested, requested_at, shard_for, stepped, world_after_calls}
+use Rattle.sm_model.specs.Calls.{Stepped, after_arrival, after_hops, after_sending, answer_of, called, counter_text, is_begun, is_forwarded, is_sent, requested, requested_at, requested_by, shard_for, stepped, world_after_calls}
 
 -- the last step answers the script, and no request is under way
 pub record Settles (went : Stepped) : Type 0 where
@@ -174,6 +176,22 @@ look_settles : (w : WorldState Request) (shard : ℕ) (there : Bool) → w.in_fl
 look_settles w shard true rest = record { answers = refl; rest = rest }
 look_settles w shard false rest = record { answers = refl; rest = rest }
 
+new_route_settles : (w : WorldState Request) (route : Route) (old : Bool) → w.in_flight ≡ []
+    → Settles (if old then (Err OldRoute, w) else (Ok Made, record w { publications = w.publications ++ route ∷ [] }))
+new_route_settles w route true rest = record { answers = refl; rest = rest }
+new_route_settles w route false rest = record { answers = refl; rest = rest }
+
+published_settles : (w : WorldState Request) (there : Bool) (route : Option Route) → w.in_flight ≡ []
+    → Settles (if there then published w route else (Err UnknownShard, w))
+published_settles w true None rest = record { answers = refl; rest = rest }
+published_settles w true (Some route) rest = new_route_settles w route (is_old (routes_of w.publications route.shard) route) rest
+published_settles w false route rest = record { answers = refl; rest = rest }
+
+requested_by_settles : (w : WorldState Request) (request : Request) (route : Option Route) → shard_for w request < length w.in_hand → w.in_flight ≡ []
+    → Settles (requested_by w request (shard_for w request) route)
+requested_by_settles w request None within rest = record { answers = refl; rest = rest }
+requested_by_settles w request (Some route) within rest = requested_at_settles w request route.server within rest
+
 -- the shard of a request has a place in the lists of the shards
 has_place : (w : WorldState Request) (request : Request) → IsSound w → shard_for w request < length w.in_hand
 has_place w request sound =
@@ -188,9 +206,12 @@ settles w (call.Drain server) sound rest = record { answers = refl; rest = rest 
 settles w (call.Hold shard server) sound rest = held_settles w shard server (nat_lt shard (count_of w)) (is_there w server) _ rest
 settles w (call.Free shard) sound rest = freed_settles w shard (nat_lt shard (count_of w)) (slice_index_or w.in_hand shard None) rest
 settles w (call.Checkpoint shard server) sound rest = based_settles w shard server (nat_lt shard (count_of w)) (is_there w server) _ rest
+settles w (call.Publish shard) sound rest = published_settles w (nat_lt shard (count_of w)) (record_route shard (world_record w shard)) rest
+settles w (call.Route key) sound rest = record { answers = refl; rest = rest }
 settles w (call.Look shard) sound rest = look_settles w shard (nat_lt shard (count_of w)) rest
 settles w (call.Request request) sound rest = requested_settles w request (owner_of (world_record w (shard_for w request)).stand) (has_place w request sound) rest
 settles w (call.RequestAt server request) sound rest = requested_at_settles w request server (has_place w request sound) rest
+settles w (call.RequestByRoute request) sound rest = requested_by_settles w request (routes_of w.publications (shard_for w request)) (has_place w request sound) rest
 
 -- ---- whatever calls were made before
 
@@ -223,6 +244,10 @@ requested_sound : (w : WorldState Request) (request : Request) (shard : ℕ) (ow
 requested_sound w request shard None sound = sound
 requested_sound w request shard (Some owner) sound = requested_at_sound w request shard owner sound
 
+requested_by_sound : (w : WorldState Request) (request : Request) (shard : ℕ) (route : Option Route) → IsSound w → IsSound (requested_by w request shard route).1
+requested_by_sound w request shard None sound = sound
+requested_by_sound w request shard (Some route) sound = requested_at_sound w request shard route.server sound
+
 called_sound : (w : WorldState Request) (call : Call) → IsSound w → IsSound (called w call).1
 called_sound w (call.Control command) sound = sound_next counter_text w Plain (Control command) sound
 called_sound w call.Place sound = sound
@@ -230,9 +255,12 @@ called_sound w (call.Drain server) sound = sound
 called_sound w (call.Hold shard server) sound = sound_next counter_text w Plain (Hold shard server) sound
 called_sound w (call.Free shard) sound = sound_next counter_text w Plain (Free shard) sound
 called_sound w (call.Checkpoint shard server) sound = sound_next counter_text w Plain (Checkpoint shard server) sound
+called_sound w (call.Publish shard) sound = sound_next counter_text w Plain (Publish shard) sound
+called_sound w (call.Route key) sound = sound_next counter_text w Plain (RouteOf key) sound
 called_sound w (call.Look shard) sound = sound_next counter_text w Plain (Look shard) sound
 called_sound w (call.Request request) sound = requested_sound w request (shard_for w request) (owner_of (world_record w (shard_for w request)).stand) sound
 called_sound w (call.RequestAt server request) sound = requested_at_sound w request (shard_for w request) server sound
+called_sound w (call.RequestByRoute request) sound = requested_by_sound w request (shard_for w request) (routes_of w.publications (shard_for w request)) sound
 
 pub settles_after : (w : WorldState Request) (calls : List Call) (call : Call) → IsSound w → w.in_flight ≡ [] → Settles (called (world_after_calls w calls) call)
 settles_after w [] call sound rest = settles w call sound rest

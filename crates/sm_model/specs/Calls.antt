@@ -9,10 +9,12 @@ use Rattle.sm_ownership.specs.declared.admit_fault.AdmitFault.TheVariants as adm
 use Rattle.sm_desk.specs.Desk.{DeskView}
 use Rattle.sm_place.specs.Books.{new_books}
 use Rattle.sm_place.specs.Plans.{assign_plan, drain_plan}
+use Rattle.sm_ownership.specs.declared.route.Route.{Route}
+use Rattle.sm_ownership.specs.Routes.{routes_of}
 use Rattle.sm_ranges.specs.Ranges.{shard_of}
 use Rattle.sm_ranges.specs.Stand.{owner_of}
 use Rattle.sm_script.specs.declared.answer.Answer.{Answer}
-use Rattle.sm_script.specs.declared.answer.Answer.TheVariants.{Made as IsMade, Refused as IsRefused, Seen as IsSeen, Executed, Planned}
+use Rattle.sm_script.specs.declared.answer.Answer.TheVariants.{Made as IsMade, Refused as IsRefused, Seen as IsSeen, Executed, Planned, Way as IsWay}
 use Rattle.sm_script.specs.declared.call.Call.{Call}
 use Rattle.sm_script.specs.declared.call.Call.TheVariants as call
 use Rattle.sm_script.specs.declared.refused.Refused.TheVariants as refused
@@ -21,9 +23,9 @@ use Rattle.sm_service.specs.declared.reply.Reply.{Reply}
 use Rattle.sm_service.specs.declared.request.Request.{Request}
 use Rattle.sm_settings.specs.SettingsLine.{SettingsValues}
 use Rattle.sm_table.specs.declared.step.Step.{Step}
-use Rattle.sm_table.specs.declared.step.Step.TheVariants.{Control, Look, Send, Deliver, Finish, Hold, Free, Checkpoint}
+use Rattle.sm_table.specs.declared.step.Step.TheVariants.{Control, Look, Send, Deliver, Finish, Hold, Free, Checkpoint, Publish, RouteOf}
 use Rattle.sm_table.specs.declared.world_answer.WorldAnswer.{WorldAnswer}
-use Rattle.sm_table.specs.declared.world_answer.WorldAnswer.TheVariants.{Made, Seen, Sent, Began, Forwarded, Refused, Replied}
+use Rattle.sm_table.specs.declared.world_answer.WorldAnswer.TheVariants.{Made, Seen, Sent, Began, Forwarded, Refused, Replied, Way}
 use Rattle.sm_table.specs.declared.world_fault.WorldFault.{WorldFault}
 use Rattle.sm_table.specs.declared.world_fault.WorldFault.TheVariants as fault
 use Rattle.sm_table.specs.World.{Frame, WorldState, Plain, is_there, outcome, world_record}
@@ -57,6 +59,7 @@ refused_answer why = Some (IsRefused (refused.Request why))
 abbrev pub answer_of : Result (WorldAnswer Reply) WorldFault → Option Answer
 answer_of (Ok Made) = Some IsMade
 answer_of (Ok (Seen state)) = Some (IsSeen state)
+answer_of (Ok (Way route)) = Some (IsWay route)
 answer_of (Ok (Refused why)) = refused_answer why
 answer_of (Ok (Replied number server reply place)) = Some (Executed reply server place)
 answer_of (Err (fault.Command why)) = Some (IsRefused (refused.Command why))
@@ -65,6 +68,8 @@ answer_of (Err fault.UnknownShard) = Some (IsRefused refused.UnknownShard)
 answer_of (Err fault.UnknownServer) = Some (IsRefused refused.UnknownServer)
 answer_of (Err fault.Unreachable) = Some (IsRefused refused.Unreachable)
 answer_of (Err fault.NotHeld) = Some (IsRefused refused.NotHeld)
+answer_of (Err fault.OldRoute) = Some (IsRefused refused.OldRoute)
+answer_of (Err fault.WrongPhase) = Some (IsRefused refused.WrongPhase)
 answer_of _ = None
 
 -- a step with ample memory: what it answers, and the world that it leaves
@@ -109,40 +114,59 @@ abbrev pub requested : WorldState Request → Request → ℕ → Option ℕ →
 requested w request shard None = (Ok (Refused (refusal.Admit admit.Vacant)), w)
 requested w request shard (Some owner) = requested_at w request shard owner
 
+-- a client's request goes to the server of the shard's published route, where there is one
+abbrev pub requested_by : WorldState Request → Request → ℕ → Option Route → Stepped
+requested_by w request shard None = (Ok Made, w)
+requested_by w request shard (Some route) = requested_at w request shard route.server
+
 -- the shard of a request's key
 abbrev pub shard_for : WorldState Request → Request → ℕ
 shard_for w request = shard_of w.frame.bounds (key_of_request request)
 
--- whether the call asks for a plan
-abbrev pub is_plan : Call → Bool
-is_plan call.Place = true
-is_plan (call.Drain server) = true
-is_plan asked = false
+-- whether the call makes steps at every world, and is answered as the last of them
+abbrev pub ends_in_step : Call → Bool
+ends_in_step call.Place = false
+ends_in_step (call.Drain server) = false
+ends_in_step (call.RequestByRoute request) = false
+ends_in_step asked = true
 
 -- the plan for the server's shards, where the server exists
 abbrev pub drained : WorldState Request → ℕ → Answer
 drained w server = if is_there w server then Planned (drain_plan w.desk.books server) else IsRefused refused.UnknownServer
 
--- the answer to a call for a plan, by the books of the world
-abbrev pub plan_answer : WorldState Request → Call → Option Answer
-plan_answer w call.Place = Some (Planned (assign_plan w.desk.books))
-plan_answer w (call.Drain server) = Some (drained w server)
-plan_answer w asked = None
+-- the last published route of a request's shard
+abbrev pub route_for : WorldState Request → Request → Option Route
+route_for w request = routes_of w.publications (shard_for w request)
 
--- the steps of a call; a plan takes none
+-- a client's request is refused where there is no route
+abbrev pub unless_route : Option Route → Option Answer
+unless_route None = Some (IsRefused refused.NoRoute)
+unless_route (Some route) = None
+
+-- the answer to a call that makes no step here: a plan by the books of the world, or that a client has no route
+abbrev pub answer_without_steps : WorldState Request → Call → Option Answer
+answer_without_steps w call.Place = Some (Planned (assign_plan w.desk.books))
+answer_without_steps w (call.Drain server) = Some (drained w server)
+answer_without_steps w (call.RequestByRoute request) = unless_route (route_for w request)
+answer_without_steps w asked = None
+
+-- the steps of a call, where it makes any
 abbrev pub called : WorldState Request → Call → Stepped
 called w (call.Control command) = stepped w (Control command)
 called w (call.Hold shard server) = stepped w (Hold shard server)
 called w (call.Free shard) = stepped w (Free shard)
 called w (call.Checkpoint shard server) = stepped w (Checkpoint shard server)
+called w (call.Publish shard) = stepped w (Publish shard)
+called w (call.Route key) = stepped w (RouteOf key)
 called w (call.Look shard) = stepped w (Look shard)
 called w (call.Request request) = requested w request (shard_for w request) (owner_of (world_record w (shard_for w request)).stand)
 called w (call.RequestAt server request) = requested_at w request (shard_for w request) server
+called w (call.RequestByRoute request) = requested_by w request (shard_for w request) (route_for w request)
 called w asked = (Ok Made, w)
 
--- the answer to a call: a plan, or that to its last step
+-- the answer to a call: that of a call that makes no step, or that to its last step
 abbrev pub answered : WorldState Request → Call → Option Answer
-answered w asked = option_or (plan_answer w asked) (answer_of (called w asked).0)
+answered w asked = option_or (answer_without_steps w asked) (answer_of (called w asked).0)
 
 -- the world after these calls, one after another
 abbrev pub world_after_calls : WorldState Request → List Call → WorldState Request

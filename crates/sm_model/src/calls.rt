@@ -1,11 +1,11 @@
 //! How a call of a script is carried out on a world, step by step.
 
-ghost use Rattle.std.specs.Prelude.{◌≡◌, ◌≢◌, ◌<◌, false, Some, Ok, Err, length, IfOk, OnErr};
+ghost use Rattle.std.specs.Prelude.{◌≡◌, ◌≢◌, ◌<◌, false, true, Some, Ok, Err, length, IfOk, OnErr};
 ghost use Rattle.sm_ranges.specs.Ranges.{shard_of};
 ghost use Rattle.sm_service.specs.Service.{key_of_request};
 ghost use Rattle.sm_service.specs.declared.reply.Reply.{Reply as AnyReply};
 ghost use Rattle.sm_table.specs.World.{Plain, Unmade, Unserved, mark_of, may_go};
-ghost use Rattle.sm_model.specs.Calls.{answer_of, is_begun, is_forwarded, is_plan, is_sent, refused_answer};
+ghost use Rattle.sm_model.specs.Calls.{answer_of, ends_in_step, is_begun, is_forwarded, is_sent, refused_answer};
 ghost use Rattle.sm_model.specs.Sessions.{Arrives, Ends, HasAnswer, Steps};
 ghost use Rattle.sm_script.specs.declared.call.Call.TheVariants as call;
 
@@ -28,7 +28,7 @@ pub(crate) fn carry_out(
     world: &mut World<CounterText>,
     call: Call,
 ) -> Result<WorldAnswer<Reply>, WorldFault>
-    requires { is_plan call ≡ false }
+    requires { ends_in_step call ≡ true }
     ensures { Ends world.old call result world.new }
 {
     match call {
@@ -36,8 +36,10 @@ pub(crate) fn carry_out(
         Call::Hold(shard, server) => make(world, Step::Hold(shard, server)),
         Call::Free(shard) => make(world, Step::Free(shard)),
         Call::Checkpoint(shard, server) => make_checkpoint(world, shard, server),
+        Call::Publish(shard) => make(world, Step::Publish(shard)),
+        Call::Route(key) => make(world, Step::RouteOf(key)),
         Call::Look(shard) => make(world, Step::Look(shard)),
-        Call::Place | Call::Drain(_) => unreachable!(),
+        Call::Place | Call::Drain(_) | Call::RequestByRoute(_) => unreachable!(),
         Call::Request(request) => run_request(world, request),
         Call::RequestAt(server, request) => {
             let shard = world.shard_of(&request);
@@ -160,6 +162,7 @@ fn answer_of_made(made: WorldAnswer<Reply>) -> Result<Answer, AllocError>
     match made {
         WorldAnswer::Made => Ok(Answer::Made),
         WorldAnswer::Seen(record) => Ok(Answer::Seen(record)),
+        WorldAnswer::Way(route) => Ok(Answer::Way(route)),
         WorldAnswer::Refused(refusal) => answer_of_refusal(refusal),
         WorldAnswer::Replied {
             number: _,
@@ -201,6 +204,8 @@ fn answer_of_fault(fault: WorldFault) -> Result<Answer, AllocError>
         WorldFault::UnknownServer => Ok(Answer::Refused(Refused::UnknownServer)),
         WorldFault::Unreachable => Ok(Answer::Refused(Refused::Unreachable)),
         WorldFault::NotHeld => Ok(Answer::Refused(Refused::NotHeld)),
+        WorldFault::OldRoute => Ok(Answer::Refused(Refused::OldRoute)),
+        WorldFault::WrongPhase => Ok(Answer::Refused(Refused::WrongPhase)),
         WorldFault::NoMemory => Err(AllocError),
         WorldFault::NoEnvelope => unreachable!(),
     }

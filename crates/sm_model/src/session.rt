@@ -1,8 +1,8 @@
-ghost use Rattle.std.specs.Prelude.{◌≡◌, ◌++◌, [], IfOk, OnOk, false, replicate};
+ghost use Rattle.std.specs.Prelude.{◌≡◌, ◌++◌, [], IfOk, OnOk, replicate, true};
 ghost use Rattle.sm_settings.specs.SettingsLine.{values_of};
 ghost use Rattle.sm_settings.specs.SettingsRules.{KeepsRules};
 ghost use Rattle.sm_script.specs.declared.call.Call.TheVariants as call;
-ghost use Rattle.sm_model.specs.Calls.{is_plan, settings_desk};
+ghost use Rattle.sm_model.specs.Calls.{ends_in_step, settings_desk};
 ghost use Rattle.sm_model.specs.Script.{answer_line};
 ghost use Rattle.sm_model.specs.Sessions.{GivesAnswer, IsNew};
 
@@ -13,6 +13,7 @@ use sm_place::{Books, BooksFault};
 use sm_ranges::server_id::ServerId;
 use sm_script::{Answer, Call, ParseFault, Refused, long_line_fault, parse};
 use sm_service::counter_text::CounterText;
+use sm_service::request::Request;
 use sm_settings::settings::Settings;
 use sm_table::world::{Setup, World};
 use sm_tasks::Tasks;
@@ -64,16 +65,28 @@ impl ModelSession {
         match call {
             Call::Place => self.place(),
             Call::Drain(server) => self.drain(server),
+            Call::RequestByRoute(request) => self.make_by_route(request),
             _ => self.make(call),
         }
     }
 
     /// Makes the steps of the call; an error is want of memory.
     fn make(&mut self, call: Call) -> Result<Answer, AllocError>
-        requires { is_plan call ≡ false }
+        requires { ends_in_step call ≡ true }
         ensures { IfOk result (λ answer. GivesAnswer self.old call answer self.new) }
     {
         answer_of(carry_out(&mut self.world, call))
+    }
+
+    /// Makes the request of the server of its shard's published route, where there is one; an error is want of memory.
+    fn make_by_route(&mut self, request: Request) -> Result<Answer, AllocError>
+        ensures { IfOk result (λ answer. GivesAnswer self.old (call.RequestByRoute request) answer self.new) }
+    {
+        let shard = self.world.shard_of(&request);
+        match self.world.route(shard) {
+            Some(route) => self.make(Call::RequestAt(route.server, request)),
+            None => Ok(Answer::Refused(Refused::NoRoute)),
+        }
     }
 
     /// A plan for the shards without an owner; an error is want of memory.

@@ -1,6 +1,7 @@
 ghost use Rattle.std.specs.Prelude.{◌≡◌, ◌+◌, ◌<◌, ◌^◌, true, IfOk};
 ghost use Rattle.std.specs.Result.{result_err};
 ghost use Rattle.sm_ownership.specs.History.{after_change, after_admit, after_done};
+ghost use Rattle.sm_ownership.specs.Routes.{record_route};
 ghost use Rattle.sm_ownership.specs.Rules.{executor, accepts, forward_to, admit_fault};
 ghost use Rattle.sm_ownership.specs.Tables.{change_fault};
 
@@ -8,7 +9,9 @@ use crate::admit_fault::AdmitFault;
 use crate::change::Change;
 use crate::change_fault::ChangeFault;
 use crate::mode::Mode;
+use crate::route::Route;
 use sm_ranges::server_id::ServerId;
+use sm_ranges::shard_id::ShardId;
 use sm_ranges::stand::Stand;
 
 /// The greatest ceiling of a world or a board: the greatest generation that fits the word of a record.
@@ -49,6 +52,18 @@ impl Record {
                 owner == server,
             Stand::Forwarding { owner, next } => next == server && mode == Mode::Forwarded(owner),
         }
+    }
+
+    /// The route to the shard's owner at its generation; none where nobody owns the shard.
+    pub fn route(&self, shard: ShardId) -> Option<Route>
+        ensures { result ≡ record_route shard self.now }
+    {
+        let server = self.stand.owner()?;
+        Some(Route {
+            shard,
+            server,
+            generation: self.generation,
+        })
     }
 
     /// The server to which this one forwards requests on the shard, if it does.

@@ -10,3 +10,18 @@ pub struct Route {
     /// The shard's generation when the route was made. A publisher takes only a greater one than that of the shard's last route.
     pub generation: u64,
 }
+
+impl Route {
+    ghost use Rattle.std.specs.Prelude.{◌≡◌};
+    ghost use Rattle.sm_ownership.specs.Routes.{is_old};
+
+    /// Whether the route isn't above this last one of its shard.
+    pub fn is_old(&self, last: Option<Route>) -> bool
+        ensures { result ≡ is_old last self.now }
+    {
+        match last {
+            None => false,
+            Some(last) => self.generation <= last.generation,
+        }
+    }
+}

@@ -1,8 +1,8 @@
 -- What is published, and what is refused.
-use Rattle.std.specs.Prelude.{ℕ, Bool, false, Option, Some, None, nat_lt, nat_le, not, if◌then◌else◌, List, [], ◌∷◌, ◌++◌}
+use Rattle.std.specs.Prelude.{ℕ, Option, Some, None, nat_lt, not, if◌then◌else◌, List, [], ◌∷◌, ◌++◌}
 use Rattle.atomic_table.specs.Seated.{TableId}
 use Rattle.sm_ownership.specs.declared.route.Route.{Route}
-use Rattle.sm_ownership.specs.Routes.{routes_of}
+use Rattle.sm_ownership.specs.Routes.{is_old, routes_of}
 use Rattle.sm_publish.specs.declared.publish_fault.PublishFault.{PublishFault}
 use Rattle.sm_publish.specs.declared.publish_fault.PublishFault.TheVariants.{UnknownShard, OldRoute}
 
@@ -23,11 +23,6 @@ with_route map route = record { count = map.count; published = map.published ++ 
 -- the map takes in routes of its shards alone
 abbrev pub taken : MapView → Route → MapView
 taken map route = if nat_lt route.shard map.count then with_route map route else map
-
--- the route isn't above the shard's last one
-abbrev pub is_old : Option Route → Route → Bool
-is_old None route = false
-is_old (Some last) route = nat_le route.generation last.generation
 
 -- the first reason for which a route isn't published
 abbrev pub publish_fault : MapView → Route → Option PublishFault

@@ -17,11 +17,12 @@ use Rattle.sm_place.specs.declared.plan.Move.{Move}
 use Rattle.sm_place.specs.Plans.{PlanView}
 use Rattle.sm_tasks.specs.declared.task_fault.ApproveFault.TheVariants as approve
 use Rattle.sm_tasks.specs.declared.task_fault.StoppedFault.TheVariants as stopped
+use Rattle.sm_ownership.specs.declared.route.Route.{Route}
 use Rattle.sm_ranges.specs.Stand.{other_of, owner_of}
 use Rattle.sm_ranges.specs.declared.stand.Stand.{Stand}
 use Rattle.sm_ranges.specs.declared.stand.Stand.TheVariants.{Vacant, Serving, Prepared, Forwarding, Taken, Paused}
 use Rattle.sm_script.specs.declared.answer.Answer.{Answer}
-use Rattle.sm_script.specs.declared.answer.Answer.TheVariants.{Made, Refused as IsRefused, Seen, Executed, Planned, Error}
+use Rattle.sm_script.specs.declared.answer.Answer.TheVariants.{Made, Refused as IsRefused, Seen, Executed, Planned, Way, Error}
 use Rattle.sm_script.specs.declared.fault.LineFault.{LineFault}
 use Rattle.sm_script.specs.declared.fault.LineFault.TheVariants.{LineTooLong, UnknownWord, BadLine, BadNumber, BadKey, NotHere}
 use Rattle.sm_script.specs.declared.refused.Refused.{Refused}
@@ -91,6 +92,9 @@ refused_name refused.UnknownShard = codes "UnknownShard"
 refused_name refused.UnknownServer = codes "UnknownServer"
 refused_name refused.Unreachable = codes "Unreachable"
 refused_name refused.NotHeld = codes "NotHeld"
+refused_name refused.OldRoute = codes "OldRoute"
+refused_name refused.WrongPhase = codes "WrongPhase"
+refused_name refused.NoRoute = codes "NoRoute"
 refused_name (refused.Command fault) = command_fault_name fault
 refused_name (refused.Admit fault) = admit_fault_name fault
 refused_name (refused.Request refusal) = refusal_name refusal
@@ -129,6 +133,15 @@ record_text state =
     stand_name state.stand ∷ decimal (number_of (owner_of state.stand)) ∷ decimal (number_of (other_of state.stand)) ∷
     admission_name state.admitted ∷ decimal state.generation ∷ []
     )
+
+-- a shard's route: the shard, the server and the generation, between single spaces
+abbrev pub route_text : Route → List ℕ
+route_text route = codes "route " ++ join_with_byte 32 (decimal route.shard ∷ decimal route.server ∷ decimal route.generation ∷ [])
+
+-- the route, where there is one
+abbrev pub way_text : Option Route → List ℕ
+way_text (Some route) = route_text route
+way_text None = codes "none"
 
 -- bytes, and before them how many they are
 abbrev pub counted : List ℕ → List ℕ
@@ -183,4 +196,5 @@ answer_text (IsRefused why) = codes "refused " ++ numbered (refused_name why) (r
 answer_text (Planned plan) = plan_text plan
 answer_text (Seen state) = record_text state
 answer_text (Executed reply server place) = reply_text reply ++ place_text server place
+answer_text (Way route) = way_text route
 answer_text (Error fault) = codes "error " ++ line_fault_name fault

@@ -19,7 +19,7 @@ use Rattle.sm_script.specs.declared.fault.ParseFault.TheVariants.{Line, NoMemory
 use Rattle.sm_script.specs.declared.line.TheConstants.{MAX_LINE}
 use Rattle.sm_script.specs.declared.shape.Shape.TheVariants.{Server}
 use Rattle.sm_script.specs.declared.word.Word.{Word}
-use Rattle.sm_script.specs.declared.word.Word.TheVariants.{Assign, PrepareAdd, PrepareDrop, Add, Drop, Cancel, Pause, Resume, Reassign, Ask, Approve, Stopped, Back, Fail, Place, Drain, Hold, Free, Checkpoint, Look, Get, Put, Append, Inc, Del, Scan}
+use Rattle.sm_script.specs.declared.word.Word.TheVariants.{Assign, PrepareAdd, PrepareDrop, Add, Drop, Cancel, Pause, Resume, Reassign, Ask, Approve, Stopped, Back, Fail, Place, Drain, Hold, Free, Checkpoint, Publish, Route, Look, Get, Put, Append, Inc, Del, Scan}
 use Rattle.sm_service.specs.declared.request.Request.{Request}
 use Rattle.sm_service.specs.declared.request.Request.TheVariants.{Get as GetRequest, Put as PutRequest, Append as AppendRequest}
 use Rattle.sm_service.specs.declared.request.Request.TheVariants.{Inc as IncRequest, Del as DelRequest, Scan as ScanRequest}
@@ -62,6 +62,8 @@ call_with Reassign (shard ∷ server ∷ []) = Ok (change_call (number shard) (c
 call_with Hold (shard ∷ server ∷ []) = Ok (call.Hold (number shard) (number server))
 call_with Free (shard ∷ []) = Ok (call.Free (number shard))
 call_with Checkpoint (shard ∷ server ∷ []) = Ok (call.Checkpoint (number shard) (number server))
+call_with Publish (shard ∷ []) = Ok (call.Publish (number shard))
+call_with Route (key ∷ []) = Ok (call.Route key)
 call_with Look (shard ∷ []) = Ok (call.Look (number shard))
 call_with Ask (server ∷ []) = Ok (call.Control (command.Ask (number server)))
 call_with Approve (server ∷ []) = Ok (call.Control (command.Approve (number server)))
@@ -92,18 +94,21 @@ abbrev pub at_call : List (List ℕ) → Result Call LineFault
 at_call (server ∷ request ∷ words) = option_map_or (λ word. at_server server word words) (word_among request_words request) (Err UnknownWord)
 at_call _ = Err BadLine
 
--- what is wrong with the words after `client`: a request
-abbrev pub client_fault : List (List ℕ) → Option LineFault
-client_fault (request ∷ words) =
-    option_map_or (λ word. arguments_fault (shapes_of word) words) (word_among request_words request) (Some UnknownWord)
-client_fault [] = Some BadLine
+-- the request of a word and the words after it, by the published route
+abbrev pub client_request : Word → List (List ℕ) → Result Call LineFault
+client_request word words = unless_fault (arguments_fault (shapes_of word) words) (with_request call.RequestByRoute (request_with word words))
+
+-- the words after `client`: a request
+abbrev pub client_call : List (List ℕ) → Result Call LineFault
+client_call (request ∷ words) = option_map_or (λ word. client_request word words) (word_among request_words request) (Err UnknownWord)
+client_call [] = Err BadLine
 
 -- the words of a line, of which the first says how the others are read
 abbrev pub call_of_words : List (List ℕ) → Result Call LineFault
 call_of_words [] = Err UnknownWord
 call_of_words (first ∷ words) =
     if bytes_eq first (codes "at") then at_call words
-    else (if bytes_eq first (codes "client") then unless_fault (client_fault words) (Err NotHere)
+    else (if bytes_eq first (codes "client") then client_call words
     else plain_call (word_among first_words first) words)
 
 -- an empty line and a comment ask for nothing, and have no answer
@@ -127,6 +132,8 @@ call_of_line line =
 abbrev pub has_request : Call → Bool
 has_request (call.Request request) = true
 has_request (call.RequestAt server request) = true
+has_request (call.RequestByRoute request) = true
+has_request (call.Route key) = true
 has_request _ = false
 
 -- why there is no request: the fault, or want of memory for it

@@ -7,8 +7,10 @@ use crate::plan::append_plan;
 use crate::record::append_record;
 use crate::refused::Refused;
 use crate::reply::append_executed;
+use crate::route::append_route;
 use itoa::Buffer;
 use sm_ownership::record::Record;
+use sm_ownership::route::Route;
 use sm_place::Plan;
 use sm_ranges::server_id::ServerId;
 use sm_service::reply::Reply;
@@ -32,6 +34,8 @@ pub enum Answer {
     },
     /// Where shards would go, and which are left.
     Planned(Plan),
+    /// The published route of a key's shard, where there is one.
+    Way(Option<Route>),
     /// The line made no call.
     Error(LineFault),
 }
@@ -54,6 +58,8 @@ impl Answer {
                 place,
             } => append_executed(out, reply, *server, *place),
             Answer::Planned(plan) => append_plan(out, plan),
+            Answer::Way(Some(route)) => append_route(out, route),
+            Answer::Way(None) => append_all(out, &[b"none"]),
             Answer::Error(fault) => append_all(out, &[b"error ", fault.name().as_bytes()]),
         }
     }

@@ -1,5 +1,6 @@
 use sm_desk::command::Command;
 use sm_ownership::change::Change;
+use sm_ranges::key::Key;
 use sm_ranges::server_id::ServerId;
 use sm_ranges::shard_id::ShardId;
 use sm_service::request::Request;
@@ -16,6 +17,10 @@ pub enum Call {
     Free(ShardId),
     /// `checkpoint K A`: the server makes the shard's present state its base, and the shard keeps no request.
     Checkpoint(ShardId, ServerId),
+    /// `publish K`: the shard's owner becomes its published route.
+    Publish(ShardId),
+    /// `route KEY`: the published route of the key's shard.
+    Route(Key),
     /// `look K`: the shard's record.
     Look(ShardId),
     /// `place`: a plan for the shards without an owner.
@@ -26,6 +31,8 @@ pub enum Call {
     Request(Request),
     /// `at A REQUEST`: a request, to this server.
     RequestAt(ServerId, Request),
+    /// `client REQUEST`: a request, by the published route of its key's shard.
+    RequestByRoute(Request),
 }
 
 impl Call {

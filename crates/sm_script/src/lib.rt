@@ -21,6 +21,7 @@ mod record;
 pub mod refused;
 mod reply;
 mod request;
+mod route;
 mod shape;
 mod word;
 mod words;

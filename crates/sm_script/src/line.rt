@@ -1,9 +1,10 @@
 ghost use Rattle.std.specs.Prelude.{◌≡◌, ◌<◌, ℕ, List, [], ◌∷◌, ◌++◌, length, IfOk, IfErr, IfNone, IsTrue};
 ghost use Rattle.sm_script.specs.Grammar.{takes_word, arguments_fault, shapes_of, word_among, first_words};
-ghost use Rattle.sm_script.specs.Lines.{call_with, unless_fault, at_server, at_call, client_fault, plain_call, call_of_words, has_no_answer, call_of_line, IsFaultIn, IsFaultOf, meaning_if_long};
+ghost use Rattle.sm_script.specs.Lines.{call_with, at_server, at_call, client_call, client_request, plain_call, call_of_words, has_no_answer, call_of_line, IsFaultIn, IsFaultOf, meaning_if_long};
 ghost use Rattle.sm_script.specs.declared.shape.Shape.TheVariants.{Shard, Server};
+ghost use Rattle.sm_script.specs.declared.word.Word.TheVariants.{Route};
 
-use crate::argument::{server, shard};
+use crate::argument::{key, server, shard};
 use crate::call::Call;
 use crate::fault::{LineFault, ParseFault};
 use crate::request::request_with;
@@ -12,7 +13,7 @@ use crate::word::Word;
 use crate::words::Words;
 use sm_desk::command::Command;
 use sm_ownership::change::Change;
-use std::alloc::Global;
+use std::alloc::{AllocError, Global};
 
 /// The most bytes that a line may have without its line feed; a comment may have more.
 pub const MAX_LINE: usize = 70_000;
@@ -50,6 +51,7 @@ fn shard_call(word: Word, mut words: Words) -> Result<Call, LineFault>
         Word::Pause => Ok(Call::change(shard, Change::Pause)),
         Word::Resume => Ok(Call::change(shard, Change::Resume)),
         Word::Free => Ok(Call::Free(shard)),
+        Word::Publish => Ok(Call::Publish(shard)),
         Word::Look => Ok(Call::Look(shard)),
         _ => Err(LineFault::NotHere),
     }
@@ -73,6 +75,15 @@ fn server_call(word: Word, mut words: Words) -> Result<Call, LineFault>
     }
 }
 
+// `route KEY`.
+fn route_call(alloc: Global, mut words: Words) -> Result<Call, AllocError>
+    requires { arguments_fault (shapes_of Route) words ≡ None }
+    ensures { IfOk result (λ call. call_with Route words.entry ≡ Ok call) }
+{
+    let key = key(alloc, words.next().unwrap())?;
+    Ok(Call::Route(key))
+}
+
 // The call of a word and the words after it, which are right.
 fn call_with(alloc: Global, word: Word, words: Words) -> Result<Call, ParseFault>
     requires { arguments_fault (shapes_of word) words ≡ None }
@@ -90,11 +101,13 @@ fn call_with(alloc: Global, word: Word, words: Words) -> Result<Call, ParseFault
         | Word::Pause
         | Word::Resume
         | Word::Free
+        | Word::Publish
         | Word::Look => Ok(shard_call(word, words)?),
         Word::Ask | Word::Approve | Word::Stopped | Word::Back | Word::Fail | Word::Drain => Ok(
             server_call(word, words)?,
         ),
         Word::Place => Ok(Call::Place),
+        Word::Route => Ok(route_call(alloc, words)?),
         _ => Ok(Call::Request(request_with(alloc, word, words)?)),
     }
 }
@@ -140,16 +153,28 @@ fn at_call(alloc: Global, mut words: Words) -> Result<Call, ParseFault>
     }
 }
 
-// What is wrong with the words after `client`.
-fn client_fault(mut words: Words) -> Option<LineFault>
-    ensures { result ≡ client_fault words.entry }
+// A request by the published route.
+fn client_request(alloc: Global, word: Word, words: Words) -> Result<Call, ParseFault>
+    ensures ok { IfOk result (λ call. client_request word words.entry ≡ Ok call) }
+    ensures err { IfErr result (λ fault. IsFaultIn fault (client_request word words.entry)) }
 {
-    match words.next() {
-        None => Some(LineFault::BadLine),
-        Some(request) => match Word::of_request(request) {
-            None => Some(LineFault::UnknownWord),
-            Some(word) => arguments_fault(word.shapes(), &words),
-        },
+    if let Some(fault) = arguments_fault(word.shapes(), &words) {
+        return Err(ParseFault::Line(fault));
+    }
+    Ok(Call::RequestByRoute(request_with(alloc, word, words)?))
+}
+
+// The call of the words after `client`.
+fn client_call(alloc: Global, mut words: Words) -> Result<Call, ParseFault>
+    ensures ok { IfOk result (λ call. client_call words.entry ≡ Ok call) }
+    ensures err { IfErr result (λ fault. IsFaultIn fault (client_call words.entry)) }
+{
+    let Some(name) = words.next() else {
+        return Err(ParseFault::Line(LineFault::BadLine));
+    };
+    match Word::of_request(name) {
+        None => Err(ParseFault::Line(LineFault::UnknownWord)),
+        Some(word) => client_request(alloc, word, words),
     }
 }
 
@@ -169,13 +194,6 @@ fn plain_call(alloc: Global, first: &[u8], words: Words) -> Result<Call, ParseFa
     }
 }
 
-// The fault of a line that doesn't run here.
-fn fault_or_not_here(fault: Option<LineFault>) -> ParseFault
-    ensures { IsFaultIn result (unless_fault fault (Err LineFault.NotHere)) }
-{
-    ParseFault::Line(fault.unwrap_or(LineFault::NotHere))
-}
-
 // The call of a line's words.
 fn call_of(alloc: Global, mut words: Words) -> Result<Call, ParseFault>
     ensures ok { IfOk result (λ call. call_of_words words.entry ≡ Ok call) }
@@ -187,7 +205,7 @@ fn call_of(alloc: Global, mut words: Words) -> Result<Call, ParseFault>
             if first == b"at".as_slice() {
                 at_call(alloc, words)
             } else if first == b"client".as_slice() {
-                Err(fault_or_not_here(client_fault(words)))
+                client_call(alloc, words)
             } else {
                 plain_call(alloc, first, words)
             }

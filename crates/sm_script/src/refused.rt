@@ -19,6 +19,12 @@ pub enum Refused {
     Unreachable,
     /// No server holds the shard without a request.
     NotHeld,
+    /// The shard's generation is not above that of its last published route.
+    OldRoute,
+    /// The shard is vacant, so it has no route.
+    WrongPhase,
+    /// A client goes by the published route of its key's shard, and there is none.
+    NoRoute,
     /// Why a command of the control was refused.
     Command(CommandFault),
     /// Why a server was not admitted to a shard.
@@ -39,6 +45,9 @@ impl Refused {
             Refused::UnknownServer => "UnknownServer",
             Refused::Unreachable => "Unreachable",
             Refused::NotHeld => "NotHeld",
+            Refused::OldRoute => "OldRoute",
+            Refused::WrongPhase => "WrongPhase",
+            Refused::NoRoute => "NoRoute",
             Refused::Command(fault) => command_fault_name(fault),
             Refused::Admit(fault) => admit_fault_name(fault),
             Refused::Request(refusal) => refusal_name(refusal),

@@ -1,12 +1,9 @@
 -- An admission, in the parts and in the world that they stand for.
-use Rattle.std.proofs.Common.{◌≡◌, ℕ, List, [], ◌∷◌, ◌++◌, refl, sym, ap, ◌∙◌}
-use Rattle.std.specs.Prelude.{Some, map}
-use Rattle.std.proofs.Math.Seq.{map-set_same}
+use Rattle.std.proofs.Common.{◌≡◌, ℕ, List, refl, sym, ap, ◌∙◌}
+use Rattle.std.specs.Prelude.{Some}
 use Rattle.sm_ownership.specs.declared.entry.Entry.{Entry}
 use Rattle.sm_ownership.specs.declared.entry.Kind.TheVariants.{Admit}
 use Rattle.sm_ownership.specs.declared.mode.Mode.{Mode}
-use Rattle.sm_ownership.specs.declared.record.Record.{Record}
-use Rattle.sm_ownership.specs.History.{vacant, record_at, after_kind, table_of, IsLegal}
 use Rattle.sm_ownership.specs.lemmas.Growth.{fits-push, table_of-push}
 use Rattle.sm_table.specs.declared.hands.InHand.{InHand}
 use Rattle.sm_table.specs.World.{WorldState, count_of, with_entry, with_hand}

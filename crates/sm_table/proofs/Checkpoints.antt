@@ -16,6 +16,7 @@ use Rattle.sm_ownership.specs.lemmas.Growth.{fits-push, legal_prefix, length-tab
 use Rattle.sm_ownership.specs.lemmas.Requests.{first_of-within}
 use Rattle.sm_ownership.specs.Rules.{admit_fault}
 use Rattle.sm_ownership.specs.Tables.{TableView, table_admitted, table_done}
+use Rattle.sm_ownership.specs.declared.route.Route.{Route}
 use Rattle.sm_table.specs.declared.world.Flight.{Flight}
 use Rattle.sm_table.specs.declared.hands.InHand.{InHand}
 use Rattle.sm_table.specs.declared.step.Step.TheVariants.{Checkpoint as CheckpointAt}
@@ -72,9 +73,9 @@ module _ {Q : Type 0} (w : WorldState Q) (server shard : ℕ) where
   past_else : (other : ℕ) → (shard == other) ≡ false → past_of (between ++ end ∷ []) other ≡ past_of w.history other
   past_else other differs = past_of-push_other between end other differs ∙ past_of-push_none w.history admission other refl
 
-module _ {Q R : Type 0} (service : Service Q R) {bounds : List (List ℕ)} {desk_was : DeskView} {table_was : TableView} {bodies_was : BodiesView Q} {flights_was : List (Flight Q)} {hands_was : List (Option (InHand Q))} (now : WorldView Q) (same : view_of bounds desk_was table_was bodies_was flights_was hands_was ≡ now) (w : WorldState Q) (given : StandsFor now w) (shard : ℕ) (within : shard < length table_was.records) (server : ℕ) where
+module _ {Q R : Type 0} (service : Service Q R) {bounds : List (List ℕ)} {desk_was : DeskView} {table_was : TableView} {bodies_was : BodiesView Q} {routes_was : List (Option Route)} {flights_was : List (Flight Q)} {hands_was : List (Option (InHand Q))} (now : WorldView Q) (same : view_of bounds desk_was table_was bodies_was routes_was flights_was hands_was ≡ now) (w : WorldState Q) (given : StandsFor now w) (shard : ℕ) (within : shard < length table_was.records) (server : ℕ) where
   abbrev v : WorldView Q
-  v = view_of bounds desk_was table_was bodies_was flights_was hands_was
+  v = view_of bounds desk_was table_was bodies_was routes_was flights_was hands_was
 
   stands : StandsFor v w
   stands = subst (λ u. StandsFor u w) (sym same) given
@@ -144,7 +145,7 @@ idle_admits ceiling state server none =
     not-true state.admitted (and_parts (not state.admitted) _ (sym (admit_fault-none ceiling state server Direct) ∙ ap is_none (sym none))).0
 
 -- there is no such shard
-pub no_base_there : {Q R : Type 0} (service : Service Q R) {bounds : List (List ℕ)} {desk_was : DeskView} {table_was : TableView} {bodies_was : BodiesView Q} {flights_was : List (Flight Q)} {hands_was : List (Option (InHand Q))} (now : WorldView Q) → view_of bounds desk_was table_was bodies_was flights_was hands_was ≡ now → (w : WorldState Q) → StandsFor now w → (shard server : ℕ) → length table_was.records ≤ shard → Follows {R = R} now (Err UnknownShard) (outcome service w Plain (CheckpointAt shard server))
+pub no_base_there : {Q R : Type 0} (service : Service Q R) {bounds : List (List ℕ)} {desk_was : DeskView} {table_was : TableView} {bodies_was : BodiesView Q} {routes_was : List (Option Route)} {flights_was : List (Flight Q)} {hands_was : List (Option (InHand Q))} (now : WorldView Q) → view_of bounds desk_was table_was bodies_was routes_was flights_was hands_was ≡ now → (w : WorldState Q) → StandsFor now w → (shard server : ℕ) → length table_was.records ≤ shard → Follows {R = R} now (Err UnknownShard) (outcome service w Plain (CheckpointAt shard server))
 no_base_there service now same w given shard server past =
     Follows-unchanged service w Plain (CheckpointAt shard server) now now (Err UnknownShard) given (rw (past_shards now same w given shard past) refl) refl
 

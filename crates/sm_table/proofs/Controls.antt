@@ -1,10 +1,8 @@
 -- A change of a shard's stand, in the parts and in the world that they stand for.
 use Rattle.std.proofs.Common.{◌≡◌, ℕ, ◌<◌, Bool, true, false, not, List, length, refl, sym, ap, subst, ◌∙◌, arith}
-use Rattle.std.specs.Prelude.{Option, Some, None, Ok, Err, map, nat_lt, slice_set, unwrap_or, if◌then◌else◌}
+use Rattle.std.specs.Prelude.{Option, Some, None, Ok, Err, nat_lt, if◌then◌else◌}
 use Rattle.std.specs.Option.{option_map}
 use Rattle.std.proofs.lemmas.Bool.{lt-ltb, ltb-true}
-use Rattle.std.proofs.lemmas.List.{map-set, length-map, get_or-map}
-use Rattle.sm_ranges.specs.declared.stand.Stand.TheVariants.{Vacant}
 use Rattle.sm_ownership.specs.declared.change.Change.{Change}
 use Rattle.sm_ownership.specs.declared.change_fault.ChangeFault.{ChangeFault}
 use Rattle.sm_desk.specs.declared.command.Command.TheVariants.{Change as ChangeOf}
@@ -12,20 +10,19 @@ use Rattle.sm_desk.specs.declared.command.CommandFault.{CommandFault}
 use Rattle.sm_desk.specs.declared.command.CommandFault.TheVariants.{Change as ChangeRefused}
 use Rattle.sm_ownership.specs.declared.entry.Entry.{Entry}
 use Rattle.sm_ownership.specs.declared.entry.Kind.TheVariants.{Change as Changed}
-use Rattle.sm_ownership.specs.declared.record.Record.{Record}
+use Rattle.sm_ownership.specs.declared.route.Route.{Route}
 use Rattle.sm_table.specs.declared.step.Step.TheVariants.{Control}
 use Rattle.sm_table.specs.declared.world_answer.WorldAnswer.TheVariants.{Made}
 use Rattle.sm_table.specs.declared.world_fault.WorldFault.TheVariants.{Command as CommandRefused}
-use Rattle.sm_ownership.specs.Rules.{stand_after, phase_fault}
+use Rattle.sm_ownership.specs.Rules.{phase_fault}
 use Rattle.sm_desk.specs.Desk.{DeskView, commanded, desk_fault}
 use Rattle.sm_desk.specs.lemmas.Changes.{IsLetThrough, let_through}
 use Rattle.sm_table.specs.lemmas.Entries.{same_stand, shards_long}
-use Rattle.sm_ownership.specs.History.{vacant, after_change}
 use Rattle.sm_ownership.specs.Tables.{TableView, record_fault, apply_fault, table_changed}
 use Rattle.sm_body.specs.Service.{Service}
 use Rattle.sm_table.specs.World.{WorldState, Plain, count_of, world_table, world_record, table_fault, with_entry, outcome}
 use Rattle.sm_table.specs.Standing.{IsSound, WorldView, view_of, StandsFor, Follows}
-use Rattle.sm_ownership.specs.lemmas.Growth.{fits-push, length-table_of, table_of-push}
+use Rattle.sm_ownership.specs.lemmas.Growth.{fits-push, table_of-push}
 use Rattle.sm_table.specs.Bodies.{BodiesView, Past}
 use Rattle.sm_table.specs.declared.world.Flight.{Flight}
 use Rattle.sm_table.specs.declared.hands.InHand.{InHand}
@@ -63,9 +60,9 @@ module _ {Q R : Type 0} (service : Service Q R) (w : WorldState Q) (sound : IsSo
       let grown = table_of-push (count_of w) w.frame.ceiling w.history entry (fits-push (count_of w) w.frame.ceiling w.history entry after.legal) in
       ap (λ records. record (parts_of w pasts) { desk = commanded w.desk (ChangeOf shard change); records = records }) (sym grown)
 
-module _ {Q R : Type 0} (service : Service Q R) {bounds : List (List ℕ)} {desk_was : DeskView} {table_was : TableView} {bodies_was : BodiesView Q} {flights_was : List (Flight Q)} {hands_was : List (Option (InHand Q))} (now : WorldView Q) (same : view_of bounds desk_was table_was bodies_was flights_was hands_was ≡ now) (w : WorldState Q) (given : StandsFor now w) (shard : ℕ) (change : Change) where
+module _ {Q R : Type 0} (service : Service Q R) {bounds : List (List ℕ)} {desk_was : DeskView} {table_was : TableView} {bodies_was : BodiesView Q} {routes_was : List (Option Route)} {flights_was : List (Flight Q)} {hands_was : List (Option (InHand Q))} (now : WorldView Q) (same : view_of bounds desk_was table_was bodies_was routes_was flights_was hands_was ≡ now) (w : WorldState Q) (given : StandsFor now w) (shard : ℕ) (change : Change) where
   abbrev v : WorldView Q
-  v = view_of bounds desk_was table_was bodies_was flights_was hands_was
+  v = view_of bounds desk_was table_was bodies_was routes_was flights_was hands_was
 
   stands : StandsFor v w
   stands = subst (λ u. StandsFor u w) (sym same) given

@@ -7,6 +7,7 @@ use Rattle.sm_ownership.specs.declared.mode.Mode.{Mode}
 use Rattle.sm_ownership.specs.declared.record.Record.{Record}
 use Rattle.sm_ownership.specs.History.{record_at}
 use Rattle.sm_ownership.specs.Rules.{admit_fault, forward_to}
+use Rattle.sm_ownership.specs.declared.route.Route.{Route}
 use Rattle.sm_table.specs.declared.world.Flight.{Flight}
 use Rattle.sm_table.specs.declared.hands.InHand.{InHand}
 use Rattle.sm_envelope.specs.declared.refusal.Refusal.TheVariants.{Admit as NotAdmitted}
@@ -34,14 +35,14 @@ abbrev begun : {Q : Type 0} → ℕ → ℕ → Q → InHand Q
 begun server number request = record { server = server; work = Some (record { number = number; request = request }) }
 
 -- the bounds stay when a server has begun a request
-pub bounds_begun : {Q : Type 0} {bounds : List (List ℕ)} {desk_was : DeskView} {table_was : TableView} {bodies_was : BodiesView Q} {flights_was : List (Flight Q)} {hands_was : List (Option (InHand Q))} (now : WorldView Q) → view_of bounds desk_was table_was bodies_was flights_was hands_was ≡ now → (in_flight : List (Flight Q)) (shard server number : ℕ) (request : Q) (after : WorldView Q) → after ≡ with_admission (view_of bounds desk_was table_was bodies_was in_flight hands_was) shard (begun server number request) → after.bounds ≡ now.bounds
+pub bounds_begun : {Q : Type 0} {bounds : List (List ℕ)} {desk_was : DeskView} {table_was : TableView} {bodies_was : BodiesView Q} {routes_was : List (Option Route)} {flights_was : List (Flight Q)} {hands_was : List (Option (InHand Q))} (now : WorldView Q) → view_of bounds desk_was table_was bodies_was routes_was flights_was hands_was ≡ now → (in_flight : List (Flight Q)) (shard server number : ℕ) (request : Q) (after : WorldView Q) → after ≡ with_admission (view_of bounds desk_was table_was bodies_was routes_was in_flight hands_was) shard (begun server number request) → after.bounds ≡ now.bounds
 bounds_begun {Q = Q} now same in_flight shard server number request after admitted = ap (λ (v : WorldView Q). v.bounds) admitted ∙ ap (λ (v : WorldView Q). v.bounds) same
 
-module _ {Q R : Type 0} (service : Service Q R) {bounds : List (List ℕ)} {desk_was : DeskView} {table_was : TableView} {bodies_was : BodiesView Q} {flights_was : List (Flight Q)} {hands_was : List (Option (InHand Q))} (now : WorldView Q) (same : view_of bounds desk_was table_was bodies_was flights_was hands_was ≡ now) (w : WorldState Q) (given : StandsFor now w) where
+module _ {Q R : Type 0} (service : Service Q R) {bounds : List (List ℕ)} {desk_was : DeskView} {table_was : TableView} {bodies_was : BodiesView Q} {routes_was : List (Option Route)} {flights_was : List (Flight Q)} {hands_was : List (Option (InHand Q))} (now : WorldView Q) (same : view_of bounds desk_was table_was bodies_was routes_was flights_was hands_was ≡ now) (w : WorldState Q) (given : StandsFor now w) where
   -- there is no envelope at the place
   pub not_there : (place : ℕ) → length flights_was ≤ place → Follows {R = R} now (Err NoEnvelope) (outcome service w Plain (Deliver place))
   not_there place past =
-      let stands : StandsFor (view_of bounds desk_was table_was bodies_was flights_was hands_was) w = subst (λ u. StandsFor u w) (sym same) given in
+      let stands : StandsFor (view_of bounds desk_was table_was bodies_was routes_was flights_was hands_was) w = subst (λ u. StandsFor u w) (sym same) given in
       let none : slice_get w.in_flight place ≡ None = slice_get_past w.in_flight place (subst (λ (flights : List (Flight Q)). length flights ≤ place) stands.in_flight past) in
       Follows-unchanged service w Plain (Deliver place) now now (Err NoEnvelope) given (rw none refl) refl
 
@@ -50,9 +51,9 @@ plain_hop : {Q : Type 0} (R : Type 0) (desk : DeskView) (in_flight : List (Fligh
 plain_hop {Q = Q} R desk in_flight (Ok hop) = cond_both (is_reached desk hop.0) _ _ (λ (one : WorldAnswer R × List (Flight Q)). mark_of (Ok one.0) ≡ Plain) (λ _. refl) (λ _. refl)
 plain_hop R desk in_flight (Err envelope) = refl
 
-module _ {Q R : Type 0} (service : Service Q R) {bounds : List (List ℕ)} {desk_was : DeskView} {table_was : TableView} {bodies_was : BodiesView Q} {flights_was : List (Flight Q)} {hands_was : List (Option (InHand Q))} (now : WorldView Q) (same : view_of bounds desk_was table_was bodies_was flights_was hands_was ≡ now) (w : WorldState Q) (given : StandsFor now w) (place : ℕ) (flight : Flight Q) (there : slice_get flights_was place ≡ Some flight) (in_flight : List (Flight Q)) (gone : in_flight ≡ remove flights_was place) (shard : ℕ) (shard_is : shard ≡ flight.envelope.shard) (state : Record) (state_is : state ≡ record_at table_was.records shard) where
+module _ {Q R : Type 0} (service : Service Q R) {bounds : List (List ℕ)} {desk_was : DeskView} {table_was : TableView} {bodies_was : BodiesView Q} {routes_was : List (Option Route)} {flights_was : List (Flight Q)} {hands_was : List (Option (InHand Q))} (now : WorldView Q) (same : view_of bounds desk_was table_was bodies_was routes_was flights_was hands_was ≡ now) (w : WorldState Q) (given : StandsFor now w) (place : ℕ) (flight : Flight Q) (there : slice_get flights_was place ≡ Some flight) (in_flight : List (Flight Q)) (gone : in_flight ≡ remove flights_was place) (shard : ℕ) (shard_is : shard ≡ flight.envelope.shard) (state : Record) (state_is : state ≡ record_at table_was.records shard) where
   abbrev v : WorldView Q
-  v = view_of bounds desk_was table_was bodies_was flights_was hands_was
+  v = view_of bounds desk_was table_was bodies_was routes_was flights_was hands_was
 
   stands : StandsFor v w
   stands = subst (λ u. StandsFor u w) (sym same) given

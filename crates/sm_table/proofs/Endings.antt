@@ -8,6 +8,7 @@ use Rattle.sm_ownership.specs.declared.entry.Ending.{Ending}
 use Rattle.sm_ownership.specs.declared.entry.Ending.TheVariants.{Nothing, Request}
 use Rattle.sm_ownership.specs.declared.entry.Entry.{Entry}
 use Rattle.sm_ownership.specs.declared.entry.Kind.TheVariants.{Done}
+use Rattle.sm_ownership.specs.declared.route.Route.{Route}
 use Rattle.sm_table.specs.declared.hands.InHand.{InHand}
 use Rattle.sm_table.specs.declared.hands.Work.{Work}
 use Rattle.sm_table.specs.Hands.{work_of}
@@ -68,18 +69,18 @@ served-none : {Q R : Type 0} (service : Service Q R) (w : WorldState Q) (mark : 
 served-none service w mark shard None none = refl
 served-none service w mark shard (Some hand) none = worked-none service w mark shard hand.server hand.work none
 
-module _ {Q R : Type 0} (service : Service Q R) {bounds : List (List ℕ)} {desk_was : DeskView} {table_was : TableView} {bodies_was : BodiesView Q} {flights_was : List (Flight Q)} {hands_was : List (Option (InHand Q))} (now : WorldView Q) (same : view_of bounds desk_was table_was bodies_was flights_was hands_was ≡ now) (w : WorldState Q) (given : StandsFor now w) (shard : ℕ) where
+module _ {Q R : Type 0} (service : Service Q R) {bounds : List (List ℕ)} {desk_was : DeskView} {table_was : TableView} {bodies_was : BodiesView Q} {routes_was : List (Option Route)} {flights_was : List (Flight Q)} {hands_was : List (Option (InHand Q))} (now : WorldView Q) (same : view_of bounds desk_was table_was bodies_was routes_was flights_was hands_was ≡ now) (w : WorldState Q) (given : StandsFor now w) (shard : ℕ) where
   -- no server has begun a request on the shard
-  pub not_begun : (hands : List (Option (InHand Q))) → None ≡ work_of (slice_index_or hands_was shard None) → hands ≡ hands_was → Follows {R = R} (view_of bounds desk_was table_was bodies_was flights_was hands) (Err NotHeld) (outcome service w Plain (Finish shard))
+  pub not_begun : (hands : List (Option (InHand Q))) → None ≡ work_of (slice_index_or hands_was shard None) → hands ≡ hands_was → Follows {R = R} (view_of bounds desk_was table_was bodies_was routes_was flights_was hands) (Err NotHeld) (outcome service w Plain (Finish shard))
   not_begun hands none stays =
-      let before = view_of bounds desk_was table_was bodies_was flights_was in
+      let before = view_of bounds desk_was table_was bodies_was routes_was flights_was in
       let stands : StandsFor (before hands_was) w = subst (λ u. StandsFor u w) (sym same) given in
       let nothing : None ≡ work_of (slice_index_or w.in_hand shard None) = none ∙ ap (λ all. work_of (slice_index_or all shard None)) stands.in_hand in
       Follows-unchanged service w Plain (Finish shard) (before hands) (before hands_was) (Err NotHeld) stands (served-none service w Plain shard (slice_index_or w.in_hand shard None) nothing) (ap (λ all. before all) stays)
 
-module _ {Q R : Type 0} (service : Service Q R) {bounds : List (List ℕ)} {desk_was : DeskView} {table_was : TableView} {bodies_was : BodiesView Q} {flights_was : List (Flight Q)} {hands_was : List (Option (InHand Q))} (now : WorldView Q) (same : view_of bounds desk_was table_was bodies_was flights_was hands_was ≡ now) (w : WorldState Q) (given : StandsFor now w) (shard : ℕ) (server : ℕ) (work : Work Q) (held : slice_index_or hands_was shard None ≡ in_hand server (Some work)) where
+module _ {Q R : Type 0} (service : Service Q R) {bounds : List (List ℕ)} {desk_was : DeskView} {table_was : TableView} {bodies_was : BodiesView Q} {routes_was : List (Option Route)} {flights_was : List (Flight Q)} {hands_was : List (Option (InHand Q))} (now : WorldView Q) (same : view_of bounds desk_was table_was bodies_was routes_was flights_was hands_was ≡ now) (w : WorldState Q) (given : StandsFor now w) (shard : ℕ) (server : ℕ) (work : Work Q) (held : slice_index_or hands_was shard None ≡ in_hand server (Some work)) where
   abbrev v : WorldView Q
-  v = view_of bounds desk_was table_was bodies_was flights_was hands_was
+  v = view_of bounds desk_was table_was bodies_was routes_was flights_was hands_was
 
   stands : StandsFor v w
   stands = subst (λ u. StandsFor u w) (sym same) given

@@ -1,4 +1,4 @@
--- Steps keep a world's frame, and add to its history.
+-- Steps keep a world's frame, and add to its history and to what was published.
 use Rattle.std.proofs.Common.{◌≡◌, ℕ, List, [], ◌∷◌, ◌++◌, length, refl, sym, ap, append_assoc, ◌∙◌}
 use Rattle.std.specs.Prelude.{Option, Some, None, nat_lt, remove, slice_index_or}
 use Rattle.std.proofs.lemmas.Bool.{cond_both}
@@ -8,31 +8,37 @@ use Rattle.sm_desk.specs.declared.command.Command.{Command}
 use Rattle.sm_desk.specs.declared.command.Command.TheVariants.{Change as ChangeOf, Ask, Approve, Stopped, Back, Fail}
 use Rattle.sm_desk.specs.declared.command.CommandFault.{CommandFault}
 use Rattle.sm_ownership.specs.declared.entry.Entry.{Entry}
+use Rattle.sm_ownership.specs.declared.route.Route.{Route}
 use Rattle.sm_table.specs.declared.world.Flight.{Flight}
 use Rattle.sm_table.specs.declared.hands.InHand.{InHand}
 use Rattle.sm_table.specs.declared.hands.Work.{Work}
 use Rattle.sm_table.specs.declared.step.Step.{Step}
-use Rattle.sm_table.specs.declared.step.Step.TheVariants.{Control, Look, Send, Deliver, Finish, Lose, Hold, Free, Checkpoint}
+use Rattle.sm_table.specs.declared.step.Step.TheVariants.{Control, Look, Send, Deliver, Finish, Lose, Hold, Free, Checkpoint, Publish, RouteOf}
 use Rattle.sm_desk.specs.Desk.{DeskView, commanded, is_reached}
 use Rattle.sm_envelope.specs.Envelope.{EnvelopeView}
 use Rattle.sm_ownership.specs.History.{kept}
+use Rattle.sm_ownership.specs.Routes.{is_old, routes_of}
 use Rattle.sm_body.specs.Service.{Service}
-use Rattle.sm_table.specs.World.{WorldState, Mark, Plain, Unmade, Unserved, Outcome, count_of, controlled, is_there, reached, arrived, without_flight, delivered, with_room, worked, served, held, after_hold, based, after_checkpoint, let_go, freed, next, world_after}
+use Rattle.sm_table.specs.World.{WorldState, Mark, Plain, Unmade, Unserved, Outcome, count_of, controlled, is_there, reached, arrived, without_flight, delivered, with_room, worked, served, held, after_hold, based, after_checkpoint, let_go, freed, published, next, world_after}
 
--- the later world has the frame of the earlier one, and its history and then these entries
+-- the later world has the frame of the earlier one, its history and then these entries, and its publications and then these routes
 pub record Extends {Q : Type 0} (w later : WorldState Q) : Type 0 where
   pub frame : later.frame ≡ w.frame
   pub added : List (Entry Q)
   pub history : later.history ≡ w.history ++ added
+  pub more : List Route
+  pub publications : later.publications ≡ w.publications ++ more
 
 extends_itself : {Q : Type 0} (w : WorldState Q) → Extends w w
-extends_itself w = record { frame = refl; added = []; history = sym (append-nil w.history) }
+extends_itself w = record { frame = refl; added = []; history = sym (append-nil w.history); more = []; publications = sym (append-nil w.publications) }
 
 extends_further : {Q : Type 0} (w middle later : WorldState Q) → Extends w middle → Extends middle later → Extends w later
 extends_further w middle later first second = record {
   frame = second.frame ∙ first.frame;
   added = first.added ++ second.added;
   history = second.history ∙ (ap (λ l. l ++ second.added) first.history ∙ append_assoc w.history first.added second.added);
+  more = first.more ++ second.more;
+  publications = second.publications ∙ (ap (λ l. l ++ second.more) first.publications ∙ append_assoc w.publications first.more second.more);
 }
 
 module _ {Q : Type 0} (R : Type 0) (w : WorldState Q) where
@@ -41,10 +47,10 @@ module _ {Q : Type 0} (R : Type 0) (w : WorldState Q) where
 
   -- the desk knows more
   extends_desk : (desk : DeskView) → Extends w (record w { desk = desk })
-  extends_desk desk = record { frame = refl; added = []; history = sym (append-nil w.history) }
+  extends_desk desk = record { frame = refl; added = []; history = sym (append-nil w.history); more = []; publications = sym (append-nil w.publications) }
 
   extends_controlled : (command : Command) (fault : Option CommandFault) → LeavesExtended (controlled w command fault)
-  extends_controlled (ChangeOf shard change) None = record { frame = refl; added = _; history = refl }
+  extends_controlled (ChangeOf shard change) None = record { frame = refl; added = _; history = refl; more = []; publications = sym (append-nil w.publications) }
   extends_controlled (Ask server) None = extends_desk (commanded w.desk (Ask server))
   extends_controlled (Approve server) None = extends_desk (commanded w.desk (Approve server))
   extends_controlled (Stopped server) None = extends_desk (commanded w.desk (Stopped server))
@@ -54,10 +60,10 @@ module _ {Q : Type 0} (R : Type 0) (w : WorldState Q) where
 
   -- other envelopes are in flight
   extends_flights : (in_flight : List (Flight Q)) → Extends w (record w { in_flight = in_flight })
-  extends_flights in_flight = record { frame = refl; added = []; history = sym (append-nil w.history) }
+  extends_flights in_flight = record { frame = refl; added = []; history = sym (append-nil w.history); more = []; publications = sym (append-nil w.publications) }
 
   extends_reached : (place to : ℕ) (envelope : EnvelopeView Q (Unit {0})) (fault : Option AdmitFault) → LeavesExtended (reached (without_flight w place) to envelope fault)
-  extends_reached place to envelope None = record { frame = refl; added = _; history = refl }
+  extends_reached place to envelope None = record { frame = refl; added = _; history = refl; more = []; publications = sym (append-nil w.publications) }
   extends_reached place to envelope (Some fault) = extends_flights (remove w.in_flight place)
 
   extends_arrived : (place at : ℕ) (envelope : EnvelopeView Q (Unit {0})) (to : Option ℕ) → LeavesExtended (arrived (without_flight w place) at envelope to)
@@ -69,22 +75,22 @@ module _ {Q : Type 0} (R : Type 0) (w : WorldState Q) where
   extends_delivered place (Some flight) = extends_arrived place flight.to flight.envelope _
 
   extends_with_room : (service : Service Q R) (mark : Mark) (shard server : ℕ) (work : Work Q) → LeavesExtended (with_room service w mark shard server work)
-  extends_with_room service Unserved shard server work = record { frame = refl; added = _; history = refl }
-  extends_with_room service Plain shard server work = record { frame = refl; added = _; history = refl }
-  extends_with_room service Unmade shard server work = record { frame = refl; added = _; history = refl }
+  extends_with_room service Unserved shard server work = record { frame = refl; added = _; history = refl; more = []; publications = sym (append-nil w.publications) }
+  extends_with_room service Plain shard server work = record { frame = refl; added = _; history = refl; more = []; publications = sym (append-nil w.publications) }
+  extends_with_room service Unmade shard server work = record { frame = refl; added = _; history = refl; more = []; publications = sym (append-nil w.publications) }
 
   extends_worked : (service : Service Q R) (mark : Mark) (shard server : ℕ) (work : Option (Work Q)) → LeavesExtended (worked service w mark shard server work)
   extends_worked service mark shard server None = extends_itself w
   extends_worked service mark shard server (Some work) = cond_both (nat_lt (length (kept w.history shard)) (slice_index_or w.frame.limits shard 0)) _ _ LeavesExtended
       (λ _. extends_with_room service mark shard server work)
-      (λ _. record { frame = refl; added = _; history = refl })
+      (λ _. record { frame = refl; added = _; history = refl; more = []; publications = sym (append-nil w.publications) })
 
   extends_served : (service : Service Q R) (mark : Mark) (shard : ℕ) (hand : Option (InHand Q)) → LeavesExtended (served service w mark shard hand)
   extends_served service mark shard None = extends_itself w
   extends_served service mark shard (Some hand) = extends_worked service mark shard hand.server hand.work
 
   extends_held : (shard server : ℕ) (fault : Option AdmitFault) → LeavesExtended (held w shard server fault)
-  extends_held shard server None = record { frame = refl; added = _; history = refl }
+  extends_held shard server None = record { frame = refl; added = _; history = refl; more = []; publications = sym (append-nil w.publications) }
   extends_held shard server (Some fault) = extends_itself w
 
   extends_hold : (shard server : ℕ) → LeavesExtended (after_hold w shard server)
@@ -93,7 +99,7 @@ module _ {Q : Type 0} (R : Type 0) (w : WorldState Q) where
       (λ _. extends_itself w)
 
   extends_based : (shard server : ℕ) (fault : Option AdmitFault) → LeavesExtended (based w shard server fault)
-  extends_based shard server None = record { frame = refl; added = _; history = append_assoc w.history _ _ }
+  extends_based shard server None = record { frame = refl; added = _; history = append_assoc w.history _ _; more = []; publications = sym (append-nil w.publications) }
   extends_based shard server (Some fault) = extends_itself w
 
   extends_checkpoint : (shard server : ℕ) → LeavesExtended (after_checkpoint w shard server)
@@ -102,12 +108,18 @@ module _ {Q : Type 0} (R : Type 0) (w : WorldState Q) where
       (λ _. extends_itself w)
 
   extends_let_go : (shard server : ℕ) (work : Option (Work Q)) → LeavesExtended (let_go w shard server work)
-  extends_let_go shard server None = record { frame = refl; added = _; history = refl }
+  extends_let_go shard server None = record { frame = refl; added = _; history = refl; more = []; publications = sym (append-nil w.publications) }
   extends_let_go shard server (Some work) = extends_itself w
 
   extends_freed : (shard : ℕ) (hand : Option (InHand Q)) → LeavesExtended (freed w shard hand)
   extends_freed shard None = extends_itself w
   extends_freed shard (Some hand) = extends_let_go shard hand.server hand.work
+
+  extends_published : (route : Option Route) → LeavesExtended (published w route)
+  extends_published None = extends_itself w
+  extends_published (Some route) = cond_both (is_old (routes_of w.publications route.shard) route) _ _ LeavesExtended
+      (λ _. extends_itself w)
+      (λ _. record { frame = refl; added = []; history = sym (append-nil w.history); more = route ∷ []; publications = refl })
 
 pub extends_next : {Q R : Type 0} (service : Service Q R) (w : WorldState Q) (mark : Mark) (step : Step Q) → Extends w (next service w mark step)
 extends_next service w Unmade step = extends_itself w
@@ -122,6 +134,8 @@ extends_next {R = R} service w mark (Lose place) = cond_both (nat_lt place (leng
 extends_next {R = R} service w mark (Hold shard server) = extends_hold R w shard server
 extends_next {R = R} service w mark (Free shard) = cond_both (nat_lt shard (count_of w)) _ _ (LeavesExtended R w) (λ _. extends_freed R w shard _) (λ _. extends_itself w)
 extends_next {R = R} service w mark (Checkpoint shard server) = extends_checkpoint R w shard server
+extends_next {R = R} service w mark (Publish shard) = cond_both (nat_lt shard (count_of w)) _ _ (LeavesExtended R w) (λ _. extends_published R w _) (λ _. extends_itself w)
+extends_next service w mark (RouteOf key) = extends_itself w
 
 pub extends_after : {Q R : Type 0} (service : Service Q R) (w : WorldState Q) (steps : List (Mark × Step Q)) → Extends w (world_after service w steps)
 extends_after service w [] = extends_itself w

@@ -10,6 +10,7 @@ use Rattle.sm_ownership.specs.lemmas.Growth.{length-table_of}
 use Rattle.sm_ownership.specs.History.{record_at}
 use Rattle.sm_ownership.specs.Rules.{admit_fault}
 use Rattle.sm_ownership.specs.Tables.{TableView, table_done}
+use Rattle.sm_ownership.specs.declared.route.Route.{Route}
 use Rattle.sm_table.specs.declared.hands.InHand.{InHand}
 use Rattle.sm_table.specs.declared.hands.Work.{Work}
 use Rattle.sm_table.specs.declared.step.Step.TheVariants.{Hold, Free}
@@ -45,20 +46,20 @@ freed-not_alone w shard None alone = refl
 freed-not_alone w shard (Some hand) alone = let_go-some w shard hand.server hand.work alone
 
 -- a shard past the records isn't there
-pub past_shards : {Q : Type 0} {bounds : List (List ℕ)} {desk_was : DeskView} {table_was : TableView} {bodies_was : BodiesView Q} {flights_was : List (Flight Q)} {hands_was : List (Option (InHand Q))} (now : WorldView Q) → view_of bounds desk_was table_was bodies_was flights_was hands_was ≡ now → (w : WorldState Q) → StandsFor now w → (shard : ℕ) → length table_was.records ≤ shard → nat_lt shard (count_of w) ≡ false
+pub past_shards : {Q : Type 0} {bounds : List (List ℕ)} {desk_was : DeskView} {table_was : TableView} {bodies_was : BodiesView Q} {routes_was : List (Option Route)} {flights_was : List (Flight Q)} {hands_was : List (Option (InHand Q))} (now : WorldView Q) → view_of bounds desk_was table_was bodies_was routes_was flights_was hands_was ≡ now → (w : WorldState Q) → StandsFor now w → (shard : ℕ) → length table_was.records ≤ shard → nat_lt shard (count_of w) ≡ false
 past_shards {Q = Q} {table_was = table_was} now same w given shard past =
     let shown : table_was.records ≡ world_table w = ap (λ (v : WorldView Q). v.records) same ∙ given.records in
     let long = length-table_of (count_of w) w.frame.ceiling w.history in
     let as_long : length table_was.records ≡ length (world_table w) = ap length shown in
     grind (arith, nat_tests)
 
-pub not_a_shard : {Q R : Type 0} (service : Service Q R) {bounds : List (List ℕ)} {desk_was : DeskView} {table_was : TableView} {bodies_was : BodiesView Q} {flights_was : List (Flight Q)} {hands_was : List (Option (InHand Q))} (now : WorldView Q) → view_of bounds desk_was table_was bodies_was flights_was hands_was ≡ now → (w : WorldState Q) → StandsFor now w → (shard server : ℕ) → length table_was.records ≤ shard → Follows {R = R} now (Err UnknownShard) (outcome service w Plain (Hold shard server))
+pub not_a_shard : {Q R : Type 0} (service : Service Q R) {bounds : List (List ℕ)} {desk_was : DeskView} {table_was : TableView} {bodies_was : BodiesView Q} {routes_was : List (Option Route)} {flights_was : List (Flight Q)} {hands_was : List (Option (InHand Q))} (now : WorldView Q) → view_of bounds desk_was table_was bodies_was routes_was flights_was hands_was ≡ now → (w : WorldState Q) → StandsFor now w → (shard server : ℕ) → length table_was.records ≤ shard → Follows {R = R} now (Err UnknownShard) (outcome service w Plain (Hold shard server))
 not_a_shard service now same w given shard server past =
     Follows-unchanged service w Plain (Hold shard server) now now (Err UnknownShard) given (rw (past_shards now same w given shard past) refl) refl
 
-module _ {Q R : Type 0} (service : Service Q R) {bounds : List (List ℕ)} {desk_was : DeskView} {table_was : TableView} {bodies_was : BodiesView Q} {flights_was : List (Flight Q)} {hands_was : List (Option (InHand Q))} (now : WorldView Q) (same : view_of bounds desk_was table_was bodies_was flights_was hands_was ≡ now) (w : WorldState Q) (given : StandsFor now w) (shard : ℕ) (within : shard < length table_was.records) where
+module _ {Q R : Type 0} (service : Service Q R) {bounds : List (List ℕ)} {desk_was : DeskView} {table_was : TableView} {bodies_was : BodiesView Q} {routes_was : List (Option Route)} {flights_was : List (Flight Q)} {hands_was : List (Option (InHand Q))} (now : WorldView Q) (same : view_of bounds desk_was table_was bodies_was routes_was flights_was hands_was ≡ now) (w : WorldState Q) (given : StandsFor now w) (shard : ℕ) (within : shard < length table_was.records) where
   abbrev v : WorldView Q
-  v = view_of bounds desk_was table_was bodies_was flights_was hands_was
+  v = view_of bounds desk_was table_was bodies_was routes_was flights_was hands_was
 
   stands : StandsFor v w
   stands = subst (λ u. StandsFor u w) (sym same) given

@@ -12,6 +12,7 @@ pub mod Maps
 pub mod Parts
 pub mod Pasts
 pub mod Restarts
+pub mod Routing
 pub mod Runs
 pub mod Sends
 pub mod Tracing

@@ -2,6 +2,7 @@
 use Rattle.std.proofs.Common.{◌≡◌, ℕ, ◌<◌, true, List, length, refl, sym, ap, subst, ◌∙◌}
 use Rattle.std.specs.Prelude.{Ok, nat_lt, remove, Option}
 use Rattle.std.proofs.lemmas.Bool.{lt-ltb}
+use Rattle.sm_ownership.specs.declared.route.Route.{Route}
 use Rattle.sm_table.specs.declared.world.Flight.{Flight}
 use Rattle.sm_table.specs.declared.step.Step.TheVariants.{Lose}
 use Rattle.sm_table.specs.declared.world_answer.WorldAnswer.TheVariants.{Made}
@@ -14,9 +15,9 @@ use Rattle.sm_table.specs.Bodies.{BodiesView}
 use Rattle.sm_table.specs.declared.hands.InHand.{InHand}
 use Rattle.sm_table.proofs.Parts.{parts-from_StandsFor, Follows-changed}
 
-module _ {Q R : Type 0} (service : Service Q R) {bounds : List (List ℕ)} {desk_was : DeskView} {table_was : TableView} {bodies_was : BodiesView Q} {flights_was : List (Flight Q)} {hands_was : List (Option (InHand Q))} (now : WorldView Q) (same : view_of bounds desk_was table_was bodies_was flights_was hands_was ≡ now) (w : WorldState Q) (given : StandsFor now w) (place : ℕ) (there : place < length flights_was) where
+module _ {Q R : Type 0} (service : Service Q R) {bounds : List (List ℕ)} {desk_was : DeskView} {table_was : TableView} {bodies_was : BodiesView Q} {routes_was : List (Option Route)} {flights_was : List (Flight Q)} {hands_was : List (Option (InHand Q))} (now : WorldView Q) (same : view_of bounds desk_was table_was bodies_was routes_was flights_was hands_was ≡ now) (w : WorldState Q) (given : StandsFor now w) (place : ℕ) (there : place < length flights_was) where
   abbrev v : WorldView Q
-  v = view_of bounds desk_was table_was bodies_was flights_was hands_was
+  v = view_of bounds desk_was table_was bodies_was routes_was flights_was hands_was
 
   stands : StandsFor v w
   stands = subst (λ u. StandsFor u w) (sym same) given

@@ -5,6 +5,7 @@ use Rattle.sm_desk.specs.declared.command.Command.{Command}
 use Rattle.sm_desk.specs.declared.command.Command.TheVariants.{Change, Ask, Approve, Stopped, Back, Fail}
 use Rattle.sm_desk.specs.declared.command.CommandFault.{CommandFault}
 use Rattle.sm_desk.specs.Desk.{DeskView, commanded, desk_fault, is_restart}
+use Rattle.sm_ownership.specs.declared.route.Route.{Route}
 use Rattle.sm_ownership.specs.Tables.{TableView}
 use Rattle.sm_body.specs.Service.{Service}
 use Rattle.sm_table.specs.Bodies.{BodiesView}
@@ -34,9 +35,9 @@ no_change w (Stopped server) is = refl
 no_change w (Back server) is = refl
 no_change w (Fail server) is = refl
 
-module _ {Q R : Type 0} (service : Service Q R) {bounds : List (List ℕ)} {desk_was : DeskView} {table_was : TableView} {bodies_was : BodiesView Q} {flights_was : List (Flight Q)} {hands_was : List (Option (InHand Q))} (now : WorldView Q) (same : view_of bounds desk_was table_was bodies_was flights_was hands_was ≡ now) (w : WorldState Q) (given : StandsFor now w) (command : Command) where
+module _ {Q R : Type 0} (service : Service Q R) {bounds : List (List ℕ)} {desk_was : DeskView} {table_was : TableView} {bodies_was : BodiesView Q} {routes_was : List (Option Route)} {flights_was : List (Flight Q)} {hands_was : List (Option (InHand Q))} (now : WorldView Q) (same : view_of bounds desk_was table_was bodies_was routes_was flights_was hands_was ≡ now) (w : WorldState Q) (given : StandsFor now w) (command : Command) where
   abbrev v : WorldView Q
-  v = view_of bounds desk_was table_was bodies_was flights_was hands_was
+  v = view_of bounds desk_was table_was bodies_was routes_was flights_was hands_was
 
   stands : StandsFor v w
   stands = subst (λ u. StandsFor u w) (sym same) given

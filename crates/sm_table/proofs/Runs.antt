@@ -5,25 +5,26 @@ use Rattle.std.specs.Option.{option_map}
 use Rattle.std.proofs.lemmas.Bool.{cond_both}
 use Rattle.std.proofs.lemmas.List.{take_at}
 use Rattle.sm_ownership.specs.declared.admit_fault.AdmitFault.{AdmitFault}
-use Rattle.sm_ownership.specs.declared.change.Change.{Change}
 use Rattle.sm_desk.specs.declared.command.Command.{Command}
 use Rattle.sm_desk.specs.declared.command.CommandFault.{CommandFault}
 use Rattle.sm_ownership.specs.declared.entry.Ending.TheVariants.{Request}
 use Rattle.sm_ownership.specs.declared.entry.Entry.{Entry}
 use Rattle.sm_ownership.specs.declared.entry.Kind.TheVariants.{Done}
+use Rattle.sm_ownership.specs.declared.route.Route.{Route}
 use Rattle.sm_table.specs.declared.world.Flight.{Flight}
 use Rattle.sm_table.specs.declared.hands.InHand.{InHand}
 use Rattle.sm_table.specs.declared.hands.Work.{Work}
 use Rattle.sm_table.specs.declared.step.Step.{Step}
-use Rattle.sm_table.specs.declared.step.Step.TheVariants.{Control, Look, Send, Deliver, Finish, Lose, Hold, Free, Checkpoint}
+use Rattle.sm_table.specs.declared.step.Step.TheVariants.{Control, Look, Send, Deliver, Finish, Lose, Hold, Free, Checkpoint, Publish, RouteOf}
 use Rattle.sm_table.specs.declared.world_answer.WorldAnswer.{WorldAnswer}
 use Rattle.sm_table.specs.declared.world_answer.WorldAnswer.TheVariants.{Replied}
+use Rattle.sm_ownership.specs.Routes.{is_old, routes_of}
 use Rattle.sm_ownership.specs.Rules.{forward_to}
 use Rattle.sm_desk.specs.Desk.{DeskView, is_reached}
 use Rattle.sm_envelope.specs.Envelope.{EnvelopeView}
 use Rattle.sm_ownership.specs.History.{all_of, kept, said}
 use Rattle.sm_body.specs.Service.{Service}
-use Rattle.sm_table.specs.World.{Frame, WorldState, Mark, Plain, Unmade, Unserved, Outcome, count_of, world_record, controlled, is_there, reached, after_hop, hopped, arrived, without_flight, delivered, with_room, worked, served, held, after_hold, based, after_checkpoint, let_go, freed, empty_world, answer, next, outcome, world_after, world_of}
+use Rattle.sm_table.specs.World.{Frame, WorldState, Mark, Plain, Unmade, Unserved, Outcome, count_of, world_record, controlled, is_there, reached, after_hop, hopped, arrived, without_flight, delivered, with_room, worked, served, held, after_hold, based, after_checkpoint, let_go, freed, published, empty_world, answer, next, outcome, world_after, world_of}
 use Rattle.sm_table.proofs.Extensions.{extends_after}
 use Rattle.sm_ownership.specs.lemmas.Requests.{all_of-append, all_of-push_some}
 
@@ -112,6 +113,10 @@ module _ {Q R : Type 0} (service : Service Q R) (w : WorldState Q) (number serve
   never_freed shard None answered = cc
   never_freed shard (Some hand) answered = never_let_go shard hand.server hand.work answered
 
+  never_published : (route : Option Route) → NeverReplied (published w route)
+  never_published None answered = cc
+  never_published (Some route) answered = cond_both (is_old (routes_of w.publications route.shard) route) _ _ NeverReplied (λ _ at. cc) (λ _ at. cc) answered
+
   -- only `Finish` replies
   runs_step : (mark : Mark) (step : Step Q) → answer service w mark step ≡ Ok (Replied number server reply place) → (shard : ℕ) × (step ≡ Finish shard) × HasRun service w (outcome service w mark step) shard reply place
   runs_step Unmade step answered = absurd cc
@@ -124,6 +129,8 @@ module _ {Q R : Type 0} (service : Service Q R) (w : WorldState Q) (number serve
   runs_step mark (Hold shard by) answered = absurd (never_hold shard by answered)
   runs_step mark (Free shard) answered = absurd (cond_both (nat_lt shard (count_of w)) _ _ NeverReplied (λ _. never_freed shard _) (λ _ at. cc) answered)
   runs_step mark (Checkpoint shard by) answered = absurd (never_checkpoint shard by answered)
+  runs_step mark (Publish shard) answered = absurd (cond_both (nat_lt shard (count_of w)) _ _ NeverReplied (λ _. never_published _) (λ _ at. cc) answered)
+  runs_step mark (RouteOf key) answered = absurd cc
 
 world_after-append : {Q R : Type 0} (service : Service Q R) (w : WorldState Q) (steps later : List (Mark × Step Q)) → world_after service w (steps ++ later) ≡ world_after service (world_after service w steps) later
 world_after-append service w [] later = refl
@@ -134,6 +141,12 @@ pub history_grows : {Q R : Type 0} (service : Service Q R) (frame : Frame) (step
 history_grows service frame steps later =
     let after = extends_after service (world_of service frame steps) later in
     (after.added, ap (λ w. w.history) (world_after-append service (empty_world frame) steps later) ∙ after.history)
+
+-- and to what was published
+pub publications_grow : {Q R : Type 0} (service : Service Q R) (frame : Frame) (steps later : List (Mark × Step Q)) → (more : List Route) × ((world_of service frame (steps ++ later)).publications ≡ (world_of service frame steps).publications ++ more)
+publications_grow service frame steps later =
+    let after = extends_after service (world_of service frame steps) later in
+    (after.more, ap (λ w. w.publications) (world_after-append service (empty_world frame) steps later) ∙ after.publications)
 
 module _ {Q R : Type 0} (service : Service Q R) (w : WorldState Q) (mark : Mark) (step : Step Q) (shard : ℕ) (reply : R) (place : ℕ) (run : HasRun service w (outcome service w mark step) shard reply place) where
   -- after any further steps all requests of the shard still say that reply

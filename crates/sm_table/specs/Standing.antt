@@ -7,6 +7,7 @@ use Rattle.sm_ranges.specs.declared.stand.Stand.TheVariants.{Vacant}
 use Rattle.sm_ranges.specs.Stand.{AllNamed}
 use Rattle.sm_ownership.specs.declared.entry.Entry.{Entry}
 use Rattle.sm_ownership.specs.declared.record.Record.{Record}
+use Rattle.sm_ownership.specs.declared.route.Route.{Route}
 use Rattle.sm_table.specs.declared.world.Flight.{Flight}
 use Rattle.sm_table.specs.declared.hands.InHand.{InHand}
 use Rattle.sm_table.specs.declared.world.Setup.{Setup}
@@ -21,7 +22,7 @@ use Rattle.sm_tasks.specs.Caps.{MeetsCaps}
 use Rattle.sm_ownership.specs.History.{after_admit, record_at, IsLegal, admits_only, is_admission_of, latest_of}
 use Rattle.sm_ownership.specs.Tables.{TableView}
 use Rattle.sm_table.specs.Bodies.{BodiesView, Past, past_at, past_of}
-use Rattle.sm_table.specs.World.{Frame, WorldState, Outcome, count_of, mark_of, outcome, world_record, world_table}
+use Rattle.sm_table.specs.World.{Frame, WorldState, Outcome, count_of, last_routes, mark_of, outcome, world_record, world_table}
 
 -- a frame that a world can be made with: bounds of a layout, and a desk whose books are sound and keep the caps, with a
 -- vacant shard for each range
@@ -85,18 +86,20 @@ pub record WorldView (Q : Type 0) : Type 0 where
   pub ceiling : ℕ
   pub pasts : List (Past Q)
   pub limits : List ℕ
+  pub routes : List (Option Route)
   pub in_flight : List (Flight Q)
   pub in_hand : List (Option (InHand Q))
 
 -- what these parts show
-abbrev pub view_of : {Q : Type 0} → List (List ℕ) → DeskView → TableView → BodiesView Q → List (Flight Q) → List (Option (InHand Q)) → WorldView Q
-view_of bounds desk table bodies in_flight in_hand = record {
+abbrev pub view_of : {Q : Type 0} → List (List ℕ) → DeskView → TableView → BodiesView Q → List (Option Route) → List (Flight Q) → List (Option (InHand Q)) → WorldView Q
+view_of bounds desk table bodies routes in_flight in_hand = record {
   bounds = bounds;
   desk = desk;
   records = table.records;
   ceiling = table.ceiling;
   pasts = bodies.pasts;
   limits = bodies.limits;
+  routes = routes;
   in_flight = in_flight;
   in_hand = in_hand;
 }
@@ -107,6 +110,7 @@ pub record IsTogether {Q : Type 0} (view : WorldView Q) : Type 0 where
   pub layout : length view.bounds ≡ length view.in_hand
   pub table : length view.records ≡ length view.in_hand
   pub bodies : length view.pasts ≡ length view.in_hand
+  pub routes : length view.routes ≡ length view.in_hand
   pub flights : All (λ flight. flight.envelope.shard < length view.in_hand) view.in_flight
   pub admitted : (shard : ℕ) (hand : InHand Q) → slice_index_or view.in_hand shard None ≡ Some hand → (record_at view.records shard).admitted ≡ true
   pub few : (shard : ℕ) → length (past_at view.pasts shard).all ≤ (record_at view.records shard).generation
@@ -121,6 +125,7 @@ pub record StandsFor {Q : Type 0} (view : WorldView Q) (w : WorldState Q) : Type
   pub bodies : length view.pasts ≡ count_of w
   pub pasts : (shard : ℕ) → shard < count_of w → past_at view.pasts shard ≡ past_of w.history shard
   pub limits : view.limits ≡ w.frame.limits
+  pub routes : view.routes ≡ last_routes w
   pub in_flight : view.in_flight ≡ w.in_flight
   pub in_hand : view.in_hand ≡ w.in_hand
   pub sound : IsSound w

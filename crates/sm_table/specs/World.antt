@@ -1,5 +1,6 @@
 -- The world: shards, servers and requests on their way, as one thread would run them. What each step answers, and what it leaves.
-use Rattle.std.specs.Prelude.{ℕ, Bool, true, false, Option, Some, None, Result, Ok, Err, nat_lt, if◌then◌else◌, List, [], ◌∷◌, ◌++◌, length, remove, replicate, slice_get, slice_index_or, slice_set}
+use Rattle.std.specs.Prelude.{ℕ, Bool, true, false, Option, Some, None, Result, Ok, Err, nat_lt, if◌then◌else◌, List, [], ◌∷◌, ◌++◌, length, map, remove, replicate, slice_get, slice_index_or, slice_set}
+use Rattle.std.specs.List.{range_with_len}
 use Rattle.std.specs.Option.{option_map, option_or}
 use Rattle.sm_body.specs.Service.{Service}
 use Rattle.sm_ranges.specs.Ranges.{shard_of}
@@ -15,19 +16,21 @@ use Rattle.sm_ownership.specs.declared.entry.Kind.{Kind}
 use Rattle.sm_ownership.specs.declared.entry.Kind.TheVariants.{Change as Changed, Admit, Done}
 use Rattle.sm_ownership.specs.declared.mode.Mode.TheVariants.{Direct}
 use Rattle.sm_ownership.specs.declared.record.Record.{Record}
+use Rattle.sm_ownership.specs.declared.route.Route.{Route}
 use Rattle.sm_table.specs.declared.world.Flight.{Flight}
 use Rattle.sm_table.specs.declared.hands.InHand.{InHand}
 use Rattle.sm_table.specs.declared.hands.Work.{Work}
 use Rattle.sm_envelope.specs.declared.refusal.Refusal.TheVariants.{TooManyHops, Unreachable as NotReached, Admit as NotAdmitted, KeptFull, NoMemory as NoMemoryFor}
 use Rattle.sm_table.specs.declared.step.Step.{Step}
-use Rattle.sm_table.specs.declared.step.Step.TheVariants.{Control, Look, Send, Deliver, Finish, Lose, Hold, Free, Checkpoint as CheckpointAt}
+use Rattle.sm_table.specs.declared.step.Step.TheVariants.{Control, Look, Send, Deliver, Finish, Lose, Hold, Free, Checkpoint as CheckpointAt, Publish, RouteOf}
 use Rattle.sm_table.specs.declared.world_answer.WorldAnswer.{WorldAnswer}
-use Rattle.sm_table.specs.declared.world_answer.WorldAnswer.TheVariants.{Made, Seen, Sent, Began, Forwarded, Refused, Replied}
+use Rattle.sm_table.specs.declared.world_answer.WorldAnswer.TheVariants.{Made, Seen, Sent, Began, Forwarded, Refused, Replied, Way}
 use Rattle.sm_table.specs.declared.world_fault.WorldFault.{WorldFault}
-use Rattle.sm_table.specs.declared.world_fault.WorldFault.TheVariants.{Command as CommandRefused, Admit as AdmitRefused, UnknownShard, UnknownServer, Unreachable, NoEnvelope, NotHeld, NoMemory}
+use Rattle.sm_table.specs.declared.world_fault.WorldFault.TheVariants.{Command as CommandRefused, Admit as AdmitRefused, UnknownShard, UnknownServer, Unreachable, NoEnvelope, NotHeld, OldRoute, WrongPhase, NoMemory}
 use Rattle.sm_desk.specs.Desk.{DeskView, commanded, desk_fault, is_known, is_reached}
 use Rattle.sm_envelope.specs.Envelope.{EnvelopeView, sent_on}
 use Rattle.sm_ownership.specs.History.{all_of, kept, record_at, table_of}
+use Rattle.sm_ownership.specs.Routes.{is_old, record_route, routes_of}
 use Rattle.sm_ownership.specs.Rules.{admit_fault, forward_to}
 use Rattle.sm_ownership.specs.Tables.{record_fault}
 
@@ -38,11 +41,12 @@ pub record Frame : Type 0 where
   pub ceiling : ℕ
   pub limits : List ℕ
 
--- a world: its desk, its history, the envelopes in flight, and by shard what the server that is admitted to it has in hand
+-- a world: its desk, its history, what was published in order, the envelopes in flight, and by shard what the server that is admitted to it has in hand
 pub record WorldState (Q : Type 0) : Type 0 where
   pub frame : Frame
   pub desk : DeskView
   pub history : List (Entry Q)
+  pub publications : List Route
   pub in_flight : List (Flight Q)
   pub in_hand : List (Option (InHand Q))
 
@@ -69,6 +73,10 @@ world_table w = table_of (count_of w) w.frame.ceiling w.history
 
 abbrev pub world_record : {Q : Type 0} → WorldState Q → ℕ → Record
 world_record w shard = record_at (world_table w) shard
+
+-- by shard, the last route that was published
+abbrev pub last_routes : {Q : Type 0} → WorldState Q → List (Option Route)
+last_routes w = map (routes_of w.publications) (range_with_len 0 (count_of w))
 
 abbrev pub Outcome : Type 0 → Type 0 → Type 0
 Outcome Q R = Result (WorldAnswer R) WorldFault × WorldState Q
@@ -224,6 +232,16 @@ after_checkpoint w shard server =
     then (if is_there w server then based w shard server (admit_fault w.frame.ceiling (world_record w shard) server Direct) else (Err UnknownServer, w))
     else (Err UnknownShard, w)
 
+abbrev pub published : {Q R : Type 0} → WorldState Q → Option Route → Outcome Q R
+published w None = (Err WrongPhase, w)
+published w (Some route) =
+    if is_old (routes_of w.publications route.shard) route then (Err OldRoute, w)
+    else (Ok Made, record w { publications = w.publications ++ route ∷ [] })
+
+-- the shard's owner at its generation is published, where it has one and that is above the shard's last route
+abbrev pub after_publish : {Q R : Type 0} → WorldState Q → ℕ → Outcome Q R
+after_publish w shard = if nat_lt shard (count_of w) then published w (record_route shard (world_record w shard)) else (Err UnknownShard, w)
+
 -- what a step that went so answers, and the world that it leaves
 abbrev pub outcome : {Q R : Type 0} → Service Q R → WorldState Q → Mark → Step Q → Outcome Q R
 outcome service w Unmade step = (Err NoMemory, w)
@@ -236,6 +254,8 @@ outcome service w mark (Lose place) = after_lose w place
 outcome service w mark (Hold shard server) = after_hold w shard server
 outcome service w mark (Free shard) = after_free w shard
 outcome service w mark (CheckpointAt shard server) = after_checkpoint w shard server
+outcome service w mark (Publish shard) = after_publish w shard
+outcome service w mark (RouteOf key) = (Ok (Way (routes_of w.publications (shard_of w.frame.bounds key))), w)
 
 abbrev pub answer : {Q R : Type 0} → Service Q R → WorldState Q → Mark → Step Q → Result (WorldAnswer R) WorldFault
 answer service w mark step = (outcome service w mark step).0
@@ -251,7 +271,7 @@ mark_of _ = Plain
 
 -- the world in which nothing has happened
 abbrev pub empty_world : {Q : Type 0} → Frame → WorldState Q
-empty_world frame = record { frame = frame; desk = frame.start; history = []; in_flight = []; in_hand = replicate (length frame.bounds) None }
+empty_world frame = record { frame = frame; desk = frame.start; history = []; publications = []; in_flight = []; in_hand = replicate (length frame.bounds) None }
 
 -- the world after these steps, from this one on
 abbrev pub world_after : {Q R : Type 0} → Service Q R → WorldState Q → List (Mark × Step Q) → WorldState Q

@@ -2,6 +2,7 @@
 
 ghost use Rattle.std.specs.Prelude.{◌≡◌, ℕ, Some, Ok, List, ◌∷◌, ◌++◌, length, map};
 ghost use Rattle.sm_ownership.specs.declared.entry.Entry.{Entry};
+ghost use Rattle.sm_ownership.specs.declared.route.Route.{Route};
 ghost use Rattle.sm_ownership.specs.History.{IsLegal, all_of, said};
 ghost use Rattle.sm_table.specs.declared.step.Step.{Step};
 ghost use Rattle.sm_table.specs.declared.step.Step.TheVariants.{Finish};
@@ -32,6 +33,13 @@ pub fn history_grows<Q, R>()
     ensures { (service : Service Q R) (frame : Frame) (steps later : List (Mark × Step Q))
         → (added : List (Entry Q))
         × ((world_of service frame (steps ++ later)).history ≡ (world_of service frame steps).history ++ added) }
+{}
+
+/// Further steps only add to what was published.
+pub fn publications_grow<Q, R>()
+    ensures { (service : Service Q R) (frame : Frame) (steps later : List (Mark × Step Q))
+        → (more : List Route)
+        × ((world_of service frame (steps ++ later)).publications ≡ (world_of service frame steps).publications ++ more) }
 {}
 
 /// Whatever the steps, a reply has the place after all requests of its shard, and is what one run of these says there. It

@@ -1,4 +1,5 @@
 use sm_desk::command::Command;
+use sm_ranges::key::Key;
 use sm_ranges::server_id::ServerId;
 use sm_ranges::shard_id::ShardId;
 
@@ -23,4 +24,8 @@ pub enum Step<Q> {
     Free(ShardId),
     /// The server is admitted to the shard, whose present state becomes its base, and that admission ends.
     Checkpoint(ShardId, ServerId),
+    /// The shard's owner at its generation becomes its published route.
+    Publish(ShardId),
+    /// The published route of the shard whose range covers the key is read.
+    RouteOf(Key),
 }

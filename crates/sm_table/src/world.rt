@@ -1,4 +1,4 @@
-ghost use Rattle.std.specs.Prelude.{◌≡◌, ◌<◌, ◌≤◌, ◌^◌, true, [], All, Ok, IfOk, OnOk, OnErr, length, map, replicate, vec_capacity, vec_len};
+ghost use Rattle.std.specs.Prelude.{◌≡◌, ◌<◌, ◌≤◌, ◌^◌, true, [], All, None, Ok, IfOk, OnOk, OnErr, length, map, replicate, slice_index_or, vec_capacity, vec_len};
 ghost use Rattle.std.specs.Result.{result_err};
 ghost use Rattle.sm_body.specs.Service.{meaning_of};
 ghost use Rattle.sm_ranges.specs.Ranges.{shard_of};
@@ -10,7 +10,7 @@ ghost use Rattle.sm_desk.specs.Desk.{is_restart, stands_of};
 ghost use Rattle.sm_table.specs.Standing.{StandsFor, GoesAs, setup_frame, with_admission};
 ghost use Rattle.sm_table.specs.World.{Plain, after_hop, mark_of, may_go, empty_world};
 ghost use Rattle.sm_desk.specs.declared.command.Command.TheVariants.{Change as ChangeOf};
-ghost use Rattle.sm_table.specs.declared.step.Step.TheVariants.{Control as ControlOf, Look as LookAt, Send as SendOf, Deliver as DeliverAt, Finish as FinishAt, Lose as LoseAt, Hold as HoldAt, Free as FreeAt, Checkpoint as CheckpointAt};
+ghost use Rattle.sm_table.specs.declared.step.Step.TheVariants.{Control as ControlOf, Look as LookAt, Send as SendOf, Deliver as DeliverAt, Finish as FinishAt, Lose as LoseAt, Hold as HoldAt, Free as FreeAt, Checkpoint as CheckpointAt, Publish as PublishAt, RouteOf as RouteOfKey};
 
 use crate::bodies::Bodies;
 use crate::hands::{Hands, InHand, Work};
@@ -26,6 +26,7 @@ use sm_ownership::admit_fault::AdmitFault;
 use sm_ownership::change::Change;
 use sm_ownership::mode::Mode;
 use sm_ownership::record::Record;
+use sm_ownership::route::Route;
 use sm_ownership::table::Table;
 use sm_ranges::layout::Layout;
 use sm_ranges::server_id::ServerId;
@@ -51,13 +52,15 @@ pub struct Flight<Q: Drop> {
     pub envelope: Envelope<Q, ()>,
 }
 
-/// All shards and servers, and the requests on their way, as one thread runs them. Published routes are no part of it.
+/// All shards and servers, the requests on their way, and the published map, as one thread runs them.
 #[derive(Drop)]
 pub struct World<S: Service> {
     layout: Layout,
     desk: Desk,
     table: Table,
     bodies: Bodies<S>,
+    // By shard, the last route that was published.
+    routes: Vec<Option<Route>>,
     in_flight: Vec<Flight<S::Request>>,
     in_hand: Hands<S::Request>,
 }
@@ -68,10 +71,10 @@ impl<S: Service> Model for World<S> {
     ghost Value = { WorldView S.Request };
 
     ghost view = { λ world.
-        view_of world.layout world.desk world.table world.bodies world.in_flight.items world.in_hand };
+        view_of world.layout world.desk world.table world.bodies world.routes.items world.in_flight.items world.in_hand };
 
     ghost invariant = { λ world. IsTogether
-        (view_of world.layout world.desk world.table world.bodies world.in_flight.items world.in_hand) };
+        (view_of world.layout world.desk world.table world.bodies world.routes.items world.in_flight.items world.in_hand) };
 }
 
 impl<S: Service> World<S> {
@@ -98,6 +101,7 @@ impl<S: Service> World<S> {
         Ok(World {
             table: Table::new(alloc, count, ceiling)?,
             bodies: Bodies::new(alloc, bodies)?,
+            routes: no_routes(alloc, count)?,
             in_flight: Vec::new(alloc),
             in_hand: Hands::none(alloc, count)?,
             layout,
@@ -128,6 +132,14 @@ impl<S: Service> World<S> {
         &self.desk
     }
 
+    /// The published route of a shard, where there is one.
+    pub fn route(&self, k: ShardId) -> Option<Route>
+        requires { k < length self.now.bounds }
+        ensures { result ≡ slice_index_or self.now.routes k None }
+    {
+        self.routes[k.index()]
+    }
+
     /// Makes a step. Where the world stands for one of the definitions, it answers as that one does, and then stands for
     /// the next. A step that a fault refuses changes nothing. Want of memory is told of a `Send` and of a
     /// `Checkpoint`, by `NoMemory`, and of a `Finish`, which then refuses its request; of no other step.
@@ -149,6 +161,8 @@ impl<S: Service> World<S> {
             Step::Hold(k, server) => self.hold(k, server),
             Step::Free(k) => self.free(k),
             Step::Checkpoint(k, server) => self.checkpoint(k, server),
+            Step::Publish(k) => self.publish(k),
+            Step::RouteOf(key) => self.route_of(key.as_bytes()),
         }
     }
 
@@ -360,6 +374,34 @@ impl<S: Service> World<S> {
         Ok(WorldAnswer::Made)
     }
 
+    // Publishes the shard's owner at its generation, where it has one and that is above the shard's last route.
+    fn publish(&mut self, k: ShardId) -> Result<WorldAnswer<S::Reply>, WorldFault>
+        ensures stands { GoesAs (meaning_of S.initial S.next S.answer S.key_of) self.old result self.new (PublishAt k) }
+        ensures marks { may_go {Q = S.Request} (PublishAt k) (mark_of result) ≡ true }
+        ensures bounds { self.new.bounds ≡ self.old.bounds }
+    {
+        if k.index() >= self.table.count() {
+            return Err(WorldFault::UnknownShard);
+        }
+        let Some(route) = self.table.record(k).route(k) else {
+            return Err(WorldFault::WrongPhase);
+        };
+        if route.is_old(self.route(k)) {
+            return Err(WorldFault::OldRoute);
+        }
+        self.routes[k.index()] = Some(route);
+        Ok(WorldAnswer::Made)
+    }
+
+    // Reads the published route of the shard whose range covers the key.
+    fn route_of(&self, key: &[u8]) -> Result<WorldAnswer<S::Reply>, WorldFault>
+        ensures stands { GoesAs (meaning_of S.initial S.next S.answer S.key_of) self.now result self.now (RouteOfKey key.now) }
+        ensures marks { may_go {Q = S.Request} (RouteOfKey key.now) (mark_of result) ≡ true }
+    {
+        let k = self.layout.shard_of(key);
+        Ok(WorldAnswer::Way(self.route(k)))
+    }
+
     // Admits the server to the shard and gives it the work in hand, unless the shard's record refuses it.
     fn admit(
         &mut self,
@@ -379,6 +421,13 @@ impl<S: Service> World<S> {
         self.in_hand.put(k, InHand { server, work });
         Ok(())
     }
+}
+
+// No route for each of so many shards.
+fn no_routes(alloc: Global, count: usize) -> Result<Vec<Option<Route>>, AllocError>
+    ensures { IfOk result (λ routes. routes.items ≡ replicate count None) }
+{
+    vec![in alloc; None; count]
 }
 
 // The envelope reaches a server that forwards requests: it is put last in flight again, or refused where no hop is left

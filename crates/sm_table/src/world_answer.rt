@@ -1,5 +1,6 @@
 use sm_envelope::refusal::Refusal;
 use sm_ownership::record::Record;
+use sm_ownership::route::Route;
 use sm_ranges::server_id::ServerId;
 
 /// What a step answers.
@@ -24,4 +25,6 @@ pub enum WorldAnswer<R> {
         reply: R,
         place: u64,
     },
+    /// The published route, where there is one.
+    Way(Option<Route>),
 }

@@ -26,6 +26,12 @@ pub enum WorldFault {
     /// No server has the shard in hand, or not so: `Finish` ends an admission with a request, `Free` one without.
     #[error("no server has the shard in hand so")]
     NotHeld,
+    /// The shard's generation is not above that of its last published route.
+    #[error("the route is not newer than the published one")]
+    OldRoute,
+    /// The shard is vacant, so it has no route.
+    #[error("the shard is vacant")]
+    WrongPhase,
     /// Memory for the step was refused.
     #[error("out of memory")]
     NoMemory,

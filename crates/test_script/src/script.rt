@@ -80,7 +80,6 @@ fn first_fault_of_a_line(rt: HostRuntime) -> Result<(), Fail> {
         ("at x del a", "BadNumber"),
         ("client", "BadLine"),
         ("client look 0", "UnknownWord"),
-        ("client put a b c", "NotHere"),
         ("at x fly a", "UnknownWord"),
         ("get ", "BadKey"),
         (" ", "UnknownWord"),
@@ -94,7 +93,6 @@ fn first_fault_of_a_line(rt: HostRuntime) -> Result<(), Fail> {
         ("ask 1", ""),
         ("ask 0", "BadNumber"),
         ("drain", "BadLine"),
-        ("publish 0", "NotHere"),
         ("place", ""),
         ("place ", "BadLine"),
         ("", ""),
@@ -170,10 +168,16 @@ fn shown(alloc: Global, call: &Call) -> Result<String, AllocError> {
             format!(in alloc; "checkpoint {} {}", shard.number(), server.number())
         }
         Call::Look(shard) => format!(in alloc; "look {}", shard.number()),
+        Call::Publish(shard) => format!(in alloc; "publish {}", shard.number()),
+        Call::Route(key) => format!(in alloc; "route {:?}", key.as_bytes()),
         Call::Request(request) => shown_request(alloc, request),
         Call::RequestAt(server, request) => {
             let request = shown_request(alloc, request)?;
             format!(in alloc; "at {} {}", server.number(), request.as_str())
+        }
+        Call::RequestByRoute(request) => {
+            let request = shown_request(alloc, request)?;
+            format!(in alloc; "client {}", request.as_str())
         }
     }
 }
@@ -202,6 +206,9 @@ fn calls_of_lines(rt: HostRuntime) -> Result<(), Fail> {
         (b"fail 4095", "fail 4095"),
         (b"place", "place"),
         (b"drain 5", "drain 5"),
+        (b"publish 14", "publish 14"),
+        (b"route m", "route [109]"),
+        (b"client get m", "client get [109]"),
         (b"get \xff", "get [255]"),
         (b"put m  a b ", "put [109] [32, 97, 32, 98, 32]"),
         (b"put m", "put [109] []"),

@@ -5,6 +5,7 @@ use sm_ownership::admit_fault::AdmitFault;
 use sm_ownership::change::Change;
 use sm_ownership::change_fault::ChangeFault;
 use sm_ownership::record::Record;
+use sm_ownership::route::Route;
 use sm_ranges::key::Key;
 use sm_ranges::layout::Layout;
 use sm_ranges::server_id::ServerId;
@@ -54,6 +55,8 @@ enum Act {
     Hold(ShardId, ServerId),
     Free(ShardId),
     Checkpoint(ShardId, ServerId),
+    Publish(ShardId),
+    RouteOf(u8),
 }
 
 fn step_of(alloc: Global, act: Act) -> Result<Step<Request>, Fail> {
@@ -72,6 +75,8 @@ fn step_of(alloc: Global, act: Act) -> Result<Step<Request>, Fail> {
         Act::Hold(k, server) => Step::Hold(k, server),
         Act::Free(k) => Step::Free(k),
         Act::Checkpoint(k, server) => Step::Checkpoint(k, server),
+        Act::Publish(k) => Step::Publish(k),
+        Act::RouteOf(key) => Step::RouteOf(Key::new(alloc, &[key])?),
     };
     Ok(step)
 }
@@ -86,6 +91,7 @@ enum Told {
     Forwarded(ServerId),
     Refused(Refusal),
     Replied(u64, ServerId, u64),
+    Way(Option<Route>),
     Fault(WorldFault),
 }
 
@@ -125,6 +131,7 @@ fn told_of(answer: &WorldAnswer<Reply>) -> Told {
             place,
             ..
         } => Told::Replied(*number, *server, *place),
+        WorldAnswer::Way(route) => Told::Way(*route),
     }
 }
 
@@ -243,6 +250,36 @@ fn keeps_requests_again_after_a_checkpoint(rt: HostRuntime) -> Result<(), Fail> 
     follow(&rt, rt.alloc(), &mut world, &cases)?;
     assert!(rt; counts(&mut world, k, 2));
     Ok(())
+}
+
+// The route of a shard to its owner at a generation.
+fn way(shard: ShardId, server: ServerId, generation: u64) -> Told {
+    Told::Way(Some(Route {
+        shard,
+        server,
+        generation,
+    }))
+}
+
+#[test]
+fn publishes_newer_routes_alone(rt: HostRuntime) -> Result<(), Fail> {
+    let (one, two, k, unknown) = (ServerId::of(1), ServerId::of(2), shard(1)?, shard(4)?);
+    let cases = [
+        (Act::RouteOf(b'm'), Told::Way(None)),
+        (Act::Publish(unknown), Told::Fault(WorldFault::UnknownShard)),
+        (Act::Publish(k), Told::Fault(WorldFault::WrongPhase)),
+        (Act::Change(k, Change::Assign(one)), Told::Made),
+        (Act::Publish(k), Told::Made),
+        (Act::Publish(k), Told::Fault(WorldFault::OldRoute)),
+        (Act::Change(k, Change::Pause), Told::Made),
+        (Act::Change(k, Change::Reassign(two)), Told::Made),
+        (Act::RouteOf(b'r'), way(k, one, 1)),
+        (Act::Publish(k), Told::Made),
+        (Act::RouteOf(b'm'), way(k, two, 3)),
+        (Act::RouteOf(b's'), Told::Way(None)),
+    ];
+    let mut world = new_world(rt.alloc())?;
+    follow(&rt, rt.alloc(), &mut world, &cases)
 }
 
 #[test]

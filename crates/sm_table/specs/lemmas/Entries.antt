@@ -22,7 +22,7 @@ use Rattle.sm_ownership.specs.declared.record.Record.{Record}
 use Rattle.sm_table.specs.declared.hands.InHand.{InHand}
 use Rattle.sm_ownership.specs.Rules.{phase_fault, admit_fault, stand_after}
 use Rattle.sm_desk.specs.declared.command.Command.{Command}
-use Rattle.sm_desk.specs.declared.command.Command.TheVariants.{Change as ChangeOf, Ask, Approve, Stopped, Back, Fail}
+use Rattle.sm_desk.specs.declared.command.Command.TheVariants.{Change as ChangeOf}
 use Rattle.sm_desk.specs.declared.command.CommandFault.TheVariants.{Change as ChangeRefused}
 use Rattle.sm_desk.specs.Desk.{DeskView, commanded, desk_fault, stands_of}
 use Rattle.sm_place.specs.Books.{moved, no_shard, shard_at}
@@ -30,7 +30,7 @@ use Rattle.sm_place.specs.declared.shard.Shard.{Shard}
 use Rattle.sm_desk.specs.lemmas.Changes.{let_through}
 use Rattle.sm_ownership.specs.History.{vacant, after_change, after_kind, admits_only, acts_as, fits}
 use Rattle.sm_table.specs.World.{WorldState, count_of, world_table, world_record, with_entry, with_hand, table_fault, ended}
-use Rattle.sm_table.specs.Standing.{AgreesWithHand, AreLetThrough, IsFlight, IsLedTo, IsSound, IsThere, desk_after}
+use Rattle.sm_table.specs.Standing.{AgreesWithHand, IsFlight, IsLedTo, IsSound, IsThere}
 use Rattle.sm_ownership.specs.lemmas.Faults.{change_fits-no_fault, admit_fault-none}
 use Rattle.sm_ownership.specs.Tables.{record_fault}
 use Rattle.sm_table.specs.lemmas.Names.{names_after}

@@ -21,8 +21,10 @@ use Rattle.sm_ownership.specs.declared.entry.Ending.TheVariants.{Nothing, Reques
 use Rattle.sm_ownership.specs.declared.mode.Mode.TheVariants.{Direct}
 use Rattle.sm_ownership.specs.declared.record.Record.{Record}
 use Rattle.sm_table.specs.declared.world_answer.WorldAnswer.{WorldAnswer}
+use Rattle.sm_ownership.specs.declared.route.Route.{Route}
 use Rattle.sm_table.specs.declared.step.Step.{Step}
-use Rattle.sm_table.specs.declared.step.Step.TheVariants.{Control, Look, Send, Deliver, Finish, Lose, Hold, Free, Checkpoint}
+use Rattle.sm_table.specs.declared.step.Step.TheVariants.{Control, Look, Send, Deliver, Finish, Lose, Hold, Free, Checkpoint, Publish, RouteOf}
+use Rattle.sm_ownership.specs.Routes.{is_old, routes_of}
 use Rattle.sm_ownership.specs.Rules.{admit_fault, forward_to}
 use Rattle.sm_desk.specs.Desk.{DeskView, commanded, desk_fault, is_reached, stands_of}
 use Rattle.sm_place.specs.Books.{no_server, place_of}
@@ -32,7 +34,7 @@ use Rattle.sm_envelope.specs.Envelope.{EnvelopeView, one_hop_more, sent_on}
 use Rattle.sm_envelope.specs.declared.envelope.TheConstants.{MOST_HOPS}
 use Rattle.sm_ownership.specs.History.{vacant, record_at, kept}
 use Rattle.sm_body.specs.Service.{Service}
-use Rattle.sm_table.specs.World.{Frame, WorldState, Mark, Plain, Unmade, Unserved, Outcome, count_of, world_record, is_there, table_fault, with_change, controlled, after_look, after_send, flight_to, reached, after_hop, hopped, arrived, without_flight, delivered, after_lose, with_room, worked, served, held, after_hold, based, after_checkpoint, checkpoint_ending, let_go, freed, after_free, empty_world, next, world_after, world_of}
+use Rattle.sm_table.specs.World.{Frame, WorldState, Mark, Plain, Unmade, Unserved, Outcome, count_of, world_record, is_there, table_fault, with_change, controlled, after_look, after_send, flight_to, reached, after_hop, hopped, arrived, without_flight, delivered, after_lose, with_room, worked, served, held, after_hold, based, after_checkpoint, checkpoint_ending, let_go, freed, after_free, published, empty_world, next, world_after, world_of}
 use Rattle.sm_table.specs.Standing.{IsFrame, IsFlight, IsLedTo, IsThere, AgreesWithHand, IsSound, desk_after}
 use Rattle.sm_ownership.specs.lemmas.Growth.{record_at-empty}
 use Rattle.sm_table.specs.lemmas.Names.{known_forward}
@@ -116,6 +118,20 @@ sound_desk w desk sound led stands servers = record {
   own_server = sound.own_server;
   named = λ shard within. subst (λ rows. AllNamed (IsThere rows) (world_record w shard).stand) (sym servers) (sound.named shard within);
   flights = subst (λ rows. All (IsFlight (count_of w) rows) w.in_flight) (sym servers) sound.flights;
+  hands = sound.hands;
+  held = sound.held;
+}
+
+-- a world stays sound with other publications
+sound_publications : {Q : Type 0} (w : WorldState Q) (publications : List Route) → IsSound w → IsSound (record w { publications = publications })
+sound_publications w publications sound = record {
+  frame = sound.frame;
+  desk = sound.desk;
+  stands = sound.stands;
+  legal = sound.legal;
+  own_server = sound.own_server;
+  named = sound.named;
+  flights = sound.flights;
   hands = sound.hands;
   held = sound.held;
 }
@@ -225,6 +241,10 @@ module _ {Q : Type 0} (R : Type 0) (w : WorldState Q) (sound : IsSound w) where
   sound_free : (shard : ℕ) → LeavesSound (after_free w shard)
   sound_free shard = cond_both (nat_lt shard (count_of w)) _ _ LeavesSound (λ _. sound_freed shard _ refl) (λ _. sound)
 
+  sound_published : (route : Option Route) → LeavesSound (published w route)
+  sound_published None = sound
+  sound_published (Some route) = cond_both (is_old (routes_of w.publications route.shard) route) _ _ LeavesSound (λ _. sound) (λ _. sound_publications w _ sound)
+
 sound_delivered : {Q : Type 0} (R : Type 0) (w : WorldState Q) (place : ℕ) (flight : Option (Flight Q)) → IsSound w → slice_get w.in_flight place ≡ flight → IsSound (delivered {R = R} w place flight).1
 sound_delivered R w place None sound is = sound
 sound_delivered R w place (Some flight) sound is =
@@ -244,6 +264,8 @@ sound_next {R = R} service w mark (Lose place) sound = sound_lose R w sound plac
 sound_next {R = R} service w mark (Hold shard server) sound = sound_hold R w sound shard server
 sound_next {R = R} service w mark (Free shard) sound = sound_free R w sound shard
 sound_next {R = R} service w mark (Checkpoint shard server) sound = sound_checkpoint R w sound shard server
+sound_next {R = R} service w mark (Publish shard) sound = cond_both (nat_lt shard (count_of w)) _ _ (LeavesSound R w sound) (λ _. sound_published R w sound _) (λ _. sound)
+sound_next service w mark (RouteOf key) sound = sound
 
 sound_after : {Q R : Type 0} (service : Service Q R) (w : WorldState Q) (steps : List (Mark × Step Q)) → IsSound w → IsSound (world_after service w steps)
 sound_after service w [] sound = sound

@@ -1,5 +1,5 @@
 use Rattle.std.proofs.Common.{ap}
-use Rattle.sm_table.specs.declared.step.Step.TheVariants.{Control, Hold, Free, Look}
+use Rattle.sm_table.specs.declared.step.Step.TheVariants.{Control, Hold, Free, Look, Publish, RouteOf}
 use Rattle.sm_model.specs.Calls.{called}
 use Rattle.sm_model.proofs.Requests.{ends_step}
 use Rattle.sm_model.proofs.calls.carry_out.Goals as goal
@@ -15,3 +15,9 @@ returns-in-Free c = ends_step _ _ _ (Free c.in-Free.shard) _ (λ w. ap (called w
 
 pub returns-in-Look : goal.returns-in-Look
 returns-in-Look c = ends_step _ _ _ (Look c.in-Look.shard) _ (λ w. ap (called w) c.in-Look.is) c.make-in-Look.ensures.steps
+
+pub returns-in-Publish : goal.returns-in-Publish
+returns-in-Publish c = ends_step _ _ _ (Publish c.in-Publish.shard) _ (λ w. ap (called w) c.in-Publish.is) c.make-in-Publish.ensures.steps
+
+pub returns-in-Route : goal.returns-in-Route
+returns-in-Route c = ends_step _ _ _ (RouteOf c.in-Route.key) _ (λ w. ap (called w) c.in-Route.is) c.make-in-Route.ensures.steps

@@ -1,14 +1,11 @@
-use Rattle.std.proofs.Common.{◌≡◌, ℕ, None, List, [], ◌∷◌, refl, ap, subst, sym, ◌∙◌}
-use Rattle.sm_body.specs.Service.{Service}
+use Rattle.std.proofs.Common.{◌≡◌, ℕ, None, List, [], ◌∷◌, refl, subst, sym}
 use Rattle.sm_desk.specs.declared.command.Command.{Command}
 use Rattle.sm_desk.specs.Desk.{DeskView, books_commanded, commanded, desk_fault}
 use Rattle.sm_place.specs.Books.{BooksView}
-use Rattle.sm_place.specs.Room.{HasRoom}
 use Rattle.sm_place.specs.Sound.{AreSound}
 use Rattle.sm_tasks.specs.Caps.{MeetsCaps}
-use Rattle.sm_table.specs.declared.step.Step.{Step}
-use Rattle.sm_table.specs.Standing.{AreLetThrough, IsFrame, IsSound, desk_after}
-use Rattle.sm_table.specs.World.{Frame, Mark, WorldState, empty_world, world_of}
+use Rattle.sm_table.specs.Standing.{AreLetThrough, IsSound, desk_after}
+use Rattle.sm_table.specs.World.{Frame, WorldState, empty_world, world_of}
 use Rattle.sm_table.specs.lemmas.Soundness.{sound_world}
 use Rattle.sm_table.proofs.Extensions.{extends_after}
 use Rattle.sm_table.proofs.laws.caps_and_room_hold.Goals as goal

@@ -1,6 +1,5 @@
 use Rattle.std.proofs.Common.{◌≡◌, ◌<◌, ◌^◌, ap, refl, subst, sym, ◌∙◌, None, length, replicate, arith}
-use Rattle.std.specs.Prelude.{All, map}
-use Rattle.sm_ranges.specs.ServerId.{IsServer}
+use Rattle.std.specs.Prelude.{map}
 use Rattle.sm_ownership.specs.History.{vacant}
 use Rattle.sm_table.specs.Bodies.{no_past}
 use Rattle.sm_table.specs.Standing.{setup_frame}
@@ -14,6 +13,7 @@ invariant_of-result g c =
     (c.in_ok-new.ensures.records ∙ ap (λ count. replicate count vacant) c.count-count.ensures.value)
     (subst (λ ceiling. ceiling < 2 ^ 36) (sym c.in_ok-new.ensures.ceiling) c.requires.greatest_ceiling)
     (c.in_ok-new-2.ensures.pasts ∙ ap (λ count. replicate count no_past) bodies)
+    (c.in_ok-no_routes.ensures ∙ ap (λ count. replicate count None) c.count-count.ensures.value)
     c.new-3.ensures.items
     (c.in_ok-none.ensures ∙ ap (λ count. replicate count None) c.count-count.ensures.value)
 
@@ -27,5 +27,6 @@ returns g c =
     c.in_ok-new.ensures.ceiling
     (c.in_ok-new-2.ensures.pasts ∙ ap (λ count. replicate count no_past) bodies)
     c.in_ok-new-2.ensures.limits
+    (c.in_ok-no_routes.ensures ∙ ap (λ count. replicate count None) c.count-count.ensures.value)
     c.new-3.ensures.items
     (c.in_ok-none.ensures ∙ ap (λ count. replicate count None) c.count-count.ensures.value)
