@@ -1,0 +1,19 @@
+//! Tests of a cluster: servers as threads, and clients.
+#![tactic(auto)]
+
+#[cfg(test)]
+mod at_once;
+#[cfg(test)]
+mod calls;
+#[cfg(test)]
+mod faults;
+#[cfg(test)]
+mod holding;
+#[cfg(test)]
+mod latch;
+#[cfg(test)]
+mod leaving;
+#[cfg(test)]
+mod promises;
+#[cfg(test)]
+mod running;

@@ -1,0 +1,110 @@
+//! What answers mean to their users: the order of a session, agreement, and that nothing acknowledged is lost.
+ghost use Rattle.std.specs.Prelude.{◌≡◌};
+
+use crate::running::{Running, append_of, ask, bodies_of, get_of, inc_of, setup_of, shard};
+use sm_cluster::{Open, Told};
+use sm_desk::Command;
+use sm_ownership::Change;
+use sm_ranges::ServerId;
+use sm_service::{Reply, Service};
+use std::alloc::Global;
+use std::process::Abort;
+use std::sync::Wait;
+use std::test::Fail;
+
+fn is_text(reply: &Reply, text: &[u8]) -> bool {
+    match reply {
+        Reply::Text(held) => held.as_bytes() == text,
+        _ => false,
+    }
+}
+
+// The session appends a letter, and reads its text so far.
+fn writes_and_reads<R: Wait + Abort>(
+    rt: &R,
+    alloc: Global,
+    running: &mut Running,
+    text: &[u8],
+) -> (Told<Reply>, bool) {
+    let letter = text.last().copied().unwrap_or(b' ');
+    let session = &mut running.first;
+    let written = ask(rt, alloc, session, 1, append_of(rt, alloc, b"a", &[letter]));
+    let read = ask(rt, alloc, session, 2, get_of(rt, alloc, b"a"));
+    let is_read = written.place < read.place && is_text(&read.reply, text);
+    (written, is_read)
+}
+
+// A session writes and reads after each step of a migration. Its answers come in order, and each read gives all that it wrote.
+#[test]
+fn session_stays_in_order(rt: HostRuntime) -> Result<(), Fail> {
+    let (alloc, two, k) = (rt.alloc(), ServerId::of(2), shard(0));
+    let steps = [
+        Change::PrepareAddShard(two),
+        Change::PrepareDropShard,
+        Change::AddShard,
+        Change::DropShard,
+    ];
+    let bodies = bodies_of(alloc, 100, None)?;
+    let mut running = Running::start(&rt, alloc, setup_of(alloc)?, bodies, Open);
+    running.assign_both(&rt);
+    for (at, step) in steps.iter().enumerate() {
+        running.command_all(&rt, &[Command::Change(k, *step)]);
+        if *step == Change::DropShard {
+            assert!(rt; running.cluster.publish(&rt, k).is_ok());
+        }
+        let (written, is_read) = writes_and_reads(&rt, alloc, &mut running, &b"wxyz"[..=at]);
+        assert!(rt; is_read && written.place == 2 * at as u64);
+    }
+    let rows = running.stop(&rt, alloc);
+    assert!(rt; rows.len() == 2);
+    Ok(())
+}
+
+// The count of an answer to an `inc` is that of all requests up to its place, as all are `inc` of this key.
+fn is_count_of_place(told: &Told<Reply>) -> bool {
+    match told.reply {
+        Reply::Count(count) => u64::try_from(count) == Ok(told.place + 1),
+        _ => false,
+    }
+}
+
+// Two clients learn each other's answers: none has the other's place, and each reply is the one of its place.
+#[test]
+fn answers_agree(rt: HostRuntime) -> Result<(), Fail> {
+    let alloc = rt.alloc();
+    let bodies = bodies_of(alloc, 100, None)?;
+    let mut running = Running::start(&rt, alloc, setup_of(alloc)?, bodies, Open);
+    running.assign_both(&rt);
+    let request = inc_of(&rt, alloc, b"a");
+    let theirs = running
+        .first
+        .call(&rt, alloc, 1, request)
+        .ok()
+        .expect(&rt, "an answer");
+    let theirs = running.second.learn(theirs);
+    let own = ask(&rt, alloc, &mut running.second, 2, inc_of(&rt, alloc, b"a"));
+    assert!(rt; theirs.place < own.place);
+    assert!(rt; is_count_of_place(&theirs) && is_count_of_place(&own));
+    let rows = running.stop(&rt, alloc);
+    assert!(rt; rows.len() == 2);
+    Ok(())
+}
+
+// What a client learned is in the body that the stop gives.
+#[test]
+fn nothing_learned_is_lost(rt: HostRuntime) -> Result<(), Fail> {
+    let alloc = rt.alloc();
+    let bodies = bodies_of(alloc, 100, None)?;
+    let mut running = Running::start(&rt, alloc, setup_of(alloc)?, bodies, Open);
+    running.assign_both(&rt);
+    let written = append_of(&rt, alloc, b"a", b"kept");
+    let told = ask(&rt, alloc, &mut running.first, 1, written);
+    assert!(rt; told.place == 0);
+    let mut rows = running.stop(&rt, alloc);
+    let (_, body) = rows.swap_remove(0);
+    let mut body = body.ok_or("a body")?;
+    assert!(rt; body.kept() == 1);
+    let read = body.apply(get_of(&rt, alloc, b"a")).ok().ok_or("a reply")?;
+    assert!(rt; is_text(&read, b"kept"));
+    Ok(())
+}
