@@ -12,7 +12,7 @@ use sm_ownership::{AdmitFault, Change, Route};
 use sm_place::Move;
 use sm_publish::PublishFault;
 use sm_ranges::{ServerId, Stand};
-use sm_rule::{AdmitRefusal, Front};
+use sm_rule::AdmitRefusal;
 use sm_server::{Answer, CheckpointFault, Refusal};
 use sm_service::{Reply, Request};
 use sm_tasks::AlreadyFailed;
@@ -105,7 +105,7 @@ fn calls_by_published_routes(rt: HostRuntime) -> Result<(), Fail> {
     let elsewhere = refusal_at(&rt, alloc, &mut running.second, ServerId::of(2));
     assert!(rt; is_not_executor(elsewhere));
     let rows = running.stop(&rt, alloc);
-    assert!(rt; rows[0].0 == idle(Stand::Serving(one), 3));
+    assert!(rt; rows.len() == 2 && rows[0].0 == idle(Stand::Serving(one), 3));
     assert!(rt; kept_of(&rows, shard(0)) == Some(1));
     Ok(())
 }

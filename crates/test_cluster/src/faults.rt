@@ -270,6 +270,7 @@ fn plan<R: Threads + Wait + Abort + Clone + Send + Drop + 'static>(
     let threads = callers_of(rt, alloc, clients, &progress);
     assert!(rt; steps(rt, &mut cluster, &progress, seed) > 100);
     let [first, second] = acked_by(rt, threads);
+    assert!(rt; first > 0 && second > 0);
     let stopped = cluster.stop(rt, Vec::new(alloc));
     let mut rows = stopped.ok().expect(rt, "all clients are gone");
     let (_, body) = rows.pop().expect(rt, "a row");

@@ -1,8 +1,9 @@
 //! What answers mean to their users: the order of a session, agreement, and that nothing acknowledged is lost.
 ghost use Rattle.std.specs.Prelude.{◌≡◌};
 
+use crate::holding::Holding;
 use crate::running::{Running, append_of, ask, bodies_of, get_of, inc_of, setup_of, shard};
-use sm_cluster::{Open, Told};
+use sm_cluster::{Client, Open, Told};
 use sm_desk::Command;
 use sm_ownership::Change;
 use sm_ranges::ServerId;
@@ -19,41 +20,46 @@ fn is_text(reply: &Reply, text: &[u8]) -> bool {
     }
 }
 
-// The session appends a letter, and reads its text so far.
+// The session appends the last letter of the text, and reads the text; the place of what it wrote, where that is so.
 fn writes_and_reads<R: Wait + Abort>(
     rt: &R,
     alloc: Global,
-    running: &mut Running,
+    session: &mut Client<Holding>,
     text: &[u8],
-) -> (Told<Reply>, bool) {
-    let letter = text.last().copied().unwrap_or(b' ');
-    let session = &mut running.first;
+) -> Option<u64>
+    ensures board { session.new.pass.board ≡ session.old.pass.board }
+    ensures bounds { session.new.bounds ≡ session.old.bounds }
+{
+    let letter = text.last().copied()?;
     let written = ask(rt, alloc, session, 1, append_of(rt, alloc, b"a", &[letter]));
     let read = ask(rt, alloc, session, 2, get_of(rt, alloc, b"a"));
-    let is_read = written.place < read.place && is_text(&read.reply, text);
-    (written, is_read)
+    if written.place < read.place && is_text(&read.reply, text) {
+        Some(written.place)
+    } else {
+        None
+    }
 }
 
 // A session writes and reads after each step of a migration. Its answers come in order, and each read gives all that it wrote.
 #[test]
 fn session_stays_in_order(rt: HostRuntime) -> Result<(), Fail> {
     let (alloc, two, k) = (rt.alloc(), ServerId::of(2), shard(0));
-    let steps = [
-        Change::PrepareAddShard(two),
-        Change::PrepareDropShard,
-        Change::AddShard,
-        Change::DropShard,
+    let steps: [(Change, &[u8], u64); 4] = [
+        (Change::PrepareAddShard(two), b"w", 0),
+        (Change::PrepareDropShard, b"wx", 2),
+        (Change::AddShard, b"wxy", 4),
+        (Change::DropShard, b"wxyz", 6),
     ];
     let bodies = bodies_of(alloc, 100, None)?;
     let mut running = Running::start(&rt, alloc, setup_of(alloc)?, bodies, Open);
     running.assign_both(&rt);
-    for (at, step) in steps.iter().enumerate() {
-        running.command_all(&rt, &[Command::Change(k, *step)]);
-        if *step == Change::DropShard {
+    for (step, text, place) in steps {
+        running.command_all(&rt, &[Command::Change(k, step)]);
+        if step == Change::DropShard {
             assert!(rt; running.cluster.publish(&rt, k).is_ok());
         }
-        let (written, is_read) = writes_and_reads(&rt, alloc, &mut running, &b"wxyz"[..=at]);
-        assert!(rt; is_read && written.place == 2 * at as u64);
+        let written = writes_and_reads(&rt, alloc, &mut running.first, text);
+        assert!(rt; written == Some(place));
     }
     let rows = running.stop(&rt, alloc);
     assert!(rt; rows.len() == 2);
@@ -63,7 +69,7 @@ fn session_stays_in_order(rt: HostRuntime) -> Result<(), Fail> {
 // The count of an answer to an `inc` is that of all requests up to its place, as all are `inc` of this key.
 fn is_count_of_place(told: &Told<Reply>) -> bool {
     match told.reply {
-        Reply::Count(count) => u64::try_from(count) == Ok(told.place + 1),
+        Reply::Count(count) => u64::try_from(count) == Ok(told.place.wrapping_add(1)),
         _ => false,
     }
 }
@@ -101,6 +107,7 @@ fn nothing_learned_is_lost(rt: HostRuntime) -> Result<(), Fail> {
     let told = ask(&rt, alloc, &mut running.first, 1, written);
     assert!(rt; told.place == 0);
     let mut rows = running.stop(&rt, alloc);
+    assert!(rt; rows.len() == 2);
     let (_, body) = rows.swap_remove(0);
     let mut body = body.ok_or("a body")?;
     assert!(rt; body.kept() == 1);
