@@ -40,10 +40,20 @@ fn writes_and_reads<R: Wait + Abort>(
     }
 }
 
+// Takes a step of a migration of shard 0, and publishes the new owner before the old one drops the shard.
+fn take_step<R: Wait + Abort>(rt: &R, running: &mut Running, step: Change) {
+    let k = shard(0);
+    running.command_all(rt, &[Command::Change(k, step)]);
+    if step != Change::AddShard {
+        return;
+    }
+    assert!(rt; running.cluster.publish(rt, k).is_ok());
+}
+
 // A session writes and reads after each step of a migration. Its answers come in order, and each read gives all that it wrote.
 #[test]
 fn session_stays_in_order(rt: HostRuntime) -> Result<(), Fail> {
-    let (alloc, two, k) = (rt.alloc(), ServerId::of(2), shard(0));
+    let (alloc, two) = (rt.alloc(), ServerId::of(2));
     let steps: [(Change, &[u8], u64); 4] = [
         (Change::PrepareAddShard(two), b"w", 0),
         (Change::PrepareDropShard, b"wx", 2),
@@ -54,10 +64,7 @@ fn session_stays_in_order(rt: HostRuntime) -> Result<(), Fail> {
     let mut running = Running::start(&rt, alloc, setup_of(alloc)?, bodies, Open);
     running.assign_both(&rt);
     for (step, text, place) in steps {
-        running.command_all(&rt, &[Command::Change(k, step)]);
-        if step == Change::DropShard {
-            assert!(rt; running.cluster.publish(&rt, k).is_ok());
-        }
+        take_step(&rt, &mut running, step);
         let written = writes_and_reads(&rt, alloc, &mut running.first, text);
         assert!(rt; written == Some(place));
     }
