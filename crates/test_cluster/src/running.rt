@@ -140,8 +140,8 @@ impl Running {
         let (cluster, mut clients) = Cluster::start(rt, alloc, setup, bodies, 2, 2, gate)
             .ok()
             .expect(rt, "a cluster");
-        let first = clients.pop().expect(rt, "a client");
-        let second = clients.pop().expect(rt, "a client");
+        let first = pop_client(rt, &cluster, &mut clients);
+        let second = pop_client(rt, &cluster, &mut clients);
         Running {
             cluster,
             first,
@@ -187,6 +187,19 @@ impl Running {
             .ok()
             .expect(rt, "all clients are back")
     }
+}
+
+// The last of the clients, which all are the cluster's.
+fn pop_client<R: Abort>(
+    rt: &R,
+    _cluster: &Cluster<Holding>,
+    clients: &mut Vec<Client<Holding>>,
+) -> Client<Holding>
+    requires { All (IsClientOf _cluster.now) clients.old.items }
+    ensures rest { All (IsClientOf _cluster.now) clients.new.items }
+    ensures its { IsClientOf _cluster.now result }
+{
+    clients.pop().expect(rt, "a client")
 }
 
 /// The client's request is answered, and the client learns the answer.
