@@ -65,7 +65,7 @@ pub(crate) fn is_not_executor(fault: Option<CallFault>) -> bool {
     }
 }
 
-fn start<R: Threads + Wait + Abort + Clone + Send + Drop + 'static>(
+pub(crate) fn start<R: Threads + Wait + Abort + Clone + Send + Drop + 'static>(
     rt: &R,
     alloc: Global,
     limit: usize,

@@ -10,9 +10,13 @@ mod faults;
 #[cfg(test)]
 mod holding;
 #[cfg(test)]
+mod holds;
+#[cfg(test)]
 mod latch;
 #[cfg(test)]
 mod leaving;
+#[cfg(test)]
+mod loads;
 #[cfg(test)]
 mod promises;
 #[cfg(test)]

@@ -50,6 +50,18 @@ fn take_step<R: Wait + Abort>(rt: &R, running: &mut Running, step: Change) {
     assert!(rt; running.cluster.publish(rt, k).is_ok());
 }
 
+// The place of what the session writes after the step, where it reads the text then.
+fn place_after<R: Wait + Abort>(
+    rt: &R,
+    alloc: Global,
+    running: &mut Running,
+    step: Change,
+    text: &[u8],
+) -> Option<u64> {
+    take_step(rt, running, step);
+    writes_and_reads(rt, alloc, &mut running.first, text)
+}
+
 // A session writes and reads after each step of a migration. Its answers come in order, and each read gives all that it wrote.
 #[test]
 fn session_stays_in_order(rt: HostRuntime) -> Result<(), Fail> {
@@ -64,9 +76,7 @@ fn session_stays_in_order(rt: HostRuntime) -> Result<(), Fail> {
     let mut running = Running::start(&rt, alloc, setup_of(alloc)?, bodies, Open);
     running.assign_both(&rt);
     for (step, text, place) in steps {
-        take_step(&rt, &mut running, step);
-        let written = writes_and_reads(&rt, alloc, &mut running.first, text);
-        assert!(rt; written == Some(place));
+        assert!(rt; place_after(&rt, alloc, &mut running, step, text) == Some(place));
     }
     let rows = running.stop(&rt, alloc);
     assert!(rt; rows.len() == 2);

@@ -5,7 +5,7 @@ ghost use Rattle.sm_ranges.specs.declared.stand.Stand.TheVariants.{Vacant};
 
 use crate::holding::Holding;
 use crate::latch::Latch;
-use sm_cluster::{Client, Cluster, Gate, Setup, Told};
+use sm_cluster::{Client, Cluster, FreeFault, Gate, HoldFault, Setup, Told};
 use sm_desk::{Command, Desk};
 use sm_ownership::{Change, Record};
 use sm_place::Books;
@@ -168,6 +168,22 @@ impl Running {
         );
         assert!(rt; self.cluster.publish(rt, shard(0)).is_ok());
         assert!(rt; self.cluster.publish(rt, shard(1)).is_ok());
+    }
+
+    /// Has the server hold the shard.
+    pub(crate) fn hold(&mut self, k: ShardId, a: ServerId) -> Result<(), HoldFault> {
+        match self.cluster.hold(k, a) {
+            Ok(()) => Ok(()),
+            Err(fault) => Err(fault),
+        }
+    }
+
+    /// Frees the shard.
+    pub(crate) fn free(&mut self, k: ShardId) -> Result<(), FreeFault> {
+        match self.cluster.free(k) {
+            Ok(()) => Ok(()),
+            Err(fault) => Err(fault),
+        }
     }
 
     /// Stops it with both clients.
