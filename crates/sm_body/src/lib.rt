@@ -16,11 +16,13 @@
 //! ```
 #![tactic(auto)]
 
+pub mod boxed;
 pub mod bytes;
 pub mod logged;
 pub mod machine;
 pub mod service;
 
+pub use boxed::Boxed;
 pub use bytes::Bytes;
 pub use logged::Logged;
 pub use machine::Machine;

@@ -3,12 +3,10 @@
 //! ```rust
 //! let mut desk = Desk::new(books, Tasks::new(1));
 //! let assign = Command::Change(k, Change::Assign(one));
-//! desk.check(&assign)?;
+//! assert!(rt; desk.check(&assign).is_ok());
 //! desk.commit(assign);
-//! assert_eq!(rt;
-//!     desk.check(&assign),
-//!     Err(CommandFault::Change(ChangeFault::WrongPhase))
-//! );
+//! let again = desk.check(&assign);
+//! assert!(rt; again == Err(CommandFault::Change(ChangeFault::WrongPhase)));
 //! ```
 #![tactic(auto)]
 

@@ -1,13 +1,13 @@
 -- The one range that covers a key.
-use Rattle.std.proofs.Common.{◌≡◌, ℕ, ◌+◌, ◌-◌, ◌<◌, ◌≤◌, Bool, true, false, List, [], length, get_or, refl, sym, ap, ◌∙◌, arith, inl, inr}
-use Rattle.std.specs.Prelude.{not}
+use Rattle.std.proofs.Common.{◌≡◌, ◌==◌, ℕ, zero, suc, ◌+◌, ◌-◌, ◌<◌, ◌≤◌, Bool, true, false, List, [], length, get_or, refl, subst, sym, ap, ◌∙◌, arith, inl, inr}
+use Rattle.std.specs.Prelude.{not, IsTrue}
 use Rattle.std.specs.List.{suffix_len}
 use Rattle.std.specs.List.Sorted.{IsPartitionedBy, IsPartitionPoint, IsSortedBy}
 use Rattle.std.specs.declared.cmp.Ordering.{Ordering}
 use Rattle.std.specs.declared.cmp.Ordering.TheVariants.{Less, Equal, Greater}
 use Rattle.std.specs.Ordering.{nat_cmp, is_lt, is_le, ordering_index}
 use Rattle.std.specs.Cmp.Lexicographic.{slice_cmp}
-use Rattle.std.proofs.lemmas.Bool.{cases_lt, true≢false}
+use Rattle.std.proofs.lemmas.Bool.{cases_Bool, cases_lt, eq-eqb, eqb-true, true≢false}
 use Rattle.std.proofs.lemmas.Cmp.{nat_list_cmp_total}
 use Rattle.std.proofs.lemmas.List.{length-take}
 use Rattle.std.proofs.lemmas.List.Sorted.{searchable_from_sorted}
@@ -103,3 +103,58 @@ module _ (bounds : List (List ℕ)) (key : List ℕ) (layout : IsLayout bounds) 
           | inr past ↦ absurd (true≢false (sym between.low ∙ point.1 k [] past between.within))
         ]
       ]
+
+-- the place behind the last bound that is at most the key
+record IsReached (bounds : List (List ℕ)) (key : List ℕ) (reached : ℕ) : Type 0 where
+  within : reached ≤ length bounds
+  point : IsPartitionPoint (λ bound. is_at_most bound key ≡ true) (λ bound. is_at_most bound key ≡ false) bounds reached
+
+-- the shard of a key is the one whose range covers it
+module _ (bounds : List (List ℕ)) (key : List ℕ) (layout : IsLayout bounds) where
+  abbrev AllAbove : ℕ → Type 0
+  AllAbove n = (i : ℕ) (d : List ℕ) → n ≤ i → i < length bounds → is_at_most (get_or bounds i d) key ≡ false
+
+  same_bound : (n : ℕ) (d : List ℕ) → n < length bounds → get_or bounds n d ≡ get_or bounds n []
+  same_bound n d within = get_or_from_slice_get bounds n (get_or bounds n []) d (slice_get-get_or bounds n [] within)
+
+  last_low : (n : ℕ) → suc n ≤ length bounds → AllAbove (suc n) → is_at_most (get_or bounds n []) key ≡ true → IsReached bounds key (suc n)
+  last_low n within above low = record {
+    within = within;
+    point = (λ i d from before. parted bounds key layout i n d (omega arith) (omega arith) (ap (λ bound. is_at_most bound key) (same_bound n d (omega arith)) ∙ low), above);
+  }
+
+  one_above : (n : ℕ) → suc n ≤ length bounds → AllAbove (suc n) → is_at_most (get_or bounds n []) key ≡ false → AllAbove n
+  one_above n within above high i d from before = elim (cases_lt n i) [
+    | inl after ↦ above i d (omega arith) before
+    | inr upto ↦ (let here : i ≡ n = omega arith in rw here (ap (λ bound. is_at_most bound key) (same_bound n d (omega arith)) ∙ high))
+  ]
+
+  reached_or : (n : ℕ) (b : Bool) → is_at_most (get_or bounds n []) key ≡ b → suc n ≤ length bounds → AllAbove (suc n)
+      → (AllAbove n → (reached : ℕ) × IsReached bounds key reached) → (reached : ℕ) × IsReached bounds key reached
+  reached_or n true low within above further = (suc n, last_low n within above low)
+  reached_or n false high within above further = further (one_above n within above high)
+
+  reached_below : (n : ℕ) → n ≤ length bounds → AllAbove n → (reached : ℕ) × IsReached bounds key reached
+  reached_below zero within above = (0, record { within = within; point = (λ i d from before. absurd (omega arith), above) })
+  reached_below (suc n) within above = reached_or n (is_at_most (get_or bounds n []) key) refl within above (reached_below n (omega arith))
+
+  some_place : (reached : ℕ) × IsReached bounds key reached
+  some_place = reached_below (length bounds) (omega arith) (λ i d from before. absurd (omega arith))
+
+  pub shard_of-covers : Covers bounds (shard_of bounds key) key
+  shard_of-covers =
+      let at = some_place in
+      subst (λ k. Covers bounds k key) (last_place bounds key layout at.0 at.1.within at.1.point) (covering bounds key layout at.0 at.1.within at.1.point)
+
+  pub shard_of-only : (k : ℕ) → Covers bounds k key → shard_of bounds key ≡ k
+  shard_of-only k covers =
+      let at = some_place in
+      sym (only bounds key layout at.0 at.1.within at.1.point k covers ∙ last_place bounds key layout at.0 at.1.within at.1.point)
+
+  -- a test of its range alone tells whether a shard is the key's
+  pub is_shard_of : (k : ℕ) (within : Bool) → (IsTrue within → Covers bounds k key) → (Covers bounds k key → IsTrue within) → within ≡ (shard_of bounds key == k)
+  is_shard_of k true covers back = sym (eq-eqb (shard_of bounds key) k (shard_of-only k (covers refl)))
+  is_shard_of k false covers back = elim (cases_Bool (shard_of bounds key == k)) [
+    | inl same ↦ absurd (true≢false (sym (back (subst (λ at. Covers bounds at key) (eqb-true (shard_of bounds key) k same) shard_of-covers))))
+    | inr other ↦ sym other
+  ]

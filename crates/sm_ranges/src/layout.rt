@@ -1,4 +1,4 @@
-ghost use Rattle.std.specs.Prelude.{◌≡◌, ◌+◌, ◌<◌, ℕ, Some, length, drop, not, position, slice_get, option_copied, IfOk, OnOk, IfSome, IfNone, IsOkUnless};
+ghost use Rattle.std.specs.Prelude.{◌≡◌, ◌==◌, ◌+◌, ◌<◌, ℕ, IsTrue, Some, length, drop, not, position, slice_get, option_copied, IfOk, OnOk, IfSome, IfNone, IsOkUnless};
 ghost use Rattle.std.specs.List.{zip};
 ghost use Rattle.sm_ranges.specs.KeyOrder.{is_below};
 ghost use Rattle.sm_ranges.specs.Ranges.{Covers, IsLayout, shard_of};
@@ -122,6 +122,13 @@ impl Layout {
         ShardId::new(last_reached(&self.bounds, key) as u16).unwrap()
     }
 
+    /// Whether the key, which may be any bytes, is this shard's. The bounds of the shard alone tell.
+    pub fn covers(&self, k: ShardId, key: &[u8]) -> bool
+        ensures { result ≡ (shard_of self.now key.now == k) }
+    {
+        is_within(&self.bounds, k, key)
+    }
+
     /// The bound at which a shard begins, and the one at which the next shard begins, if there is one.
     pub fn range(&self, k: ShardId) -> (&[u8], Option<&[u8]>)
         requires { k < length self.now }
@@ -160,6 +167,18 @@ fn last_reached(bounds: &[Bound], key: &[u8]) -> usize
     ensures value { result ≡ shard_of bounds.now key.now }
 {
     bounds.partition_point(|bound| is_at_most(bound.as_bytes(), key)) - 1
+}
+
+// Whether the bound at the place is at most the key, and the next one above it.
+fn is_within(bounds: &[Bound], k: ShardId, key: &[u8]) -> bool
+    ensures covers { IsTrue result → Covers bounds.now k key.now }
+    ensures only { Covers bounds.now k key.now → IsTrue result }
+{
+    let Some(low) = bounds.get(k.index()) else {
+        return false;
+    };
+    let next = bounds.get(k.index() + 1);
+    is_at_most(low.as_bytes(), key) && next.is_none_or(|high| is_below(key, high.as_bytes()))
 }
 
 // What is wrong with the bounds, memory aside.

@@ -4,6 +4,7 @@
 //! let layout = Layout::new(rt.alloc(), &[b"", b"m"])?;
 //! let k = layout.shard_of(b"melon");
 //! assert!(rt; k.number() == 1);
+//! assert!(rt; layout.covers(k, b"melon"));
 //! let (low, high) = layout.range(k);
 //! assert!(rt; low == b"m".as_slice());
 //! assert!(rt; high.is_none());

@@ -66,7 +66,7 @@ fn has_shard<S: Service>(
     ensures { result ≡ is_here (meaning_of S.initial S.next S.answer S.key_of) layout.now board.now.limits.count envelope.now }
 {
     let k = envelope.shard();
-    k.index() < board.count() as usize && layout.shard_of(S::key(envelope.request())) == k
+    k.index() < board.count() as usize && layout.covers(k, S::key(envelope.request()))
 }
 
 // What a refused admission makes of the envelope: it goes on where the record read has the server forward it.

@@ -1,5 +1,5 @@
 -- Lists gathered item by item, each tested.
-use Rattle.std.proofs.Common.{◌≡◌, ℕ, ◌<◌, List, length, map, refl, ap, ◌∙◌, sym, None, Some, Bool, true, false, get_or}
+use Rattle.std.proofs.Common.{◌≡◌, ℕ, ◌<◌, List, length, map, refl, ap, ◌∙◌, sym, subst, None, Some, Ok, Err, Bool, true, false, if◌then◌else◌, get_or}
 use Rattle.std.specs.List.{list_all}
 use Rattle.std.proofs.lemmas.List.Folds.{list_all-map, list_all_at}
 use Rattle.sm_settings.specs.Members.{when}
@@ -32,3 +32,26 @@ pub judged_rows : {R : Type 0} (rule : R → Bool) (gathered keeps : Bool) (foun
 judged_rows rule gathered keeps found rows some judged =
     let same = gathered_rows gathered found rows some in
     ap (when keeps) same ∙ ap (λ b. when b rows) (sym judged ∙ ap rule same)
+
+-- where something is given, the rule holds of what the items say, and it is that
+pub given_by : {D R : Type 0} (says : List D → R) (rule : R → Bool) (found : R) (items all : List D) → Some found ≡ when (rule (says items)) (says items) → items ≡ all
+    → (rule (says all) ≡ true) × (found ≡ says all)
+given_by says rule found items all some same = subst (λ ds. (rule (says ds) ≡ true) × (found ≡ says ds)) same (by (rule (says items)) some)
+  where
+    by : (holds : Bool) → Some found ≡ when holds (says items) → (holds ≡ true) × (found ≡ says items)
+    by true some = (refl, cc)
+    by false some = absurd (cc)
+
+-- and where nothing is, it doesn't
+pub broken_by : {D R : Type 0} (says : List D → R) (rule : R → Bool) (items all : List D) → None ≡ when (rule (says items)) (says items) → items ≡ all → rule (says all) ≡ false
+broken_by says rule items all none same = subst (λ ds. rule (says ds) ≡ false) same (failed_test (rule (says items)) (says items) none)
+
+-- a number is given where it is within its limits
+pub within_limits : {F : Type 0} (within : Bool) (number given : ℕ) (fault : F) → Ok given ≡ (if within then Ok number else Err fault) → (within ≡ true) × (given ≡ number)
+within_limits true number given fault is = (refl, cc)
+within_limits false number given fault is = absurd (cc)
+
+-- and a fault where it isn't
+pub beyond_limits : {F : Type 0} (within : Bool) (number : ℕ) (given fault : F) → Err given ≡ (if within then Ok number else Err fault) → (within ≡ false) × (given ≡ fault)
+beyond_limits true number given fault is = absurd (cc)
+beyond_limits false number given fault is = (refl, cc)

@@ -1,7 +1,7 @@
 -- The texts of the faults.
 use Rattle.std.specs.Prelude.{ℕ, List, codes}
 use Rattle.sm_settings.specs.declared.settings_fault.SettingsFault.{SettingsFault}
-use Rattle.sm_settings.specs.declared.settings_fault.SettingsFault.TheVariants.{TooLong, BadJson, BadVersion, BadShape, BadLayout, BadServers, BadGroups, BadShards, BadOps, BadKept, BadCeiling, BadWorkers, BadDomains, NoMemory}
+use Rattle.sm_settings.specs.declared.settings_fault.SettingsFault.TheVariants.{TooLong, BadJson, BadVersion, BadShape, BadLayout, BadServers, BadGroups, BadShards, BadOps, BadKept, BadCeiling, BadWorkers, BadDomains, TooManyWorkers, NoMemory}
 
 -- a fault as the answer to a settings line writes it
 abbrev pub settings_fault_name : SettingsFault → List ℕ
@@ -18,4 +18,5 @@ settings_fault_name BadKept = codes "BadKept"
 settings_fault_name BadCeiling = codes "BadCeiling"
 settings_fault_name BadWorkers = codes "BadWorkers"
 settings_fault_name BadDomains = codes "BadDomains"
+settings_fault_name TooManyWorkers = codes "TooManyWorkers"
 settings_fault_name NoMemory = codes "NoMemory"

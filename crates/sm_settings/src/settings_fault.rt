@@ -31,6 +31,8 @@ pub enum SettingsFault {
     BadWorkers,
     /// The domains break a rule.
     BadDomains,
+    /// All servers together would have more workers than an engine runs. It is never the answer of [`Settings::read`](crate::Settings::read).
+    TooManyWorkers,
     /// Memory was refused: the line isn't too long, and whether it has another fault is not known.
     NoMemory,
 }
@@ -57,6 +59,7 @@ impl SettingsFault {
             SettingsFault::BadCeiling => "BadCeiling",
             SettingsFault::BadWorkers => "BadWorkers",
             SettingsFault::BadDomains => "BadDomains",
+            SettingsFault::TooManyWorkers => "TooManyWorkers",
             SettingsFault::NoMemory => "NoMemory",
         }
     }

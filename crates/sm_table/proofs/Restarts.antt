@@ -18,22 +18,14 @@ use Rattle.sm_table.specs.Standing.{WorldView, view_of, StandsFor, Follows}
 use Rattle.sm_table.specs.World.{WorldState, Plain, outcome, table_fault, with_change}
 use Rattle.sm_table.proofs.Parts.{parts-from_StandsFor, Follows-unchanged, Follows-changed}
 
--- a step of a restart is for the desk alone
-no_table_fault : {Q : Type 0} (w : WorldState Q) (command : Command) → is_restart command ≡ true → table_fault w command ≡ None
-no_table_fault w (Change shard change) is = absurd cc
-no_table_fault w (Ask server) is = refl
-no_table_fault w (Approve server) is = refl
-no_table_fault w (Stopped server) is = refl
-no_table_fault w (Back server) is = refl
-no_table_fault w (Fail server) is = refl
-
-no_change : {Q : Type 0} (w : WorldState Q) (command : Command) → is_restart command ≡ true → with_change w command ≡ w
-no_change w (Change shard change) is = absurd cc
-no_change w (Ask server) is = refl
-no_change w (Approve server) is = refl
-no_change w (Stopped server) is = refl
-no_change w (Back server) is = refl
-no_change w (Fail server) is = refl
+-- a step of a restart is for the desk alone: it has no fault of the table, and changes no stand
+spares_table : {Q : Type 0} (w : WorldState Q) (command : Command) → is_restart command ≡ true → (table_fault w command ≡ None) × (with_change w command ≡ w)
+spares_table w (Change shard change) is = absurd cc
+spares_table w (Ask server) is = (refl, refl)
+spares_table w (Approve server) is = (refl, refl)
+spares_table w (Stopped server) is = (refl, refl)
+spares_table w (Back server) is = (refl, refl)
+spares_table w (Fail server) is = (refl, refl)
 
 module _ {Q R : Type 0} (service : Service Q R) {bounds : List (List ℕ)} {desk_was : DeskView} {table_was : TableView} {bodies_was : BodiesView Q} {routes_was : List (Option Route)} {flights_was : List (Flight Q)} {hands_was : List (Option (InHand Q))} (now : WorldView Q) (same : view_of bounds desk_was table_was bodies_was routes_was flights_was hands_was ≡ now) (w : WorldState Q) (given : StandsFor now w) (command : Command) where
   abbrev v : WorldView Q
@@ -53,7 +45,7 @@ module _ {Q R : Type 0} (service : Service Q R) {bounds : List (List ℕ)} {desk
   restarted is desk none noted =
       let through : desk_fault w.desk command ≡ None = ap (λ one. desk_fault one command) (sym stands.desk) ∙ sym none in
       Follows-changed service w Plain (Control command) (record v { desk = desk }) (Ok Made) (record w { desk = commanded w.desk command }) v.pasts stands.sound
-      (rw (through, no_table_fault w command is, no_change w command is) refl)
+      (rw (through, (spares_table w command is).0, (spares_table w command is).1) refl)
       (λ _. ap (λ one. record v { desk = one }) (noted ∙ ap (λ one. commanded one command) stands.desk)
       ∙ ap (λ (u : WorldView Q). record u { desk = commanded w.desk command }) (parts-from_StandsFor v w stands))
       (λ _. record { bodies = stands.bodies; each = stands.pasts })

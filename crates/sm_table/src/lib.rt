@@ -2,9 +2,10 @@
 //! stands on is passed on: the ownership table, the desk that checks control commands, and envelopes.
 //!
 //! ```rust
-//! world.step(Step::Control(Command::Change(k, Change::Assign(one))))?;
-//! let answer = world.step(Step::Look(k))?;
-//! assert!(rt; matches!(&answer, WorldAnswer::Seen(Record { generation: 1, .. })));
+//! let assign = Step::Control(Command::Change(k, Change::Assign(one)));
+//! assert!(rt; world.step(assign).is_ok());
+//! let answer = world.step(Step::Look(k));
+//! assert!(rt; matches!(&answer, Ok(WorldAnswer::Seen(Record { generation: 1, .. }))));
 //! ```
 #![tactic(auto)]
 

@@ -3,10 +3,11 @@ ghost use Rattle.std.specs.Result.{result_err};
 ghost use Rattle.sm_body.specs.Service.{meaning_of};
 ghost use Rattle.sm_ranges.specs.Ranges.{shard_of};
 ghost use Rattle.sm_ranges.specs.declared.stand.Stand.TheVariants.{Vacant};
-ghost use Rattle.sm_ownership.specs.History.{record_at};
+ghost use Rattle.sm_ownership.specs.History.{record_at, vacant};
 ghost use Rattle.sm_ownership.specs.Rules.{admit_fault};
 ghost use Rattle.sm_envelope.specs.Envelope.{forwarded};
 ghost use Rattle.sm_desk.specs.Desk.{is_restart, stands_of};
+ghost use Rattle.sm_table.specs.Bodies.{no_past};
 ghost use Rattle.sm_table.specs.Standing.{StandsFor, GoesAs, setup_frame, with_admission};
 ghost use Rattle.sm_table.specs.World.{Plain, after_hop, mark_of, may_go, empty_world};
 ghost use Rattle.sm_desk.specs.declared.command.Command.TheVariants.{Change as ChangeOf};
@@ -98,14 +99,16 @@ impl<S: Service> World<S> {
         } = setup;
         let count = layout.count();
         desk.soundness();
+        let parts = empty_parts(alloc, count, ceiling, bodies)?;
+        let (table, bodies, routes, in_hand) = parts;
         Ok(World {
-            table: Table::new(alloc, count, ceiling)?,
-            bodies: Bodies::new(alloc, bodies)?,
-            routes: no_routes(alloc, count)?,
-            in_flight: Vec::new(alloc),
-            in_hand: Hands::none(alloc, count)?,
             layout,
             desk,
+            table,
+            bodies,
+            routes,
+            in_flight: Vec::new(alloc),
+            in_hand,
         })
     }
 
@@ -421,6 +424,31 @@ impl<S: Service> World<S> {
         self.in_hand.put(k, InHand { server, work });
         Ok(())
     }
+}
+
+// What a world of so many shards has beside its layout and its desk, where nothing has happened. Each exit of `World::new` would
+// drop these two.
+fn empty_parts<S: Service>(
+    alloc: Global,
+    count: usize,
+    ceiling: u64,
+    bodies: Vec<S>,
+) -> Result<(Table, Bodies<S>, Vec<Option<Route>>, Hands<S::Request>), AllocError>
+    requires initial { All (λ body. S.base body ≡ S.initial) bodies.items }
+    requires first { All (λ body. S.before body ≡ 0) bodies.items }
+    requires empty { All (λ body. S.requests body ≡ []) bodies.items }
+    ensures records { IfOk result (λ parts. parts.0.records ≡ replicate count vacant) }
+    ensures ceiling { IfOk result (λ parts. parts.0.ceiling ≡ ceiling) }
+    ensures pasts { IfOk result (λ parts. parts.1.pasts ≡ replicate (length bodies.items) no_past) }
+    ensures limits { IfOk result (λ parts. parts.1.limits ≡ map S.limit bodies.items) }
+    ensures routes { IfOk result (λ parts. parts.2.items ≡ replicate count None) }
+    ensures in_hand { IfOk result (λ parts. parts.3 ≡ replicate count None) }
+{
+    let table = Table::new(alloc, count, ceiling)?;
+    let bodies = Bodies::new(alloc, bodies)?;
+    let routes = no_routes(alloc, count)?;
+    let in_hand = Hands::none(alloc, count)?;
+    Ok((table, bodies, routes, in_hand))
 }
 
 // No route for each of so many shards.

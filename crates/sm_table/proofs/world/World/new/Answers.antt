@@ -10,12 +10,12 @@ pub invariant_of-result : goal.invariant_of-result
 invariant_of-result g c =
     let bodies : length c.args.bodies.items ≡ length c.args.setup.layout = omega (arith, c.args.bodies.ok.0, c.requires.bodies) in
     IsTogether-empty (length c.args.setup.layout) refl
-    (c.in_ok-new.ensures.records ∙ ap (λ count. replicate count vacant) c.count-count.ensures.value)
-    (subst (λ ceiling. ceiling < 2 ^ 36) (sym c.in_ok-new.ensures.ceiling) c.requires.greatest_ceiling)
-    (c.in_ok-new-2.ensures.pasts ∙ ap (λ count. replicate count no_past) bodies)
-    (c.in_ok-no_routes.ensures ∙ ap (λ count. replicate count None) c.count-count.ensures.value)
-    c.new-3.ensures.items
-    (c.in_ok-none.ensures ∙ ap (λ count. replicate count None) c.count-count.ensures.value)
+    (c.in_ok-parts.ensures.records ∙ ap (λ count. replicate count vacant) c.count-count.ensures.value)
+    (subst (λ ceiling. ceiling < 2 ^ 36) (sym c.in_ok-parts.ensures.ceiling) c.requires.greatest_ceiling)
+    (c.in_ok-parts.ensures.pasts ∙ ap (λ count. replicate count no_past) bodies)
+    (c.in_ok-parts.ensures.routes ∙ ap (λ count. replicate count None) c.count-count.ensures.value)
+    c.new.ensures.items
+    (c.in_ok-parts.ensures.in_hand ∙ ap (λ count. replicate count None) c.count-count.ensures.value)
 
 pub returns : goal.returns
 returns g c =
@@ -23,10 +23,10 @@ returns g c =
     StandsFor-empty (setup_frame c.args.setup (map g.S.Service.limit c.args.bodies.items))
     (record { layout = c.count-count.ensures.is_layout; books = c.soundness.ensures.books; caps = c.soundness.ensures.caps; vacant = c.requires.vacant })
     refl refl
-    (c.in_ok-new.ensures.records ∙ ap (λ count. replicate count vacant) c.count-count.ensures.value)
-    c.in_ok-new.ensures.ceiling
-    (c.in_ok-new-2.ensures.pasts ∙ ap (λ count. replicate count no_past) bodies)
-    c.in_ok-new-2.ensures.limits
-    (c.in_ok-no_routes.ensures ∙ ap (λ count. replicate count None) c.count-count.ensures.value)
-    c.new-3.ensures.items
-    (c.in_ok-none.ensures ∙ ap (λ count. replicate count None) c.count-count.ensures.value)
+    (c.in_ok-parts.ensures.records ∙ ap (λ count. replicate count vacant) c.count-count.ensures.value)
+    c.in_ok-parts.ensures.ceiling
+    (c.in_ok-parts.ensures.pasts ∙ ap (λ count. replicate count no_past) bodies)
+    c.in_ok-parts.ensures.limits
+    (c.in_ok-parts.ensures.routes ∙ ap (λ count. replicate count None) c.count-count.ensures.value)
+    c.new.ensures.items
+    (c.in_ok-parts.ensures.in_hand ∙ ap (λ count. replicate count None) c.count-count.ensures.value)

@@ -1,0 +1,5 @@
+use Rattle.std.proofs.Common.{rules}
+use Rattle.sm_server.proofs.answer.Answer.place.Goals as goal
+
+pub returns : goal.returns
+returns c = search rules

@@ -1,0 +1,5 @@
+use Rattle.std.proofs.Common.{rules}
+use Rattle.sm_service.proofs.counter_text.KeyMachineMachine.key.Goals as goal
+
+pub returns : goal.returns
+returns c = search rules
