@@ -1,8 +1,7 @@
 use crate::explained_session::ExplainedSession;
 use crate::listener::Listener;
-use sm_run::Engine;
+use sm_run::{BeginFault, Engine};
 use sm_settings::Settings;
-use std::alloc::AllocError;
 use std::marker::Model;
 
 /// An engine whose sessions answer as those of another do, and tell a listener why lines were refused. Contracts see it as that
@@ -37,10 +36,20 @@ impl<E: Engine, L: Listener + Copy + Drop> Engine for Explained<E, L> {
 
     ghost MAX_LINE = { E.MAX_LINE };
 
+    ghost ready = { λ engine. E.ready engine };
+
     ghost begins = { λ values session. E.begins values session };
 
-    fn begin(&mut self, settings: Settings) -> Result<Self::Session, AllocError> {
-        let inner = self.engine.begin(settings)?;
-        Ok(ExplainedSession::new(inner, self.listener))
+    ghost refuses = { λ values fault. E.refuses values fault };
+
+    fn begin(&mut self, settings: Settings) -> Result<Self::Session, BeginFault> {
+        match self.engine.begin(settings) {
+            Ok(inner) => Ok(ExplainedSession::new(inner, self.listener)),
+            Err(fault) => Err(fault),
+        }
+    }
+
+    fn end(&mut self, session: Self::Session) {
+        self.engine.end(session.into_inner());
     }
 }

@@ -7,7 +7,6 @@ use std::marker::Model;
 
 /// A session that answers as another does, and tells a listener why lines were refused, each with its number: the settings are
 /// line 1. Contracts see it as that other session.
-#[derive(Drop)]
 pub struct ExplainedSession<S, L> {
     inner: S,
     listener: L,
@@ -36,6 +35,22 @@ impl<S, L> ExplainedSession<S, L> {
     }
 }
 
+impl<S, L: Drop> ExplainedSession<S, L> {
+    ghost use Rattle.std.specs.Prelude.{◌≡◌};
+
+    /// The session that answers.
+    pub(crate) fn into_inner(self) -> S
+        ensures { result ≡ self }
+    {
+        let ExplainedSession {
+            inner,
+            listener: _,
+            line: _,
+        } = self;
+        inner
+    }
+}
+
 impl<S, L: Listener> ExplainedSession<S, L> {
     /// Counts a line, and tells what is to be said of it and its answer.
     fn explain(&self, line: &[u8], answer: &[u8]) {
@@ -56,6 +71,8 @@ impl<S, L: Listener> ExplainedSession<S, L> {
 }
 
 impl<S: Responder, L: Listener> Responder for ExplainedSession<S, L> {
+    ghost ready = { λ session. S.ready session };
+
     ghost gives = { λ before line text after. S.gives before line text after };
 
     ghost gives_long = { λ session start text. S.gives_long session start text };

@@ -43,7 +43,7 @@ const FORMS: [Entry; 31] = [
 ];
 
 /// Why a line is answered by these names.
-const REFUSALS: [Entry; 35] = [
+const REFUSALS: [Entry; 38] = [
     ("LineTooLong", "a line has at most 70,000 bytes"),
     (
         "UnknownWord",
@@ -54,7 +54,7 @@ const REFUSALS: [Entry; 35] = [
         "a number is out of its range, or isn't in plain digits: K is 0 to 4095, A and B are 1 to 4095, N of inc is a signed 64-bit number, MAX is 0 to 4294967295",
     ),
     ("BadKey", "a key has 1 to 255 bytes"),
-    ("NotHere", "the line is right, and isn't run today"),
+    ("NotHere", "the line is right, and isn't run here"),
     ("UnknownShard", "the settings have no shard of this number"),
     (
         "UnknownServer",
@@ -139,10 +139,16 @@ const REFUSALS: [Entry; 35] = [
     ("AlreadyFailed", "the server has failed already"),
     ("NoRoute", "no route of the shard is published"),
     ("OldRoute", "the shard's published route is as new"),
+    (
+        "WrongShard",
+        "the request came to a shard that isn't its key's",
+    ),
+    ("Raced", "another thread changed the shard's record first"),
+    ("Closed", "the request was let go with no reply"),
 ];
 
 /// Why settings are answered by these names.
-const SETTINGS: [Entry; 13] = [
+const SETTINGS: [Entry; 14] = [
     ("TooLong", "the line has more than 1,048,576 bytes"),
     (
         "BadJson",
@@ -176,6 +182,10 @@ const SETTINGS: [Entry; 13] = [
     ("BadKept", "kept is 1 to 1,048,576"),
     ("BadCeiling", "ceiling is 3 to 68,719,476,735"),
     ("BadWorkers", "workers is 1 to 8"),
+    (
+        "TooManyWorkers",
+        "the servers have more workers together than this engine runs",
+    ),
     (
         "BadDomains",
         "domains has a row for each domain of the servers, by rising numbers, with down 0 to 4,095",

@@ -14,7 +14,11 @@ use std::io::{Read, Write};
 
 /// What answers lines, one after another.
 pub trait Responder {
-    ghost use Rattle.std.specs.Prelude.{ℕ, List};
+    ghost use Rattle.std.specs.Prelude.{ℕ, List, ⊤};
+
+    /// What a responder needs to know while it is used, and no field of it can hold: as that a runtime which it was handed
+    /// may be shared with other threads. Whoever calls it owes this once, and every call keeps it.
+    ghost ready: { Self → Type 0 } = { λ _. ⊤ };
 
     /// The answers that may be given to a line: the responder before, the line, the answer and the responder after.
     ghost gives: { Self → List ℕ → List ℕ → Self → Type 0 };
@@ -24,12 +28,15 @@ pub trait Responder {
 
     /// Puts the answer to a line within the limit into `out`.
     fn respond(&mut self, line: &[u8], out: &mut Vec<u8>) -> Result<(), AllocError>
-        requires { out.old.items ≡ [] }
-        ensures { OnOk result (gives self.old line.now out.new.items self.new) };
+        requires ready { ready self.old }
+        requires empty { out.old.items ≡ [] }
+        ensures ready { ready self.new }
+        ensures gives { OnOk result (gives self.old line.now out.new.items self.new) };
 
     /// Puts the answer to a line beyond the limit, which begins with `start`, into `out`.
     fn respond_long(&self, start: &[u8], out: &mut Vec<u8>) -> Result<(), AllocError>
-        requires { out.old.items ≡ [] }
+        requires ready { ready self.now }
+        requires empty { out.old.items ≡ [] }
         ensures { OnOk result (gives_long self.now start.now out.new.items) };
 }
 
@@ -41,7 +48,8 @@ fn answer_next<R: Read, E: Responder>(
     limit: usize,
     out: &mut Vec<u8>,
 ) -> Result<bool, ReadFault>
-    requires { EndStands lines.old (R.remaining reader.old.inner) }
+    requires end_stands { EndStands lines.old (R.remaining reader.old.inner) }
+    requires ready { E.ready responder.old }
     ensures line { IfOk result (λ more. more ≡ true
         → AnsweredLine (AnswersLine E.gives E.gives_long limit) lines.new.ended
         (unread lines.old (R.remaining reader.old.inner)) (unread lines.new
@@ -74,6 +82,7 @@ fn answer_next<R: Read, E: Responder>(
     ensures given { IfOk result (λ more. more ≡ true → LinesGiven 1 lines.old lines.new
         reader.old.calls reader.new.calls) }
     ensures piece { length lines.new.held ≤ PIECE }
+    ensures ready { E.ready responder.new }
 {
     out.clear();
     match lines.next_line(reader, limit) {
@@ -125,7 +134,8 @@ pub fn answer_lines<R: Read, W: Write, E: Responder>(
     limit: usize,
 ) -> Result<(), AnswerFault>
     // A reader that ended is the one that is passed again.
-    requires { EndStands lines.old (R.remaining reader.old.inner) }
+    requires end_stands { EndStands lines.old (R.remaining reader.old.inner) }
+    requires ready { E.ready responder.old }
 
     // Which lines were answered, and that exactly their answers were written.
     ensures answered { AnsweredInput (AnswersLine E.gives E.gives_long limit) result
@@ -137,6 +147,7 @@ pub fn answer_lines<R: Read, W: Write, E: Responder>(
     ensures reading { KeepsReading R.remaining result lines.old lines.new reader.old reader.new }
     ensures write_failed { result ≡ Err AnswerFault.Write → writer.new.failed ≡ true }
     ensures write_unfailed { result ≢ Err AnswerFault.Write → writer.new.failed ≡ writer.old.failed }
+    ensures ready { E.ready responder.new }
 {
     let mut pieces = PieceWriter::new(alloc)?;
     let mut out = Vec::new(alloc);

@@ -34,6 +34,7 @@ answered-steps w (call.Drain server) steps = absurd cc
 answered-steps w (call.Request request) steps = refl
 answered-steps w (call.RequestAt server request) steps = refl
 answered-steps w (call.RequestByRoute request) steps = absurd cc
+answered-steps w (call.Load key clients each) steps = absurd cc
 
 some_or : {X : Type 0} (first second : Option X) → is_some second ≡ true → is_some (option_or first second) ≡ true
 some_or None second some = some

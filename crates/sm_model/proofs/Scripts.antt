@@ -1,23 +1,28 @@
 -- What a session of the model writes is the script of what it reads.
-use Rattle.std.proofs.Common.{◌≡◌, ◌≤◌, ◌<◌, ◌++◌, ◌∷◌, [], ℕ, List, length, take, drop, ap, sym, ◌∙◌, subst, arith, lit<, inl, inr, Option, Some, None, Result, Ok, Err, OnOk, refl}
-use Rattle.sm_lines.specs.declared.answer_fault.AnswerFault.{AnswerFault}
+use Rattle.std.proofs.Common.{◌≡◌, true, false, ◌≤◌, ◌<◌, ◌++◌, ◌∷◌, [], ℕ, List, length, take, drop, ap, sym, ◌∙◌, subst, arith, lit<, inl, inr, Option, Some, None, Result, Ok, Err, IsErr, OnOk, refl}
+use Rattle.std.proofs.lemmas.Bool.{cases_lt, false≢true}
+use Rattle.sm_run.specs.declared.run_fault.RunFault.{RunFault}
+use Rattle.sm_run.specs.declared.begin_fault.BeginFault.TheVariants as begin
+use Rattle.sm_settings.specs.declared.settings_fault.SettingsFault.{SettingsFault}
 use Rattle.sm_run.specs.declared.status.Status.{Status}
 use Rattle.sm_run.specs.declared.status.Status.TheVariants.{Ran, BadSettings}
-use Rattle.std.proofs.lemmas.Bool.{cases_lt}
 use Rattle.std.proofs.lemmas.List.{length-take-le, take-append-drop}
 use Rattle.std.specs.Io.KnownBytes.{Appends}
 use Rattle.sm_lines.specs.Answers.{AnswersLine, AnswersAll}
 use Rattle.sm_lines.specs.Lines.{lines_of}
 use Rattle.sm_script.specs.declared.line.TheConstants.{MAX_LINE}
 use Rattle.sm_script.specs.Lines.{call_of_line}
+use Rattle.sm_script.specs.declared.call.Call.{Call}
+use Rattle.sm_script.specs.declared.fault.LineFault.{LineFault}
 use Rattle.sm_service.specs.declared.request.Request.{Request}
 use Rattle.sm_settings.specs.SettingsLine.{SettingsValues, settings_of}
 use Rattle.sm_table.specs.Standing.{WorldView}
 use Rattle.sm_table.specs.World.{WorldState, empty_world}
 use Rattle.sm_model.specs.Calls.{settings_frame}
-use Rattle.sm_model.specs.Sessions.{IsAt, IsNew, Responds, RespondsLong}
-use Rattle.sm_model.specs.Runs.{WritesScript, WroteScript}
-use Rattle.sm_run.specs.Openings.{RefusedScript, settings_in}
+use Rattle.sm_model.specs.LongLines.{IsLongResponse, RespondsLong}
+use Rattle.sm_model.specs.Sessions.{IsAt, IsNew, Responds}
+use Rattle.sm_model.specs.Runs.{LacksMemory, RefusesSettings, WritesScript, WroteScript}
+use Rattle.sm_run.specs.Openings.{IsRefused, RefusedScript, Unbegun, settings_in}
 use Rattle.sm_run.specs.Runs.{RanScript, WritesFor}
 use Rattle.sm_model.specs.Script.{line_response, responded, responses, script, script_with}
 
@@ -29,13 +34,20 @@ pub record IsResponse (w : WorldState Request) (line text : List ℕ) (after : W
   pub text_is : text ≡ (line_response w line).0
   pub stands : IsAt after (line_response w line).1
 
+-- a line that makes no call has the response of the definitions, and leaves the world as it is
+no_call : (w : WorldState Request) (read : Result (Option Call) LineFault) (text : List ℕ) → IsLongResponse read text
+    → (text ≡ (responded w read).0) × ((responded w read).1 ≡ w)
+no_call w (Err fault) text is = (is, refl)
+no_call w (Ok None) text is = (is, refl)
+no_call w (Ok (Some call)) text is = absurd is
+
 -- a line beyond the limit has the response of the definitions, as any line that begins so
 long_response : (before : WorldView Request) (w : WorldState Request) (line text : List ℕ) (after : WorldView Request) (whole : List ℕ)
     → take MAX_LINE line ++ drop MAX_LINE line ≡ whole → MAX_LINE < length whole
     → IsAt before w → RespondsLong (take MAX_LINE line) text → after ≡ before → 0 < length (take MAX_LINE line) → IsResponse w whole text after
 long_response before w line text after whole is long at responds stays some =
-    let at_whole = subst (λ (l : List ℕ). MAX_LINE < length l → (text ≡ (responded w (call_of_line l)).0) × ((responded w (call_of_line l)).1 ≡ w)) is
-    (responds w (drop MAX_LINE line) some) long in
+    let at_whole = no_call w (call_of_line whole) text
+    (subst (λ (l : List ℕ). MAX_LINE < length l → IsLongResponse (call_of_line l) text) is (responds (drop MAX_LINE line) some) long) in
     record { text_is = at_whole.0; stands = subst (λ (v : WorldState Request). IsAt after v) (sym at_whole.1) (subst (λ (m : WorldView Request). IsAt m w) (sym stays) at) }
 
 some_front : (line : List ℕ) → MAX_LINE < length line → 0 < length (take MAX_LINE line)
@@ -81,15 +93,31 @@ ran_script (Some bytes) old new ran =
     let is = gives_responses ran.lines s.begun (empty_world (settings_frame s.settings)) ran.text s.ended s.began s.answered in
     subst (λ (t : List ℕ). Appends old new t) (is ∙ script_is bytes ran.first ran.lines s.settings ran.are s.accepted) ran.wrote
 
+-- the model refuses settings by their rules alone
+refused_by_rules : (read : Result SettingsValues SettingsFault) (fault : SettingsFault) → IsRefused LacksMemory fault read → read ≡ Err fault
+refused_by_rules (Err found) fault is = ap Err is
+refused_by_rules (Ok settings) fault is = absurd (let no : false ≡ true = cc in false≢true no)
+
 -- and so does one whose settings are refused
-pub refused_script : (input old new : Option (List ℕ)) → RefusedScript input old new → WroteScript input old new
+pub refused_script : (input old new : Option (List ℕ)) → RefusedScript LacksMemory input old new → WroteScript input old new
 refused_script None old new run = tt
 refused_script (Some bytes) old new run =
-    subst (λ (t : List ℕ). Appends old new t) (sym (ap (λ read. script_with read (drop 1 (lines_of bytes))) run.refused)) run.wrote
+    let refused = refused_by_rules (settings_in (lines_of bytes)) run.fault run.refused in
+    subst (λ (t : List ℕ). Appends old new t) (sym (ap (λ read. script_with read (drop 1 (lines_of bytes))) refused)) run.wrote
+
+pub refused_settings : (input old new : Option (List ℕ)) → RefusedScript LacksMemory input old new → RefusesSettings input
+refused_settings None old new run = tt
+refused_settings (Some bytes) old new run =
+    let P : Result SettingsValues SettingsFault → Type 0 = IsErr in
+    subst P (sym (refused_by_rules (settings_in (lines_of bytes)) run.fault run.refused)) refl
+
+-- the model starts no thread
+pub begins_alone : (input old new : Option (List ℕ)) → Unbegun LacksMemory begin.NoThread input old new → false ≡ true
+begins_alone input old new unbegun = let is : begin.NoThread ≡ begin.NoMemory = unbegun.refused in cc
 
 -- so does every run that ends
-pub wrote_script : (input old new : Option (List ℕ)) (result : Result Status AnswerFault)
-    → (result ≡ Ok Ran → RanScript IsNew Gives input old new) → (result ≡ Ok BadSettings → RefusedScript input old new) → OnOk result (WroteScript input old new)
+pub wrote_script : (input old new : Option (List ℕ)) (result : Result Status RunFault)
+    → (result ≡ Ok Ran → RanScript IsNew Gives input old new) → (result ≡ Ok BadSettings → RefusedScript LacksMemory input old new) → OnOk result (WroteScript input old new)
 wrote_script input old new (Ok Ran) ran bad = ran_script input old new (ran refl)
 wrote_script input old new (Ok BadSettings) ran bad = refused_script input old new (bad refl)
 wrote_script input old new (Err fault) ran bad = tt

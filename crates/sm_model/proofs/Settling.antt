@@ -203,6 +203,7 @@ pub settles : (w : WorldState Request) (call : Call) → IsSound w → w.in_flig
 settles w (call.Control command) sound rest = control_settles w command _ rest
 settles w call.Place sound rest = record { answers = refl; rest = rest }
 settles w (call.Drain server) sound rest = record { answers = refl; rest = rest }
+settles w (call.Load key clients each) sound rest = record { answers = refl; rest = rest }
 settles w (call.Hold shard server) sound rest = held_settles w shard server (nat_lt shard (count_of w)) (is_there w server) _ rest
 settles w (call.Free shard) sound rest = freed_settles w shard (nat_lt shard (count_of w)) (slice_index_or w.in_hand shard None) rest
 settles w (call.Checkpoint shard server) sound rest = based_settles w shard server (nat_lt shard (count_of w)) (is_there w server) _ rest
@@ -252,6 +253,7 @@ called_sound : (w : WorldState Request) (call : Call) → IsSound w → IsSound 
 called_sound w (call.Control command) sound = sound_next counter_text w Plain (Control command) sound
 called_sound w call.Place sound = sound
 called_sound w (call.Drain server) sound = sound
+called_sound w (call.Load key clients each) sound = sound
 called_sound w (call.Hold shard server) sound = sound_next counter_text w Plain (Hold shard server) sound
 called_sound w (call.Free shard) sound = sound_next counter_text w Plain (Free shard) sound
 called_sound w (call.Checkpoint shard server) sound = sound_next counter_text w Plain (Checkpoint shard server) sound

@@ -14,7 +14,8 @@ use Rattle.sm_ownership.specs.Routes.{routes_of}
 use Rattle.sm_ranges.specs.Ranges.{shard_of}
 use Rattle.sm_ranges.specs.Stand.{owner_of}
 use Rattle.sm_script.specs.declared.answer.Answer.{Answer}
-use Rattle.sm_script.specs.declared.answer.Answer.TheVariants.{Made as IsMade, Refused as IsRefused, Seen as IsSeen, Executed, Planned, Way as IsWay}
+use Rattle.sm_script.specs.declared.answer.Answer.TheVariants.{Made as IsMade, Refused as IsRefused, Seen as IsSeen, Executed, Planned, Way as IsWay, Error as IsError}
+use Rattle.sm_script.specs.declared.fault.LineFault.TheVariants.{NotHere}
 use Rattle.sm_script.specs.declared.call.Call.{Call}
 use Rattle.sm_script.specs.declared.call.Call.TheVariants as call
 use Rattle.sm_script.specs.declared.refused.Refused.TheVariants as refused
@@ -128,6 +129,7 @@ abbrev pub ends_in_step : Call → Bool
 ends_in_step call.Place = false
 ends_in_step (call.Drain server) = false
 ends_in_step (call.RequestByRoute request) = false
+ends_in_step (call.Load key clients each) = false
 ends_in_step asked = true
 
 -- the plan for the server's shards, where the server exists
@@ -143,11 +145,13 @@ abbrev pub unless_route : Option Route → Option Answer
 unless_route None = Some (IsRefused refused.NoRoute)
 unless_route (Some route) = None
 
--- the answer to a call that makes no step here: a plan by the books of the world, or that a client has no route
+-- the answer to a call that makes no step here: a plan by the books of the world, that a client has no route, or that clients at the
+-- same time don't run here
 abbrev pub answer_without_steps : WorldState Request → Call → Option Answer
 answer_without_steps w call.Place = Some (Planned (assign_plan w.desk.books))
 answer_without_steps w (call.Drain server) = Some (drained w server)
 answer_without_steps w (call.RequestByRoute request) = unless_route (route_for w request)
+answer_without_steps w (call.Load key clients each) = Some (IsError NotHere)
 answer_without_steps w asked = None
 
 -- the steps of a call, where it makes any

@@ -1,4 +1,5 @@
 pub mod Calls
+pub mod LongLines
 pub mod Runs
 pub mod Script
 pub mod Sessions

@@ -4,6 +4,9 @@ use Rattle.std.specs.Io.KnownBytes.{Appends}
 use Rattle.sm_lines.specs.Lines.{lines_of}
 use Rattle.sm_model.specs.Script.{script, script_before}
 use Rattle.sm_run.specs.Openings.{IfKnown, settings_in}
+use Rattle.sm_run.specs.declared.begin_fault.BeginFault.{BeginFault}
+use Rattle.sm_run.specs.declared.begin_fault.BeginFault.TheVariants.{NoMemory}
+use Rattle.sm_settings.specs.SettingsLine.{SettingsValues}
 
 -- what was written is the script of the input
 abbrev pub WroteScript : Option (List ℕ) → Option (List ℕ) → Option (List ℕ) → Type 0
@@ -14,6 +17,10 @@ AcceptsSettings input = IfKnown input (λ bytes. IsOk (settings_in (lines_of byt
 
 abbrev pub RefusesSettings : Option (List ℕ) → Type 0
 RefusesSettings input = IfKnown input (λ bytes. IsErr (settings_in (lines_of bytes)))
+
+-- the only reason for which the model begins no session with settings that are accepted
+abbrev pub LacksMemory : SettingsValues → BeginFault → Type 0
+LacksMemory settings fault = fault ≡ NoMemory
 
 -- what a run has to write before it comes to the line after these: the script of these lines
 abbrev pub WritesScript : List (List ℕ) → List ℕ → Type 0

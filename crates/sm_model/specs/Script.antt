@@ -1,5 +1,6 @@
 -- What the program writes for what it reads.
-use Rattle.std.specs.Prelude.{ℕ, Option, Some, None, Result, Ok, Err, List, [], ◌∷◌, ◌++◌, drop}
+use Rattle.std.specs.Prelude.{ℕ, Option, Some, None, Result, Ok, Err, List, [], ◌∷◌, ◌++◌, drop, unwrap_or}
+use Rattle.std.specs.Option.{option_map}
 use Rattle.sm_lines.specs.Lines.{lines_of}
 use Rattle.sm_script.specs.Answers.{answer_text}
 use Rattle.sm_script.specs.Lines.{call_of_line}
@@ -18,15 +19,11 @@ use Rattle.sm_model.specs.Calls.{answered, called, settings_frame}
 abbrev pub answer_line : Answer → List ℕ
 answer_line answer = answer_text answer ++ 10 ∷ []
 
-abbrev pub optional_line : Option Answer → List ℕ
-optional_line None = []
-optional_line (Some answer) = answer_line answer
-
--- what is written for a line that was read so, and the world that it leaves
+-- what is written for a line that was read so, and the world that it leaves. Each call has an answer, as the law `every_call_answered` says
 abbrev pub responded : WorldState Request → Result (Option Call) LineFault → List ℕ × WorldState Request
 responded w (Err fault) = (answer_line (Error fault), w)
 responded w (Ok None) = ([], w)
-responded w (Ok (Some call)) = (optional_line (answered w call), (called w call).1)
+responded w (Ok (Some call)) = (unwrap_or (option_map answer_line (answered w call)) [], (called w call).1)
 
 -- what is written for a line of a script, and the world that it leaves
 abbrev pub line_response : WorldState Request → List ℕ → List ℕ × WorldState Request

@@ -1,12 +1,11 @@
 -- When a session of the model stands at a world of the definitions, and what it answers there.
-use Rattle.std.specs.Prelude.{◌≡◌, ℕ, ◌<◌, ◌++◌, List, [], Some, Result, true, is_some, length}
+use Rattle.std.specs.Prelude.{◌≡◌, ℕ, List, [], Some, Result, true, is_some}
 use Rattle.sm_envelope.specs.declared.envelope.TheConstants.{MOST_HOPS}
 use Rattle.sm_model.specs.Calls.{Stepped, after_hops, answer_of, answered, called, settings_frame, stepped}
 use Rattle.sm_model.specs.Script.{responded}
 use Rattle.sm_script.specs.Lines.{call_of_line}
 use Rattle.sm_script.specs.declared.answer.Answer.{Answer}
 use Rattle.sm_script.specs.declared.call.Call.{Call}
-use Rattle.sm_script.specs.declared.line.TheConstants.{MAX_LINE}
 use Rattle.sm_service.specs.declared.reply.Reply.{Reply}
 use Rattle.sm_service.specs.declared.request.Request.{Request}
 use Rattle.sm_settings.specs.SettingsLine.{SettingsValues}
@@ -40,12 +39,6 @@ GivesAnswer before call answer after =
 abbrev pub Responds : WorldView Request → List ℕ → List ℕ → WorldView Request → Type 0
 Responds before line text after =
     (w : WorldState Request) → IsAt before w → (text ≡ (responded w (call_of_line line)).0) × IsAt after (responded w (call_of_line line)).1
-
--- at every world each line that begins so and is longer than is read has this response, and leaves the world as it is
-abbrev pub RespondsLong : List ℕ → List ℕ → Type 0
-RespondsLong start text =
-    (w : WorldState Request) (rest : List ℕ) → 0 < length start → MAX_LINE < length (start ++ rest)
-    → (text ≡ (responded w (call_of_line (start ++ rest))).0) × ((responded w (call_of_line (start ++ rest))).1 ≡ w)
 
 -- ---- the steps of a call
 

@@ -39,7 +39,9 @@ pub(crate) fn carry_out(
         Call::Publish(shard) => make(world, Step::Publish(shard)),
         Call::Route(key) => make(world, Step::RouteOf(key)),
         Call::Look(shard) => make(world, Step::Look(shard)),
-        Call::Place | Call::Drain(_) | Call::RequestByRoute(_) => unreachable!(),
+        Call::Place | Call::Drain(_) | Call::RequestByRoute(_) | Call::Load { .. } => {
+            unreachable!()
+        }
         Call::Request(request) => run_request(world, request),
         Call::RequestAt(server, request) => {
             let shard = world.shard_of(&request);

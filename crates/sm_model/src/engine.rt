@@ -1,14 +1,14 @@
-ghost use Rattle.std.specs.Prelude.{◌≡◌, OnOk, Ok};
+ghost use Rattle.std.specs.Prelude.{◌≡◌, ◌≢◌, OnOk, Ok, Err};
 ghost use Rattle.std.specs.Io.KnownBytes.{IsAtEnd};
 ghost use Rattle.sm_run.specs.Runs.{StoppedEarly};
 ghost use Rattle.sm_run.specs.Watching.{KeepsWatch};
-ghost use Rattle.sm_model.specs.Runs.{AcceptsSettings, RefusesSettings, WritesScript, WroteScript};
+ghost use Rattle.sm_model.specs.Runs.{AcceptsSettings, LacksMemory, RefusesSettings, WritesScript, WroteScript};
 
 use crate::session::ModelSession;
 use sm_lines::Watched;
-use sm_run::{Engine, RunFault, Status, run};
+use sm_run::{BeginFault, Engine, RunFault, Status, run};
 use sm_settings::settings::Settings;
-use std::alloc::{AllocError, Global};
+use std::alloc::Global;
 use std::io::{Read, Write};
 
 /// Runs scripts on a world, on one thread, exactly as the definitions say.
@@ -26,6 +26,7 @@ impl ModelEngine {
 
 impl Engine for ModelEngine {
     ghost use Rattle.sm_script.specs.declared.line.TheConstants.{MAX_LINE as LINE_LIMIT};
+    ghost use Rattle.sm_model.specs.Runs.{LacksMemory};
     ghost use Rattle.sm_model.specs.Sessions.{IsNew};
 
     type Session = ModelSession;
@@ -36,9 +37,16 @@ impl Engine for ModelEngine {
 
     ghost begins = { IsNew };
 
-    fn begin(&mut self, settings: Settings) -> Result<ModelSession, AllocError> {
-        ModelSession::new(self.alloc, settings)
+    ghost refuses = { LacksMemory };
+
+    fn begin(&mut self, settings: Settings) -> Result<ModelSession, BeginFault> {
+        match ModelSession::new(self.alloc, settings) {
+            Ok(session) => Ok(session),
+            Err(_) => Err(BeginFault::NoMemory),
+        }
     }
+
+    fn end(&mut self, _session: ModelSession) {}
 }
 
 /// Runs the script of the reader on the model, and writes its answers. What is said of bytes holds of a reader and a
@@ -62,9 +70,10 @@ pub fn run_model<R: Read, W: Write>(
         → RefusesSettings (R.remaining reader.old.inner) }
 
     // Exactly the script of all lines before the one at which a fault came was written, but for a front of that line's answer.
-    ensures stopped { StoppedEarly WritesScript result reader.new.failed reader.new.calls
+    ensures stopped { StoppedEarly LacksMemory WritesScript result reader.new.failed reader.new.calls
         (R.remaining reader.old.inner) (R.remaining reader.new.inner)
         (W.contents writer.old.inner) (W.contents writer.new.inner) }
+    ensures no_thread { result ≢ Err RunFault.NoThread }
     ensures watched { KeepsWatch R.remaining result reader.old reader.new writer.old writer.new }
 {
     run(alloc, reader, writer, &mut ModelEngine::new(alloc))

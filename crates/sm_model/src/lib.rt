@@ -9,6 +9,7 @@
 //! ```
 #![tactic(auto)]
 
+pub mod beginning;
 mod calls;
 pub mod engine;
 pub mod laws;

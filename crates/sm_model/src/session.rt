@@ -6,18 +6,15 @@ ghost use Rattle.sm_model.specs.Calls.{ends_in_step, settings_desk};
 ghost use Rattle.sm_model.specs.Script.{answer_line};
 ghost use Rattle.sm_model.specs.Sessions.{GivesAnswer, IsNew};
 
+use crate::beginning::{desk_of, empty_bodies, write_line, write_long_line};
 use crate::calls::{answer_of, carry_out};
-use sm_desk::Desk;
 use sm_lines::Responder;
-use sm_place::{Books, BooksFault};
 use sm_ranges::server_id::ServerId;
-use sm_script::{Answer, Call, ParseFault, Refused, long_line_fault, parse};
+use sm_script::{Answer, Call, LineFault, ParseFault, Refused, parse};
 use sm_service::counter_text::CounterText;
 use sm_service::request::Request;
 use sm_settings::settings::Settings;
 use sm_table::world::{Setup, World};
-use sm_tasks::Tasks;
-use sm_tasks::laws::all_up_meets_caps;
 use std::alloc::{AllocError, Global};
 use std::marker::Model;
 
@@ -66,6 +63,7 @@ impl ModelSession {
             Call::Place => self.place(),
             Call::Drain(server) => self.drain(server),
             Call::RequestByRoute(request) => self.make_by_route(request),
+            Call::Load { .. } => Ok(Answer::Error(LineFault::NotHere)),
             _ => self.make(call),
         }
     }
@@ -114,7 +112,8 @@ impl ModelSession {
 }
 
 impl Responder for ModelSession {
-    ghost use Rattle.sm_model.specs.Sessions.{Responds, RespondsLong};
+    ghost use Rattle.sm_model.specs.LongLines.{RespondsLong};
+    ghost use Rattle.sm_model.specs.Sessions.{Responds};
 
     ghost gives = { Responds };
 
@@ -133,66 +132,6 @@ impl Responder for ModelSession {
     }
 
     fn respond_long(&self, start: &[u8], out: &mut Vec<u8>) -> Result<(), AllocError> {
-        // No line beyond the limit begins with nothing.
-        if start.is_empty() {
-            return Ok(());
-        }
-        match long_line_fault(start) {
-            None => Ok(()),
-            Some(fault) => write_line(&Answer::Error(fault), out),
-        }
+        write_long_line(start, out)
     }
-}
-
-/// Appends the answer and a line feed.
-fn write_line(answer: &Answer, out: &mut Vec<u8>) -> Result<(), AllocError>
-    ensures { OnOk result (out.new.items ≡ out.old.items ++ answer_line answer.now) }
-{
-    answer.write_to(out)?;
-    out.push(b'\n')?;
-    Ok(())
-}
-
-/// The desk of the settings' rows: all servers are up, and all shards vacant.
-fn desk_of(alloc: Global, settings: &Settings) -> Result<Desk, AllocError>
-    requires { KeepsRules (values_of settings.now) }
-    ensures { IfOk result (λ desk. desk ≡ settings_desk (values_of settings.now)) }
-{
-    let books = match Books::new(
-        alloc,
-        &settings.servers,
-        &settings.groups,
-        &settings.shards,
-        &settings.domains,
-    ) {
-        Ok(books) => books,
-        Err(fault) => return Err(want_of_memory(fault)),
-    };
-    all_up_meets_caps();
-    Ok(Desk::new(books, Tasks::new(settings.ops)))
-}
-
-/// Why there are no books: the settings were judged by the rules of books, so it is want of memory.
-fn want_of_memory(fault: BooksFault) -> AllocError
-    requires { fault ≡ BooksFault.NoMemory }
-{
-    match fault {
-        BooksFault::NoMemory => AllocError,
-        BooksFault::BadServers
-        | BooksFault::BadGroups
-        | BooksFault::BadShards
-        | BooksFault::BadDomains => unreachable!(),
-    }
-}
-
-/// A body without a request for each shard.
-fn empty_bodies(alloc: Global, count: usize, limit: usize) -> Result<Vec<CounterText>, AllocError>
-    ensures { IfOk result (λ bodies. bodies.items
-        ≡ replicate count (record { base = []; before = 0; requests = []; limit = limit })) }
-{
-    let mut bodies = Vec::with_capacity(alloc, count)?;
-    for _shard in 0..count {
-        bodies.push(CounterText::new(alloc, limit))?;
-    }
-    Ok(bodies)
 }

@@ -1,6 +1,5 @@
 -- What the first line gives, and what is left after it.
-use Rattle.std.proofs.Common.{◌≡◌, Bool, ℕ, List, [], ◌++◌, ap, sym, ◌∙◌, refl, inl, inr, arith, Option, Some, None, Err}
-use Rattle.std.proofs.KnownBytes.{Consumes-nil}
+use Rattle.std.proofs.Common.{◌≡◌, Bool, ℕ, List, [], ◌++◌, ap, sym, ◌∙◌, inl, inr, arith, Option, Some, None, Err}
 use Rattle.std.specs.Io.KnownBytes.{Consumes, IsAtEnd, prepend_known}
 use Rattle.sm_lines.specs.Answers.{StopsAfter}
 use Rattle.sm_lines.specs.Lines.{LosesLine, TookLongLine, TookPart, lines_of}

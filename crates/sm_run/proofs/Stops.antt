@@ -1,12 +1,12 @@
 -- Where a run stopped, and what it had written by then.
-use Rattle.std.proofs.Common.{◌≡◌, ◌≢◌, All, ◌<◌, ◌≤◌, ◌+◌, ◌-◌, ◌++◌, ◌∷◌, [], Bool, true, false, ℕ, List, length, take, ap, sym, ◌∙◌, subst, refl, arith, lit≤, ◌⊎◌, inl, inr, append_assoc, append-nil, Option, Some, None, Result, Ok, Err}
+use Rattle.std.proofs.Common.{◌≡◌, ◌≢◌, All, ◌<◌, ◌≤◌, ◌+◌, ◌-◌, ◌++◌, ◌∷◌, [], Bool, true, false, ℕ, List, length, take, ap, sym, ◌∙◌, subst, refl, arith, lit≤, ◌⊎◌, inl, inr, append_assoc, append-nil, Option, Some, None, OnOk, Result, Ok, Err}
 use Rattle.std.proofs.lemmas.Bool.{cases_lt, false≢true}
 use Rattle.std.proofs.lemmas.List.{take-append-le}
 use Rattle.std.proofs.Math.Seq.{take-append-add}
 use Rattle.std.proofs.KnownBytes.{Appends-nil, Consumes-nil, Consumes-trans}
 use Rattle.std.proofs.lemmas.List.Elements.{All-nil, All-cons, All-head}
 use Rattle.std.specs.Io.KnownBytes.{Appends, Consumes, prepend_known}
-use Rattle.sm_lines.specs.Answers.{AnswersAll, HasLines, IsAllRead, LosesLines, ReadingStopped, StopsAfter}
+use Rattle.sm_lines.specs.Answers.{AnsweredInput, AnswersAll, HasLines, IsAllRead, LosesLines, RanAll, RanShort, RanTo, ReadingStopped, StopsAfter}
 use Rattle.sm_lines.specs.Lines.{lines_of, with_feeds, HadFeed, LosesLine, TookLines, TookPart}
 use Rattle.sm_lines.specs.Reading.{Reading, unread}
 use Rattle.sm_lines.specs.declared.TheConstants.{PIECE}
@@ -19,12 +19,17 @@ use Rattle.sm_settings.specs.declared.settings.Settings.{Settings}
 use Rattle.sm_run.specs.declared.opening.Opening.{Opening}
 use Rattle.sm_run.specs.declared.opening.Opening.TheVariants.{Accepted, Refused}
 use Rattle.sm_settings.specs.declared.settings_fault.SettingsFault.{SettingsFault}
-use Rattle.sm_run.specs.Openings.{IfKnown, IsOpening, RefusedShort, settings_in}
+use Rattle.sm_run.specs.Faults.{ending_of}
+use Rattle.sm_run.specs.Openings.{IfKnown, IsOpening, IsRefused, RefusedShort, settings_in}
 use Rattle.sm_run.specs.Runs.{AreFirst, IsSession, RanScript, StoppedAt, StoppedEarly, StoppedReading, StoppedWriting, WritesFor, WroteBefore}
-use Rattle.sm_run.specs.Sessions.{RanSession, SessionShort, SessionTo}
 use Rattle.sm_lines.specs.declared.answer_fault.AnswerFault.{AnswerFault}
-use Rattle.sm_lines.specs.declared.answer_fault.AnswerFault.TheVariants.{Read, Write, NoMemory}
+use Rattle.sm_lines.specs.declared.answer_fault.AnswerFault.TheVariants as answer
+use Rattle.sm_run.specs.declared.begin_fault.BeginFault.{BeginFault}
+use Rattle.sm_run.specs.declared.begin_fault.BeginFault.TheVariants.{Settings as IsOfSettings}
+use Rattle.sm_run.specs.declared.run_fault.RunFault.{RunFault}
+use Rattle.sm_run.specs.declared.run_fault.RunFault.TheVariants.{Read, Write, NoMemory, NoThread}
 use Rattle.sm_run.specs.declared.status.Status.{Status}
+use Rattle.sm_run.specs.declared.status.Status.TheVariants.{Ran}
 
 -- ---- the first lines of the input
 
@@ -82,25 +87,29 @@ stopped_unread writes input old none =
 -- ---- by the fault
 
 -- memory was refused
-pub early_memory : (writes : List (List ℕ) → List ℕ → Type 0) (result : Result Status AnswerFault) (failed : Bool) (calls : ℕ) (input left old new : Option (List ℕ))
-    → result ≡ Err NoMemory → StoppedAt writes input left old new → StoppedEarly writes result failed calls input left old new
-early_memory writes result failed calls input left old new is at = record {
+pub early_memory : (refuses : SettingsValues → BeginFault → Type 0) (writes : List (List ℕ) → List ℕ → Type 0) (result : Result Status RunFault) (failed : Bool) (calls : ℕ) (input left old new : Option (List ℕ))
+    → result ≡ Err NoMemory → StoppedAt writes input left old new → StoppedEarly refuses writes result failed calls input left old new
+early_memory refuses writes result failed calls input left old new is at = record {
   read = λ e. (let no : false ≡ true = cc in absurd (false≢true no));
   no_memory = λ _. at;
+  no_thread = λ _. at;
   write = λ e. (let no : false ≡ true = cc in absurd (false≢true no));
 }
 
--- the settings were refused
-pub early_refused : (writes : List (List ℕ) → List ℕ → Type 0) (result : Result Status AnswerFault) (failed : Bool) (calls : ℕ) (input left old new : Option (List ℕ))
-    → result ≢ Err Read → (result ≡ Err NoMemory → StoppedAt writes input left old new) → (result ≡ Err Write → RefusedShort input old new)
-    → StoppedEarly writes result failed calls input left old new
-early_refused writes result failed calls input left old new not_read memory short = record { read = λ is. absurd (not_read is); no_memory = memory; write = λ is. inr (short is) }
+-- nothing but the settings' fault was to be written
+pub early_refused : (refuses : SettingsValues → BeginFault → Type 0) (writes : List (List ℕ) → List ℕ → Type 0) (result : Result Status RunFault) (failed : Bool) (calls : ℕ) (input left old new : Option (List ℕ))
+    → result ≢ Err Read → (result ≡ Err NoMemory → StoppedAt writes input left old new) → (result ≡ Err NoThread → StoppedAt writes input left old new)
+    → (result ≡ Err Write → RefusedShort refuses input old new)
+    → StoppedEarly refuses writes result failed calls input left old new
+early_refused refuses writes result failed calls input left old new not_read memory thread short =
+    record { read = λ is. absurd (not_read is); no_memory = memory; no_thread = thread; write = λ is. inr (short is) }
 
 -- no settings were read
-pub early_unread : (writes : List (List ℕ) → List ℕ → Type 0) (result : Result Status AnswerFault) (failed : Bool) (calls : ℕ) (input left old new : Option (List ℕ))
-    → (result ≡ Err Read → StoppedReading writes failed calls input left old new) → (result ≡ Err NoMemory → StoppedAt writes input left old new) → result ≢ Err Write
-    → StoppedEarly writes result failed calls input left old new
-early_unread writes result failed calls input left old new reading memory not_written = record { read = reading; no_memory = memory; write = λ is. absurd (not_written is) }
+pub early_unread : (refuses : SettingsValues → BeginFault → Type 0) (writes : List (List ℕ) → List ℕ → Type 0) (result : Result Status RunFault) (failed : Bool) (calls : ℕ) (input left old new : Option (List ℕ))
+    → (result ≡ Err Read → StoppedReading writes failed calls input left old new) → (result ≡ Err NoMemory → StoppedAt writes input left old new) → result ≢ Err NoThread → result ≢ Err Write
+    → StoppedEarly refuses writes result failed calls input left old new
+early_unread refuses writes result failed calls input left old new reading memory some_thread not_written =
+    record { read = reading; no_memory = memory; no_thread = λ is. absurd (some_thread is); write = λ is. absurd (not_written is) }
 
 -- ---- the settings in front
 
@@ -119,13 +128,35 @@ opened ended lines input left opening settings none is opens =
     let o = subst Q (nothing_held lines.held input none) (subst P is opens) in
     record { first = o.0; lost = o.1; feed = o.2; accepted = o.3 }
 
--- the settings in front of the input were refused
-pub refused_opening : (ended : Bool) (lines : Reading) (input left : Option (List ℕ)) (opening : Opening) (fault : SettingsFault)
-    → lines.held ≡ [] → opening ≡ Refused fault → IsOpening ended (unread lines input) left opening → IfKnown input (λ bytes. settings_in (lines_of bytes) ≡ Err fault)
-refused_opening ended lines input left opening fault none is opens =
+-- the settings in front of the input were refused by their rules
+pub refused_opening : (refuses : SettingsValues → BeginFault → Type 0) (ended : Bool) (lines : Reading) (input left : Option (List ℕ)) (opening : Opening) (fault : SettingsFault)
+    → lines.held ≡ [] → opening ≡ Refused fault → IsOpening ended (unread lines input) left opening → IfKnown input (λ bytes. IsRefused refuses fault (settings_in (lines_of bytes)))
+refused_opening refuses ended lines input left opening fault none is opens =
     let P : Opening → Type 0 = λ o. IsOpening ended (unread lines input) left o in
     let Q : Option (List ℕ) → Type 0 = λ i. IsOpening ended i left (Refused fault) in
-    subst Q (nothing_held lines.held input none) (subst P is opens)
+    by_rules input (subst Q (nothing_held lines.held input none) (subst P is opens))
+  where
+    by_rules : (input : Option (List ℕ)) → IfKnown input (λ bytes. settings_in (lines_of bytes) ≡ Err fault) → IfKnown input (λ bytes. IsRefused refuses fault (settings_in (lines_of bytes)))
+    by_rules None refused = tt
+    by_rules (Some bytes) refused = let P : Result SettingsValues SettingsFault → Type 0 = IsRefused refuses fault in subst P (sym refused) refl
+
+-- the settings in front of the input
+pub accepted_in : (ended : Bool) (input left : Option (List ℕ)) (settings : SettingsValues) → Opened ended input left settings → IfKnown input (λ bytes. settings_in (lines_of bytes) ≡ Ok settings)
+accepted_in ended None left settings o = tt
+accepted_in ended (Some bytes) None settings o = absurd o.lost
+accepted_in ended (Some bytes) (Some rest) settings o = ap settings_in o.lost ∙ o.accepted
+
+-- they were refused by the engine
+pub refused_by_engine : (refuses : SettingsValues → BeginFault → Type 0) (ended : Bool) (input left : Option (List ℕ)) (settings : SettingsValues) (fault : BeginFault) (why : SettingsFault)
+    → Opened ended input left settings → refuses settings fault → fault ≡ IsOfSettings why → IfKnown input (λ bytes. IsRefused refuses why (settings_in (lines_of bytes)))
+refused_by_engine refuses ended input left settings fault why o refused is = by_engine input (accepted_in ended input left settings o)
+  where
+    by_engine : (input : Option (List ℕ)) → IfKnown input (λ bytes. settings_in (lines_of bytes) ≡ Ok settings) → IfKnown input (λ bytes. IsRefused refuses why (settings_in (lines_of bytes)))
+    by_engine None accepted = tt
+    by_engine (Some bytes) accepted =
+        let P : Result SettingsValues SettingsFault → Type 0 = IsRefused refuses why in
+        let Q : BeginFault → Type 0 = refuses settings in
+        subst P (sym accepted) (subst Q is refused)
 
 -- ---- the lines after the settings
 
@@ -144,49 +175,50 @@ all_read_more input mid left first done one all =
     }
 
 -- the whole script ran
-pub ran_session : {S : Type 0} (begins : SettingsValues → S → Type 0) (answers : S → List ℕ → List ℕ → S → Type 0) (settings : SettingsValues) (ended : Bool) (input mid old new : Option (List ℕ))
-    → Opened ended input mid settings → RanSession begins answers settings mid old new → RanScript begins answers input old new
-ran_session begins answers settings ended input mid old new o s = record {
+pub ran_session : {S T : Type 0} (begins : SettingsValues → S → Type 0) (answers : S → List ℕ → List ℕ → S → Type 0) (settings : SettingsValues) (answered : Result T AnswerFault) (ended : Bool) (input mid old new : Option (List ℕ)) (begun now : S)
+    → Opened ended input mid settings → begins settings begun → ending_of answered ≡ Ok Ran → OnOk answered (RanAll answers mid old new begun now) → RanScript begins answers input old new
+ran_session begins answers settings (Err fault) ended input mid old new begun now o began is s = absurd (let no : false ≡ true = cc in false≢true no)
+ran_session begins answers settings (Ok all) ended input mid old new begun now o began is s = record {
   first = o.first;
-  lines = s.ran.lines;
-  text = s.ran.text;
-  are = has_more input mid o.lost s.ran.are;
-  session = record { settings = settings; begun = s.begun; ended = s.ended; accepted = o.accepted; began = s.began; answered = s.ran.answered };
-  wrote = s.ran.wrote;
+  lines = s.lines;
+  text = s.text;
+  are = has_more input mid o.lost s.are;
+  session = record { settings = settings; begun = begun; ended = now; accepted = o.accepted; began = began; answered = s.answered };
+  wrote = s.wrote;
 }
   where
-    has_more : (input mid : Option (List ℕ)) → LosesLine input mid o.first → HasLines mid s.ran.lines → HasLines input (o.first ∷ s.ran.lines)
+    has_more : (input mid : Option (List ℕ)) → LosesLine input mid o.first → HasLines mid s.lines → HasLines input (o.first ∷ s.lines)
     has_more None mid one are = tt
     has_more (Some bytes) None one are = absurd one
     has_more (Some bytes) (Some left) one are = one ∙ ap (λ (all : List (List ℕ)). o.first ∷ all) are
 
 -- the answers to the lines after the settings are what a run has to write
-session_wrote : {S : Type 0} (begins : SettingsValues → S → Type 0) (answers : S → List ℕ → List ℕ → S → Type 0) (settings : SettingsValues) (old new : Option (List ℕ)) (first : List ℕ) (done : List (List ℕ))
-    → settings_of first ≡ Ok settings → SessionTo begins answers settings old new done → WroteBefore (WritesFor begins answers) old new (first ∷ done)
-session_wrote begins answers settings old new first done accepted s = record {
-  text = s.ran.text;
-  is = record { settings = settings; begun = s.begun; ended = s.ended; accepted = accepted; began = s.began; answered = s.ran.answered };
-  wrote = s.ran.wrote;
+session_wrote : {S : Type 0} (begins : SettingsValues → S → Type 0) (answers : S → List ℕ → List ℕ → S → Type 0) (settings : SettingsValues) (old new : Option (List ℕ)) (first : List ℕ) (done : List (List ℕ)) (begun now : S)
+    → settings_of first ≡ Ok settings → begins settings begun → RanTo answers old new begun now done → WroteBefore (WritesFor begins answers) old new (first ∷ done)
+session_wrote begins answers settings old new first done begun now accepted began s = record {
+  text = s.text;
+  is = record { settings = settings; begun = begun; ended = now; accepted = accepted; began = began; answered = s.answered };
+  wrote = s.wrote;
 }
 
-pub read_session : {S : Type 0} (begins : SettingsValues → S → Type 0) (answers : S → List ℕ → List ℕ → S → Type 0) (settings : SettingsValues) (before after : Reading) (failed : Bool) (calls : ℕ)
-    (input mid left old new : Option (List ℕ)) (done : List (List ℕ))
-    → Opened before.ended input mid settings → SessionTo begins answers settings old new done → ReadingStopped before after failed calls mid (unread after left) done
+read_session : {S : Type 0} (begins : SettingsValues → S → Type 0) (answers : S → List ℕ → List ℕ → S → Type 0) (settings : SettingsValues) (before after : Reading) (failed : Bool) (calls : ℕ)
+    (input mid left old new : Option (List ℕ)) (done : List (List ℕ)) (begun now : S)
+    → Opened before.ended input mid settings → begins settings begun → RanTo answers old new begun now done → ReadingStopped before after failed calls mid (unread after left) done
     → StoppedReading (WritesFor begins answers) failed calls input left old new
-read_session begins answers settings before after failed calls input mid left old new done o s (inl stop) =
+read_session begins answers settings before after failed calls input mid left old new done begun now o began s (inl stop) =
     let P : Option (List ℕ) → Type 0 = λ l. IsAllRead mid l done in
     let all = subst P (nothing_held after.held left stop.none_held) stop.all_read in
     record {
       before = o.first ∷ done;
       why = inl (all_read_more input mid left o.first done (o.feed stop.unseen) all, stop.why);
-      wrote = session_wrote begins answers settings old new o.first done o.accepted s;
+      wrote = session_wrote begins answers settings old new o.first done begun now o.accepted began s;
     }
-read_session begins answers settings before after failed calls input mid left old new done o s (inr counted) =
+read_session begins answers settings before after failed calls input mid left old new done begun now o began s (inr counted) =
     let many = counted.many in
     record {
       before = o.first ∷ done;
       why = inr (first_more input mid o.first done o.lost (loses_first mid (unread after left) done counted.lost), omega (arith, many));
-      wrote = session_wrote begins answers settings old new o.first done o.accepted s;
+      wrote = session_wrote begins answers settings old new o.first done begun now o.accepted began s;
     }
 
 -- the lines before the one that was touched, with the settings' line in front
@@ -199,16 +231,16 @@ stops_more input mid left first done one stops = record { next = stops.next; los
     lost_more (Some bytes) (Some left) None first done one more = more
     lost_more (Some bytes) (Some left) (Some after) first done one more = one ∙ ap (λ (all : List (List ℕ)). first ∷ all) more
 
-pub memory_session : {S : Type 0} (begins : SettingsValues → S → Type 0) (answers : S → List ℕ → List ℕ → S → Type 0) (settings : SettingsValues) (ended : Bool) (ahead : List ℕ)
-    (input mid left old new : Option (List ℕ)) (done : List (List ℕ))
-    → length ahead ≤ PIECE → Opened ended input mid settings → SessionTo begins answers settings old new done → StopsAfter mid (prepend_known ahead left) done
+memory_session : {S : Type 0} (begins : SettingsValues → S → Type 0) (answers : S → List ℕ → List ℕ → S → Type 0) (settings : SettingsValues) (ended : Bool) (ahead : List ℕ)
+    (input mid left old new : Option (List ℕ)) (done : List (List ℕ)) (begun now : S)
+    → length ahead ≤ PIECE → Opened ended input mid settings → begins settings begun → RanTo answers old new begun now done → StopsAfter mid (prepend_known ahead left) done
     → StoppedAt (WritesFor begins answers) input left old new
-memory_session begins answers settings ended ahead input mid left old new done few o s stops = record {
+memory_session begins answers settings ended ahead input mid left old new done begun now few o began s stops = record {
   before = o.first ∷ done;
   ahead = ahead;
   few = few;
   stops = stops_more input mid (prepend_known ahead left) o.first done o.lost stops;
-  wrote = session_wrote begins answers settings old new o.first done o.accepted s;
+  wrote = session_wrote begins answers settings old new o.first done begun now o.accepted began s;
 }
 
 -- ---- a front of the answers
@@ -268,32 +300,32 @@ cut_at answers before after (line ∷ lines) text count (first, rest, between, i
 ]
 
 -- a front of a session's answers was written
-pub write_session : {S : Type 0} (begins : SettingsValues → S → Type 0) (answers : S → List ℕ → List ℕ → S → Type 0) (settings : SettingsValues) (ended : Bool)
-    (input mid left old new : Option (List ℕ))
-    → Opened ended input mid settings → SessionShort begins answers settings mid left old new
+write_session : {S : Type 0} (begins : SettingsValues → S → Type 0) (answers : S → List ℕ → List ℕ → S → Type 0) (settings : SettingsValues) (ended : Bool)
+    (input mid left old new : Option (List ℕ)) (begun : S)
+    → Opened ended input mid settings → begins settings begun → RanShort answers mid left old new begun
     → StoppedWriting (WritesFor begins answers) input old new
-write_session {S} begins answers settings ended input mid left old new o s =
-    at_cut (cut_at answers s.begun s.ran.after s.ran.done s.ran.text s.ran.wrote.count s.ran.answered)
+write_session {S} begins answers settings ended input mid left old new begun o began s =
+    at_cut (cut_at answers begun s.after s.done s.text s.wrote.count s.answered)
   where
-    are : AreFirst input (o.first ∷ s.ran.done)
-    are = first_more input mid o.first s.ran.done o.lost (stops_first mid left s.ran.done s.ran.stops)
+    are : AreFirst input (o.first ∷ s.done)
+    are = first_more input mid o.first s.done o.lost (stops_first mid left s.done s.stops)
 
-    session : (lines : List (List ℕ)) (text : List ℕ) (ended : S) → AnswersAll answers s.begun lines text ended → IsSession begins answers o.first lines text
-    session lines text ended all = record { settings = settings; begun = s.begun; ended = ended; accepted = o.accepted; began = s.began; answered = all }
+    session : (lines : List (List ℕ)) (text : List ℕ) (ended : S) → AnswersAll answers begun lines text ended → IsSession begins answers o.first lines text
+    session lines text ended all = record { settings = settings; begun = begun; ended = ended; accepted = o.accepted; began = began; answered = all }
 
-    at_cut : ((s.ran.done ≡ []) × (s.ran.text ≡ [])) ⊎ Cut answers s.begun s.ran.done s.ran.text s.ran.wrote.count → StoppedWriting (WritesFor begins answers) input old new
+    at_cut : ((s.done ≡ []) × (s.text ≡ [])) ⊎ Cut answers begun s.done s.text s.wrote.count → StoppedWriting (WritesFor begins answers) input old new
     at_cut (inl none) =
-        let P : List ℕ → Type 0 = λ t. Appends old new (take s.ran.wrote.count t) in
+        let P : List ℕ → Type 0 = λ t. Appends old new (take s.wrote.count t) in
         record {
           before = [];
           line = o.first;
-          are = first_fewer input (o.first ∷ []) s.ran.done are;
+          are = first_fewer input (o.first ∷ []) s.done are;
           text = [];
           answer = [];
           whole = refl;
-          next = session [] [] s.begun (refl, refl);
-          count = s.ran.wrote.count;
-          wrote = subst P none.1 s.ran.wrote.wrote;
+          next = session [] [] begun (refl, refl);
+          count = s.wrote.count;
+          wrote = subst P none.1 s.wrote.wrote;
         }
     at_cut (inr c) =
         let P : List (List ℕ) → Type 0 = λ l. AreFirst input (o.first ∷ l) in
@@ -305,7 +337,47 @@ write_session {S} begins answers settings ended input mid left old new o s =
           text = c.sent;
           answer = c.answer;
           whole = session c.done c.sent c.mid c.answered;
-          next = session (c.done ++ c.line ∷ []) (c.sent ++ c.answer) c.after (AnswersAll-more answers s.begun c.mid c.after c.done c.line c.sent c.answer c.answered c.next);
+          next = session (c.done ++ c.line ∷ []) (c.sent ++ c.answer) c.after (AnswersAll-more answers begun c.mid c.after c.done c.line c.sent c.answer c.answered c.next);
           count = c.left;
-          wrote = subst Q c.cut s.ran.wrote.wrote;
+          wrote = subst Q c.cut s.wrote.wrote;
         }
+
+-- ---- a session
+
+-- how a run stopped whose session's lines were answered so
+pub early_session : {S T : Type 0} (refuses : SettingsValues → BeginFault → Type 0) (begins : SettingsValues → S → Type 0) (answers : S → List ℕ → List ℕ → S → Type 0) (settings : SettingsValues)
+    (answered : Result T AnswerFault) (before after : Reading) (failed : Bool) (calls : ℕ) (input mid left old new : Option (List ℕ)) (begun now : S)
+    → Opened before.ended input mid settings → begins settings begun → length after.held ≤ PIECE
+    → AnsweredInput answers answered before after failed calls mid (unread after left) old new begun now
+    → StoppedEarly refuses (WritesFor begins answers) (ending_of answered) failed calls input left old new
+early_session refuses begins answers settings (Ok all) before after failed calls input mid left old new begun now o began few a =
+    record { read = λ e. never e; no_memory = λ e. never e; no_thread = λ e. never e; write = λ e. never e }
+  where
+    never : {A : Type 0} {fault : RunFault} → ending_of (Ok all) ≡ Err fault → A
+    never is = let no : false ≡ true = cc in absurd (false≢true no)
+early_session refuses begins answers settings (Err answer.Read) before after failed calls input mid left old new begun now o began few a =
+    let stop = a.read refl in
+    let at = read_session begins answers settings before after failed calls input mid left old new stop.0 begun now o began stop.1 stop.2 in
+    record {
+      read = λ _. at;
+      no_memory = λ e. (let no : false ≡ true = cc in absurd (false≢true no));
+      no_thread = λ e. (let no : false ≡ true = cc in absurd (false≢true no));
+      write = λ e. (let no : false ≡ true = cc in absurd (false≢true no));
+    }
+early_session refuses begins answers settings (Err answer.NoMemory) before after failed calls input mid left old new begun now o began few a =
+    let stop = a.no_memory refl in
+    let at = memory_session begins answers settings before.ended after.held input mid left old new stop.0 begun stop.1 few o began stop.3 stop.2 in
+    record {
+      read = λ e. (let no : false ≡ true = cc in absurd (false≢true no));
+      no_memory = λ _. at;
+      no_thread = λ _. at;
+      write = λ e. (let no : false ≡ true = cc in absurd (false≢true no));
+    }
+early_session refuses begins answers settings (Err answer.Write) before after failed calls input mid left old new begun now o began few a =
+    let at = write_session begins answers settings before.ended input mid (unread after left) old new begun o began (a.write refl) in
+    record {
+      read = λ e. (let no : false ≡ true = cc in absurd (false≢true no));
+      no_memory = λ e. (let no : false ≡ true = cc in absurd (false≢true no));
+      no_thread = λ e. (let no : false ≡ true = cc in absurd (false≢true no));
+      write = λ _. inl at;
+    }

@@ -1,5 +1,5 @@
+pub mod Faults
 pub mod Openings
 pub mod Runs
-pub mod Sessions
 pub mod Watching
 pub mod lemmas

@@ -8,6 +8,8 @@ use Rattle.sm_settings.specs.SettingsLine.{SettingsValues, settings_of, values_o
 use Rattle.sm_settings.specs.SettingsRules.{KeepsRules}
 use Rattle.sm_settings.specs.declared.settings_fault.SettingsFault.{SettingsFault}
 use Rattle.sm_settings.specs.declared.settings_fault.SettingsFault.TheVariants.{BadJson}
+use Rattle.sm_run.specs.declared.begin_fault.BeginFault.{BeginFault}
+use Rattle.sm_run.specs.declared.begin_fault.BeginFault.TheVariants.{Settings as IsOfSettings}
 use Rattle.sm_run.specs.declared.opening.Opening.{Opening}
 use Rattle.sm_run.specs.declared.opening.Opening.TheVariants.{Accepted, Refused}
 
@@ -36,14 +38,26 @@ abbrev pub ReadsAs : List ℕ → Opening → Type 0
 ReadsAs line (Accepted settings) = (settings_of line ≡ Ok (values_of settings)) × KeepsRules (values_of settings)
 ReadsAs line (Refused fault) = settings_of line ≡ Err fault
 
+-- settings that were read so are refused with this fault: by their rules, or else by the engine, where `refuses` says so
+abbrev pub IsRefused : (SettingsValues → BeginFault → Type 0) → SettingsFault → Result SettingsValues SettingsFault → Type 0
+IsRefused refuses fault (Err found) = found ≡ fault
+IsRefused refuses fault (Ok settings) = refuses settings (IsOfSettings fault)
+
 -- the settings in front of the input were refused, and what was written is their fault
-pub record RefusedScript (input old new : Option (List ℕ)) : Type 0 where
+pub record RefusedScript (refuses : SettingsValues → BeginFault → Type 0) (input old new : Option (List ℕ)) : Type 0 where
   pub fault : SettingsFault
-  pub refused : IfKnown input (λ bytes. settings_in (lines_of bytes) ≡ Err fault)
+  pub refused : IfKnown input (λ bytes. IsRefused refuses fault (settings_in (lines_of bytes)))
   pub wrote : Appends old new (settings_line fault)
 
 -- the settings in front of the input were refused, and a front of their fault was written
-pub record RefusedShort (input old new : Option (List ℕ)) : Type 0 where
+pub record RefusedShort (refuses : SettingsValues → BeginFault → Type 0) (input old new : Option (List ℕ)) : Type 0 where
   pub fault : SettingsFault
-  pub refused : IfKnown input (λ bytes. settings_in (lines_of bytes) ≡ Err fault)
+  pub refused : IfKnown input (λ bytes. IsRefused refuses fault (settings_in (lines_of bytes)))
   pub wrote : WroteFront old new (settings_line fault)
+
+-- the settings in front of the input were accepted, and for this reason no session was begun with them. Nothing was written
+pub record Unbegun (refuses : SettingsValues → BeginFault → Type 0) (fault : BeginFault) (input old new : Option (List ℕ)) : Type 0 where
+  pub settings : SettingsValues
+  pub accepted : IfKnown input (λ bytes. settings_in (lines_of bytes) ≡ Ok settings)
+  pub refused : refuses settings fault
+  pub unwritten : new ≡ old

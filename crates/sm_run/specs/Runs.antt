@@ -6,9 +6,10 @@ use Rattle.sm_lines.specs.Lines.{lines_of}
 use Rattle.sm_lines.specs.declared.TheConstants.{PIECE}
 use Rattle.sm_lines.specs.declared.watch.TheConstants.{COUNT_LIMIT}
 use Rattle.sm_settings.specs.SettingsLine.{SettingsValues, settings_of}
-use Rattle.sm_lines.specs.declared.answer_fault.AnswerFault.{AnswerFault}
+use Rattle.sm_run.specs.declared.begin_fault.BeginFault.{BeginFault}
+use Rattle.sm_run.specs.declared.run_fault.RunFault.{RunFault}
+use Rattle.sm_run.specs.declared.run_fault.RunFault.TheVariants.{Read, Write, NoMemory, NoThread}
 use Rattle.sm_run.specs.declared.status.Status.{Status}
-use Rattle.sm_lines.specs.declared.answer_fault.AnswerFault.TheVariants.{Read, Write, NoMemory}
 use Rattle.sm_run.specs.Openings.{IfKnown, RefusedShort}
 
 -- ---- a run that ended
@@ -81,11 +82,12 @@ pub record StoppedWriting (writes : List (List ℕ) → List ℕ → Type 0) (in
   pub count : ℕ
   pub wrote : Appends old new (text ++ take count answer)
 
--- how a run stopped early, where `writes` says what has to be written before it comes to a line: where reading stopped, for
--- all lines that were read whole; where memory was refused, for all before one; and where writing failed, for all before one,
--- and then a front of that one's answer
-pub record StoppedEarly (writes : List (List ℕ) → List ℕ → Type 0) (result : Result Status AnswerFault) (failed : Bool) (calls : ℕ)
-    (input left old new : Option (List ℕ)) : Type 0 where
+-- how a run stopped early, where `writes` says what has to be written before it comes to a line, and `refuses` which settings no
+-- session is begun with: where reading stopped, for all lines that were read whole; where memory or a thread was refused, for all
+-- before one; and where writing failed, for all before one, and then a front of that one's answer
+pub record StoppedEarly (refuses : SettingsValues → BeginFault → Type 0) (writes : List (List ℕ) → List ℕ → Type 0) (result : Result Status RunFault)
+    (failed : Bool) (calls : ℕ) (input left old new : Option (List ℕ)) : Type 0 where
   pub read : result ≡ Err Read → StoppedReading writes failed calls input left old new
   pub no_memory : result ≡ Err NoMemory → StoppedAt writes input left old new
-  pub write : result ≡ Err Write → StoppedWriting writes input old new ⊎ RefusedShort input old new
+  pub no_thread : result ≡ Err NoThread → StoppedAt writes input left old new
+  pub write : result ≡ Err Write → StoppedWriting writes input old new ⊎ RefusedShort refuses input old new

@@ -4,12 +4,12 @@ use Rattle.sm_lines.specs.Reading.{CallsFit}
 use Rattle.sm_lines.specs.declared.TheConstants.{PIECE}
 use Rattle.sm_lines.specs.declared.watch.TheConstants.{COUNT_LIMIT}
 use Rattle.sm_lines.specs.declared.watch.Watched.{Watched}
-use Rattle.sm_lines.specs.declared.answer_fault.AnswerFault.{AnswerFault}
-use Rattle.sm_lines.specs.declared.answer_fault.AnswerFault.TheVariants.{Read, Write}
+use Rattle.sm_run.specs.declared.run_fault.RunFault.{RunFault}
+use Rattle.sm_run.specs.declared.run_fault.RunFault.TheVariants.{Read, Write}
 use Rattle.sm_run.specs.declared.status.Status.{Status}
 
 -- the reader before and after the run, and the writer: `remaining` are the bytes that a reader has left
-pub record KeepsWatch {R W : Type 0} (remaining : R → Option (List ℕ)) (result : Result Status AnswerFault)
+pub record KeepsWatch {R W : Type 0} (remaining : R → Option (List ℕ)) (result : Result Status RunFault)
     (reader left : Watched R) (writer wrote : Watched W) : Type 0 where
   -- `Write` comes only where the writer failed
   pub write_failed : result ≡ Err Write → wrote.failed ≡ true

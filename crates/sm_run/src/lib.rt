@@ -10,15 +10,16 @@
 //! ```
 #![tactic(auto)]
 
+mod begin_fault;
 mod engine;
 mod opening;
+mod run_fault;
 mod running;
 mod status;
 
+pub use begin_fault::BeginFault;
 pub use engine::Engine;
 pub use opening::Opening;
+pub use run_fault::RunFault;
 pub use running::run;
-/// Why a run ended early. The answers to all lines before the one at which it did were written whole; of that line's answer a
-/// front may have been written where writing failed, and nothing otherwise.
-pub use sm_lines::AnswerFault as RunFault;
 pub use status::Status;

@@ -38,6 +38,7 @@ pub(crate) fn open<R: Read>(
         (R.remaining reader.old.inner)) (unread lines.new (R.remaining reader.new.inner)) [] }
     ensures piece { length lines.new.held ≤ PIECE }
     ensures write { result ≢ Err RunFault.Write }
+    ensures no_thread { result ≢ Err RunFault.NoThread }
     ensures unfailed { result ≢ Err RunFault.Read → reader.new.failed ≡ reader.old.failed }
     ensures calls { OnOk result (CallsFit lines.old.ended lines.new.ended
         (R.remaining reader.old.inner) (R.remaining reader.new.inner)
@@ -87,6 +88,7 @@ pub(crate) fn refuse<W: Write>(
     ensures unfailed { OnOk result (writer.new.failed ≡ writer.old.failed) }
     ensures no_memory { result ≡ Err RunFault.NoMemory → writer.new ≡ writer.old }
     ensures read { result ≢ Err RunFault.Read }
+    ensures no_thread { result ≢ Err RunFault.NoThread }
 {
     match settings_text(alloc, fault) {
         Ok(text) => match write_whole(writer, &text) {

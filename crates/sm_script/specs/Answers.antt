@@ -22,9 +22,11 @@ use Rattle.sm_ranges.specs.Stand.{other_of, owner_of}
 use Rattle.sm_ranges.specs.declared.stand.Stand.{Stand}
 use Rattle.sm_ranges.specs.declared.stand.Stand.TheVariants.{Vacant, Serving, Prepared, Forwarding, Taken, Paused}
 use Rattle.sm_script.specs.declared.answer.Answer.{Answer}
-use Rattle.sm_script.specs.declared.answer.Answer.TheVariants.{Made, Refused as IsRefused, Seen, Executed, Planned, Way, Error}
+use Rattle.sm_script.specs.declared.answer.Answer.TheVariants.{Made, Refused as IsRefused, Seen, Executed, Planned, Loaded, Way, Error}
 use Rattle.sm_script.specs.declared.fault.LineFault.{LineFault}
 use Rattle.sm_script.specs.declared.fault.LineFault.TheVariants.{LineTooLong, UnknownWord, BadLine, BadNumber, BadKey, NotHere}
+use Rattle.sm_script.specs.declared.load_verdict.LoadVerdict.{LoadVerdict}
+use Rattle.sm_script.specs.declared.load_verdict.LoadVerdict.TheVariants.{Agrees, Unknown, Differs}
 use Rattle.sm_script.specs.declared.refused.Refused.{Refused}
 use Rattle.sm_script.specs.declared.refused.Refused.TheVariants as refused
 use Rattle.sm_service.specs.declared.reply.Reply.{Reply}
@@ -95,6 +97,9 @@ refused_name refused.NotHeld = codes "NotHeld"
 refused_name refused.OldRoute = codes "OldRoute"
 refused_name refused.WrongPhase = codes "WrongPhase"
 refused_name refused.NoRoute = codes "NoRoute"
+refused_name refused.WrongShard = codes "WrongShard"
+refused_name refused.Raced = codes "Raced"
+refused_name refused.Closed = codes "Closed"
 refused_name (refused.Command fault) = command_fault_name fault
 refused_name (refused.Admit fault) = admit_fault_name fault
 refused_name (refused.Request refusal) = refusal_name refusal
@@ -189,6 +194,12 @@ all_left_text shards = codes " left" ++ flat_map left_text shards
 abbrev pub plan_text : PlanView → List ℕ
 plan_text plan = moves_text plan.moves ++ all_left_text plan.left
 
+-- what the counts of a load say
+abbrev pub load_verdict_name : LoadVerdict → List ℕ
+load_verdict_name Agrees = codes "ok"
+load_verdict_name Unknown = codes "unknown"
+load_verdict_name Differs = codes "wrong"
+
 -- the answer to a line
 abbrev pub answer_text : Answer → List ℕ
 answer_text Made = codes "ok"
@@ -197,4 +208,5 @@ answer_text (Planned plan) = plan_text plan
 answer_text (Seen state) = record_text state
 answer_text (Executed reply server place) = reply_text reply ++ place_text server place
 answer_text (Way route) = way_text route
+answer_text (Loaded verdict) = codes "load " ++ load_verdict_name verdict
 answer_text (Error fault) = codes "error " ++ line_fault_name fault

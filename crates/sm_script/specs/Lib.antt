@@ -1,5 +1,6 @@
 pub mod Answers
 pub mod Grammar
 pub mod Lines
+pub mod LoadClients
 pub mod Numbers
 pub mod Words

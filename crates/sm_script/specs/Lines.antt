@@ -19,7 +19,7 @@ use Rattle.sm_script.specs.declared.fault.ParseFault.TheVariants.{Line, NoMemory
 use Rattle.sm_script.specs.declared.line.TheConstants.{MAX_LINE}
 use Rattle.sm_script.specs.declared.shape.Shape.TheVariants.{Server}
 use Rattle.sm_script.specs.declared.word.Word.{Word}
-use Rattle.sm_script.specs.declared.word.Word.TheVariants.{Assign, PrepareAdd, PrepareDrop, Add, Drop, Cancel, Pause, Resume, Reassign, Ask, Approve, Stopped, Back, Fail, Place, Drain, Hold, Free, Checkpoint, Publish, Route, Look, Get, Put, Append, Inc, Del, Scan}
+use Rattle.sm_script.specs.declared.word.Word.TheVariants.{Assign, PrepareAdd, PrepareDrop, Add, Drop, Cancel, Pause, Resume, Reassign, Ask, Approve, Stopped, Back, Fail, Place, Drain, Hold, Free, Checkpoint, Publish, Route, Load, Look, Get, Put, Append, Inc, Del, Scan}
 use Rattle.sm_service.specs.declared.request.Request.{Request}
 use Rattle.sm_service.specs.declared.request.Request.TheVariants.{Get as GetRequest, Put as PutRequest, Append as AppendRequest}
 use Rattle.sm_service.specs.declared.request.Request.TheVariants.{Inc as IncRequest, Del as DelRequest, Scan as ScanRequest}
@@ -64,6 +64,7 @@ call_with Free (shard ∷ []) = Ok (call.Free (number shard))
 call_with Checkpoint (shard ∷ server ∷ []) = Ok (call.Checkpoint (number shard) (number server))
 call_with Publish (shard ∷ []) = Ok (call.Publish (number shard))
 call_with Route (key ∷ []) = Ok (call.Route key)
+call_with Load (key ∷ clients ∷ each ∷ []) = Ok (call.Load key (number clients) (number each))
 call_with Look (shard ∷ []) = Ok (call.Look (number shard))
 call_with Ask (server ∷ []) = Ok (call.Control (command.Ask (number server)))
 call_with Approve (server ∷ []) = Ok (call.Control (command.Approve (number server)))
@@ -134,6 +135,7 @@ has_request (call.Request request) = true
 has_request (call.RequestAt server request) = true
 has_request (call.RequestByRoute request) = true
 has_request (call.Route key) = true
+has_request (call.Load key clients each) = true
 has_request _ = false
 
 -- why there is no request: the fault, or want of memory for it

@@ -3,6 +3,7 @@ ghost use Rattle.sm_script.specs.Answers.{numbered, refused_name, refused_number
 
 use crate::append::append_all;
 use crate::fault::LineFault;
+use crate::load_verdict::LoadVerdict;
 use crate::plan::append_plan;
 use crate::record::append_record;
 use crate::refused::Refused;
@@ -36,6 +37,8 @@ pub enum Answer {
     Planned(Plan),
     /// The published route of a key's shard, where there is one.
     Way(Option<Route>),
+    /// What came of clients that added to one count at the same time.
+    Loaded(LoadVerdict),
     /// The line made no call.
     Error(LineFault),
 }
@@ -60,6 +63,7 @@ impl Answer {
             Answer::Planned(plan) => append_plan(out, plan),
             Answer::Way(Some(route)) => append_route(out, route),
             Answer::Way(None) => append_all(out, &[b"none"]),
+            Answer::Loaded(verdict) => append_all(out, &[b"load ", verdict.name().as_bytes()]),
             Answer::Error(fault) => append_all(out, &[b"error ", fault.name().as_bytes()]),
         }
     }

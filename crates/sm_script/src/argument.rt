@@ -1,9 +1,11 @@
 ghost use Rattle.std.specs.Prelude.{◌≡◌, IfOk, IsTrue};
 ghost use Rattle.sm_script.specs.Grammar.{takes_word};
 ghost use Rattle.sm_script.specs.Numbers.{number};
-ghost use Rattle.sm_script.specs.declared.shape.Shape.TheVariants.{Shard, Server, Key as KeyShape};
+ghost use Rattle.sm_script.specs.declared.shape.Shape.TheVariants.{Shard, Server, Clients, Key as KeyShape};
 
+use crate::load_clients::LoadClients;
 use crate::number::number_between;
+use crate::shape::MAX_CLIENTS;
 use sm_ranges::key::{Key, KeyFault};
 use sm_ranges::limits::{MAX_SERVER, MAX_SHARD};
 use sm_ranges::server_id::ServerId;
@@ -24,6 +26,14 @@ pub(crate) fn server(word: &[u8]) -> ServerId
     ensures { result ≡ number word.now }
 {
     ServerId::new(number_between(word, 1, u64::from(MAX_SERVER)).unwrap() as u16).unwrap()
+}
+
+/// How many clients the word says that a load has.
+pub(crate) fn clients(word: &[u8]) -> LoadClients
+    requires { IsTrue (takes_word Clients word.now) }
+    ensures { result ≡ number word.now }
+{
+    LoadClients::new(number_between(word, 1, MAX_CLIENTS).unwrap() as u8).unwrap()
 }
 
 /// The key that the word is.

@@ -1,3 +1,4 @@
+use crate::load_clients::LoadClients;
 use sm_desk::command::Command;
 use sm_ownership::change::Change;
 use sm_ranges::key::Key;
@@ -23,6 +24,12 @@ pub enum Call {
     Route(Key),
     /// `look K`: the shard's record.
     Look(ShardId),
+    /// `load KEY C N`: so many clients that add to the key's count at the same time, so many times each.
+    Load {
+        key: Key,
+        clients: LoadClients,
+        each: u16,
+    },
     /// `place`: a plan for the shards without an owner.
     Place,
     /// `drain A`: a plan for the shards that the server serves.

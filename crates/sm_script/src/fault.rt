@@ -19,7 +19,7 @@ pub enum LineFault {
     BadNumber,
     /// A key has no byte, or more than 255.
     BadKey,
-    /// The line is right, and this program doesn't run it.
+    /// The line is right, and this engine doesn't run it.
     NotHere,
 }
 

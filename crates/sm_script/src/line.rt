@@ -2,13 +2,14 @@ ghost use Rattle.std.specs.Prelude.{◌≡◌, ◌<◌, ℕ, List, [], ◌∷◌
 ghost use Rattle.sm_script.specs.Grammar.{takes_word, arguments_fault, shapes_of, word_among, first_words};
 ghost use Rattle.sm_script.specs.Lines.{call_with, at_server, at_call, client_call, client_request, plain_call, call_of_words, has_no_answer, call_of_line, IsFaultIn, IsFaultOf, meaning_if_long};
 ghost use Rattle.sm_script.specs.declared.shape.Shape.TheVariants.{Shard, Server};
-ghost use Rattle.sm_script.specs.declared.word.Word.TheVariants.{Route};
+ghost use Rattle.sm_script.specs.declared.word.Word.TheVariants.{Load, Route};
 
-use crate::argument::{key, server, shard};
+use crate::argument::{clients, key, server, shard};
 use crate::call::Call;
 use crate::fault::{LineFault, ParseFault};
+use crate::number::number_between;
 use crate::request::request_with;
-use crate::shape::{Shape, arguments_fault, first_fault, takes_as_many};
+use crate::shape::{MAX_EACH, Shape, arguments_fault, first_fault, takes_as_many};
 use crate::word::Word;
 use crate::words::Words;
 use sm_desk::command::Command;
@@ -84,6 +85,21 @@ fn route_call(alloc: Global, mut words: Words) -> Result<Call, AllocError>
     Ok(Call::Route(key))
 }
 
+// `load KEY C N`.
+fn load_call(alloc: Global, mut words: Words) -> Result<Call, AllocError>
+    requires { arguments_fault (shapes_of Load) words ≡ None }
+    ensures { IfOk result (λ call. call_with Load words.entry ≡ Ok call) }
+{
+    let key = key(alloc, words.next().unwrap())?;
+    let clients = clients(words.next().unwrap());
+    let each = number_between(words.next().unwrap(), 1, MAX_EACH).unwrap();
+    Ok(Call::Load {
+        key,
+        clients,
+        each: each as u16,
+    })
+}
+
 // The call of a word and the words after it, which are right.
 fn call_with(alloc: Global, word: Word, words: Words) -> Result<Call, ParseFault>
     requires { arguments_fault (shapes_of word) words ≡ None }
@@ -108,6 +124,7 @@ fn call_with(alloc: Global, word: Word, words: Words) -> Result<Call, ParseFault
         ),
         Word::Place => Ok(Call::Place),
         Word::Route => Ok(route_call(alloc, words)?),
+        Word::Load => Ok(load_call(alloc, words)?),
         _ => Ok(Call::Request(request_with(alloc, word, words)?)),
     }
 }

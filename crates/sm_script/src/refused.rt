@@ -25,6 +25,12 @@ pub enum Refused {
     WrongPhase,
     /// A client goes by the published route of its key's shard, and there is none.
     NoRoute,
+    /// The key is no key of the shard to which its request came.
+    WrongShard,
+    /// Another thread changed the shard's record first.
+    Raced,
+    /// The request was let go with no reply.
+    Closed,
     /// Why a command of the control was refused.
     Command(CommandFault),
     /// Why a server was not admitted to a shard.
@@ -48,6 +54,9 @@ impl Refused {
             Refused::OldRoute => "OldRoute",
             Refused::WrongPhase => "WrongPhase",
             Refused::NoRoute => "NoRoute",
+            Refused::WrongShard => "WrongShard",
+            Refused::Raced => "Raced",
+            Refused::Closed => "Closed",
             Refused::Command(fault) => command_fault_name(fault),
             Refused::Admit(fault) => admit_fault_name(fault),
             Refused::Request(refusal) => refusal_name(refusal),

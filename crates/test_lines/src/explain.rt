@@ -1,35 +1,14 @@
 //! Telling why lines and settings are refused.
 
-use crate::lines::Echo;
-use crate::run::script_of;
+// It answers each line by itself, so that a line may say what it is answered.
+use crate::run::{EchoEngine as Repeating, script_of};
 use sm_explain::{Beginning, Console, Explained, Listener};
 use sm_lines::Watched;
-use sm_run::{Engine, Status, run};
-use sm_settings::Settings;
-use std::alloc::AllocError;
+use sm_run::{Status, run};
+use std::alloc::Global;
 use std::cell::Cell;
 use std::io::Write;
 use std::test::Fail;
-
-/// Answers each line by itself, so that a line may say what it is answered.
-#[derive(Drop)]
-struct Repeating;
-
-impl Engine for Repeating {
-    ghost use Rattle.std.specs.Prelude.{⊤};
-
-    type Session = Echo;
-
-    const MAX_LINE: usize = 20;
-
-    ghost MAX_LINE = { 20 };
-
-    ghost begins = { λ _ _. ⊤ };
-
-    fn begin(&mut self, _settings: Settings) -> Result<Echo, AllocError> {
-        Ok(Echo)
-    }
-}
 
 /// Keeps of what it hears the number of the last line.
 #[derive(Drop)]
@@ -61,29 +40,34 @@ fn explained_run_answers_alike(rt: HostRuntime) -> Result<(), Fail> {
     Ok(())
 }
 
-#[test]
-fn listener_hears_line_numbers(rt: HostRuntime) -> Result<(), Fail> {
-    let alloc = rt.alloc();
-    let script = script_of(alloc, LINES)?;
+// The number of the last line that a listener heard, where the script ran to its end.
+fn last_line_heard(alloc: Global, script: &[u8]) -> Option<u64> {
     let listener = LastLine {
         number: Cell::new(0),
     };
-    let mut reader = Watched::new(script.as_slice());
+    let mut reader = Watched::new(script);
     let mut writer = Watched::new(Vec::new(alloc));
     let mut engine = Explained::new(Repeating, &listener);
-    let _status = run(alloc, &mut reader, &mut writer, &mut engine)?;
-    assert_eq!(rt; listener.number.get(), 5);
-    Ok(())
+    match run(alloc, &mut reader, &mut writer, &mut engine) {
+        Ok(_) => Some(listener.number.get()),
+        Err(_) => None,
+    }
 }
 
 #[test]
-fn beginning_keeps_the_answer_to_settings(rt: HostRuntime) -> Result<(), Fail> {
-    let alloc = rt.alloc();
-    let mut refused = Beginning::new(alloc, Vec::new(alloc));
-    refused.write(b"settings BadOps\n")?;
-    assert!(rt; refused.settings_fault() == Some("BadOps"));
-    let mut accepted = Beginning::new(alloc, Vec::new(alloc));
-    accepted.write(b"ok\nsettings BadOps\n")?;
-    assert!(rt; accepted.settings_fault().is_none());
-    Ok(())
+fn listener_hears_line_numbers(rt: HostRuntime) {
+    let script = script_of(rt.alloc(), LINES).ok().expect(&rt, "memory");
+    assert!(rt; last_line_heard(rt.alloc(), &script) == Some(5));
+}
+
+// What a beginning holds of these bytes says of the settings' fault.
+fn is_fault_of(alloc: Global, bytes: &[u8], fault: Option<&str>) -> bool {
+    let mut beginning = Beginning::new(alloc, Vec::new(alloc));
+    beginning.write(bytes).is_ok() && beginning.settings_fault() == fault
+}
+
+#[test]
+fn beginning_keeps_the_answer_to_settings(rt: HostRuntime) {
+    assert!(rt; is_fault_of(rt.alloc(), b"settings BadOps\n", Some("BadOps")));
+    assert!(rt; is_fault_of(rt.alloc(), b"ok\nsettings BadOps\n", None));
 }

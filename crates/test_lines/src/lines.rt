@@ -47,9 +47,20 @@ fn answer<R: Read + Drop>(
     answer_lines(alloc, &mut lines, &mut reader, &mut writer, &mut Echo, 4)
 }
 
+/// Whether all lines of the reader are answered by these texts, where the writer takes so many pieces of two bytes.
+fn is_answered<R: Read + Drop>(
+    alloc: Global,
+    inner: R,
+    writes: usize,
+    end: Result<(), AnswerFault>,
+    want: &[u8],
+) -> bool {
+    let mut written = Vec::new(alloc);
+    answer(alloc, inner, &mut written, writes) == end && written.as_slice() == want
+}
+
 #[test]
-fn answers_each_line(rt: HostRuntime) -> Result<(), Fail> {
-    let alloc = rt.alloc();
+fn answers_each_line(rt: HostRuntime) {
     let cases: [(&[u8], &[u8]); 9] = [
         (b"", b""),
         (b"\n", b"\n"),
@@ -62,56 +73,49 @@ fn answers_each_line(rt: HostRuntime) -> Result<(), Fail> {
         (b"\xff\x00\n\xfe", b"\xff\x00\n\xfe\n"),
     ];
     for (input, want) in cases {
-        let mut whole = Vec::new(alloc);
-        assert!(rt; answer(alloc, input, &mut whole, 1000) == Ok(()));
-        assert!(rt; whole.as_slice() == want);
-        let mut by_byte = Vec::new(alloc);
-        assert!(rt; answer(alloc, FailingReader::new(input, 1000), &mut by_byte, 1000) == Ok(()));
-        assert!(rt; by_byte.as_slice() == want);
+        let by_byte = FailingReader::new(input, 1000);
+        assert!(rt; is_answered(rt.alloc(), input, 1000, Ok(()), want));
+        assert!(rt; is_answered(rt.alloc(), by_byte, 1000, Ok(()), want));
     }
-    Ok(())
 }
 
 #[test]
-fn stops_where_the_reader_fails(rt: HostRuntime) -> Result<(), Fail> {
-    let alloc = rt.alloc();
-    let cases: [(usize, &[u8]); 6] = [
-        (0, b""),
-        (3, b""),
-        (4, b"one\n"),
-        (5, b"one\n\n"),
-        (9, b"one\n\n"),
-        (12, b"one\n\nlong thre\n"),
+fn stops_where_the_reader_fails(rt: HostRuntime) {
+    // In the last case there are fifteen bytes and the end, which is read once.
+    let cases: [(usize, Result<(), AnswerFault>, &[u8]); 7] = [
+        (0, Err(AnswerFault::Read), b""),
+        (3, Err(AnswerFault::Read), b""),
+        (4, Err(AnswerFault::Read), b"one\n"),
+        (5, Err(AnswerFault::Read), b"one\n\n"),
+        (9, Err(AnswerFault::Read), b"one\n\n"),
+        (12, Err(AnswerFault::Read), b"one\n\nlong thre\n"),
+        (16, Ok(()), b"one\n\nlong thre\nend\n"),
     ];
-    let bytes = b"one\n\nthree!\nend";
-    for (left, want) in cases {
-        let mut written = Vec::new(alloc);
-        let result = answer(alloc, FailingReader::new(bytes, left), &mut written, 1000);
-        assert!(rt; result == Err(AnswerFault::Read));
-        assert!(rt; written.as_slice() == want, "at {left}");
+    for (left, end, want) in cases {
+        let reader = FailingReader::new(b"one\n\nthree!\nend", left);
+        assert!(rt;
+            is_answered(rt.alloc(), reader, 1000, end, want),
+            "at {left}"
+        );
     }
-    // Fifteen bytes and the end, which is read once.
-    let mut written = Vec::new(alloc);
-    assert!(rt; answer(alloc, FailingReader::new(bytes, 16), &mut written, 1000) == Ok(()));
-    assert!(rt; written.as_slice() == b"one\n\nlong thre\nend\n".as_slice());
-    Ok(())
 }
 
 #[test]
-fn stops_where_the_writer_fails(rt: HostRuntime) -> Result<(), Fail> {
-    let alloc = rt.alloc();
-    let all = b"one\ntwo\n";
-    for writes in 0..4 {
-        let mut written = Vec::new(alloc);
-        let result = answer(alloc, all.as_slice(), &mut written, writes);
-        assert!(rt; result == Err(AnswerFault::Write));
-        assert!(rt; all.starts_with(written.as_slice()));
-        assert!(rt; written.len() == 2 * writes);
+fn stops_where_the_writer_fails(rt: HostRuntime) {
+    let cases: [(usize, Result<(), AnswerFault>, &[u8]); 5] = [
+        (0, Err(AnswerFault::Write), b""),
+        (1, Err(AnswerFault::Write), b"on"),
+        (2, Err(AnswerFault::Write), b"one\n"),
+        (3, Err(AnswerFault::Write), b"one\ntw"),
+        (4, Ok(()), b"one\ntwo\n"),
+    ];
+    for (writes, end, want) in cases {
+        let reader = b"one\ntwo\n".as_slice();
+        assert!(rt;
+            is_answered(rt.alloc(), reader, writes, end, want),
+            "at {writes}"
+        );
     }
-    let mut written = Vec::new(alloc);
-    assert!(rt; answer(alloc, all.as_slice(), &mut written, 4) == Ok(()));
-    assert!(rt; written.as_slice() == all.as_slice());
-    Ok(())
 }
 
 /// A line of so many bytes, and its line feed.

@@ -1,8 +1,8 @@
 //! Settings lines.
 
-use sm_rows::{DomainRow, GroupRow, ShardRow};
+use sm_rows::{DomainRow, GroupRow, ServerRow, ShardRow};
 use sm_settings::{MAX_SETTINGS, Settings, SettingsFault};
-use std::alloc::Global;
+use std::alloc::{AllocError, Global};
 use std::process::Abort;
 use std::test::Fail;
 
@@ -10,12 +10,15 @@ pub(crate) const PLAIN: &str =
     r#"{"version":1,"bounds":["","m"],"servers":[{"id":1,"domain":0,"capacity":2},{"id":2,"domain":1,"capacity":2},{"id":3,"domain":1,"capacity":2}],"groups":[{"limit":2,"down":1}],"shards":[{"group":0,"load":1,"cap":0},{"group":0,"load":1,"cap":1}],"ops":1,"kept":100,"ceiling":1000,"workers":2}"#;
 
 /// The plain line with the first `old` in it changed to `new`.
-fn changed(alloc: Global, old: &str, new: &str) -> Result<Vec<u8>, Fail> {
-    let (front, back) = PLAIN.split_once(old).ok_or("not in the plain line")?;
-    let mut line = Vec::from_slice(alloc, front.as_bytes())?;
-    line.extend_from_slice(new.as_bytes())?;
-    line.extend_from_slice(back.as_bytes())?;
-    Ok(line)
+fn changed(rt: &impl Abort, alloc: Global, old: &str, new: &str) -> String {
+    let (front, back) = PLAIN.split_once(old).expect(rt, "not in the plain line");
+    let line = format!(in alloc; "{front}{new}{back}");
+    line.ok().expect(rt, "memory")
+}
+
+/// The fault of the plain line with the first `old` in it changed to `new`.
+fn fault_with(rt: &impl Abort, alloc: Global, old: &str, new: &str) -> Option<SettingsFault> {
+    fault_of(alloc, changed(rt, alloc, old, new).as_bytes())
 }
 
 fn fault_of(alloc: Global, line: &[u8]) -> Option<SettingsFault> {
@@ -23,16 +26,31 @@ fn fault_of(alloc: Global, line: &[u8]) -> Option<SettingsFault> {
 }
 
 /// The plain line with each first text changed to the second is refused with the third.
-fn refuses(rt: &impl Abort, alloc: Global, cases: &[(&str, &str, &str)]) -> Result<(), Fail> {
+fn refuses(rt: &impl Abort, alloc: Global, cases: &[(&str, &str, SettingsFault)]) {
     for (old, new, fault) in cases {
-        let line = changed(alloc, old, new)?;
-        assert_eq!(rt;
-            fault_of(alloc, &line).map(SettingsFault::as_str),
-            Some(*fault),
-            "at {new}"
-        );
+        assert!(rt; fault_with(rt, alloc, old, new) == Some(*fault), "at {new}");
     }
-    Ok(())
+}
+
+// Whether it is the row of the server with this number, in this domain.
+fn is_server(row: Option<&ServerRow>, id: u16, domain: u16) -> bool {
+    match row {
+        Some(row) => row.id.number() == id && row.domain == domain && row.capacity == 2,
+        None => false,
+    }
+}
+
+// Whether the rows are those of servers 1 to 3, the first of which is in a domain of its own.
+fn are_plain_servers(rows: &[ServerRow]) -> bool {
+    is_server(rows.get(0), 1, 0) && is_server(rows.get(1), 2, 1) && is_server(rows.get(2), 3, 1)
+}
+
+fn shard_row(cap: u8) -> ShardRow {
+    ShardRow {
+        group: 0,
+        load: 1,
+        cap,
+    }
 }
 
 #[test]
@@ -40,138 +58,137 @@ fn plain_line_gives_its_values(rt: HostRuntime) -> Result<(), Fail> {
     let settings = Settings::read(rt.alloc(), PLAIN.as_bytes())?;
     assert_eq!(rt; settings.layout.count(), 2);
     assert_eq!(rt; settings.servers.len(), 3);
-    for (row, (id, domain)) in settings.servers.iter().zip([(1u16, 0u16), (2, 1), (3, 1)]) {
-        assert_eq!(rt;
-            (row.id.number(), row.domain, row.capacity),
-            (id, domain, 2)
-        );
-    }
-    assert_eq!(rt;
-        settings.groups.as_slice(),
-        [GroupRow { limit: 2, down: 1 }].as_slice()
-    );
-    let shard = ShardRow {
-        group: 0,
-        load: 1,
-        cap: 0,
-    };
-    assert_eq!(rt;
-        settings.shards.as_slice(),
-        [shard, ShardRow { cap: 1, ..shard }].as_slice()
-    );
-    assert_eq!(rt;
-        (
-            settings.ops,
-            settings.kept,
-            settings.ceiling,
-            settings.workers
-        ),
-        (1, 100, 1000, 2)
-    );
+    assert!(rt; has_plain_rows(&settings));
+    assert!(rt; settings.ops == 1 && settings.kept == 100);
+    assert!(rt; settings.ceiling == 1000 && settings.workers == 2);
     Ok(())
 }
 
+fn has_plain_rows(settings: &Settings) -> bool {
+    let groups = [GroupRow { limit: 2, down: 1 }];
+    are_plain_servers(&settings.servers)
+        && settings.groups.as_slice() == groups.as_slice()
+        && settings.shards.as_slice() == [shard_row(0), shard_row(1)].as_slice()
+}
+
 #[test]
-fn each_rule_has_its_fault(rt: HostRuntime) -> Result<(), Fail> {
+fn each_rule_has_its_fault(rt: HostRuntime) {
     let cases = [
-        ("2}]", "2}", "BadJson"),
-        ("\"version\":1", "\"version\":3", "BadVersion"),
-        ("\"workers\":2", "\"workers\":2,\"domains\":[]", "BadShape"),
-        ("\"cap\":1", "\"cap\":true", "BadShape"),
-        ("\"\",\"m\"", "\"m\",\"\"", "BadLayout"),
-        ("\"id\":3", "\"id\":2", "BadServers"),
-        ("\"id\":3", "\"id\":4096", "BadServers"),
-        ("\"limit\":2", "\"limit\":4097", "BadGroups"),
-        ("\"group\":0", "\"group\":1", "BadShards"),
-        ("\"cap\":1", "\"cap\":2", "BadShards"),
-        ("\"ops\":1", "\"ops\":4096", "BadOps"),
-        ("\"kept\":100", "\"kept\":0", "BadKept"),
-        ("\"ceiling\":1000", "\"ceiling\":68719476736", "BadCeiling"),
-        ("\"workers\":2", "\"workers\":9", "BadWorkers"),
-        ("\"version\":1", "\"version\":2", "BadShape"),
+        ("2}]", "2}", SettingsFault::BadJson),
+        ("\"version\":1", "\"version\":3", SettingsFault::BadVersion),
+        (
+            "\"workers\":2",
+            "\"workers\":2,\"domains\":[]",
+            SettingsFault::BadShape,
+        ),
+        ("\"cap\":1", "\"cap\":true", SettingsFault::BadShape),
+        ("\"\",\"m\"", "\"m\",\"\"", SettingsFault::BadLayout),
+        ("\"id\":3", "\"id\":2", SettingsFault::BadServers),
+        ("\"id\":3", "\"id\":4096", SettingsFault::BadServers),
+        ("\"limit\":2", "\"limit\":4097", SettingsFault::BadGroups),
+        ("\"group\":0", "\"group\":1", SettingsFault::BadShards),
+        ("\"cap\":1", "\"cap\":2", SettingsFault::BadShards),
+        ("\"ops\":1", "\"ops\":4096", SettingsFault::BadOps),
+        ("\"kept\":100", "\"kept\":0", SettingsFault::BadKept),
+        (
+            "\"ceiling\":1000",
+            "\"ceiling\":68719476736",
+            SettingsFault::BadCeiling,
+        ),
+        ("\"workers\":2", "\"workers\":9", SettingsFault::BadWorkers),
+        ("\"version\":1", "\"version\":2", SettingsFault::BadShape),
     ];
-    refuses(&rt, rt.alloc(), &cases)?;
-    assert_eq!(rt; fault_of(rt.alloc(), b""), Some(SettingsFault::BadJson));
-    Ok(())
+    refuses(&rt, rt.alloc(), &cases);
+    assert!(rt; fault_of(rt.alloc(), b"") == Some(SettingsFault::BadJson));
 }
 
 #[test]
-fn first_fault_is_told(rt: HostRuntime) -> Result<(), Fail> {
+fn first_fault_is_told(rt: HostRuntime) {
     let cases = [
         (
             "\"version\":1,\"bounds\"",
             "\"version\":3,\"limits\"",
-            "BadVersion",
+            SettingsFault::BadVersion,
         ),
-        ("\"\",\"m\"],", "\"m\"],\"rest\":0,", "BadShape"),
+        (
+            "\"\",\"m\"],",
+            "\"m\"],\"rest\":0,",
+            SettingsFault::BadShape,
+        ),
         (
             "\"m\"],\"servers\":[{\"id\":1",
             "\"\"],\"servers\":[{\"id\":0",
-            "BadLayout",
+            SettingsFault::BadLayout,
         ),
         (
             "\"id\":3,\"domain\":1,\"capacity\":2}],\"groups\":[{\"limit\":2",
             "\"id\":1,\"domain\":1,\"capacity\":2}],\"groups\":[{\"limit\":5000",
-            "BadServers",
+            SettingsFault::BadServers,
         ),
         (
             "\"down\":1}],\"shards\":[{\"group\":0",
             "\"down\":5000}],\"shards\":[{\"group\":1",
-            "BadGroups",
+            SettingsFault::BadGroups,
         ),
         (
             "\"cap\":1}],\"ops\":1",
             "\"cap\":2}],\"ops\":4096",
-            "BadShards",
+            SettingsFault::BadShards,
         ),
         (
             "\"ops\":1,\"kept\":100",
             "\"ops\":4096,\"kept\":0",
-            "BadOps",
+            SettingsFault::BadOps,
         ),
         (
             "\"kept\":100,\"ceiling\":1000",
             "\"kept\":0,\"ceiling\":2",
-            "BadKept",
+            SettingsFault::BadKept,
         ),
         (
             "\"ceiling\":1000,\"workers\":2",
             "\"ceiling\":2,\"workers\":0",
-            "BadCeiling",
+            SettingsFault::BadCeiling,
         ),
     ];
-    refuses(&rt, rt.alloc(), &cases)?;
-    Ok(())
+    refuses(&rt, rt.alloc(), &cases);
 }
 
 // The plain line as version 2, with these rows of domains.
-fn with_domains(alloc: Global, domains: &str) -> Result<Vec<u8>, Fail> {
-    let (_, rest) = PLAIN
-        .split_once("\"version\":1")
-        .ok_or("not in the plain line")?;
-    Ok(format!(in alloc; "{{\"domains\":{domains},\"version\":2{rest}")?.into_bytes())
+fn with_domains(rt: &impl Abort, alloc: Global, domains: &str) -> String {
+    let (_, rest) = PLAIN.split_once("\"version\":1").expect(rt, "a version");
+    let line = format!(in alloc; "{{\"domains\":{domains},\"version\":2{rest}");
+    line.ok().expect(rt, "memory")
+}
+
+// Whether the line's rows of domains are these.
+fn has_domains(alloc: Global, line: &str, rows: &[DomainRow]) -> bool {
+    match Settings::read(alloc, line.as_bytes()) {
+        Ok(settings) => settings.domains.as_slice() == rows,
+        Err(_) => false,
+    }
 }
 
 #[test]
-fn domains_come_with_version_2(rt: HostRuntime) -> Result<(), Fail> {
+fn domains_come_with_version_2(rt: HostRuntime) {
     let alloc = rt.alloc();
-    let line = with_domains(
-        alloc,
-        "[{\"domain\":0,\"down\":1},{\"domain\":1,\"down\":2}]",
-    )?;
-    let rows = [domain_row(0, 1), domain_row(1, 2)];
-    assert!(rt; Settings::read(alloc, &line)?.domains.as_slice() == rows.as_slice());
-    let rows = [domain_row(0, 4095), domain_row(1, 4095)];
-    assert!(rt; Settings::read(alloc, PLAIN.as_bytes())?.domains.as_slice() == rows.as_slice());
-    Ok(())
+    let domains = "[{\"domain\":0,\"down\":1},{\"domain\":1,\"down\":2}]";
+    let line = with_domains(&rt, alloc, domains);
+    assert!(rt; has_domains(alloc, &line, &[domain_row(0, 1), domain_row(1, 2)]));
+    assert!(rt; has_domains(alloc, PLAIN, &[domain_row(0, 4095), domain_row(1, 4095)]));
 }
 
 fn domain_row(domain: u16, down: u16) -> DomainRow {
     DomainRow { domain, down }
 }
 
+// The fault of the plain line as version 2, with these rows of domains.
+fn fault_of_domains(rt: &impl Abort, alloc: Global, domains: &str) -> Option<SettingsFault> {
+    fault_of(alloc, with_domains(rt, alloc, domains).as_bytes())
+}
+
 #[test]
-fn domains_keep_their_rule(rt: HostRuntime) -> Result<(), Fail> {
+fn domains_keep_their_rule(rt: HostRuntime) {
     let cases = [
         ("[{\"domain\":1,\"down\":1}]", SettingsFault::BadDomains),
         (
@@ -181,52 +198,61 @@ fn domains_keep_their_rule(rt: HostRuntime) -> Result<(), Fail> {
         ("[{\"domain\":0}]", SettingsFault::BadShape),
     ];
     for (domains, fault) in cases {
-        let line = with_domains(rt.alloc(), domains)?;
-        assert_eq!(rt; fault_of(rt.alloc(), &line), Some(fault), "at {domains}");
+        assert!(rt;
+            fault_of_domains(&rt, rt.alloc(), domains) == Some(fault),
+            "at {domains}"
+        );
     }
-    Ok(())
 }
 
 #[test]
-fn numbers_are_digits_alone(rt: HostRuntime) -> Result<(), Fail> {
+fn numbers_are_digits_alone(rt: HostRuntime) {
     let cases = [
-        ("1.0", SettingsFault::BadShape),
-        ("1e3", SettingsFault::BadShape),
-        ("-0", SettingsFault::BadShape),
-        ("18446744073709551616", SettingsFault::BadShape),
-        ("18446744073709551615", SettingsFault::BadKept),
-        ("01", SettingsFault::BadJson),
+        ("100", "1.0", SettingsFault::BadShape),
+        ("100", "1e3", SettingsFault::BadShape),
+        ("100", "-0", SettingsFault::BadShape),
+        ("100", "18446744073709551616", SettingsFault::BadShape),
+        ("100", "18446744073709551615", SettingsFault::BadKept),
+        ("100", "01", SettingsFault::BadJson),
+        (
+            "\"version\":1",
+            "\"version\":1.0",
+            SettingsFault::BadVersion,
+        ),
     ];
-    for (number, fault) in cases {
-        let line = changed(rt.alloc(), "100", number)?;
-        assert_eq!(rt; fault_of(rt.alloc(), &line), Some(fault), "at {number}");
-    }
-    let line = changed(rt.alloc(), "\"version\":1", "\"version\":1.0")?;
-    assert_eq!(rt;
-        fault_of(rt.alloc(), &line),
-        Some(SettingsFault::BadVersion)
-    );
-    Ok(())
+    refuses(&rt, rt.alloc(), &cases);
+}
+
+// The restarts that may go on at once, and the limit of a shard's kept requests, which the line gives; none where it is refused.
+fn ops_and_kept(alloc: Global, line: &[u8]) -> Option<(u16, u32)> {
+    let settings = Settings::read(alloc, line).ok()?;
+    Some((settings.ops, settings.kept))
 }
 
 #[test]
-fn last_of_equal_members_counts(rt: HostRuntime) -> Result<(), Fail> {
-    let line = changed(rt.alloc(), "\"ops\":1", "\"ops\":true,\"ops\":3")?;
-    assert_eq!(rt; Settings::read(rt.alloc(), &line)?.ops, 3);
-    let line = changed(rt.alloc(), "\"version\":1", "\"version\":1,\"version\":3")?;
-    assert_eq!(rt;
-        fault_of(rt.alloc(), &line),
-        Some(SettingsFault::BadVersion)
-    );
-    Ok(())
+fn last_of_equal_members_counts(rt: HostRuntime) {
+    let line = changed(&rt, rt.alloc(), "\"ops\":1", "\"ops\":true,\"ops\":3");
+    assert!(rt; ops_and_kept(rt.alloc(), line.as_bytes()) == Some((3, 100)));
+    let versions = "\"version\":1,\"version\":3";
+    let fault = fault_with(&rt, rt.alloc(), "\"version\":1", versions);
+    assert!(rt; fault == Some(SettingsFault::BadVersion));
+}
+
+// The plain line with so many bytes, of which the last ones are spaces.
+fn long_line(alloc: Global, length: usize) -> Result<Vec<u8>, AllocError> {
+    let mut line = Vec::from_slice(alloc, PLAIN.as_bytes())?;
+    line.resize(length, b' ')?;
+    Ok(line)
 }
 
 #[test]
-fn longest_line_is_read(rt: HostRuntime) -> Result<(), Fail> {
-    let mut line = Vec::from_slice(rt.alloc(), PLAIN.as_bytes())?;
-    line.resize(MAX_SETTINGS, b' ')?;
-    assert_eq!(rt; Settings::read(rt.alloc(), &line)?.kept, 100);
-    line.push(b' ')?;
-    assert_eq!(rt; fault_of(rt.alloc(), &line), Some(SettingsFault::TooLong));
-    Ok(())
+fn longest_line_is_read(rt: HostRuntime) {
+    let line = long_line(rt.alloc(), MAX_SETTINGS)
+        .ok()
+        .expect(&rt, "memory");
+    assert!(rt; ops_and_kept(rt.alloc(), &line) == Some((1, 100)));
+    let line = long_line(rt.alloc(), MAX_SETTINGS + 1)
+        .ok()
+        .expect(&rt, "memory");
+    assert!(rt; fault_of(rt.alloc(), &line) == Some(SettingsFault::TooLong));
 }

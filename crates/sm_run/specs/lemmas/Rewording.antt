@@ -1,7 +1,9 @@
 -- What had to be written, in other words.
 use Rattle.std.proofs.Common.{Bool, ℕ, List, Option, Result, ◌++◌, ◌∷◌, [], inl, inr}
 use Rattle.sm_run.specs.Runs.{StoppedAt, StoppedEarly, StoppedReading, StoppedWriting, WroteBefore}
-use Rattle.sm_lines.specs.declared.answer_fault.AnswerFault.{AnswerFault}
+use Rattle.sm_run.specs.declared.begin_fault.BeginFault.{BeginFault}
+use Rattle.sm_run.specs.declared.run_fault.RunFault.{RunFault}
+use Rattle.sm_settings.specs.SettingsLine.{SettingsValues}
 use Rattle.sm_run.specs.declared.status.Status.{Status}
 
 -- from one wording of what had to be written to another
@@ -32,11 +34,12 @@ writing_as writes says input old new reword s = record {
   wrote = s.wrote;
 }
 
-pub early_as : (writes says : List (List ℕ) → List ℕ → Type 0) (result : Result Status AnswerFault) (failed : Bool) (calls : ℕ) (input left old new : Option (List ℕ))
-    → Rewords writes says → StoppedEarly writes result failed calls input left old new → StoppedEarly says result failed calls input left old new
-early_as writes says result failed calls input left old new reword s = record {
+pub early_as : (refuses : SettingsValues → BeginFault → Type 0) (writes says : List (List ℕ) → List ℕ → Type 0) (result : Result Status RunFault) (failed : Bool) (calls : ℕ) (input left old new : Option (List ℕ))
+    → Rewords writes says → StoppedEarly refuses writes result failed calls input left old new → StoppedEarly refuses says result failed calls input left old new
+early_as refuses writes says result failed calls input left old new reword s = record {
   read = λ is. reading_as writes says failed calls input left old new reword (s.read is);
   no_memory = λ is. stopped_as writes says input left old new reword (s.no_memory is);
+  no_thread = λ is. stopped_as writes says input left old new reword (s.no_thread is);
   write = λ is. elim (s.write is) [
     | inl session ↦ inl (writing_as writes says input old new reword session)
     | inr refused ↦ inr refused

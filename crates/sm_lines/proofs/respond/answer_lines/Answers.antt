@@ -15,7 +15,7 @@ pub lines-init : goal.lines-init
 lines-init g c = record {
   so_far = so_far_none _ _ _ _ _ _ c.in_ok-pieces.ensures;
   stays_ended = λ is. is;
-  end_stands = c.requires;
+  end_stands = c.requires.end_stands;
   calls = took_same _ _ _;
   read_unfailed = refl;
   same_end = λ is. is;
@@ -23,6 +23,7 @@ lines-init g c = record {
   not_past_end = λ _. refl;
   piece = λ is. is;
   write_unfailed = refl;
+  ready = c.requires.ready;
 }
 
 pub returns-in_err-flush_before_read-clause-answered : goal.returns-in_err-flush_before_read-clause-answered
@@ -101,6 +102,7 @@ lines-preserved g c =
       not_past_end = λ is. read.not_past_end (before.same_end is) ∙ before.not_past_end is;
       piece = λ _. read.piece;
       write_unfailed = c.in_ok-write-in-Ok-true.ensures.unfailed ∙ (c.in_ok-flush_before_read.ensures.unfailed ∙ before.write_unfailed);
+      ready = read.ready;
     }
 
 pub returns-in_err-flush-clause-answered : goal.returns-in_err-flush-clause-answered

@@ -19,4 +19,5 @@ invariant-lines g l = record {
   given : LinesGiven l._count l.fn.lines l.lines l.fn.reader.calls l.reader.calls;
   piece : length l.fn.lines.held ≤ PIECE → length l.lines.held ≤ PIECE;
   write_unfailed : l.writer.failed ≡ l.fn.writer.failed;
+  ready : g.E.Responder.ready l.responder;
 }

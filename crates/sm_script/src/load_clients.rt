@@ -1,0 +1,46 @@
+ghost use Rattle.std.specs.Prelude.{◌≡◌, ◌↔◌, IsSome, IfSome};
+ghost use Rattle.sm_script.specs.LoadClients.{IsLoadClients};
+
+use crate::shape::MAX_CLIENTS;
+use std::marker::Model;
+
+/// How many clients add to a count in a load: 1 to 16.
+#[derive(Clone, Copy, Debug, PartialEq, Eq, Drop)]
+pub struct LoadClients {
+    count: u8,
+}
+
+impl Model for LoadClients {
+    ghost use Rattle.std.specs.Prelude.{ℕ};
+    ghost use Rattle.sm_script.specs.LoadClients.{IsLoadClients};
+
+    ghost Value = { ℕ };
+
+    ghost view = { λ clients. clients.count };
+
+    ghost invariant = { λ clients. IsLoadClients clients.count };
+
+    ghost inverse = { λ count. record { count = count } };
+}
+
+impl LoadClients {
+    /// So many clients, or none where they are not 1 to 16.
+    pub fn new(count: u8) -> Option<LoadClients>
+        ensures known { IsSome result ↔ IsLoadClients count }
+        ensures value { IfSome result (λ clients. clients ≡ count) }
+    {
+        if count >= 1 && u64::from(count) <= MAX_CLIENTS {
+            Some(LoadClients { count })
+        } else {
+            None
+        }
+    }
+
+    /// How many there are.
+    pub fn count(self) -> usize
+        ensures value { result ≡ self }
+        ensures in_range { IsLoadClients self }
+    {
+        usize::from(self.count)
+    }
+}
