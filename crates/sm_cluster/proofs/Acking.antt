@@ -1,35 +1,15 @@
 -- What clients learn, one call after another and one client beside another.
-use Rattle.std.proofs.Common.{◌≡◌, ◌<◌, ℕ, zero, suc, List, [], ◌∷◌, ◌++◌, length, refl, sym, ap, ◌∙◌, subst, append_assoc, arith}
-use Rattle.std.specs.Prelude.{ℤ, Option, slice_index_or}
+use Rattle.std.proofs.Common.{◌≡◌, ℕ, List, [], ◌++◌, refl, sym, ap, ◌∙◌, subst, append_assoc}
+use Rattle.std.specs.Prelude.{ℤ, Option}
 use Rattle.std.proofs.lemmas.List.{append-nil}
 use Rattle.sm_body.specs.Service.{Service}
 use Rattle.sm_ranges.specs.Ranges.{shard_of}
-use Rattle.sm_rule.specs.Passes.{PassLooks}
-use Rattle.sm_rule.specs.Views.{Begins}
-use Rattle.sm_rule.specs.lemmas.Passing.{begins_begins, looks_begins}
-use Rattle.sm_publish.specs.Seen.{Extends}
+use Rattle.sm_rule.specs.lemmas.Passing.{begins_begins}
 use Rattle.sm_server.specs.Answers.{AnswerValue, IsAnswer}
 use Rattle.sm_server.specs.lemmas.Beginnings.{none_begins}
-use Rattle.sm_cluster.specs.Calls.{ClientValue, Gives, client_reading, client_seeing}
-use Rattle.sm_cluster.specs.Loads.{AreClientsSince, HasLearned, HasLearnedReply, IsClientSince, WasTold}
+use Rattle.sm_cluster.specs.Calls.{ClientValue, Gives}
+use Rattle.sm_cluster.specs.Loads.{HasLearned, HasLearnedReply, IsClientSince, WasTold}
 use Rattle.sm_cluster.proofs.Travelling.{begins_same}
-
--- what a client has become by a call, and by learning an answer
-pub since_call : {Q : Type 0} (before after : ClientValue Q) → after ≡ client_reading before after.router → Extends after.router.seen before.router.seen → IsClientSince before after
-since_call before after same read = record {
-  board = ap (λ (client : ClientValue _). client.pass.board) same;
-  bounds = ap (λ (client : ClientValue _). client.bounds) same;
-  seen = subst (λ seen. Begins before.pass.seen seen) (sym (ap (λ (client : ClientValue _). client.pass.seen) same)) (begins_same before.pass.seen);
-  read = read;
-}
-
-pub since_learn : {Q : Type 0} (before after : ClientValue Q) → after ≡ client_seeing before after.pass → PassLooks before.pass after.pass → IsClientSince before after
-since_learn before after same looks = record {
-  board = ap (λ pass. pass.board) looks.1;
-  bounds = ap (λ (client : ClientValue _). client.bounds) same;
-  seen = looks_begins before.pass after.pass looks;
-  read = ([], ap (λ (client : ClientValue _). client.router.seen) same ∙ sym (append-nil before.router.seen));
-}
 
 pub since_same : {Q : Type 0} (client : ClientValue Q) → IsClientSince client client
 since_same client = record { board = refl; bounds = refl; seen = begins_same client.pass.seen; read = ([], sym (append-nil client.router.seen)) }
@@ -45,14 +25,6 @@ since_since a b c first second = record {
   seen = begins_begins a.pass.seen b.pass.seen c.pass.seen first.seen second.seen;
   read = extends_extends a.router.seen b.router.seen c.router.seen first.read second.read;
 }
-
--- one client and others
-cons_at : {Q : Type 0} (x y : ClientValue Q) (xs ys : List (ClientValue Q)) → IsClientSince x y → AreClientsSince xs ys → (at : ℕ) (d : ClientValue Q) → at < length (x ∷ xs) → IsClientSince (slice_index_or (x ∷ xs) at d) (slice_index_or (y ∷ ys) at d)
-cons_at x y xs ys one others zero d within = one
-cons_at x y xs ys one others (suc at) d within = others.1 at d (omega (arith, within))
-
-pub since_cons : {Q : Type 0} (x y : ClientValue Q) (xs ys : List (ClientValue Q)) → IsClientSince x y → AreClientsSince xs ys → AreClientsSince (x ∷ xs) (y ∷ ys)
-since_cons x y xs ys one others = (ap suc others.0, cons_at x y xs ys one others)
 
 module _ {Q R : Type 0} (service : Service Q R) (count : R → Option ℤ) (request : Q) where
   -- what was learned stays so

@@ -1,8 +1,9 @@
 -- Places of holds.
-use Rattle.std.proofs.Common.{◌≡◌, ◌<◌, ◌≤◌, ℕ, zero, suc, ◌⊎◌, inl, inr, List, [], ◌∷◌, ◌++◌, length, refl, sym, ap, ◌∙◌, subst, arith, rules, ⊎_elim}
-use Rattle.std.specs.Prelude.{IfSome, Option, Some, None, replicate, slice_index_or, slice_set}
-use Rattle.std.proofs.lemmas.Bool.{cases_lt, cases_order}
-use Rattle.std.proofs.lemmas.List.{get_or-replicate, get_or-set_other, get_or-set_same, get_or_past, length-replicate, length-set}
+use Rattle.std.proofs.Common.{◌≡◌, ◌<◌, ℕ, zero, suc, ◌⊎◌, inl, inr, List, [], ◌∷◌, ◌++◌, length, refl, sym, ap, ◌∙◌, subst, arith, rules, ⊎_elim}
+use Rattle.std.specs.Prelude.{◌≢◌, IfSome, Option, Some, None, slice_index_or, slice_set}
+use Rattle.std.proofs.lemmas.Bool.{cases_order}
+use Rattle.std.proofs.lemmas.List.Elements.{All-append}
+use Rattle.std.proofs.lemmas.List.{append-nil, get_or-set_other, get_or-set_same, length-set}
 use Rattle.sm_ownership.specs.declared.entry.Ending.TheVariants.{Nothing}
 use Rattle.sm_ownership.specs.declared.entry.Entry.{Entry}
 use Rattle.sm_ownership.specs.declared.entry.Kind.TheVariants.{Done}
@@ -10,7 +11,8 @@ use Rattle.sm_ownership.specs.declared.record.Record.{Record}
 use Rattle.sm_ownership.specs.declared.mode.Mode.{Mode}
 use Rattle.sm_rule.specs.Admissions.{PassAdmitted, held_admission}
 use Rattle.sm_rule.specs.Boards.{BoardValue}
-use Rattle.sm_rule.specs.Passes.{PassAdds, PassValue}
+use Rattle.sm_ownership.specs.History.{NoneBy}
+use Rattle.sm_rule.specs.Passes.{PassAdds, PassLooks, PassValue}
 use Rattle.sm_rule.specs.Views.{Begins, record_in}
 use Rattle.sm_rule.specs.lemmas.Passing.{begins_begins}
 use Rattle.sm_cluster.specs.Holding.{AreEndedIn, AreHoldsOn, HasEnded, HasEndedIn, HoldsShard, hold_at}
@@ -27,21 +29,6 @@ pub at_place : {X : Type 0} (xs : List X) (i : ℕ) (x d : X) → i < length xs 
 at_place [] i x d within is = absurd (omega (arith, within))
 at_place (one ∷ xs) zero x d within is = sym is
 at_place (one ∷ xs) (suc n) x d within is = at_place xs n x d (omega (arith, within)) is
-
--- nothing is held where nothing was put
-none_at : {Q : Type 0} (count shard : ℕ) (pass : PassValue Q) → hold_at (replicate count None) shard ≡ Some pass → ⊥
-none_at {Q} count shard pass is =
-    let nothing : Option (PassValue Q) = None in
-    ⊎_elim
-    (λ (within : shard < count). let free = get_or-replicate count shard nothing nothing within in cc)
-    (λ (past : count ≤ shard). let free = get_or_past (replicate count nothing) shard nothing (omega (arith, length-replicate count nothing)) in cc)
-    (cases_lt shard count)
-
-pub none_held : {Q : Type 0} (board : BoardValue) (holds : List (Option (PassValue Q))) → holds ≡ replicate board.limits.count None → AreHoldsOn board holds
-none_held {Q} board holds none = record {
-  many = ap length none ∙ length-replicate board.limits.count None;
-  each = λ shard pass is. absurd (none_at board.limits.count shard pass (ap (λ (all : List (Option (PassValue Q))). hold_at all shard) (sym none) ∙ is));
-}
 
 -- one place is filled or emptied
 pub holds_set : {Q : Type 0} (board : BoardValue) (holds : List (Option (PassValue Q))) (shard : ℕ) (slot : Option (PassValue Q)) → AreHoldsOn board holds → shard < board.limits.count
@@ -131,3 +118,10 @@ ends_here pass ended shard here done =
     let first : ℕ × Record = (done.0, done.1.0) in
     let second : ℕ × Record = (shard, here.0) in
     subst (λ (n : ℕ). PassAdds pass n (Done Nothing) ended) (same_first first second (sym done.1.1 ∙ here.1)) done.2
+
+-- a new pass has no entry after a look
+pub looks_new : {Q : Type 0} (before after : PassValue Q) → PassLooks before after → NoneBy before.number before.seen → NoneBy after.number after.seen
+looks_new {Q} before after looks none =
+    let all : NoneBy before.number (before.seen ++ looks.0.0) = All-append (λ (entry : Entry Q). entry.actor ≢ before.number) before.seen looks.0.0 none looks.0.2 in
+    let seen : NoneBy before.number after.seen = subst (NoneBy before.number) (sym (looks.0.1 ∙ append-nil (before.seen ++ looks.0.0))) all in
+    subst (λ (number : ℕ). NoneBy number after.seen) (sym (ap (λ (pass : PassValue Q). pass.number) looks.1)) seen

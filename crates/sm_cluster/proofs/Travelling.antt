@@ -12,7 +12,9 @@ use Rattle.sm_server.specs.declared.outcome.Outcome.{Outcome}
 use Rattle.sm_server.specs.declared.outcome.Outcome.TheVariants.{Answered, Forward, Refused}
 use Rattle.sm_server.specs.Answers.{AnswerValue, IsAnswer}
 use Rattle.sm_server.specs.Serving.{IsAnswered, IsHandedBack, Sent, Served}
-use Rattle.sm_cluster.specs.Replies.{IsAnswerTo, IsOnTheWay}
+use Rattle.sm_cluster.specs.declared.call_refused.CallFault.{CallFault}
+use Rattle.sm_cluster.specs.declared.call_refused.CallFault.TheVariants as call
+use Rattle.sm_cluster.specs.Replies.{ComesBackFor, IsAnswerTo, IsOfTheWay, IsOnTheWay}
 use Rattle.sm_cluster.specs.Telling.{Tells}
 
 pub begins_same : {Q : Type 0} (history : List (Entry Q)) → Begins history history
@@ -54,5 +56,15 @@ pub tells : {Q R : Type 0} (service : Service Q R) (here : Bool) (before after :
 tells service here before after envelope board (Answered answer) served sent way = answers service before envelope sent answer board way served.1
 tells service here before after envelope board (Forward to back) served sent way =
     way_on sent envelope back way served.1 (ap number_of_shell served.2.shell) (ap shard_of_shell served.2.shell)
-tells service here before after envelope board (Refused refusal back) served sent way =
-    way_on sent envelope back way served.1 (ap number_of_shell served.2) (ap shard_of_shell served.2)
+tells service here before after envelope board (Refused refusal back) served sent way = (
+  way_on sent envelope back way served.1 (ap number_of_shell served.2) (ap shard_of_shell served.2),
+  record { envelope = envelope; before = before; after = after; way = way; board = sym board ∙ way.board; why = served.3 },
+)
+
+-- what holds a message up on its way sends its envelope back
+pub comes_back : {Q : Type 0} (sent : Sent Q) (fault : CallFault) (back : Sent Q) → IsOfTheWay fault → ComesBackFor sent fault back
+comes_back sent call.NoRoute back never = never
+comes_back sent call.Unreachable back way = way
+comes_back sent (call.Refused refusal) back never = absurd never
+comes_back sent call.NoMemory back way = way
+comes_back sent call.Closed back never = never

@@ -1,6 +1,6 @@
 -- What a checkpoint of a cluster's shard leaves.
 use Rattle.std.specs.Prelude.{ℕ, ◌≡◌, [], Some, Result, Ok, Err}
-use Rattle.sm_ownership.specs.History.{kept}
+use Rattle.sm_ownership.specs.History.{NoneBy, kept}
 use Rattle.sm_rule.specs.declared.permit.Front.{Front}
 use Rattle.sm_rule.specs.Passes.{PassValue, record_of}
 use Rattle.sm_rule.specs.Views.{Begins}
@@ -24,4 +24,5 @@ pub record IsBasedBy {Q : Type 0} (cluster : ClusterValue Q) (shard server : ℕ
   pub board : before.board ≡ cluster.control.chair.board
   pub server_is : before.server ≡ Some server
   pub seen : Begins cluster.control.chair.seen before.seen
+  pub new : NoneBy before.number before.seen
   pub made : BasesOrRefuses before shard after result

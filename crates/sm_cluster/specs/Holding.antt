@@ -5,6 +5,7 @@ use Rattle.sm_ownership.specs.declared.entry.Ending.TheVariants.{Nothing}
 use Rattle.sm_ownership.specs.declared.entry.Kind.TheVariants.{Done}
 use Rattle.sm_ownership.specs.declared.mode.Mode.TheVariants.{Direct}
 use Rattle.sm_ownership.specs.declared.record.Record.{Record}
+use Rattle.sm_ownership.specs.History.{NoneBy}
 use Rattle.sm_rule.specs.declared.admit_refusal.AdmitRefusal.{AdmitRefusal}
 use Rattle.sm_rule.specs.Admissions.{PassAdmitted, RefusedBy, held_admission}
 use Rattle.sm_rule.specs.Boards.{BoardValue}
@@ -25,15 +26,16 @@ pub record AreHoldsOn {Q : Type 0} (board : BoardValue) (holds : List (Option (P
   pub many : length holds ≡ board.limits.count
   pub each : (shard : ℕ) (pass : PassValue Q) → hold_at holds shard ≡ Some pass → (pass.board ≡ board) × HoldsShard pass shard
 
--- a pass of the server that has seen all that the chair has, and holds nothing
+-- a new pass of the server, without an entry, that has seen all that the chair has, and holds nothing
 abbrev pub IsTold : {Q : Type 0} → ChairValue Q → ℕ → PassValue Q → Type 0
-IsTold chair server pass = (pass.board ≡ chair.board) × (pass.server ≡ Some server) × (pass.held ≡ None) × Begins chair.seen pass.seen
+IsTold chair server pass =
+    (pass.board ≡ chair.board) × (pass.server ≡ Some server) × (pass.held ≡ None) × Begins chair.seen pass.seen × NoneBy pass.number pass.seen
 
 -- the pass has seen more, and isn't admitted for a direct request to the shard by the record that it has then seen
 abbrev pub IsTurnedAway : {Q : Type 0} → PassValue Q → ℕ → AdmitRefusal → Type 0
 IsTurnedAway {Q} before shard refusal = (after : PassValue Q) × PassLooks before after × RefusedBy before after shard Direct refusal
 
--- a pass of the server that had seen all that the chair has was admitted to the shard, for a direct request
+-- a new pass of the server that had seen all that the chair has was admitted to the shard, for a direct request
 abbrev pub IsHold : {Q : Type 0} → ChairValue Q → ℕ → ℕ → PassValue Q → Type 0
 IsHold {Q} chair shard server pass = (before : PassValue Q) × IsTold chair server before × PassAdmitted before shard Direct pass
 

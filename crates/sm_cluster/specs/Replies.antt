@@ -5,9 +5,13 @@ use lib.ListN.{get_elem?}
 use Rattle.sm_body.specs.Service.{Service}
 use Rattle.sm_ownership.specs.declared.mode.Mode.{Mode}
 use Rattle.sm_ownership.specs.History.{NoneBy}
+use Rattle.sm_rule.specs.Passes.{PassValue}
 use Rattle.sm_rule.specs.Views.{Begins}
 use Rattle.sm_server.specs.Answers.{AnswerValue, IsAnswer}
-use Rattle.sm_server.specs.Serving.{Sent}
+use Rattle.sm_server.specs.declared.refusal.Refusal.{Refusal}
+use Rattle.sm_server.specs.Serving.{RefusedFor, Sent}
+use Rattle.sm_cluster.specs.declared.call_refused.CallFault.{CallFault}
+use Rattle.sm_cluster.specs.declared.call_refused.CallFault.TheVariants as call
 use Rattle.sm_cluster.specs.declared.reply.Reply.{Reply}
 use Rattle.sm_cluster.specs.declared.reply.Reply.TheVariants.{Answered, Refused}
 
@@ -29,11 +33,31 @@ pub record IsOnTheWay {Q : Type 0} (sent envelope : Sent Q) : Type 0 where
   pub board : envelope.note.board ≡ sent.note.board
   pub told : Begins sent.note.seen envelope.note.seen
 
+-- a server's step on the envelope of that call, on its way, refused it for this reason
+pub record IsRefusalTo {Q : Type 0} (sent : Sent Q) (refusal : Refusal) (back : Sent Q) : Type 0 where
+  pub envelope : Sent Q
+  pub before : PassValue Q
+  pub after : PassValue Q
+  pub way : IsOnTheWay sent envelope
+  pub board : before.board ≡ sent.note.board
+  pub why : RefusedFor before after envelope back refusal
+
+-- what may hold a message up on its way: a shut door, or want of memory
+abbrev pub IsOfTheWay : CallFault → Type 0
+IsOfTheWay call.Unreachable = Unit {0}
+IsOfTheWay call.NoMemory = Unit {0}
+IsOfTheWay fault = ⊥
+
+-- why the envelope of that call comes back
+abbrev pub ComesBackFor : {Q : Type 0} → Sent Q → CallFault → Sent Q → Type 0
+ComesBackFor sent (call.Refused refusal) back = IsRefusalTo sent refusal back
+ComesBackFor sent fault back = IsOfTheWay fault
+
 -- what may be sent as the reply to a call: nothing before it is known
 abbrev pub Fits : {Q R : Type 0} → Service Q R → Option (Sent Q) → Reply (AnswerValue Q R) (Sent Q) → Type 0
 Fits service None reply = ⊥
 Fits service (Some sent) (Answered answer) = IsAnswerTo service sent answer
-Fits service (Some sent) (Refused fault envelope) = IsOnTheWay sent envelope
+Fits service (Some sent) (Refused fault envelope) = IsOnTheWay sent envelope × ComesBackFor sent fault envelope
 
 abbrev pub AllFit : {T : Type 0} → (T → Type 0) → List T → Type 0
 AllFit Fit [] = Unit {0}

@@ -7,7 +7,7 @@ ghost use Rattle.sm_ranges.specs.Ranges.{shard_of};
 ghost use Rattle.sm_rule.specs.Passes.{PassLooks, record_of};
 ghost use Rattle.sm_rule.specs.Views.{IsMet};
 ghost use Rattle.sm_server.specs.Serving.{Sent};
-ghost use Rattle.sm_cluster.specs.Calls.{Gives, HandsBack, IsAnswerFor, client_reading, client_seeing};
+ghost use Rattle.sm_cluster.specs.Calls.{FaultAt, FaultByRoute, Gives, HandsBack, IsAnswerFor, client_reading, client_seeing};
 
 use crate::call_refused::{CallFault, CallRefused};
 use crate::message::Message;
@@ -69,7 +69,8 @@ impl<S: Service> Client<S> {
     }
 
     /// Has a server answer the request: the one of the route that the client's router gives of the key. The answer's history
-    /// extends all that the client had seen. A request that was not answered comes back, but after `Closed`.
+    /// extends all that the client had seen. A request that was not answered comes back, but after `Closed`. `NoRoute` comes only where
+    /// the router gives no route, and `Refused` where a server's step on an envelope of this call gave that reason.
     pub fn call<R: Wait>(
         &mut self,
         rt: &R,
@@ -79,6 +80,7 @@ impl<S: Service> Client<S> {
     ) -> Result<Answer<S>, CallRefused<S::Request>>
         ensures answer { IfOk result (λ answer. Gives (meaning_of S.initial S.next S.answer S.key_of) self.old number request answer) }
         ensures back { IfErr result (λ refused. HandsBack request refused) }
+        ensures fault { IfErr result (λ refused. FaultByRoute self.old self.new.router (shard_of self.old.bounds (S.key_of request)) number request refused.fault) }
         ensures later { Extends self.new.router.seen self.old.router.seen }
         ensures unchanged { self.new ≡ client_reading self.old self.new.router }
     {
@@ -92,7 +94,8 @@ impl<S: Service> Client<S> {
     }
 
     /// Has this server answer the request, or one that it forwards it to. The answer's history extends all that the client had
-    /// seen. A request that was not answered comes back, but after `Closed`.
+    /// seen. A request that was not answered comes back, but after `Closed`. `NoRoute` never comes, and `Refused` only where a server's
+    /// step on an envelope of this call gave that reason.
     pub fn call_at<R: Wait>(
         &mut self,
         rt: &R,
@@ -103,6 +106,7 @@ impl<S: Service> Client<S> {
     ) -> Result<Answer<S>, CallRefused<S::Request>>
         ensures answer { IfOk result (λ answer. Gives (meaning_of S.initial S.next S.answer S.key_of) self.old number request answer) }
         ensures back { IfErr result (λ refused. HandsBack request refused) }
+        ensures fault { IfErr result (λ refused. FaultAt self.old.pass (shard_of self.old.bounds (S.key_of request)) number request refused.fault) }
         ensures unchanged { self.new ≡ self.old }
     {
         let k = self.network.layout().shard_of(S::key(&request));
@@ -121,6 +125,7 @@ impl<S: Service> Client<S> {
     ) -> Result<Answer<S>, CallRefused<S::Request>>
         ensures answer { IfOk result (λ answer. IsAnswerFor (meaning_of S.initial S.next S.answer S.key_of) self.old.pass k number request answer) }
         ensures back { IfErr result (λ refused. HandsBack request refused) }
+        ensures fault { IfErr result (λ refused. FaultAt self.old.pass k number request refused.fault) }
         ensures unchanged { self.new ≡ self.old }
     {
         let Ok(board) = Arc::try_clone(&self.board) else {
@@ -188,6 +193,11 @@ impl<S: Service> Client<S> {
             reply,
             place,
         }
+    }
+
+    /// Counts a request that is made anew.
+    pub(crate) fn count_retry(&self) {
+        self.network.counters.count_retry();
     }
 
     /// The client's pass, as where the cluster stops.

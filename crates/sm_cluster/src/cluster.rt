@@ -2,6 +2,7 @@ ghost use Rattle.std.specs.Prelude.{◌≡◌};
 
 mod basing;
 mod commanding;
+mod counting;
 mod holding;
 mod starting;
 mod stopping;

@@ -94,18 +94,18 @@ impl Team {
         Ok(())
     }
 
-    // Tells each worker of the team to stop, and joins them; or leaves them to go on where memory for that was refused.
-    fn stop<S: Service, R: Threads + Wait>(self, rt: &R, network: &Network<S>) -> bool {
-        let Team { server, threads } = self;
-        for _ in 0..threads.len() {
-            if !network.tell_to_stop(rt, server) {
-                return false;
-            }
+    // Tells as many workers to stop as the team has.
+    fn tell_to_stop<S: Service, R: Wait>(&self, rt: &R, network: &Network<S>) {
+        for _ in 0..self.threads.len() {
+            network.tell_to_stop(rt, self.server);
         }
-        for thread in threads {
+    }
+
+    // Joins the team's workers.
+    fn join<R: Threads + Wait>(self, rt: &R) {
+        for thread in self.threads {
             thread.join(rt);
         }
-        true
     }
 }
 
@@ -148,14 +148,13 @@ impl<S: Service> Crew<S> {
         Ok(())
     }
 
-    /// Shuts all doors, and stops and joins the workers; or says that memory was refused to tell some, which go on.
-    pub(crate) fn stop<R: Threads + Wait>(self, rt: &R) -> bool {
+    /// Shuts all doors, and stops and joins the workers.
+    pub(crate) fn stop<R: Threads + Wait>(self, rt: &R) {
         let Crew { network, teams } = self;
         network.shut();
-        let mut all_stopped = true;
         for team in teams {
-            all_stopped &= team.stop(rt, &*network);
+            team.tell_to_stop(rt, &*network);
+            team.join(rt);
         }
-        all_stopped
     }
 }

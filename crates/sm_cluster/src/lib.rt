@@ -1,14 +1,20 @@
 //! Servers as threads: each request travels in a message through inboxes, and its reply brings home the history that has it.
 //!
-//! A worker serves a message's envelope by a new pass of its server:
+//! Two shards are assigned and published, and a client calls by the route that it reads:
 //!
 //! ```rust
-//! let envelope = Envelope::new(7, k, request, note);
-//! let answer = match serve(&board, &layout, &mut pass, envelope) {
-//!     Outcome::Answered(answer) => answer,
-//!     _ => return Err("not answered by the owner".into()),
+//! let (alloc, one) = (rt.alloc(), ServerId::of(1));
+//! let mut running = start(&rt, alloc, 100)?;
+//! assert!(rt; refusal(&rt, alloc, &mut running.first, b"a") == Some(CallFault::NoRoute));
+//! publish_both(&rt, &mut running);
+//! let route = Route {
+//!     shard: shard(0),
+//!     server: one,
+//!     generation: 1,
 //! };
-//! assert_eq!(rt; (answer.number(), answer.place()), (7, 0));
+//! assert!(rt; running.first.route(b"a") == Some(route));
+//! let told = ask(&rt, alloc, &mut running.first, 7, inc_of(&rt, alloc, b"a"));
+//! assert!(rt; (told.number, told.server, told.place) == (7, one, 0));
 //! ```
 #![tactic(auto)]
 
@@ -16,7 +22,9 @@ pub mod call_refused;
 pub mod checkpoint_refusal;
 pub mod client;
 pub mod cluster;
+mod counters;
 pub mod counting;
+pub mod counts;
 mod crew;
 pub mod gate;
 mod hold;
@@ -31,6 +39,7 @@ mod reply;
 pub mod setup;
 pub mod start_fault;
 pub mod stop_fault;
+mod tally;
 pub mod told;
 mod worker;
 
@@ -39,6 +48,7 @@ pub use checkpoint_refusal::CheckpointRefusal;
 pub use client::Client;
 pub use cluster::Cluster;
 pub use counting::Counting;
+pub use counts::{Counts, RefusalCounts, ServerCounts, ShardCounts};
 pub use gate::{Gate, Open};
 pub use hold_fault::{FreeFault, HoldFault};
 pub use loading::{LoadReport, load};

@@ -181,7 +181,10 @@ fn ask<S: Service, R: Wait>(
 ) -> Option<S::Reply>
     ensures { IsClientSince client.old client.new }
 {
-    for _ in 0..=MOST_RETRIES {
+    for retry in 0..=MOST_RETRIES {
+        if retry > 0 {
+            client.count_retry();
+        }
         match learn(rt, alloc, number, request, client) {
             Ok(reply) => return Some(reply),
             Err(refused) => match made_anew(refused) {

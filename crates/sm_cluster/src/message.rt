@@ -3,19 +3,21 @@ ghost use Rattle.std.specs.Prelude.{◌≡◌, Some};
 ghost use Rattle.std.specs.Arc.{arc_value};
 ghost use Rattle.sm_body.specs.Service.{meaning_of};
 ghost use Rattle.sm_server.specs.Serving.{Sent};
-ghost use Rattle.sm_cluster.specs.Replies.{IsOnTheWay};
+ghost use Rattle.sm_cluster.specs.Replies.{IsOfTheWay, IsOnTheWay};
 ghost use Rattle.sm_cluster.specs.Telling.{Tells};
 
 use crate::call_refused::CallFault;
 use crate::network::Network;
 use crate::reply::{Reply, ReplySender};
+use crate::tally::Tally;
 use sm_body::service::Service;
 use sm_envelope::envelope::Envelope;
 use sm_ranges::layout::Layout;
 use sm_ranges::server_id::ServerId;
+use sm_rule::admit_refusal::AdmitRefusal;
 use sm_rule::board::Board;
 use sm_rule::note::Note;
-use sm_server::{Answer, Outcome, serve};
+use sm_server::{Answer, Outcome, Refusal, serve};
 use std::marker::Model;
 use std::sync::{Arc, Wait};
 
@@ -76,8 +78,10 @@ impl<S: Service> Message<S> {
         self.envelope
     }
 
-    /// Sends the fault back with the envelope.
-    pub(crate) fn refuse<R: Wait>(self, rt: &R, fault: CallFault) {
+    /// Sends the fault of the way back with the envelope.
+    pub(crate) fn refuse<R: Wait>(self, rt: &R, fault: CallFault)
+        requires { IsOfTheWay fault }
+    {
         let Message {
             board: _,
             envelope,
@@ -86,17 +90,38 @@ impl<S: Service> Message<S> {
         sender.send(rt, Reply::Refused(fault, envelope));
     }
 
-    /// Has the server serve it by a new pass, and sends the reply, or the message on to the server that it goes to.
-    pub(crate) fn serve<R: Wait>(self, rt: &R, network: &Network<S>, server: ServerId) {
+    /// Has the server serve it by a new pass, which its tally counts, and sends the reply, or the message on to the server that it
+    /// goes to. Where another actor was quicker between the server's look and its admission, nothing was done, and the message goes
+    /// into the server's own inbox again.
+    pub(crate) fn serve<R: Wait>(
+        self,
+        rt: &R,
+        network: &Network<S>,
+        server: ServerId,
+        tally: Option<&Tally>,
+    ) {
         let Message {
             board,
             envelope,
             sender,
         } = self;
-        match serve_anew(&*board, network.layout(), server, envelope) {
+        let outcome = serve_anew(&*board, network.layout(), server, envelope);
+        if let Some(tally) = tally {
+            tally.count(&outcome);
+        }
+        match outcome {
             Outcome::Answered(answer) => sender.send(rt, Reply::Answered(answer)),
             Outcome::Refused(refusal, envelope) => {
-                sender.send(rt, Reply::Refused(CallFault::Refused(refusal), envelope));
+                if is_overtaken(&refusal) {
+                    let message = Message {
+                        board,
+                        envelope,
+                        sender,
+                    };
+                    message.forward(rt, network, server);
+                } else {
+                    sender.send(rt, Reply::Refused(CallFault::Refused(refusal), envelope));
+                }
             }
             Outcome::Forward(to, envelope) => {
                 let message = Message {
@@ -115,6 +140,11 @@ impl<S: Service> Message<S> {
             unsent.message.refuse(rt, unsent.fault);
         }
     }
+}
+
+// Whether another actor was quicker between the server's look and its admission.
+fn is_overtaken(refusal: &Refusal) -> bool {
+    matches!(refusal, Refusal::Admit(AdmitRefusal::Raced { .. }))
 }
 
 // What a server makes of an envelope by a new pass.

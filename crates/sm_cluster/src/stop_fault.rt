@@ -6,7 +6,4 @@ pub enum StopFault {
     /// A client neither came back nor was dropped. All workers were stopped.
     #[error("a client is out")]
     ClientOut,
-    /// Memory was refused to tell some workers to stop, which go on.
-    #[error("out of memory")]
-    NoMemory,
 }

@@ -17,11 +17,12 @@ pub(crate) fn work<S: Service, G: Gate, R: Wait>(
     gate: &G,
     server: ServerId,
 ) {
+    let tally = network.tally(server);
     for _ in rt.forever() {
         match next(rt, inbox) {
             Ok(Parcel::Serve(message)) => {
                 gate.pass(rt, server, message.number());
-                message.serve(rt, network, server);
+                message.serve(rt, network, server, tally);
             }
             Ok(Parcel::Stop) => return,
             Err(_) => return,

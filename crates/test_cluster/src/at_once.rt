@@ -5,6 +5,7 @@ use crate::holding::Holding;
 use crate::latch::{Holds, Latch};
 use crate::running::{Running, ask, bodies_of, inc_of, kept_of, setup_of, shard};
 use sm_cluster::{Client, Open, Told};
+use sm_ranges::ServerId;
 use sm_service::Reply;
 use std::alloc::Global;
 use std::process::Abort;
@@ -36,10 +37,9 @@ fn ask_and_release<R: Wait + Abort>(
 fn answers_both<R: Threads + Wait + Abort + Sync>(
     rt: &R,
     alloc: Global,
-    mut running: Running,
+    running: Running,
     latch: &Latch,
 ) {
-    running.assign_both(rt);
     let Running {
         cluster,
         mut first,
@@ -61,19 +61,33 @@ fn answers_both<R: Threads + Wait + Abort + Sync>(
     assert!(rt; kept_of(&rows, shard(0)) == Some(1) && kept_of(&rows, shard(1)) == Some(1));
 }
 
-// A gate holds the first call before it is served.
-#[test]
-fn two_shards_at_once(rt: HostRuntime) -> Result<(), Fail> {
-    let alloc = rt.alloc();
+// A gate holds the first call before it is served. The second shard is this server's.
+fn passes_a_held_call<R: Threads + Wait + Abort + Clone + Send + Sync + Drop + 'static>(
+    rt: &R,
+    alloc: Global,
+    second: ServerId,
+) -> Result<(), Fail> {
     let latch = Arc::new(alloc, Latch::new())?;
     let gate = Holds {
         number: 1,
         latch: Arc::try_clone(&latch)?,
     };
     let bodies = bodies_of(alloc, 100, None)?;
-    let running = Running::start(&rt, alloc, setup_of(alloc)?, bodies, gate);
-    answers_both(&rt, alloc, running, &latch);
+    let mut running = Running::start(rt, alloc, setup_of(alloc)?, bodies, gate);
+    running.assign(rt, second);
+    answers_both(rt, alloc, running, &latch);
     Ok(())
+}
+
+#[test]
+fn two_shards_at_once(rt: HostRuntime) -> Result<(), Fail> {
+    passes_a_held_call(&rt, rt.alloc(), ServerId::of(2))
+}
+
+// Both shards are one server's, which has two workers.
+#[test]
+fn two_workers_at_once(rt: HostRuntime) -> Result<(), Fail> {
+    passes_a_held_call(&rt, rt.alloc(), ServerId::of(1))
 }
 
 // The first shard's body holds the first call while it is applied, under its permit.
@@ -82,7 +96,8 @@ fn two_shards_apply_at_once(rt: HostRuntime) -> Result<(), Fail> {
     let alloc = rt.alloc();
     let latch = Arc::new(alloc, Latch::new())?;
     let bodies = bodies_of(alloc, 100, Some(Arc::try_clone(&latch)?))?;
-    let running = Running::start(&rt, alloc, setup_of(alloc)?, bodies, Open);
+    let mut running = Running::start(&rt, alloc, setup_of(alloc)?, bodies, Open);
+    running.assign_both(&rt);
     answers_both(&rt, alloc, running, &latch);
     Ok(())
 }

@@ -233,6 +233,29 @@ fn callers_of<R: Threads + Wait + Abort + Clone + Send + Drop + 'static>(
     threads
 }
 
+// Has server 1 own the shard, and increments its key once: so no plan is without an answer.
+fn begin<R: Wait + Abort>(
+    rt: &R,
+    alloc: Global,
+    cluster: &mut Cluster<Holding>,
+    client: &mut Client<Holding>,
+    k: ShardId,
+    key: &[u8],
+)
+    ensures board { cluster.new.control.chair.board ≡ cluster.old.control.chair.board }
+    ensures bounds { cluster.new.bounds ≡ cluster.old.bounds }
+{
+    let owner = ServerId::of(1);
+    assert!(rt;
+        cluster
+            .command(Command::Change(k, Change::Assign(owner)))
+            .is_ok()
+    );
+    let called = client.call_at(rt, alloc, owner, 0, inc_of(rt, alloc, key));
+    let told = client.learn(called.ok().expect(rt, "an answer"));
+    assert!(rt; told.place == 0);
+}
+
 // How many requests of each shard all clients were answered, where no answer was wrong.
 fn acked_by<R: Threads + Abort>(rt: &R, threads: Vec<JoinHandle<[Tally; 2]>>) -> [u64; 2] {
     let mut acked = [0u64; 2];
@@ -264,19 +287,22 @@ fn plan<R: Threads + Wait + Abort + Clone + Send + Drop + 'static>(
 ) -> Result<(), Fail> {
     let (setup, bodies) = (setup_of(alloc)?, bodies_of(alloc, 1_000_000, None)?);
     let progress = Arc::new(alloc, Progress::new())?;
-    let (mut cluster, clients) = Cluster::start(rt, alloc, setup, bodies, 2, 4, Open)
+    let (mut cluster, mut clients) = Cluster::start(rt, alloc, setup, bodies, 2, 4, Open)
         .ok()
         .expect(rt, "a cluster");
+    let mut client = clients.pop().expect(rt, "a client");
+    begin(rt, alloc, &mut cluster, &mut client, shard(0), b"a");
+    begin(rt, alloc, &mut cluster, &mut client, shard(1), b"m");
+    clients.push(client).ok().expect(rt, "memory");
     let threads = callers_of(rt, alloc, clients, &progress);
     assert!(rt; steps(rt, &mut cluster, &progress, seed) > 100);
     let [first, second] = acked_by(rt, threads);
-    assert!(rt; first > 0 && second > 0);
     let stopped = cluster.stop(rt, Vec::new(alloc));
     let mut rows = stopped.ok().expect(rt, "all clients are gone");
     let (_, body) = rows.pop().expect(rt, "a row");
-    has_applied(rt, alloc, body, b"m", second);
+    has_applied(rt, alloc, body, b"m", second.wrapping_add(1));
     let (_, body) = rows.pop().expect(rt, "a row");
-    has_applied(rt, alloc, body, b"a", first);
+    has_applied(rt, alloc, body, b"a", first.wrapping_add(1));
     Ok(())
 }
 

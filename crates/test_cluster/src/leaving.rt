@@ -13,7 +13,11 @@ use std::alloc::Global;
 use std::process::Abort;
 use std::sync::{Arc, Wait};
 use std::test::Fail;
+use std::thread;
 use std::thread::{Threads, join_mut};
+
+/// How many calls a client makes at most.
+const CALLS: u64 = 1_000_000;
 
 // Once a call stays at the latch, shard 0's server fails and the shard is given to server 2, which lets the call go.
 fn fail_and_release<R: Abort>(rt: &R, cluster: &mut Cluster<Holding>, latch: &Latch)
@@ -90,5 +94,40 @@ fn client_left_behind(rt: HostRuntime) -> Result<(), Fail> {
     assert!(rt; cluster.stop(&rt, clients).err() == Some(StopFault::ClientOut));
     let fault = refusal_at(&rt, alloc, &mut second, ServerId::of(1));
     assert!(rt; fault == Some(CallFault::Unreachable));
+    Ok(())
+}
+
+// The client calls at server 1 until a call isn't answered, and is dropped: why that one isn't.
+fn last_fault<R: Wait + Abort>(
+    rt: &R,
+    alloc: Global,
+    mut client: Client<Holding>,
+) -> Option<CallFault> {
+    for number in 0..CALLS {
+        let request = inc_of(rt, alloc, b"a");
+        let called = client.call_at(rt, alloc, ServerId::of(1), number, request);
+        if let Err(refused) = called {
+            return Some(refused.fault);
+        }
+    }
+    None
+}
+
+// A client calls while the cluster stops. What finds the doors shut is Unreachable, and what comes behind the last word to stop is let go.
+#[test]
+fn calls_beside_a_stop(rt: HostRuntime) -> Result<(), Fail> {
+    let (alloc, theirs) = (rt.alloc(), rt.clone()?);
+    let bodies = bodies_of(alloc, CALLS as usize, None)?;
+    let mut running = Running::start(&rt, alloc, setup_of(alloc)?, bodies, Open);
+    running.assign_both(&rt);
+    let Running {
+        cluster,
+        first,
+        second: _,
+    } = running;
+    let thread = thread::spawn(&rt, move || last_fault(&theirs, alloc, first)).ok();
+    let _stopped = cluster.stop(&rt, Vec::new(alloc)).is_ok();
+    let fault = thread.ok_or("a thread")?.join(&rt);
+    assert!(rt; fault == Some(CallFault::Unreachable) || fault == Some(CallFault::Closed));
     Ok(())
 }

@@ -6,6 +6,8 @@ mod at_once;
 #[cfg(test)]
 mod calls;
 #[cfg(test)]
+mod counts;
+#[cfg(test)]
 mod faults;
 #[cfg(test)]
 mod holding;
@@ -21,3 +23,5 @@ mod loads;
 mod promises;
 #[cfg(test)]
 mod running;
+#[cfg(test)]
+mod starting;

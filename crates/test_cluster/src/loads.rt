@@ -11,9 +11,9 @@ use std::test::Fail;
 
 /// Requests on one key.
 #[derive(Drop)]
-struct Increments {
-    alloc: Global,
-    key: Key,
+pub(crate) struct Increments {
+    pub(crate) alloc: Global,
+    pub(crate) key: Key,
 }
 
 impl Counting<Holding> for Increments {

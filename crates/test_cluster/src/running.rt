@@ -158,16 +158,25 @@ impl Running {
 
     /// Assigns shard 0 to server 1 and shard 1 to server 2, and publishes both.
     pub(crate) fn assign_both<R: Wait + Abort>(&mut self, rt: &R) {
-        let (one, two) = (ServerId::of(1), ServerId::of(2));
+        self.assign(rt, ServerId::of(2));
+    }
+
+    /// Assigns shard 0 to server 1 and shard 1 to this server, and publishes both.
+    pub(crate) fn assign<R: Wait + Abort>(&mut self, rt: &R, second: ServerId) {
         self.command_all(
             rt,
             &[
-                Command::Change(shard(0), Change::Assign(one)),
-                Command::Change(shard(1), Change::Assign(two)),
+                Command::Change(shard(0), Change::Assign(ServerId::of(1))),
+                Command::Change(shard(1), Change::Assign(second)),
             ],
         );
-        assert!(rt; self.cluster.publish(rt, shard(0)).is_ok());
-        assert!(rt; self.cluster.publish(rt, shard(1)).is_ok());
+        self.publish(rt, shard(0));
+        self.publish(rt, shard(1));
+    }
+
+    // Publishes the shard's route.
+    fn publish<R: Wait + Abort>(&mut self, rt: &R, k: ShardId) {
+        assert!(rt; self.cluster.publish(rt, k).is_ok());
     }
 
     /// Has the server hold the shard.

@@ -1,6 +1,7 @@
 //! Checkpoints, each by a new pass.
 ghost use Rattle.std.specs.Prelude.{◌≡◌, ◌<◌, ◌≤◌, Err, None, Some, false, true};
 ghost use Rattle.sm_desk.specs.Desk.{is_known};
+ghost use Rattle.sm_ownership.specs.History.{NoneBy};
 ghost use Rattle.sm_rule.specs.Views.{Begins};
 ghost use Rattle.sm_cluster.specs.Basing.{IsBasedBy};
 
@@ -40,6 +41,7 @@ impl<S: Service> Cluster<S> {
         ensures server { result.server ≡ Some a }
         ensures free { result.held ≡ None }
         ensures seen { Begins self.old.control.chair.seen result.seen }
+        ensures new { NoneBy result.number result.seen }
         ensures unchanged { self.new ≡ self.old }
     {
         let note = self.control.note(&*self.board);

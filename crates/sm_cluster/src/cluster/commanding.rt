@@ -31,6 +31,7 @@ impl<S: Service> Cluster<S> {
         match self.control.command(&*self.board, command) {
             Ok(()) => {
                 self.network.set_door(door);
+                self.network.counters.count_command(&command);
                 Ok(())
             }
             Err(fault) => Err(fault),

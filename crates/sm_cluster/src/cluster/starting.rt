@@ -1,5 +1,5 @@
 //! The start of a cluster.
-ghost use Rattle.std.specs.Prelude.{◌≡◌, ◌≢◌, ◌<◌, ◌≤◌, ◌*◌, ◌^◌, ◌↔◌, All, Err, IfErr, IfOk, IsTrue, None, [], length, replicate};
+ghost use Rattle.std.specs.Prelude.{◌≡◌, ◌≢◌, ◌<◌, ◌≤◌, ◌*◌, ◌^◌, ◌↔◌, All, Err, IfErr, IfOk, IsTrue, None, [], length, map, replicate};
 ghost use Rattle.std.specs.Arc.{arc_value};
 ghost use Rattle.sm_ranges.specs.declared.stand.Stand.TheVariants.{Vacant};
 ghost use Rattle.sm_rule.specs.Boards.{make_fault};
@@ -65,8 +65,13 @@ where
         ensures seen { IfOk result (λ made. made.0.control.chair.seen ≡ []) }
         ensures desk { IfOk result (λ made. made.0.control.desk ≡ setup.desk) }
         ensures count { IfOk result (λ made. made.0.control.chair.board.limits.count ≡ length bodies.items) }
+        ensures ceiling { IfOk result (λ made. made.0.control.chair.board.limits.ceiling ≡ setup.ceiling) }
+        ensures limits { IfOk result (λ made. made.0.control.chair.board.limits.bodies ≡ map S.limit bodies.items) }
         ensures bounds { IfOk result (λ made. made.0.bounds ≡ setup.layout) }
         ensures holds { IfOk result (λ made. made.0.holds ≡ replicate (length bodies.items) None) }
+        ensures map { IfOk result (λ made. made.0.map.map ≡ record { count = length bodies.items; published = [] }) }
+        ensures routers { IfOk result (λ made.
+            map (λ client. client.router) made.1.items ≡ replicate clients (record { table = made.0.map.table; seen = [] })) }
         ensures clients { IfOk result (λ made. length made.1.items ≡ clients) }
         ensures theirs { IfOk result (λ made. All (IsClientOf made.0) made.1.items) }
     {
@@ -74,7 +79,7 @@ where
             return Err(StartFault::TooManyWorkers);
         }
         let shards = bodies.len();
-        let parts = parts_of(alloc, setup, bodies)?;
+        let parts = parts_of(rt, alloc, setup, bodies, workers)?;
         let Ok(gate) = Arc::new(alloc, gate) else {
             return Err(StartFault::NoMemory);
         };
@@ -101,8 +106,14 @@ fn is_too_many(desk: &Desk, workers: u32) -> bool
     servers > MAX_WORKERS as usize || servers as u64 * u64::from(workers) > u64::from(MAX_WORKERS)
 }
 
-// A board with its control, and the ways to its servers.
-fn parts_of<S: Service>(alloc: Global, setup: Setup, bodies: Vec<S>) -> Result<Parts<S>, StartFault>
+// A board with its control, and the ways to its servers, each of so many workers.
+fn parts_of<S: Service, R: Wait>(
+    rt: &R,
+    alloc: Global,
+    setup: Setup,
+    bodies: Vec<S>,
+    workers: u32,
+) -> Result<Parts<S>, StartFault>
     requires sizes { make_fault (length bodies.items) setup.ceiling ≡ None }
     requires shards { length setup.desk.books.shards ≡ length bodies.items }
     requires vacant { All (λ shard. shard.stand ≡ Vacant) setup.desk.books.shards }
@@ -113,6 +124,8 @@ fn parts_of<S: Service>(alloc: Global, setup: Setup, bodies: Vec<S>) -> Result<P
     ensures seen { IfOk result (λ parts. parts.control.chair.seen ≡ []) }
     ensures desk { IfOk result (λ parts. parts.control.desk ≡ setup.desk) }
     ensures count { IfOk result (λ parts. parts.control.chair.board.limits.count ≡ length bodies.items) }
+    ensures ceiling { IfOk result (λ parts. parts.control.chair.board.limits.ceiling ≡ setup.ceiling) }
+    ensures limits { IfOk result (λ parts. parts.control.chair.board.limits.bodies ≡ map S.limit bodies.items) }
     ensures board { IfOk result (λ parts. parts.control.chair.board ≡ arc_value parts.board) }
     ensures bounds { IfOk result (λ parts. (arc_value parts.network).layout ≡ setup.layout) }
 {
@@ -128,7 +141,8 @@ fn parts_of<S: Service>(alloc: Global, setup: Setup, bodies: Vec<S>) -> Result<P
     let Ok(board) = Arc::new(alloc, board) else {
         return Err(StartFault::NoMemory);
     };
-    let (network, inboxes) = network_of(alloc, layout, control.desk().books().rows())?;
+    let rows = control.desk().books().rows();
+    let (network, inboxes) = network_of(rt, alloc, layout, rows, workers)?;
     Ok(Parts {
         board,
         network,
@@ -145,6 +159,7 @@ fn clients_of<S: Service>(
     routers: Vec<Router>,
 ) -> Result<Vec<Client<S>>, AllocError>
     ensures count { IfOk result (λ clients. length clients.items ≡ length routers.items) }
+    ensures routers { IfOk result (λ clients. map (λ client. client.router) clients.items ≡ routers.items) }
     ensures boards { IfOk result (λ clients. All (λ client. client.pass.board ≡ arc_value board.now) clients.items) }
     ensures bounds { IfOk result (λ clients. All (λ client. client.bounds ≡ (arc_value network.now).layout) clients.items) }
 {
@@ -176,6 +191,7 @@ where
     requires { parts.control.chair.board ≡ arc_value parts.board }
     ensures fault { IfErr result (λ fault. fault ≢ StartFault.TooManyWorkers) }
     ensures control { IfOk result (λ cluster. cluster.control ≡ parts.control) }
+    ensures map { IfOk result (λ cluster. cluster.map ≡ publisher) }
     ensures bounds { IfOk result (λ cluster. cluster.bounds ≡ (arc_value parts.network).layout) }
     ensures holds { IfOk result (λ cluster. cluster.holds ≡ replicate parts.control.chair.board.limits.count None) }
 {

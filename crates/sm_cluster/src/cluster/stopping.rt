@@ -38,11 +38,8 @@ impl<S: Service> Cluster<S> {
         drop(network);
         let mut closer = told(&*board, clients);
         holds.end(&*board, &mut closer);
-        let all_stopped = crew.stop(rt);
+        crew.stop(rt);
         publisher.end(rt);
-        if !all_stopped {
-            return Err(StopFault::NoMemory);
-        }
         let (chair, _) = control.into_parts();
         match Arc::try_unwrap(board) {
             Ok(board) => Ok(board.close(chair, closer)),

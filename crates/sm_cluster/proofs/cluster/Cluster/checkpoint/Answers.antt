@@ -16,6 +16,7 @@ returns-in_err-checkpoint-clause-known g c within known =
       board = by.board;
       server_is = by.server;
       seen = by.seen;
+      new = by.new;
       made = c.in_err-checkpoint.ensures.refused;
     } in
     rw (fault.1, fault.2) based
@@ -31,5 +32,6 @@ returns-clause-known g c within known =
       board = by.board;
       server_is = by.server;
       seen = by.seen;
+      new = by.new;
       made = (is.made, is.kept, λ i. record { shard = is.shard i; generation = is.generation i });
     }

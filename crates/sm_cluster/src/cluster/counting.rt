@@ -1,0 +1,51 @@
+//! What a cluster counts.
+ghost use Rattle.std.specs.Prelude.{◌≡◌, ◌<◌, IfOk, length};
+
+use super::Cluster;
+use crate::counts::{Counts, ShardCounts};
+use sm_body::service::Service;
+use sm_ranges::limits::MAX_SHARDS;
+use sm_ranges::shard_id::ShardId;
+use std::alloc::{AllocError, Global};
+
+impl<S: Service> Cluster<S> {
+    /// What was counted since the start. What is under way is counted once a server's step on it has ended. No clause says what the
+    /// counts are.
+    pub fn counts(&self, alloc: Global) -> Result<Counts, AllocError>
+        ensures { IfOk result (λ counts. length counts.shards.items ≡ self.now.control.chair.board.limits.count) }
+    {
+        // The books are sound, so they have at most 4,096 shards.
+        self.control.soundness();
+        let mut shards = Vec::new(alloc);
+        for number in 0..self.board.count() {
+            shards.push(self.shard_counts(shard_id(number)))?;
+        }
+        Ok(Counts {
+            servers: self.network.server_counts(alloc)?,
+            shards,
+            retried: self.network.counters.retried(),
+        })
+    }
+
+    // What was counted of the shard: its generation is the number of its changes, and of the begins and ends of its admissions.
+    fn shard_counts(&self, k: ShardId) -> ShardCounts
+        requires { k < self.now.control.chair.board.limits.count }
+    {
+        let mut pass = self.board.pass(None);
+        let generation = self.board.look(&mut pass, k).generation;
+        let changes = self.network.counters.changes(k);
+        ShardCounts {
+            shard: k,
+            admissions: generation.saturating_sub(changes).div_ceil(2),
+            changes,
+        }
+    }
+}
+
+// The shard of the number.
+fn shard_id(number: u32) -> ShardId
+    requires { number < MAX_SHARDS }
+    ensures { result ≡ number }
+{
+    ShardId::new(number as u16).unwrap()
+}

@@ -1,0 +1,91 @@
+use crate::counts::ServerCounts;
+use crate::tally::Tally;
+use sm_desk::Command;
+use sm_ranges::server_id::ServerId;
+use sm_ranges::shard_id::ShardId;
+use std::alloc::{AllocError, Global};
+use std::sync::atomic::{AtomicU64, Ordering};
+
+/// The counters of a cluster, into which its workers, clients and commands count.
+#[derive(Drop)]
+pub(crate) struct Counters {
+    // By the servers' rising numbers.
+    tallies: Vec<Tally>,
+    // By the shards' numbers.
+    changes: Vec<AtomicU64>,
+    retried: AtomicU64,
+}
+
+impl Counters {
+    /// Counters of so many servers and shards, all at 0.
+    pub(crate) fn new(
+        alloc: Global,
+        servers: usize,
+        shards: usize,
+    ) -> Result<Counters, AllocError> {
+        let mut tallies = Vec::new(alloc);
+        for _ in 0..servers {
+            tallies.push(Tally::new())?;
+        }
+        Ok(Counters {
+            tallies,
+            changes: zeros(alloc, shards)?,
+            retried: AtomicU64::new(0),
+        })
+    }
+
+    /// The tally of the server at this place.
+    pub(crate) fn tally(&self, at: usize) -> Option<&Tally> {
+        self.tallies.get(at)
+    }
+
+    /// Counts a command that was made.
+    pub(crate) fn count_command(&self, command: &Command) {
+        let Command::Change(k, _) = command else {
+            return;
+        };
+        if let Some(changes) = self.changes.get(k.index()) {
+            changes.fetch_add(1, Ordering::SeqCst);
+        }
+    }
+
+    /// Counts a request that is made anew.
+    pub(crate) fn count_retry(&self) {
+        self.retried.fetch_add(1, Ordering::SeqCst);
+    }
+
+    /// What was counted of these servers.
+    pub(crate) fn servers(
+        &self,
+        alloc: Global,
+        servers: &[ServerId],
+    ) -> Result<Vec<ServerCounts>, AllocError> {
+        let mut rows = Vec::new(alloc);
+        for (server, tally) in servers.iter().zip(&self.tallies) {
+            rows.push(tally.counts(*server))?;
+        }
+        Ok(rows)
+    }
+
+    /// How many changes of the shard were made.
+    pub(crate) fn changes(&self, k: ShardId) -> u64 {
+        match self.changes.get(k.index()) {
+            Some(changes) => changes.load(Ordering::SeqCst),
+            None => 0,
+        }
+    }
+
+    /// How many requests were made anew.
+    pub(crate) fn retried(&self) -> u64 {
+        self.retried.load(Ordering::SeqCst)
+    }
+}
+
+// So many counters, all at 0.
+fn zeros(alloc: Global, count: usize) -> Result<Vec<AtomicU64>, AllocError> {
+    let mut counters = Vec::new(alloc);
+    for _ in 0..count {
+        counters.push(AtomicU64::new(0))?;
+    }
+    Ok(counters)
+}
