@@ -1,14 +1,22 @@
 //! The program sm_cli: runs a script of the shard manager, one command at a time.
 #![tactic(auto)]
 
+mod counts_table;
+
+use crate::counts_table::CountsTable;
 use clap::error::ErrorKind;
-use clap::{Arg, ArgAction, Command};
+use clap::{Arg, ArgAction, ArgMatches, Command};
+use sm_cluster::Open;
 use sm_explain::{Beginning, Console, Explained};
 use sm_lines::Watched;
 use sm_model::{ModelEngine, run_model};
 use sm_run::{RunFault, Status, run};
+use sm_threads::{run_threads, run_threads_explained};
 use std::alloc::Global;
 use std::process::ExitCode;
+use std::rt::Runtime;
+use std::sync::Wait;
+use std::thread::Threads;
 use std::{env, io};
 
 /// What `--version` prints after the program's name; docs and CHANGELOG.md tell it too.
@@ -55,6 +63,9 @@ Restarts, failures and plans, as ask 1, approve 1, drain 1:
   place             where the vacant shards would go
   drain A           where the shards that server A serves would go
 
+Clients at the same time, as load a 4 25, under threads alone:
+  load KEY C N      C clients, each in a thread of its own, add 1 to the count of KEY N times each
+
 Each command has one answer line. An empty line and a line that begins with # have none.
 
 Example:
@@ -72,15 +83,27 @@ answers
 
 docs/SCRIPT.md of the repository has all settings, commands and answers.";
 
+/// The exit status where the command line isn't accepted, also where that can't be told.
+const REFUSED: u8 = 2;
+
 /// The exit status of an explained run in which a line was answered by `error`.
 const WITH_ERRORS: u8 = 3;
 
-/// What the command line asks for.
-enum Choice {
-    /// A script on the model.
+/// What runs the script.
+#[derive(Clone, Copy, PartialEq, Eq, Drop)]
+enum Runner {
+    /// The model, on one thread.
     Model,
-    /// The same, and sentences on standard error about lines that are refused.
-    ExplainedModel,
+    /// A cluster, whose servers are threads.
+    Threads,
+}
+
+/// What the command line asks for: a script on this runner, and whether sentences about lines that are refused go to standard
+/// error.
+#[derive(Clone, Copy, Drop)]
+struct Choice {
+    runner: Runner,
+    explains: bool,
 }
 
 /// The words of the command line, the program's name first; an error is a word that is not UTF-8, or want of memory.
@@ -89,68 +112,138 @@ fn command_line(rt: &HostRuntime) -> io::Result<Vec<String>> {
     Ok(words)
 }
 
-/// The choice that the words name; an error is a refusal, help that was asked for, or want of memory.
-fn choose(alloc: Global, words: &[String]) -> Result<Choice, clap::Error> {
+/// A subcommand that runs the script of standard input.
+fn runner_command<'a>(
+    alloc: Global,
+    name: &'a str,
+    about: &'a str,
+) -> Result<Command<'a>, clap::Error> {
     let explain = Arg::new(alloc, "explain")
         .long("explain")
         .action(ArgAction::SetTrue)
         .help(
             "Tells on standard error why a line is answered by error or refused; the exit status is 3 where one is by error",
         );
-    let model = Command::new(alloc, "model")
-        .about(
-            "Runs the script of standard input on the model: shards, their changes and requests, on one thread",
-        )
-        .after_help(SCRIPT_HELP)
-        .arg(explain)?;
+    Ok(
+        Command::new(alloc, name)
+            .about(about)
+            .after_help(SCRIPT_HELP)
+            .arg(explain)?,
+    )
+}
+
+/// Whether the subcommand of this name explains, where it was chosen.
+fn explains(matches: &ArgMatches, name: &str) -> Option<bool> {
+    match matches.subcommand_matches(name) {
+        Some(chosen) => Some(chosen.get_flag("explain")),
+        None => None,
+    }
+}
+
+/// The choice that the words name; an error is a refusal, help that was asked for, or want of memory.
+fn choose(alloc: Global, words: &[String]) -> Result<Choice, clap::Error> {
+    let model = runner_command(
+        alloc,
+        "model",
+        "Runs the script of standard input on the model, on one thread: each answer is what docs/SCRIPT.md says",
+    )?;
+    let threads = runner_command(
+        alloc,
+        "threads",
+        "Runs it on a cluster whose servers are threads, a command at a time; load has clients in threads of their own",
+    )?;
     let command = Command::new(alloc, "sm_cli")
         .about("Runs a script of a shard manager")
         .version(VERSION)
         .after_help(SCRIPT_HELP)
         .subcommand_required(true)
-        .subcommand(model)?;
+        .subcommand(model)?
+        .subcommand(threads)?;
     let matches = command.try_get_matches_from(words)?;
-    match matches.subcommand_matches("model") {
-        Some(model) if model.get_flag("explain") => Ok(Choice::ExplainedModel),
-        _ => Ok(Choice::Model),
+    match explains(&matches, "threads") {
+        Some(explains) => Ok(Choice {
+            runner: Runner::Threads,
+            explains,
+        }),
+        None => Ok(Choice {
+            runner: Runner::Model,
+            explains: explains(&matches, "model") == Some(true),
+        }),
     }
 }
 
 /// Tells on standard error why the program ends early.
-fn end_early(rt: &HostRuntime, fault: RunFault) -> anyhow::Result<ExitCode> {
+fn end_early<R: Runtime>(rt: &R, fault: RunFault) -> anyhow::Result<ExitCode> {
     eprintln!(rt; "fault {fault}")?;
     Ok(ExitCode::FAILURE)
 }
 
-/// Runs the script of standard input.
-fn run_plain(rt: &HostRuntime) -> anyhow::Result<ExitCode> {
-    let mut reader = Watched::new(rt.reader());
-    let mut writer = Watched::new(io::writer(rt));
-    match run_model(rt.alloc(), &mut reader, &mut writer) {
+/// The exit status of a run that ended so, without explanations.
+fn end_plain<R: Runtime>(rt: &R, ended: Result<Status, RunFault>) -> anyhow::Result<ExitCode> {
+    match ended {
         Ok(Status::Ran) => Ok(ExitCode::SUCCESS),
         Ok(Status::BadSettings) => Ok(ExitCode::FAILURE),
         Err(fault) => end_early(rt, fault),
     }
 }
 
-/// Runs the script of standard input, and tells on standard error why lines or settings are refused.
-fn run_explained(rt: &HostRuntime) -> anyhow::Result<ExitCode> {
-    let alloc = rt.alloc();
+/// Runs the script of standard input.
+fn run_plain<R: Runtime + Threads + Wait + Send + Sync + 'static>(
+    rt: &R,
+    alloc: Global,
+    runner: Runner,
+) -> anyhow::Result<ExitCode> {
+    let mut reader = Watched::new(rt.reader());
+    let mut writer = Watched::new(io::writer(rt));
+    let ended = match runner {
+        Runner::Model => run_model(alloc, &mut reader, &mut writer),
+        Runner::Threads => run_threads(rt, alloc, &mut reader, &mut writer, &Open),
+    };
+    end_plain(rt, ended)
+}
+
+/// Runs the script of standard input, and tells on standard error why lines or settings are refused, and what a cluster counted.
+fn run_explained<R: Runtime + Threads + Wait + Send + Sync + 'static>(
+    rt: &R,
+    alloc: Global,
+    runner: Runner,
+) -> anyhow::Result<ExitCode> {
     let console = Console::new(rt);
     let mut output = Beginning::new(alloc, io::writer(rt));
     let mut reader = Watched::new(rt.reader());
     let mut writer = Watched::new(&mut output);
-    let mut engine = Explained::new(ModelEngine::new(alloc), &console);
-    match run(alloc, &mut reader, &mut writer, &mut engine) {
+    let ended = match runner {
+        Runner::Model => {
+            let mut engine = Explained::new(ModelEngine::new(alloc), &console);
+            run(alloc, &mut reader, &mut writer, &mut engine)
+        }
+        Runner::Threads => {
+            let table = CountsTable::new(rt);
+            run_threads_explained(rt, alloc, &mut reader, &mut writer, &Open, &console, table)
+        }
+    };
+    match ended {
         Ok(Status::Ran) if console.has_heard_error() => Ok(ExitCode::from(WITH_ERRORS)),
-        Ok(Status::Ran) => Ok(ExitCode::SUCCESS),
         Ok(Status::BadSettings) => {
             if let Some(name) = output.settings_fault() {
                 console.tell_settings(name);
             }
             Ok(ExitCode::FAILURE)
         }
-        Err(fault) => end_early(rt, fault),
+        ended => end_plain(rt, ended),
+    }
+}
+
+/// Does what the command line asks for.
+fn run_choice<R: Runtime + Threads + Wait + Send + Sync + 'static>(
+    rt: &R,
+    alloc: Global,
+    choice: Choice,
+) -> anyhow::Result<ExitCode> {
+    if choice.explains {
+        run_explained(rt, alloc, choice.runner)
+    } else {
+        run_plain(rt, alloc, choice.runner)
     }
 }
 
@@ -161,19 +254,22 @@ fn main(rt: HostRuntime) -> anyhow::Result<ExitCode> {
             return end_early(&rt, RunFault::NoMemory);
         }
         Err(_) => {
-            eprintln!(rt; "error: an argument is not UTF-8")?;
-            return Ok(ExitCode::from(2));
+            let _told = eprintln!(rt; "error: an argument is not UTF-8").is_ok();
+            return Ok(ExitCode::from(REFUSED));
         }
     };
     match choose(rt.alloc(), &words) {
-        Ok(Choice::Model) => run_plain(&rt),
-        Ok(Choice::ExplainedModel) => run_explained(&rt),
+        Ok(choice) => run_choice(&rt, rt.alloc(), choice),
         Err(error) if error.kind() == ErrorKind::OutOfMemory => {
             end_early(&rt, RunFault::NoMemory)
         }
-        Err(error) => {
+        Err(error) if error.exit_code() == 0 => {
             error.print(&rt)?;
-            Ok(ExitCode::from(error.exit_code() as u8))
+            Ok(ExitCode::SUCCESS)
+        }
+        Err(error) => {
+            let _told = error.print(&rt).is_ok();
+            Ok(ExitCode::from(REFUSED))
         }
     }
 }

@@ -1,0 +1,40 @@
+-- A session on a cluster as contracts see it, and with what it begins.
+use Rattle.std.specs.Prelude.{◌≡◌, ◌*◌, ◌<◌, ◌≤◌, ⊤, None, [], length, replicate}
+use Rattle.sm_cluster.specs.Calls.{ClientValue}
+use Rattle.sm_cluster.specs.Clusters.{ClusterValue, IsClientOf}
+use Rattle.sm_cluster.specs.declared.TheConstants.{MAX_WORKERS}
+use Rattle.sm_model.specs.Calls.{settings_desk}
+use Rattle.sm_run.specs.declared.begin_fault.BeginFault.{BeginFault}
+use Rattle.sm_run.specs.declared.begin_fault.BeginFault.TheVariants as begin
+use Rattle.sm_service.specs.declared.request.Request.{Request}
+use Rattle.sm_settings.specs.SettingsLine.{SettingsValues}
+use Rattle.sm_settings.specs.declared.settings_fault.SettingsFault.TheVariants.{TooManyWorkers}
+
+-- its cluster, and the client that makes the script's requests
+pub record SessionValue : Type 0 where
+  pub cluster : ClusterValue Request
+  pub client : ClientValue Request
+
+-- the client is the cluster's, whose board has a shard for each range
+abbrev pub IsWhole : SessionValue → Type 0
+IsWhole session =
+    IsClientOf session.cluster session.client × (session.cluster.control.chair.board.limits.count ≡ length session.cluster.bounds)
+
+-- the session that settings begin: its cluster has the desk, the ranges and the limits that they ask for, and not too many workers, and
+-- nothing has happened in it
+pub record IsBegun (settings : SettingsValues) (session : SessionValue) : Type 0 where
+  pub desk : session.cluster.control.desk ≡ settings_desk settings
+  pub seen : session.cluster.control.chair.seen ≡ []
+  pub ceiling : session.cluster.control.chair.board.limits.ceiling ≡ settings.ceiling
+  pub kept : session.cluster.control.chair.board.limits.bodies ≡ replicate (length settings.bounds) settings.kept
+  pub bounds : session.cluster.bounds ≡ settings.bounds
+  pub holds : session.cluster.holds ≡ replicate (length settings.bounds) None
+  pub map : session.cluster.map.map ≡ record { count = length settings.bounds; published = [] }
+  pub workers : length settings.servers * settings.workers ≤ MAX_WORKERS
+  pub unread : session.client.router ≡ record { table = session.cluster.map.table; seen = [] }
+
+-- why no session is begun: too many workers, or want of memory or of a thread, which no clause can tell
+abbrev pub MayRefuse : SettingsValues → BeginFault → Type 0
+MayRefuse settings (begin.Settings fault) = (fault ≡ TooManyWorkers) × (MAX_WORKERS < length settings.servers * settings.workers)
+MayRefuse settings begin.NoMemory = ⊤
+MayRefuse settings begin.NoThread = ⊤

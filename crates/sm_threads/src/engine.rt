@@ -1,0 +1,75 @@
+use crate::counts_listener::CountsListener;
+use crate::session::ThreadSession;
+use sm_cluster::Counts;
+use sm_run::{BeginFault, Engine};
+use sm_settings::settings::Settings;
+use std::marker::PhantomData;
+use std::sync::Wait;
+use std::thread::Threads;
+
+/// Runs scripts on clusters, one command at a time, in the sessions that a closure starts. Where that closure is made it is known
+/// that its runtime may start threads; a method of an engine of any runtime doesn't know it. Where there is a listener, it is told
+/// what the cluster of each session counted.
+#[derive(Drop)]
+pub(crate) struct ThreadEngine<R, F, L> {
+    begin: F,
+    listener: Option<L>,
+    runtime: PhantomData<R>,
+}
+
+/// The listener of an engine that tells nobody.
+#[derive(Drop)]
+pub(crate) struct Nobody;
+
+impl CountsListener for Nobody {
+    fn hear_counts(&self, _counts: &Counts) {}
+}
+
+impl<R, F, L> ThreadEngine<R, F, L> {
+    /// An engine whose sessions this closure starts.
+    pub(crate) fn new(begin: F, listener: Option<L>) -> ThreadEngine<R, F, L> {
+        ThreadEngine {
+            begin,
+            listener,
+            runtime: PhantomData,
+        }
+    }
+}
+
+impl<
+    R: Threads + Wait + Sync + Drop,
+    F: FnMut(Settings) -> Result<ThreadSession<R>, BeginFault>,
+    L: CountsListener + Drop,
+> Engine for ThreadEngine<R, F, L> {
+    ghost use Rattle.std.specs.Thread.{IsSync};
+    ghost use Rattle.sm_script.specs.declared.line.TheConstants.{MAX_LINE as LINE_LIMIT};
+    ghost use Rattle.sm_settings.specs.SettingsLine.{values_of};
+    ghost use Rattle.sm_settings.specs.SettingsRules.{KeepsRules};
+    ghost use Rattle.sm_threads.specs.Beginning.{Begins};
+    ghost use Rattle.sm_threads.specs.Sessions.{IsBegun, MayRefuse};
+
+    type Session = ThreadSession<R>;
+
+    const MAX_LINE: usize = sm_script::MAX_LINE;
+
+    ghost MAX_LINE = { LINE_LIMIT };
+
+    // The session's runtime may be shared with other threads, and the closure starts what settings begin.
+    ghost ready = { λ _. IsSync R.row × Begins (λ settings. KeepsRules (values_of settings)) F.pre F.step
+        (λ settings. IsBegun (values_of settings)) (λ settings. MayRefuse (values_of settings)) };
+
+    ghost begins = { IsBegun };
+
+    ghost refuses = { MayRefuse };
+
+    fn begin(&mut self, settings: Settings) -> Result<ThreadSession<R>, BeginFault> {
+        (self.begin)(settings)
+    }
+
+    fn end(&mut self, session: ThreadSession<R>) {
+        if let Some(listener) = &self.listener {
+            session.tell_counts(listener);
+        }
+        session.stop();
+    }
+}

@@ -1,0 +1,130 @@
+//! The answers to calls that a cluster refused.
+ghost use Rattle.std.specs.Prelude.{◌≡◌, IfOk, OnErr, None, Some};
+ghost use Rattle.std.specs.Option.{option_map};
+ghost use Rattle.sm_threads.specs.Calls.{answer_to};
+ghost use Rattle.sm_threads.specs.Refusals.{admit_refused, begin_fault, call_refused, checkpoint_refused, command_refused, free_refused, hold_refused, publish_refused, request_refused};
+
+use sm_cluster::{CallFault, CheckpointRefusal, FreeFault, HoldFault, PublishRefusal, StartFault};
+use sm_control::{ControlFault, RouteFault};
+use sm_envelope::Refusal as RequestRefusal;
+use sm_publish::PublishFault;
+use sm_rule::admit_refusal::AdmitRefusal;
+use sm_run::BeginFault;
+use sm_script::{Answer, Refused};
+use sm_server::{CheckpointFault, Refusal};
+use sm_settings::SettingsFault;
+use std::alloc::AllocError;
+
+/// Why no session was begun where its cluster was not started.
+pub(crate) fn begin_fault(fault: StartFault) -> BeginFault
+    ensures { result ≡ begin_fault fault }
+{
+    match fault {
+        StartFault::TooManyWorkers => BeginFault::Settings(SettingsFault::TooManyWorkers),
+        StartFault::NoMemory => BeginFault::NoMemory,
+        StartFault::NoThread => BeginFault::NoThread,
+    }
+}
+
+/// The answer to a command.
+pub(crate) fn command_answer(made: Result<(), ControlFault>) -> Answer
+    ensures { result ≡ answer_to command_refused made }
+{
+    match made {
+        Ok(()) => Answer::Made,
+        Err(ControlFault::Command(fault)) => Answer::Refused(Refused::Command(fault)),
+        Err(ControlFault::Raced { .. }) => Answer::Refused(Refused::Raced),
+    }
+}
+
+/// The refusal of an admission.
+fn admit_refused(refusal: AdmitRefusal) -> Refused
+    ensures { result ≡ admit_refused refusal }
+{
+    match refusal {
+        AdmitRefusal::Refused(fault, _) => Refused::Admit(fault),
+        AdmitRefusal::Raced { .. } => Refused::Raced,
+    }
+}
+
+/// The answer to a hold.
+pub(crate) fn hold_answer(made: Result<(), HoldFault>) -> Answer
+    ensures { result ≡ answer_to hold_refused made }
+{
+    match made {
+        Ok(()) => Answer::Made,
+        Err(HoldFault::UnknownShard) => Answer::Refused(Refused::UnknownShard),
+        Err(HoldFault::UnknownServer) => Answer::Refused(Refused::UnknownServer),
+        Err(HoldFault::Admit(refusal)) => Answer::Refused(admit_refused(refusal)),
+    }
+}
+
+/// The answer to the end of a hold.
+pub(crate) fn free_answer(made: Result<(), FreeFault>) -> Answer
+    ensures { result ≡ answer_to free_refused made }
+{
+    match made {
+        Ok(()) => Answer::Made,
+        Err(FreeFault::UnknownShard) => Answer::Refused(Refused::UnknownShard),
+        Err(FreeFault::NotHeld) => Answer::Refused(Refused::NotHeld),
+    }
+}
+
+/// The answer to a checkpoint that was refused; an error is want of memory.
+pub(crate) fn checkpoint_refused(refusal: CheckpointRefusal) -> Result<Answer, AllocError>
+    ensures ok { IfOk result (λ answer. option_map Answer.Refused (checkpoint_refused refusal) ≡ Some answer) }
+    ensures err { OnErr result (checkpoint_refused refusal ≡ None) }
+{
+    match refusal {
+        CheckpointRefusal::UnknownShard => Ok(Answer::Refused(Refused::UnknownShard)),
+        CheckpointRefusal::UnknownServer => Ok(Answer::Refused(Refused::UnknownServer)),
+        CheckpointRefusal::Checkpoint(CheckpointFault::Admit(refusal)) => {
+            Ok(Answer::Refused(admit_refused(refusal)))
+        }
+        CheckpointRefusal::Checkpoint(CheckpointFault::NoMemory) => Err(AllocError),
+    }
+}
+
+/// The answer to a publication that was refused; an error is want of memory.
+pub(crate) fn publish_refused(refusal: PublishRefusal) -> Result<Answer, AllocError>
+    ensures ok { IfOk result (λ answer. option_map Answer.Refused (publish_refused refusal) ≡ Some answer) }
+    ensures err { OnErr result (publish_refused refusal ≡ None) }
+{
+    match refusal {
+        PublishRefusal::Route(RouteFault::UnknownShard)
+        | PublishRefusal::Publish(PublishFault::UnknownShard) => {
+            Ok(Answer::Refused(Refused::UnknownShard))
+        }
+        PublishRefusal::Route(RouteFault::WrongPhase) => Ok(Answer::Refused(Refused::WrongPhase)),
+        PublishRefusal::Publish(PublishFault::OldRoute) => Ok(Answer::Refused(Refused::OldRoute)),
+        PublishRefusal::Publish(PublishFault::NoMemory) => Err(AllocError),
+    }
+}
+
+/// The answer to a request that was not answered; an error is want of memory.
+pub(crate) fn call_refused(fault: CallFault) -> Result<Answer, AllocError>
+    ensures ok { IfOk result (λ answer. option_map Answer.Refused (call_refused fault) ≡ Some answer) }
+    ensures err { OnErr result (call_refused fault ≡ None) }
+{
+    match fault {
+        CallFault::NoRoute => Ok(Answer::Refused(Refused::NoRoute)),
+        CallFault::Unreachable => Ok(Answer::Refused(Refused::Unreachable)),
+        CallFault::Refused(refusal) => request_refused(refusal),
+        CallFault::NoMemory => Err(AllocError),
+        CallFault::Closed => Ok(Answer::Refused(Refused::Closed)),
+    }
+}
+
+/// The answer to a request that a server refused; an error is want of memory.
+fn request_refused(refusal: Refusal) -> Result<Answer, AllocError>
+    ensures ok { IfOk result (λ answer. option_map Answer.Refused (request_refused refusal) ≡ Some answer) }
+    ensures err { OnErr result (request_refused refusal ≡ None) }
+{
+    match refusal {
+        Refusal::WrongShard => Ok(Answer::Refused(Refused::WrongShard)),
+        Refusal::TooManyHops => Ok(Answer::Refused(Refused::Request(RequestRefusal::TooManyHops))),
+        Refusal::Admit(refusal) => Ok(Answer::Refused(admit_refused(refusal))),
+        Refusal::KeptFull => Ok(Answer::Refused(Refused::Request(RequestRefusal::KeptFull))),
+        Refusal::NoMemory => Err(AllocError),
+    }
+}

@@ -1,0 +1,107 @@
+//! The calls of a script that make no request.
+ghost use Rattle.std.specs.Prelude.{◌≡◌, IfOk};
+ghost use Rattle.sm_place.specs.Plans.{assign_plan};
+ghost use Rattle.sm_script.specs.declared.answer.Answer.TheVariants.{Planned as IsPlanned};
+ghost use Rattle.sm_threads.specs.Calls.{Looked, Routed, WasBased, WasCommanded, WasFreed, WasHeld, WasPublished, drain_answer};
+
+use super::ThreadSession;
+use crate::refusals::{
+    checkpoint_refused, command_answer, free_answer, hold_answer, publish_refused,
+};
+use sm_control::DrainFault;
+use sm_desk::Command;
+use sm_ranges::key::Key;
+use sm_ranges::server_id::ServerId;
+use sm_ranges::shard_id::ShardId;
+use sm_script::{Answer, Refused};
+use std::alloc::AllocError;
+use std::sync::Wait;
+
+impl<R> ThreadSession<R> {
+    /// Makes a command of the control.
+    pub(super) fn command(&mut self, command: Command) -> Answer
+        ensures { WasCommanded self.old command result self.new }
+    {
+        command_answer(self.cluster.command(command))
+    }
+
+    /// Has the server admitted to the shard without a request.
+    pub(super) fn hold(&mut self, shard: ShardId, server: ServerId) -> Answer
+        ensures { WasHeld self.old shard server result self.new }
+    {
+        hold_answer(self.cluster.hold(shard, server))
+    }
+
+    /// Ends such an admission.
+    pub(super) fn free(&mut self, shard: ShardId) -> Answer
+        ensures { WasFreed self.old shard result self.new }
+    {
+        free_answer(self.cluster.free(shard))
+    }
+
+    /// Makes the shard's present state its base; an error is want of memory.
+    pub(super) fn checkpoint(
+        &mut self,
+        shard: ShardId,
+        server: ServerId,
+    ) -> Result<Answer, AllocError>
+        ensures { IfOk result (λ answer. WasBased self.old shard server answer self.new) }
+    {
+        match self.cluster.checkpoint(shard, server) {
+            Ok(_front) => Ok(Answer::Made),
+            Err(refusal) => checkpoint_refused(refusal),
+        }
+    }
+
+    /// The published route of the key's shard.
+    pub(super) fn route(&mut self, key: &Key) -> Answer
+        ensures { Routed self.old key.now result self.new }
+    {
+        Answer::Way(self.client.route(key.as_bytes()))
+    }
+
+    /// The shard's record.
+    pub(super) fn look(&mut self, shard: ShardId) -> Answer
+        ensures { Looked self.old shard result self.new }
+    {
+        if shard.index() >= self.cluster.layout().count() {
+            return Answer::Refused(Refused::UnknownShard);
+        }
+        Answer::Seen(self.client.look(shard))
+    }
+
+    /// A plan for the shards without an owner; an error is want of memory.
+    pub(super) fn place(&self) -> Result<Answer, AllocError>
+        ensures { IfOk result (λ answer. answer ≡ IsPlanned (assign_plan self.now.cluster.control.desk.books)) }
+    {
+        match self.cluster.plan_assign(self.alloc) {
+            Ok(plan) => Ok(Answer::Planned(plan)),
+            Err(fault) => Err(fault),
+        }
+    }
+
+    /// A plan for the shards that the server serves; an error is want of memory.
+    pub(super) fn drain(&self, server: ServerId) -> Result<Answer, AllocError>
+        ensures { IfOk result (λ answer. answer ≡ drain_answer self.now.cluster server) }
+    {
+        if !self.cluster.desk().knows(server) {
+            return Ok(Answer::Refused(Refused::UnknownServer));
+        }
+        match self.cluster.plan_drain(self.alloc, server) {
+            Ok(plan) => Ok(Answer::Planned(plan)),
+            Err(DrainFault::UnknownServer | DrainFault::NoMemory) => Err(AllocError),
+        }
+    }
+}
+
+impl<R: Wait> ThreadSession<R> {
+    /// Publishes the shard's owner; an error is want of memory.
+    pub(super) fn publish(&mut self, shard: ShardId) -> Result<Answer, AllocError>
+        ensures { IfOk result (λ answer. WasPublished self.old shard answer self.new) }
+    {
+        match self.cluster.publish(&self.rt, shard) {
+            Ok(_route) => Ok(Answer::Made),
+            Err(refusal) => publish_refused(refusal),
+        }
+    }
+}

@@ -1,0 +1,165 @@
+//! The requests of a script.
+ghost use Rattle.std.specs.Prelude.{◌≡◌, ◌+◌, ◌*◌, ◌<◌, ◌≤◌, ◌^◌, IfErr, IfOk, IfSome, length, slice_index_or};
+ghost use Rattle.sm_cluster.specs.Calls.{ClientValue, FaultAt, Gives};
+ghost use Rattle.sm_cluster.specs.Loads.{AreClientsSince, WasTold};
+ghost use Rattle.sm_model.specs.Calls.{counter_text};
+ghost use Rattle.sm_ranges.specs.Stand.{owner_of};
+ghost use Rattle.sm_rule.specs.Passes.{PassLooks, record_of};
+ghost use Rattle.sm_service.specs.declared.request.Request.TheVariants.{Get};
+ghost use Rattle.sm_threads.specs.Calls.{AnsweredAt, WasAnswered, WasLoaded, WasRequested, WasRouted, looking, shard_for, with_client};
+ghost use Rattle.sm_threads.specs.Loads.{IsVerdictOn, count_in};
+
+use super::ThreadSession;
+use crate::body::TextBody;
+use crate::key_count::KeyCount;
+use crate::refusals::call_refused;
+use sm_body::service::Service;
+use sm_cluster::{CallRefused, Client, LoadReport, load};
+use sm_envelope::Refusal;
+use sm_ownership::admit_fault::AdmitFault;
+use sm_ranges::key::Key;
+use sm_ranges::server_id::ServerId;
+use sm_ranges::shard_id::ShardId;
+use sm_script::{Answer, LoadClients, LoadVerdict, Refused};
+use sm_server::Answer as Given;
+use sm_service::request::Request;
+use std::alloc::{AllocError, Global};
+use std::sync::Wait;
+use std::thread::Threads;
+
+impl<R: Wait> ThreadSession<R> {
+    /// Has the request executed by the owner of its key's shard; an error is want of memory.
+    pub(super) fn request(&mut self, request: Request) -> Result<Answer, AllocError>
+        ensures { IfOk result (λ answer. WasRequested self.old request answer self.new) }
+    {
+        let shard = self.cluster.layout().shard_of(TextBody::key(&request));
+        match self.owner(shard) {
+            Some(owner) => self.request_at(owner, request),
+            None => Ok(Answer::Refused(Refused::Request(Refusal::Admit(AdmitFault::Vacant)))),
+        }
+    }
+
+    /// The shard's owner in the record that the client then sees.
+    fn owner(&mut self, shard: ShardId) -> Option<ServerId>
+        requires { shard < length self.old.cluster.bounds }
+        ensures owner { result ≡ owner_of (record_of self.new.client.pass shard).stand }
+        ensures seen { PassLooks self.old.client.pass self.new.client.pass }
+        ensures unchanged { self.new ≡ looking self.old self.new.client.pass }
+    {
+        self.client.look(shard).stand.owner()
+    }
+
+    /// Sends the request to the server; an error is want of memory.
+    pub(super) fn request_at(
+        &mut self,
+        server: ServerId,
+        request: Request,
+    ) -> Result<Answer, AllocError>
+        ensures { IfOk result (λ answer. AnsweredAt self.old server request answer self.new) }
+    {
+        if self.cluster.desk().knows(server) {
+            self.send(server, request)
+        } else {
+            Ok(Answer::Refused(Refused::UnknownServer))
+        }
+    }
+
+    /// Sends the request to a server that exists; an error is want of memory.
+    fn send(&mut self, server: ServerId, request: Request) -> Result<Answer, AllocError>
+        ensures answered { IfOk result (λ answer. WasAnswered (FaultAt self.old.client.pass
+            (shard_for self.old.client request) 0 request) self.old.client request answer self.new.client) }
+        ensures unchanged { self.new ≡ with_client self.old self.new.client }
+    {
+        let given = self
+            .client
+            .call_at(&self.rt, self.alloc, server, 0, request);
+        learned(&mut self.client, given)
+    }
+
+    /// Sends the request by the published route of its key's shard; an error is want of memory.
+    pub(super) fn request_by_route(&mut self, request: Request) -> Result<Answer, AllocError>
+        ensures { IfOk result (λ answer. WasRouted self.old request answer self.new) }
+    {
+        let given = self.client.call(&self.rt, self.alloc, 0, request);
+        learned(&mut self.client, given)
+    }
+}
+
+impl<R: Threads + Wait + Sync> ThreadSession<R> {
+    /// Has so many clients add to the key's count at the same time, so many times each.
+    pub(super) fn load(&mut self, key: Key, clients: LoadClients, each: u16) -> Answer
+        ensures { WasLoaded self.old key clients each result self.new }
+    {
+        let report = load_by(
+            &self.rt,
+            self.alloc,
+            &mut self.loaders,
+            clients.count(),
+            key,
+            each,
+        );
+        Answer::Loaded(verdict_on(&report))
+    }
+}
+
+/// The first client asks for the key's count, so many others add to it, so many times each, and the first asks again.
+fn load_by<R: Threads + Wait + Sync>(
+    rt: &R,
+    alloc: Global,
+    clients: &mut [Client<TextBody>],
+    count: usize,
+    key: Key,
+    each: u16,
+) -> LoadReport
+    requires count { (1 ≤ count) × (count < length clients.old) × (length clients.old < 2 ^ 32) }
+    ensures total { result.acked + result.refused ≡ count * each }
+    ensures before { (d : ClientValue Request) → IfSome result.before
+        (WasTold counter_text count_in (Get key) (slice_index_or clients.old 0 d) (slice_index_or clients.new 0 d)) }
+    ensures after { (d : ClientValue Request) → IfSome result.after
+        (WasTold counter_text count_in (Get key) (slice_index_or clients.old 0 d) (slice_index_or clients.new 0 d)) }
+    ensures clients { AreClientsSince clients.old clients.new }
+{
+    let counting = KeyCount { alloc, key };
+    let (used, _idle) = clients.split_at_mut(count + 1);
+    load(rt, alloc, used, &counting, u32::from(each))
+}
+
+/// Has the client learn what its call gave, and answers that; an error is want of memory.
+fn learned(
+    client: &mut Client<TextBody>,
+    given: Result<Given<TextBody>, CallRefused<Request>>,
+) -> Result<Answer, AllocError>
+    requires { IfOk given (λ answer. answer.note.board ≡ client.old.pass.board) }
+    ensures board { client.new.pass.board ≡ client.old.pass.board }
+    ensures bounds { client.new.bounds ≡ client.old.bounds }
+    ensures answered { (request : Request) → IfOk given (λ answer. Gives counter_text client.old 0 request answer
+        → IfOk result (λ answer. WasAnswered (λ _. ⊥) client.old request answer client.new)) }
+    ensures refused { (request : Request) → IfErr given (λ refused.
+        IfOk result (λ answer. WasAnswered (λ fault. fault ≡ refused.fault) client.old request answer client.new)) }
+{
+    match given {
+        Ok(answer) => {
+            let told = client.learn(answer);
+            Ok(Answer::Executed {
+                reply: told.reply,
+                server: told.server,
+                place: told.place,
+            })
+        }
+        Err(refused) => call_refused(refused.fault),
+    }
+}
+
+/// What the counts of a load say.
+fn verdict_on(report: &LoadReport) -> LoadVerdict
+    ensures { IsVerdictOn report.now result }
+{
+    let (Some(before), Some(after)) = (report.before, report.after) else {
+        return LoadVerdict::Unknown;
+    };
+    if i128::from(before) + i128::from(report.acked) == i128::from(after) {
+        LoadVerdict::Agrees
+    } else {
+        LoadVerdict::Differs
+    }
+}

@@ -1,0 +1,7 @@
+//! Tests of scripts on a cluster.
+#![tactic(auto)]
+
+#[cfg(test)]
+mod gate;
+#[cfg(test)]
+mod scripts;
