@@ -1,88 +1,60 @@
-ghost use Rattle.std.specs.Prelude.{◌≡◌, None};
-
-use crate::calls::{adopted, board_of_one, first_shard, migrated};
+//! Bodies that settle for a server before a request.
+use crate::based::of_limit;
+use crate::fixture::Fixture;
 use sm_body::logged::Logged;
 use sm_body::machine::Machine;
 use sm_ranges::key::Key;
 use sm_ranges::server_id::ServerId;
-use sm_rule::board::Board;
-use sm_rule::chair::Chair;
-use sm_rule::pass::Pass;
 use sm_service::{Bytes, CounterText, Reply, Request};
 use std::alloc::{AllocError, Global};
 use std::marker::Model;
-use std::test::Fail;
+use std::process::Abort;
 
 fn put_of(alloc: Global, text: &[u8]) -> Option<Request> {
     let key = Key::new(alloc, b"a").ok()?;
     Some(Request::Put(key, Bytes::new(alloc, text).ok()?))
 }
 
-// Puts the text, and whether it is done; the body settles for the pass's server first.
-fn puts(
-    board: &Board<CounterText>,
-    pass: &mut Pass<CounterText>,
-    alloc: Global,
-    text: &[u8],
-) -> bool
-    requires board { pass.old.board ≡ board.now }
-    requires shards { board.now.limits.count ≡ 1 }
-    requires free { pass.old.held ≡ None }
-    ensures board { pass.new.board ≡ board.now }
-    ensures free { pass.new.held ≡ None }
-{
-    let Some(request) = put_of(alloc, text) else {
-        return false;
-    };
-    match adopted(board, pass, first_shard(), request) {
-        Some(Reply::Done) => true,
-        _ => false,
-    }
+fn get_of(alloc: Global) -> Option<Request> {
+    Some(Request::Get(Key::new(alloc, b"a").ok()?))
 }
 
-// Puts one text over another at server 1, and whether both are done.
-fn puts_over(board: &Board<CounterText>, alloc: Global) -> bool
-    requires { board.now.limits.count ≡ 1 }
-{
-    let mut pass = board.pass(Some(ServerId::of(1)));
-    puts(board, &mut pass, alloc, b"x") && puts(board, &mut pass, alloc, b"yy")
+// What the settled body replies; none where it doesn't.
+fn reply_to(fixture: &mut Fixture<CounterText>, request: Option<Request>) -> Option<Reply> {
+    fixture.serve_settled(request?)
 }
 
-// Whether the server finds the text; the body settles for it first.
-fn finds(board: &Board<CounterText>, server: ServerId, alloc: Global, text: &[u8]) -> bool
-    requires { board.now.limits.count ≡ 1 }
-{
-    let Ok(key) = Key::new(alloc, b"a") else {
-        return false;
-    };
-    let mut pass = board.pass(Some(server));
-    match adopted(board, &mut pass, first_shard(), Request::Get(key)) {
+// Puts the text, and whether it is done.
+fn puts(fixture: &mut Fixture<CounterText>, alloc: Global, text: &[u8]) -> bool {
+    matches!(reply_to(fixture, put_of(alloc, text)), Some(Reply::Done))
+}
+
+// Whether the text is found.
+fn finds(fixture: &mut Fixture<CounterText>, alloc: Global, text: &[u8]) -> bool {
+    match reply_to(fixture, get_of(alloc)) {
         Some(Reply::Text(held)) => held.as_bytes() == text,
         _ => false,
     }
 }
 
 // How many bytes are dead in the body of a board that is closed here.
-fn dead_at_end(board: Board<CounterText>, chair: Chair<CounterText>) -> Option<u128>
-    requires { chair.board ≡ board }
-{
-    let last = board.pass(None);
-    let rows = board.close(chair, last);
+fn dead_at_end(fixture: Fixture<CounterText>) -> Option<u128> {
+    let rows = fixture.rows();
     let body = rows.first()?.1.as_ref()?;
     Some(body.machine().dead())
 }
 
 // The next server to execute a shard's requests moves its body into fresh memory, where nothing is dead.
 #[test]
-fn new_server_adopts(rt: HostRuntime) -> Result<(), Fail> {
+fn new_server_adopts(rt: HostRuntime) {
     let (alloc, next) = (rt.alloc(), ServerId::of(2));
-    let bodies = vec![in alloc; CounterText::new(alloc, 100)]?;
-    let (board, mut chair) = board_of_one(alloc, bodies).ok_or("a board")?;
-    assert!(rt; puts_over(&board, alloc));
-    assert!(rt; migrated(&board, &mut chair, first_shard(), next));
-    assert!(rt; finds(&board, next, alloc, b"yy"));
-    assert!(rt; dead_at_end(board, chair) == Some(0));
-    Ok(())
+    let mut fixture = of_limit(&rt, alloc, 100);
+    assert!(rt; puts(&mut fixture, alloc, b"x"));
+    assert!(rt; puts(&mut fixture, alloc, b"yy"));
+    assert!(rt; fixture.migrate(next));
+    fixture.go_on_as(Some(next));
+    assert!(rt; finds(&mut fixture, alloc, b"yy"));
+    assert!(rt; dead_at_end(fixture) == Some(0));
 }
 
 #[derive(Drop)]
@@ -147,20 +119,26 @@ impl Machine for Moving {
     }
 }
 
+// How often the body of a board that is closed here was moved into fresh memory.
+fn moves_at_end(fixture: Fixture<Logged<Moving>>) -> Option<u64> {
+    let rows = fixture.rows();
+    let body = rows.first()?.1.as_ref()?;
+    Some(body.machine().moves)
+}
+
+// The only shard of a board, whose body refuses its first move; server 1 owns it.
+fn refusing<R: Abort>(rt: &R, alloc: Global) -> Fixture<Logged<Moving>> {
+    let body: Logged<Moving> = Logged::new(alloc, 100);
+    let bodies = vec![in alloc; body].ok().expect(rt, "memory");
+    Fixture::owned(rt, alloc, bodies)
+}
+
 // A body whose move is refused answers from its old memory, and is moved at the next settling, but not at the one after that.
 #[test]
-fn adoption_refused(rt: HostRuntime) -> Result<(), Fail> {
-    let alloc = rt.alloc();
-    let body: Logged<Moving> = Logged::new(alloc, 100);
-    let bodies = vec![in alloc; body]?;
-    let (board, chair) = board_of_one(alloc, bodies).ok_or("a board")?;
-    let mut pass = board.pass(Some(ServerId::of(1)));
-    assert!(rt; adopted(&board, &mut pass, first_shard(), Ask) == Some(0));
-    assert!(rt; adopted(&board, &mut pass, first_shard(), Ask) == Some(1));
-    assert!(rt; adopted(&board, &mut pass, first_shard(), Ask) == Some(2));
-    let rows = board.close(chair, pass);
-    assert!(rt; rows.len() == 1);
-    let moves = rows[0].1.as_ref().map(|body| body.machine().moves);
-    assert!(rt; moves == Some(1));
-    Ok(())
+fn adoption_refused(rt: HostRuntime) {
+    let mut fixture = refusing(&rt, rt.alloc());
+    for before in [0, 1, 2] {
+        assert!(rt; fixture.serve_settled(Ask) == Some(before));
+    }
+    assert!(rt; moves_at_end(fixture) == Some(1));
 }

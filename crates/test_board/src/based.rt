@@ -1,15 +1,19 @@
 //! Checkpoints of the bodies on a board.
-ghost use Rattle.std.specs.Prelude.{◌≡◌, None};
-
-use crate::calls::{applied, based, board_of_one, first_shard, served};
-use sm_ownership::record::Record;
+use crate::fixture::{Fixture, Left};
+use crate::rule::{left, serving};
 use sm_ranges::key::Key;
 use sm_ranges::server_id::ServerId;
-use sm_rule::board::Board;
-use sm_rule::pass::Pass;
-use sm_service::{CounterText, Reply, Request, Service};
+use sm_service::{CounterText, Reply, Request};
 use std::alloc::Global;
-use std::test::Fail;
+use std::process::Abort;
+
+// The only shard of a board, whose body may keep so many requests; server 1 owns it.
+pub(crate) fn of_limit<R: Abort>(rt: &R, alloc: Global, limit: usize) -> Fixture<CounterText> {
+    let bodies = vec![in alloc; CounterText::new(alloc, limit)]
+        .ok()
+        .expect(rt, "memory");
+    Fixture::owned(rt, alloc, bodies)
+}
 
 fn inc_of(alloc: Global) -> Option<Request> {
     Some(Request::Inc(Key::new(alloc, b"a").ok()?, 7))
@@ -23,78 +27,56 @@ fn count_of(reply: Option<Reply>) -> Option<i64> {
 }
 
 // Counts 7 more under an admission of the pass, and tells the sum; none where that isn't done.
-fn counted(board: &Board<CounterText>, pass: &mut Pass<CounterText>, alloc: Global) -> Option<i64>
-    requires board { pass.old.board ≡ board.now }
-    requires shards { board.now.limits.count ≡ 1 }
-    requires free { pass.old.held ≡ None }
-    ensures board { pass.new.board ≡ board.now }
-    ensures free { pass.new.held ≡ None }
-{
-    count_of(served(board, pass, first_shard(), inc_of(alloc)?))
+fn counted(fixture: &mut Fixture<CounterText>, alloc: Global) -> Option<i64> {
+    count_of(fixture.serve(inc_of(alloc)?))
 }
 
-// How many requests came before the base of the first body, and how many it has kept since.
-fn parts(rows: &[(Record, Option<CounterText>)]) -> Option<(u64, usize)> {
-    let body = rows.first()?.1.as_ref()?;
-    Some((body.first(), body.kept()))
+// The same, where the body applies the request before the admission is finished.
+fn counted_before_the_end(fixture: &mut Fixture<CounterText>, alloc: Global) -> Option<i64> {
+    count_of(fixture.serve_before_the_end(inc_of(alloc)?))
 }
 
 // A checkpoint between two admissions: the later reply counts on, and so do the places of the requests.
 #[test]
-fn body_comes_home_based(rt: HostRuntime) -> Result<(), Fail> {
+fn body_comes_home_based(rt: HostRuntime) {
     let alloc = rt.alloc();
-    let bodies = vec![in alloc; CounterText::new(alloc, 100)]?;
-    let (board, chair) = board_of_one(alloc, bodies).ok_or("a board")?;
-    let mut pass = board.pass(Some(ServerId::of(1)));
-    assert!(rt; counted(&board, &mut pass, alloc) == Some(7));
-    assert!(rt; counted(&board, &mut pass, alloc) == Some(14));
-    assert!(rt; based(&board, &mut pass, first_shard()));
-    assert!(rt; counted(&board, &mut pass, alloc) == Some(21));
-    let rows = board.close(chair, pass);
-    assert!(rt; parts(&rows) == Some((2, 1)));
-    Ok(())
+    let mut fixture = of_limit(&rt, alloc, 100);
+    assert!(rt; counted(&mut fixture, alloc) == Some(7));
+    assert!(rt; counted(&mut fixture, alloc) == Some(14));
+    assert!(rt; fixture.checkpoint());
+    assert!(rt; counted(&mut fixture, alloc) == Some(21));
+    let based = Left {
+        count: 1,
+        record: serving(ServerId::of(1), false, 9),
+        body: Some((2, 1)),
+    };
+    assert!(rt; fixture.end() == Some(based));
 }
 
 // A shard that keeps as many requests as it may has room again after a checkpoint.
 #[test]
-fn full_shard_has_room_again(rt: HostRuntime) -> Result<(), Fail> {
+fn full_shard_has_room_again(rt: HostRuntime) {
     let alloc = rt.alloc();
-    let bodies = vec![in alloc; CounterText::new(alloc, 1)]?;
-    let (board, _) = board_of_one(alloc, bodies).ok_or("a board")?;
-    let mut pass = board.pass(Some(ServerId::of(1)));
-    assert!(rt; counted(&board, &mut pass, alloc) == Some(7));
-    assert!(rt; counted(&board, &mut pass, alloc) == None);
-    assert!(rt; based(&board, &mut pass, first_shard()));
-    assert!(rt; counted(&board, &mut pass, alloc) == Some(14));
-    Ok(())
+    let mut fixture = of_limit(&rt, alloc, 1);
+    assert!(rt; counted(&mut fixture, alloc) == Some(7));
+    assert!(rt; counted(&mut fixture, alloc) == None);
+    assert!(rt; fixture.checkpoint());
+    assert!(rt; counted(&mut fixture, alloc) == Some(14));
 }
 
 // A checkpoint of a body that keeps nothing is an admission and its end, and the body stays as it was.
 #[test]
-fn nothing_is_based(rt: HostRuntime) -> Result<(), Fail> {
-    let alloc = rt.alloc();
-    let bodies = vec![in alloc; CounterText::new(alloc, 1)]?;
-    let (board, chair) = board_of_one(alloc, bodies).ok_or("a board")?;
-    let mut pass = board.pass(Some(ServerId::of(1)));
-    assert!(rt; based(&board, &mut pass, first_shard()));
-    let rows = board.close(chair, pass);
-    assert!(rt; rows.len() == 1);
-    assert!(rt; rows[0].0.generation == 3);
-    assert!(rt; parts(&rows) == Some((0, 0)));
-    Ok(())
+fn nothing_is_based(rt: HostRuntime) {
+    let mut fixture = of_limit(&rt, rt.alloc(), 1);
+    assert!(rt; fixture.checkpoint());
+    assert!(rt; fixture.end() == Some(left(3, 0)));
 }
 
 // A request that the body applies before the admission is finished is kept as one that `execute` has it apply.
 #[test]
-fn applies_before_the_end(rt: HostRuntime) -> Result<(), Fail> {
+fn applies_before_the_end(rt: HostRuntime) {
     let alloc = rt.alloc();
-    let bodies = vec![in alloc; CounterText::new(alloc, 1)]?;
-    let (board, chair) = board_of_one(alloc, bodies).ok_or("a board")?;
-    let mut pass = board.pass(Some(ServerId::of(1)));
-    let request = inc_of(alloc).ok_or("a request")?;
-    let reply = applied(&board, &mut pass, first_shard(), request);
-    assert!(rt; count_of(reply) == Some(7));
-    let rows = board.close(chair, pass);
-    assert!(rt; parts(&rows) == Some((0, 1)));
-    Ok(())
+    let mut fixture = of_limit(&rt, alloc, 1);
+    assert!(rt; counted_before_the_end(&mut fixture, alloc) == Some(7));
+    assert!(rt; fixture.end() == Some(left(3, 1)));
 }

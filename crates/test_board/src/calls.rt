@@ -23,27 +23,6 @@ pub(crate) fn first_shard() -> ShardId
     k
 }
 
-// A board with one body, whose shard server 1 owns; none where there is no such board.
-pub(crate) fn board_of_one<S: Service>(
-    alloc: Global,
-    bodies: Vec<S>,
-) -> Option<(Board<S>, Chair<S>)>
-    requires one { length bodies.items ≡ 1 }
-    requires initial { All (λ body. S.base body ≡ S.initial) bodies.items }
-    requires before { All (λ body. S.before body ≡ 0) bodies.items }
-    requires empty { All (λ body. S.requests body ≡ []) bodies.items }
-    ensures count { IfSome result (λ made. made.0.limits.count ≡ 1) }
-    ensures chair { IfSome result (λ made. made.1.board ≡ made.0) }
-{
-    let (board, mut chair) = Board::make(alloc, bodies, 1_000_000).ok()?;
-    let owner = Change::Assign(ServerId::of(1));
-    if changed(&board, &mut chair, first_shard(), owner) {
-        Some((board, chair))
-    } else {
-        None
-    }
-}
-
 // What the shard's body replies under an admission of the pass, or why it refuses; none where the pass isn't admitted.
 pub(crate) fn executed<S: Service>(
     board: &Board<S>,
@@ -65,37 +44,6 @@ pub(crate) fn executed<S: Service>(
         Ok(reply) => Some(Ok(reply)),
         Err((_, fault)) => Some(Err(fault)),
     }
-}
-
-// What the shard's body replies under an admission of the pass; none where the pass isn't admitted, or the request not applied.
-pub(crate) fn served<S: Service>(
-    board: &Board<S>,
-    pass: &mut Pass<S>,
-    k: ShardId,
-    request: S::Request,
-) -> Option<S::Reply>
-    requires board { pass.old.board ≡ board.now }
-    requires shard { k < board.now.limits.count }
-    requires free { pass.old.held ≡ None }
-    ensures board { pass.new.board ≡ board.now }
-    ensures free { pass.new.held ≡ None }
-{
-    executed(board, pass, k, request)?.ok()
-}
-
-// Has the shard's body make a checkpoint under an admission of the pass, and whether it was made.
-pub(crate) fn based<S: Service>(board: &Board<S>, pass: &mut Pass<S>, k: ShardId) -> bool
-    requires board { pass.old.board ≡ board.now }
-    requires shard { k < board.now.limits.count }
-    requires free { pass.old.held ≡ None }
-    ensures board { pass.new.board ≡ board.now }
-    ensures free { pass.new.held ≡ None }
-{
-    let Ok(permit) = board.admit(pass, k, Mode::Direct) else {
-        return false;
-    };
-    let (made, _) = board.checkpoint(pass, permit);
-    made.is_ok()
 }
 
 // What the shard's body replies, as `served` says, where it applies the request before the admission is finished.
@@ -126,28 +74,6 @@ pub(crate) fn applied<S: Service>(
     }
 }
 
-// The same as `served`, where the body first settles for the pass's server; none also where the pass has no server.
-pub(crate) fn adopted<S: Service>(
-    board: &Board<S>,
-    pass: &mut Pass<S>,
-    k: ShardId,
-    request: S::Request,
-) -> Option<S::Reply>
-    requires board { pass.old.board ≡ board.now }
-    requires shard { k < board.now.limits.count }
-    requires free { pass.old.held ≡ None }
-    ensures board { pass.new.board ≡ board.now }
-    ensures free { pass.new.held ≡ None }
-{
-    let server = pass.server()?;
-    let Ok(mut permit) = board.admit(pass, k, Mode::Direct) else {
-        return None;
-    };
-    permit.body().settle(server);
-    let (applied, _) = board.execute(pass, permit, request);
-    applied.ok()
-}
-
 // Whether the stand allows the change.
 fn allows(stand: Stand, change: &Change) -> bool
     ensures { IsTrue result → phase_fault stand change.now ≡ None }
@@ -170,21 +96,4 @@ pub(crate) fn changed<S: Service>(
     ensures { chair.new.board ≡ board.now }
 {
     allows(chair.stand(k), &change) && board.change(chair, k, change).is_ok()
-}
-
-// Migrates the shard to this server, and whether each step was made.
-pub(crate) fn migrated<S: Service>(
-    board: &Board<S>,
-    chair: &mut Chair<S>,
-    k: ShardId,
-    next: ServerId,
-) -> bool
-    requires board { chair.old.board ≡ board.now }
-    requires shard { k < board.now.limits.count }
-    ensures { chair.new.board ≡ board.now }
-{
-    changed(board, chair, k, Change::PrepareAddShard(next))
-        && changed(board, chair, k, Change::PrepareDropShard)
-        && changed(board, chair, k, Change::AddShard)
-        && changed(board, chair, k, Change::DropShard)
 }

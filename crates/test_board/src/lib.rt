@@ -4,13 +4,21 @@
 #[cfg(test)]
 mod adopting;
 #[cfg(test)]
+mod answer;
+#[cfg(test)]
+mod ask;
+#[cfg(test)]
 mod based;
 #[cfg(test)]
 mod calls;
 #[cfg(test)]
 mod checkpoints;
 #[cfg(test)]
+mod counter;
+#[cfg(test)]
 mod executing;
+#[cfg(test)]
+mod fixture;
 #[cfg(test)]
 mod logged;
 #[cfg(test)]

@@ -1,20 +1,22 @@
 //! What one pass tells another by a note.
 ghost use Rattle.std.specs.Arc.{arc_value};
-ghost use Rattle.std.specs.Prelude.{◌≡◌, ◌<◌, None};
+ghost use Rattle.std.specs.Prelude.{◌≡◌, ◌<◌};
 
-use crate::rule::{assign, board_of, generation_left, kept_in, put, serving, shard};
+use crate::calls::first_shard;
+use crate::rule::{alone, left, owned, put, serving};
 use crossbeam_channel::Receiver;
+use sm_ownership::change::Change;
 use sm_ownership::record::Record;
 use sm_ranges::{ServerId, ShardId};
 use sm_rule::{Board, Note, Pass};
-use sm_service::CounterText;
-use std::alloc::{AllocError, Global};
+use sm_service::{CounterText, Service};
+use std::alloc::Global;
+use std::process::Abort;
 use std::sync::{Arc, Wait};
-use std::test::Fail;
 use std::thread;
 
 // What a new pass without a server sees of the shard, once it has met the note.
-pub(crate) fn record_told(board: &Board<CounterText>, note: Note<CounterText>, k: ShardId) -> Record
+pub(crate) fn record_told<S: Service>(board: &Board<S>, note: Note<S>, k: ShardId) -> Record
     requires note { note.board ≡ board.now }
     requires shard { k < board.now.limits.count }
 {
@@ -25,44 +27,31 @@ pub(crate) fn record_told(board: &Board<CounterText>, note: Note<CounterText>, k
 
 // An admission and its end are told by a note.
 #[test]
-fn note_is_met(rt: HostRuntime) -> Result<(), Fail> {
-    let (owner, k) = (ServerId::of(1), shard(0));
-    let (board, mut chair) = board_of(rt.alloc(), 1, 1_000).ok_or("a board")?;
-    assert!(rt; assign(&board, &mut chair, k, owner));
-    let mut pass = board.pass(Some(owner));
-    assert!(rt; generation_left(&board, &mut pass, k) == Some(3));
-    let note = board.note(&mut pass);
-    let mut reader = board.pass(None);
-    board.meet(&mut reader, note);
-    assert!(rt; board.look(&mut reader, k) == serving(owner, false, 3));
-    let rows = board.close(chair, reader);
-    assert!(rt; rows.len() == 1 && rows[0].0 == serving(owner, false, 3));
-    assert!(rt; kept_in(&rows[0]) == Some(0));
-    Ok(())
+fn note_is_met(rt: HostRuntime) {
+    let mut fixture = owned(&rt, rt.alloc(), 1_000);
+    assert!(rt; fixture.generation_left() == Some(3));
+    fixture.go_on_as_told();
+    assert!(rt; fixture.look() == serving(ServerId::of(1), false, 3));
+    assert!(rt; fixture.end() == Some(left(3, 0)));
 }
 
 #[test]
-fn chair_note_is_met(rt: HostRuntime) -> Result<(), Fail> {
-    let (owner, k) = (ServerId::of(1), shard(0));
-    let (board, mut chair) = board_of(rt.alloc(), 1, 3).ok_or("a board")?;
-    assert!(rt; assign(&board, &mut chair, k, owner));
-    let note = board.chair_note(&mut chair);
-    assert!(rt; record_told(&board, note, k) == serving(owner, false, 1));
-    Ok(())
+fn chair_note_is_met(rt: HostRuntime) {
+    let owner = ServerId::of(1);
+    let mut fixture = alone(&rt, rt.alloc(), 3);
+    assert!(rt; fixture.change(Change::Assign(owner)));
+    assert!(rt; fixture.told_by_chair() == serving(owner, false, 1));
 }
 
 // A pass that is split from another has its server, and is admitted in its own right.
 #[test]
-fn split_pass_is_admitted(rt: HostRuntime) -> Result<(), Fail> {
-    let (owner, k) = (ServerId::of(1), shard(0));
-    let (board, mut chair) = board_of(rt.alloc(), 1, 1_000).ok_or("a board")?;
-    assert!(rt; assign(&board, &mut chair, k, owner));
-    let mut pass = board.pass(Some(owner));
-    let mut half = board.split(&mut pass);
-    assert!(rt; half.server() == Some(owner));
-    assert!(rt; generation_left(&board, &mut half, k) == Some(3));
-    assert!(rt; record_told(&board, half.into_note(), k) == serving(owner, false, 3));
-    Ok(())
+fn split_pass_is_admitted(rt: HostRuntime) {
+    let owner = ServerId::of(1);
+    let mut fixture = owned(&rt, rt.alloc(), 1_000);
+    fixture.go_on_split();
+    assert!(rt; fixture.server() == Some(owner));
+    assert!(rt; fixture.generation_left() == Some(3));
+    assert!(rt; fixture.told_at_last() == serving(owner, false, 3));
 }
 
 // A note on its way to another thread, with its board.
@@ -84,17 +73,20 @@ impl Letter {
     }
 }
 
-fn letter_of(
-    board: &Arc<Board<CounterText>>,
-    pass: &mut Pass<CounterText>,
-) -> Result<Letter, AllocError>
-    requires { pass.old.board ≡ arc_value board.now }
+// A letter that tells what the pass has seen.
+fn letter_of<R: Abort>(
+    rt: &R,
+    alloc: Global,
+    board: Board<CounterText>,
+    mut pass: Pass<CounterText>,
+) -> Letter
+    requires { pass.board ≡ board }
 {
-    let note = board.note(pass);
-    Ok(Letter {
-        board: Arc::try_clone(board)?,
+    let note = board.note(&mut pass);
+    Letter {
+        board: Arc::new(alloc, board).ok().expect(rt, "memory"),
         note,
-    })
+    }
 }
 
 // What the first letter tells of the shard; none where no letter comes.
@@ -107,19 +99,18 @@ fn first_record(rt: &impl Wait, letters: Receiver<Letter>, k: ShardId) -> Option
 
 // What a pass did is told to a pass of another thread.
 #[test]
-fn note_reaches_another_thread(rt: HostRuntime) -> Result<(), Fail> {
-    let (owner, k) = (ServerId::of(1), shard(0));
-    let (board, mut chair) = board_of(rt.alloc(), 1, 1_000).ok_or("a board")?;
-    assert!(rt; assign(&board, &mut chair, k, owner));
-    let board = Arc::new(rt.alloc(), board)?;
-    let mut pass = board.pass(Some(owner));
-    assert!(rt; put(&board, &mut pass, rt.alloc(), k).is_some());
-    let letter = letter_of(&board, &mut pass)?;
-    let (to, from) = crossbeam_channel::unbounded(rt.alloc())?;
+fn note_reaches_another_thread(rt: HostRuntime) {
+    let k = first_shard();
+    let mut fixture = owned(&rt, rt.alloc(), 1_000);
+    assert!(rt; put(&mut fixture, rt.alloc()).is_some());
+    let (board, _, pass) = fixture.parts();
+    let letter = letter_of(&rt, rt.alloc(), board, pass);
+    let (to, from) = crossbeam_channel::unbounded(rt.alloc())
+        .ok()
+        .expect(&rt, "a channel");
     let reader = thread::spawn(&rt, move || first_record(&rt, from, k))
         .ok()
-        .ok_or("a thread")?;
+        .expect(&rt, "a thread");
     assert!(rt; to.send(&rt, letter).is_ok());
-    assert!(rt; reader.join(&rt) == Some(serving(owner, false, 3)));
-    Ok(())
+    assert!(rt; reader.join(&rt) == Some(serving(ServerId::of(1), false, 3)));
 }

@@ -1,66 +1,51 @@
+//! The queue of jobs on a board.
 ghost use Rattle.std.specs.Arc.{arc_value};
 ghost use Rattle.std.specs.Prelude.{◌≡◌, None};
 
-use crate::calls::{board_of_one, first_shard, migrated, served};
+use crate::calls::{executed, first_shard};
+use crate::fixture::{Fixture, left_at};
 use sm_body::bytes::Bytes;
 use sm_body::service::Service;
 use sm_queue::{Job, JobQueue, Reply, Request};
 use sm_ranges::server_id::ServerId;
 use sm_rule::board::Board;
+use sm_rule::chair::Chair;
 use sm_rule::pass::Pass;
 use std::alloc::{AllocError, Global};
-use std::sync::Arc;
+use std::process::Abort;
+use std::sync::{Arc, Wait};
 use std::test::Fail;
 use std::thread;
+use std::thread::Threads;
 
-fn job_of(alloc: Global, key: &[u8], work: &[u8]) -> Result<Job, AllocError> {
-    Ok(Job {
-        key: Bytes::new(alloc, key)?,
-        work: Bytes::new(alloc, work)?,
-    })
+// The only shard of a board of queues; server 1 owns it.
+fn queue<R: Abort>(rt: &R, alloc: Global) -> Fixture<JobQueue> {
+    let queues = vec![in alloc; JobQueue::new(alloc, 1_000)]
+        .ok()
+        .expect(rt, "memory");
+    Fixture::owned(rt, alloc, queues)
+}
+
+fn push_of(alloc: Global, key: &[u8], work: &[u8]) -> Result<Request, AllocError> {
+    let key = Bytes::new(alloc, key)?;
+    let work = Bytes::new(alloc, work)?;
+    Ok(Request::Push(Job { key, work }))
 }
 
 // Pushes this job under an admission of the pass, and whether it then waits.
-fn pushes(
-    board: &Board<JobQueue>,
-    pass: &mut Pass<JobQueue>,
-    alloc: Global,
-    key: &[u8],
-    work: &[u8],
-) -> bool
-    requires board { pass.old.board ≡ board.now }
-    requires shards { board.now.limits.count ≡ 1 }
-    requires free { pass.old.held ≡ None }
-    ensures board { pass.new.board ≡ board.now }
-    ensures free { pass.new.held ≡ None }
-{
-    let Ok(job) = job_of(alloc, key, work) else {
+fn pushes(fixture: &mut Fixture<JobQueue>, alloc: Global, key: &[u8], work: &[u8]) -> bool {
+    let Ok(push) = push_of(alloc, key, work) else {
         return false;
     };
-    match served(board, pass, first_shard(), Request::Push(job)) {
-        Some(Reply::Queued) => true,
-        _ => false,
-    }
+    matches!(fixture.serve(push), Some(Reply::Queued))
 }
 
 // Takes a job of the key under an admission of the pass, and whether this one is given out.
-fn gives(
-    board: &Board<JobQueue>,
-    pass: &mut Pass<JobQueue>,
-    alloc: Global,
-    key: &[u8],
-    work: &[u8],
-) -> bool
-    requires board { pass.old.board ≡ board.now }
-    requires shards { board.now.limits.count ≡ 1 }
-    requires free { pass.old.held ≡ None }
-    ensures board { pass.new.board ≡ board.now }
-    ensures free { pass.new.held ≡ None }
-{
+fn gives(fixture: &mut Fixture<JobQueue>, alloc: Global, key: &[u8], work: &[u8]) -> bool {
     let Ok(key) = Bytes::new(alloc, key) else {
         return false;
     };
-    match served(board, pass, first_shard(), Request::Take(key)) {
+    match fixture.serve(Request::Take(key)) {
         Some(Reply::Given(job)) => job.work.as_bytes() == work,
         _ => false,
     }
@@ -82,31 +67,25 @@ fn job_comes_back(rt: HostRuntime) -> Result<(), Fail> {
 
 // Each key has its own jobs, the oldest first.
 #[test]
-fn keys_have_their_jobs(rt: HostRuntime) -> Result<(), Fail> {
+fn keys_have_their_jobs(rt: HostRuntime) {
     let alloc = rt.alloc();
-    let queues = vec![in alloc; JobQueue::new(alloc, 1_000)]?;
-    let (board, _) = board_of_one(alloc, queues).ok_or("a board")?;
-    let mut pass = board.pass(Some(ServerId::of(1)));
-    assert!(rt; pushes(&board, &mut pass, alloc, b"oven", b"bake"));
-    assert!(rt; pushes(&board, &mut pass, alloc, b"oven", b"cool"));
-    assert!(rt; !gives(&board, &mut pass, alloc, b"shop", b"bake"));
-    assert!(rt; gives(&board, &mut pass, alloc, b"oven", b"bake"));
-    Ok(())
+    let mut fixture = queue(&rt, alloc);
+    assert!(rt; pushes(&mut fixture, alloc, b"oven", b"bake"));
+    assert!(rt; pushes(&mut fixture, alloc, b"oven", b"cool"));
+    assert!(rt; !gives(&mut fixture, alloc, b"shop", b"bake"));
+    assert!(rt; gives(&mut fixture, alloc, b"oven", b"bake"));
 }
 
 // What was pushed at one server is taken at the next, and the first one executes no more.
 #[test]
-fn jobs_migrate(rt: HostRuntime) -> Result<(), Fail> {
+fn jobs_migrate(rt: HostRuntime) {
     let (alloc, next) = (rt.alloc(), ServerId::of(2));
-    let queues = vec![in alloc; JobQueue::new(alloc, 1_000)]?;
-    let (board, mut chair) = board_of_one(alloc, queues).ok_or("a board")?;
-    let mut first = board.pass(Some(ServerId::of(1)));
-    assert!(rt; pushes(&board, &mut first, alloc, b"oven", b"bake"));
-    assert!(rt; migrated(&board, &mut chair, first_shard(), next));
-    assert!(rt; !gives(&board, &mut first, alloc, b"oven", b"bake"));
-    let mut second = board.pass(Some(next));
-    assert!(rt; gives(&board, &mut second, alloc, b"oven", b"bake"));
-    Ok(())
+    let mut fixture = queue(&rt, alloc);
+    assert!(rt; pushes(&mut fixture, alloc, b"oven", b"bake"));
+    assert!(rt; fixture.migrate(next));
+    assert!(rt; !gives(&mut fixture, alloc, b"oven", b"bake"));
+    fixture.go_on_as(Some(next));
+    assert!(rt; gives(&mut fixture, alloc, b"oven", b"bake"));
 }
 
 // A pass that is sent to a thread with its board.
@@ -131,44 +110,72 @@ impl Worker {
     }
 
     fn pushes_one(&mut self, alloc: Global) -> bool {
-        if self.board.count() != 1 {
+        let Ok(push) = push_of(alloc, b"oven", b"bake") else {
+            return false;
+        };
+        if self.board.count() == 0 {
             return false;
         }
-        pushes(&self.board, &mut self.pass, alloc, b"oven", b"bake")
+        matches!(
+            executed(&self.board, &mut self.pass, first_shard(), push),
+            Some(Ok(Reply::Queued))
+        )
     }
 }
 
-fn new_worker(board: &Arc<Board<JobQueue>>) -> Result<Worker, AllocError> {
+fn new_worker<R: Abort>(rt: &R, board: &Arc<Board<JobQueue>>) -> Worker {
     let pass = board.pass(Some(ServerId::of(1)));
-    Ok(Worker {
-        board: Arc::try_clone(board)?,
+    Worker {
+        board: Arc::try_clone(board).ok().expect(rt, "memory"),
         pass,
-    })
+    }
+}
+
+// How many pushes two threads of server 1 have the first shard apply, of so many tries each.
+fn pushed_by_two<R: Threads + Wait + Abort>(
+    rt: &R,
+    alloc: Global,
+    board: &Arc<Board<JobQueue>>,
+    tries: u32,
+) -> usize {
+    let first = new_worker(rt, board);
+    let second = new_worker(rt, board);
+    let one_thread = thread::spawn(rt, move || first.pushes(alloc, tries))
+        .ok()
+        .expect(rt, "a thread");
+    let other_thread = thread::spawn(rt, move || second.pushes(alloc, tries))
+        .ok()
+        .expect(rt, "a thread");
+    one_thread.join(rt).saturating_add(other_thread.join(rt))
+}
+
+// How many jobs the first shard keeps of a board that no thread has any more.
+fn kept_alone<R: Abort>(
+    rt: &R,
+    board: Arc<Board<JobQueue>>,
+    chair: Chair<JobQueue>,
+) -> Option<usize>
+    requires { chair.board ≡ arc_value board }
+{
+    let board = Arc::try_unwrap(board)
+        .ok()
+        .expect(rt, "the threads have let the board go");
+    let last = board.pass(None);
+    let left = left_at(&board.close(chair, last), first_shard())?;
+    if left.count == 1 {
+        Some(left.body?.1)
+    } else {
+        None
+    }
 }
 
 // Two threads push to one queue, which then has each job that either was told of.
 #[test]
-fn two_threads_push(rt: HostRuntime) -> Result<(), Fail> {
+fn two_threads_push(rt: HostRuntime) {
     let alloc = rt.alloc();
-    let queues = vec![in alloc; JobQueue::new(alloc, 1_000)]?;
-    let (board, chair) = board_of_one(alloc, queues).ok_or("a board")?;
-    let board = Arc::new(alloc, board)?;
-    let (first, second) = (new_worker(&board)?, new_worker(&board)?);
-    let one_thread = thread::spawn(&rt, move || first.pushes(alloc, 100))
-        .ok()
-        .ok_or("a thread")?;
-    let other_thread = thread::spawn(&rt, move || second.pushes(alloc, 100))
-        .ok()
-        .ok_or("a thread")?;
-    let made = one_thread.join(&rt).saturating_add(other_thread.join(&rt));
+    let (board, chair, _) = queue(&rt, alloc).parts();
+    let board = Arc::new(alloc, board).ok().expect(&rt, "memory");
+    let made = pushed_by_two(&rt, alloc, &board, 100);
     assert!(rt; made > 0);
-    let Ok(board) = Arc::try_unwrap(board) else {
-        return Err("the threads have let the board go".into());
-    };
-    let last = board.pass(None);
-    let rows = board.close(chair, last);
-    assert!(rt; rows.len() == 1);
-    let jobs = rows[0].1.as_ref().map(|body| body.kept());
-    assert!(rt; jobs == Some(made));
-    Ok(())
+    assert!(rt; kept_alone(&rt, board, chair) == Some(made));
 }

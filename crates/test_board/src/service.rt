@@ -1,73 +1,16 @@
+//! The sample service by itself.
+use crate::answer::Answer;
+use crate::ask::Ask;
+use crate::counter::Counter;
+use sm_body::Boxed;
 use sm_ranges::key::{Key, KeyFault};
 use sm_service::{ApplyFault, Bytes, CounterText, Reply, Request, Service};
-use std::alloc::Global;
+use std::alloc::{AllocError, Global};
 use std::process::Abort;
 use std::test::Fail;
 
 fn get_of(alloc: Global, key: &[u8]) -> Result<Request, KeyFault> {
     Ok(Request::Get(Key::new(alloc, key)?))
-}
-
-fn put_of(alloc: Global, key: &[u8], text: &[u8]) -> Option<Request> {
-    let key = Key::new(alloc, key).ok()?;
-    Some(Request::Put(key, Bytes::new(alloc, text).ok()?))
-}
-
-fn inc_of(alloc: Global, key: &[u8], amount: i64) -> Option<Request> {
-    Some(Request::Inc(Key::new(alloc, key).ok()?, amount))
-}
-
-// The service, as generic code sees it.
-fn applied<S: Service>(service: &mut S, request: S::Request) -> Result<S::Reply, ApplyFault> {
-    match service.apply(request) {
-        Ok(reply) => Ok(reply),
-        Err((_, fault)) => Err(fault),
-    }
-}
-
-fn get(service: &mut CounterText, alloc: Global, key: &[u8]) -> Option<Reply> {
-    applied(service, get_of(alloc, key).ok()?).ok()
-}
-
-fn put(service: &mut CounterText, alloc: Global, key: &[u8], text: &[u8]) -> Option<Reply> {
-    applied(service, put_of(alloc, key, text)?).ok()
-}
-
-fn inc(service: &mut CounterText, alloc: Global, key: &[u8], amount: i64) -> Option<Reply> {
-    applied(service, inc_of(alloc, key, amount)?).ok()
-}
-
-fn is_text(reply: &Option<Reply>, want: &[u8]) -> bool {
-    match reply {
-        Some(Reply::Text(text)) => text.as_bytes() == want,
-        _ => false,
-    }
-}
-
-// Whether a get answers this text.
-fn has_text(service: &mut CounterText, alloc: Global, key: &[u8], want: &[u8]) -> bool {
-    is_text(&get(service, alloc, key), want)
-}
-
-// Whether a put is done, and a get then answers its text.
-fn puts_text(service: &mut CounterText, alloc: Global, key: &[u8], text: &[u8]) -> bool {
-    let done = put(service, alloc, key, text);
-    matches!(done, Some(Reply::Done)) && has_text(service, alloc, key, text)
-}
-
-fn counts(service: &mut CounterText, alloc: Global, key: &[u8], amount: i64, want: i64) -> bool {
-    match inc(service, alloc, key, amount) {
-        Some(Reply::Count(count)) => count == want,
-        _ => false,
-    }
-}
-
-// Whether a get answers this count.
-fn has_count(service: &mut CounterText, alloc: Global, key: &[u8], want: i64) -> bool {
-    match get(service, alloc, key) {
-        Some(Reply::Count(count)) => count == want,
-        _ => false,
-    }
 }
 
 #[test]
@@ -82,13 +25,18 @@ fn answers_requests(rt: HostRuntime) -> Result<(), Fail> {
     Ok(())
 }
 
+// Whether this is the key of the request.
+fn has_key(request: &Request, key: &[u8]) -> bool {
+    CounterText::key(request) == key
+}
+
 #[test]
 fn requests_have_keys(rt: HostRuntime) -> Result<(), Fail> {
     let alloc = rt.alloc();
     let get = get_of(alloc, b"\xff\xfe")?;
-    assert!(rt; CounterText::key(&get) == b"\xff\xfe".as_slice());
-    let inc = inc_of(alloc, b"a", 1).ok_or("an increment")?;
-    assert!(rt; CounterText::key(&inc) == b"a".as_slice());
+    assert!(rt; has_key(&get, b"\xff\xfe"));
+    let inc = Ask::Inc(b"a", 1).request(alloc).ok_or("an increment")?;
+    assert!(rt; has_key(&inc, b"a"));
     Ok(())
 }
 
@@ -109,12 +57,40 @@ fn hands_back_above_the_limit(rt: HostRuntime) -> Result<(), Fail> {
     Ok(())
 }
 
+// How many requests a body keeps that applied this one behind a pointer.
+fn kept_boxed<S: Service>(
+    alloc: Global,
+    body: S,
+    request: S::Request,
+) -> Result<usize, AllocError> {
+    let mut boxed = Boxed::new(alloc, body)?;
+    let _ = boxed.apply(request).is_ok();
+    Ok(boxed.kept())
+}
+
+#[test]
+fn boxed_body_applies(rt: HostRuntime) -> Result<(), Fail> {
+    let alloc = rt.alloc();
+    let kept = kept_boxed(alloc, CounterText::new(alloc, 1), get_of(alloc, b"a")?)?;
+    assert_eq!(rt; kept, 1);
+    Ok(())
+}
+
+// A text of so many bytes, which are alike.
+fn text_of<R: Abort>(rt: &R, alloc: Global, byte: u8, length: usize) -> Vec<u8> {
+    vec![in alloc; byte; length].ok().expect(rt, "memory")
+}
+
+// The first bytes of a text, at most so many.
+fn front(text: &[u8], count: usize) -> &[u8] {
+    &text[..count.min(text.len())]
+}
+
 // A text over an older one, an empty text, keys that begin alike, bytes that are not UTF-8.
 #[test]
 fn puts_and_gets(rt: HostRuntime) {
-    let alloc = rt.alloc();
-    let mut service = CounterText::new(alloc, 100);
-    assert!(rt; matches!(get(&mut service, alloc, b"m"), Some(Reply::Nothing)));
+    let mut counter = Counter::new(rt.alloc(), 100);
+    assert!(rt; counter.answers(Ask::Get(b"m"), Answer::Nothing));
     let pairs: [(&[u8], &[u8]); 6] = [
         (b"m", b"hello"),
         (b"mm", b"longer"),
@@ -124,264 +100,204 @@ fn puts_and_gets(rt: HostRuntime) {
         (b"a", b"first"),
     ];
     for (key, text) in pairs {
-        assert!(rt; puts_text(&mut service, alloc, key, text));
+        assert!(rt; counter.answers(Ask::Put(key, text), Answer::Done));
+        assert!(rt; counter.answers(Ask::Get(key), Answer::Text(text)));
     }
     let held: [(&[u8], &[u8]); 3] = [(b"mm", b"longer"), (b"m\0", b"zero"), (b"m", b"")];
     for (key, text) in held {
-        assert!(rt; has_text(&mut service, alloc, key, text));
+        assert!(rt; counter.answers(Ask::Get(key), Answer::Text(text)));
     }
-    assert!(rt; service.kept() == 16);
+    assert!(rt; counter.kept() == 16);
 }
 
 #[test]
 fn keeps_up_to_the_limit(rt: HostRuntime) {
-    let alloc = rt.alloc();
-    let mut service = CounterText::new(alloc, 2);
-    assert!(rt; puts_text(&mut service, alloc, b"a", b"x"));
-    assert!(rt; get(&mut service, alloc, b"a").is_none());
-    assert!(rt; service.kept() == 2);
+    let mut counter = Counter::new(rt.alloc(), 2);
+    let cases = [
+        (Ask::Put(b"a", b"x"), Answer::Done),
+        (Ask::Get(b"a"), Answer::Text(b"x")),
+        (Ask::Get(b"a"), Answer::Refused(ApplyFault::KeptFull)),
+    ];
+    counter.answers_all(&rt, &cases);
+    assert!(rt; counter.kept() == 2);
 }
 
 #[test]
-fn holds_texts_up_to_the_longest(rt: HostRuntime) -> Result<(), Fail> {
+fn holds_texts_up_to_the_longest(rt: HostRuntime) {
     let alloc = rt.alloc();
-    let mut service = CounterText::new(alloc, 10);
-    let longest: Vec<u8> = vec![in alloc; b'x'; 65_535]?;
-    let longer: Vec<u8> = vec![in alloc; b'y'; 65_536]?;
-    assert!(rt; puts_text(&mut service, alloc, b"k", &longest));
-    assert!(rt;
-        matches!(
-            put(&mut service, alloc, b"k", &longer),
-            Some(Reply::TooLong)
-        )
-    );
-    assert!(rt; has_text(&mut service, alloc, b"k", &longest));
-    assert!(rt; service.kept() == 4);
-    Ok(())
+    let mut counter = Counter::new(alloc, 10);
+    let longest = text_of(&rt, alloc, b'x', 65_535);
+    let longer = text_of(&rt, alloc, b'y', 65_536);
+    assert!(rt; counter.answers(Ask::Put(b"k", &longest), Answer::Done));
+    assert!(rt; counter.answers(Ask::Get(b"k"), Answer::Text(&longest)));
+    assert!(rt; counter.answers(Ask::Put(b"k", &longer), Answer::TooLong));
+    assert!(rt; counter.answers(Ask::Get(b"k"), Answer::Text(&longest)));
+    assert!(rt; counter.kept() == 4);
 }
 
 #[test]
-fn replies_to_counts(rt: HostRuntime) -> Result<(), Fail> {
+fn replies_to_counts(rt: HostRuntime) {
     let alloc = rt.alloc();
-    let mut service = CounterText::new(alloc, 10);
-    let longer: Vec<u8> = vec![in alloc; b'y'; 65_536]?;
-    assert!(rt; counts(&mut service, alloc, b"a", -7, -7));
-    assert!(rt; matches!(put(&mut service, alloc, b"a", b"x"), Some(Reply::WrongKind)));
-    assert!(rt;
-        matches!(
-            put(&mut service, alloc, b"a", &longer),
-            Some(Reply::WrongKind)
-        )
-    );
-    assert!(rt; has_count(&mut service, alloc, b"a", -7));
-    assert!(rt; service.kept() == 4);
-    Ok(())
+    let mut counter = Counter::new(alloc, 10);
+    let longer = text_of(&rt, alloc, b'y', 65_536);
+    let cases = [
+        (Ask::Inc(b"a", -7), Answer::Count(-7)),
+        (Ask::Put(b"a", b"x"), Answer::WrongKind),
+        (Ask::Put(b"a", &longer), Answer::WrongKind),
+        (Ask::Get(b"a"), Answer::Count(-7)),
+    ];
+    counter.answers_all(&rt, &cases);
+    assert!(rt; counter.kept() == 4);
 }
 
 #[test]
 fn counts_up_to_64_bits(rt: HostRuntime) {
-    let alloc = rt.alloc();
-    let mut service = CounterText::new(alloc, 100);
-    assert!(rt; counts(&mut service, alloc, b"a", i64::MAX, i64::MAX));
-    assert!(rt; matches!(inc(&mut service, alloc, b"a", 1), Some(Reply::Overflow)));
-    assert!(rt; has_count(&mut service, alloc, b"a", i64::MAX));
-    assert!(rt; counts(&mut service, alloc, b"b", i64::MIN, i64::MIN));
-    assert!(rt; service.kept() == 4);
+    let mut counter = Counter::new(rt.alloc(), 100);
+    let cases = [
+        (Ask::Inc(b"a", i64::MAX), Answer::Count(i64::MAX)),
+        (Ask::Inc(b"a", 1), Answer::Overflow),
+        (Ask::Get(b"a"), Answer::Count(i64::MAX)),
+        (Ask::Inc(b"b", i64::MIN), Answer::Count(i64::MIN)),
+    ];
+    counter.answers_all(&rt, &cases);
+    assert!(rt; counter.kept() == 4);
 }
 
 #[test]
 fn increments_no_text(rt: HostRuntime) {
-    let alloc = rt.alloc();
-    let mut service = CounterText::new(alloc, 100);
-    assert!(rt; puts_text(&mut service, alloc, b"a", b"1"));
-    assert!(rt; matches!(inc(&mut service, alloc, b"a", 1), Some(Reply::WrongKind)));
-    assert!(rt; has_text(&mut service, alloc, b"a", b"1"));
-}
-
-fn append(service: &mut CounterText, alloc: Global, key: &[u8], tail: &[u8]) -> Option<Reply> {
-    let key = Key::new(alloc, key).ok()?;
-    applied(service, Request::Append(key, Bytes::new(alloc, tail).ok()?)).ok()
-}
-
-fn del(service: &mut CounterText, alloc: Global, key: &[u8]) -> Option<Reply> {
-    applied(service, Request::Del(Key::new(alloc, key).ok()?)).ok()
-}
-
-// How many pairs a scan gives.
-fn scan_count(
-    service: &mut CounterText,
-    alloc: Global,
-    low: &[u8],
-    high: &[u8],
-    most: u32,
-) -> Option<usize> {
-    let (low, high) = (Key::new(alloc, low).ok()?, Key::new(alloc, high).ok()?);
-    match applied(service, Request::Scan(low, high, most)) {
-        Ok(Reply::Pairs(pairs)) => Some(pairs.as_slice().len()),
-        _ => None,
-    }
+    let cases = [
+        (Ask::Put(b"a", b"1"), Answer::Done),
+        (Ask::Get(b"a"), Answer::Text(b"1")),
+        (Ask::Inc(b"a", 1), Answer::WrongKind),
+        (Ask::Get(b"a"), Answer::Text(b"1")),
+    ];
+    Counter::new(rt.alloc(), 100).answers_all(&rt, &cases);
 }
 
 #[test]
 fn scans_at_most_a_hundred_pairs(rt: HostRuntime) {
-    let alloc = rt.alloc();
-    let mut service = CounterText::new(alloc, 200);
+    let mut counter = Counter::new(rt.alloc(), 200);
     for last in 0..102 {
-        assert!(rt; counts(&mut service, alloc, &[b'k', last], 1, 1));
+        assert!(rt; counter.answers(Ask::Inc(&[b'k', last], 1), Answer::Count(1)));
     }
-    for (most, found) in [(0, 0), (1, 1), (100, 100), (101, 100), (u32::MAX, 100)] {
-        let count = scan_count(&mut service, alloc, b"k", b"l", most);
-        assert!(rt; count == Some(found), "{most}");
-    }
-    assert!(rt; scan_count(&mut service, alloc, b"k\x40", b"l", 101) == Some(38));
+    let cases = [
+        (Ask::Scan(b"k", b"l", 0), Answer::Pairs(0)),
+        (Ask::Scan(b"k", b"l", 1), Answer::Pairs(1)),
+        (Ask::Scan(b"k", b"l", 100), Answer::Pairs(100)),
+        (Ask::Scan(b"k", b"l", 101), Answer::Pairs(100)),
+        (Ask::Scan(b"k", b"l", u32::MAX), Answer::Pairs(100)),
+        (Ask::Scan(b"k\x40", b"l", 101), Answer::Pairs(38)),
+    ];
+    counter.answers_all(&rt, &cases);
 }
 
 #[test]
 fn scans_from_low_on_and_below_high(rt: HostRuntime) {
-    let alloc = rt.alloc();
-    let mut service = CounterText::new(alloc, 20);
+    let mut counter = Counter::new(rt.alloc(), 20);
     for key in [b"b", b"c", b"d"] {
-        assert!(rt; puts_text(&mut service, alloc, key, b""));
+        assert!(rt; counter.answers(Ask::Put(key, b""), Answer::Done));
+        assert!(rt; counter.answers(Ask::Get(key), Answer::Text(b"")));
     }
-    let ranges: [(&[u8], &[u8], usize); 6] = [
-        (b"a", b"z", 3),
-        (b"b", b"d", 2),
-        (b"b\0", b"d\0", 2),
-        (b"c", b"c", 0),
-        (b"d", b"b", 0),
-        (b"e", b"z", 0),
+    let cases = [
+        (Ask::Scan(b"a", b"z", 9), Answer::Pairs(3)),
+        (Ask::Scan(b"b", b"d", 9), Answer::Pairs(2)),
+        (Ask::Scan(b"b\0", b"d\0", 9), Answer::Pairs(2)),
+        (Ask::Scan(b"c", b"c", 9), Answer::Pairs(0)),
+        (Ask::Scan(b"d", b"b", 9), Answer::Pairs(0)),
+        (Ask::Scan(b"e", b"z", 9), Answer::Pairs(0)),
     ];
-    for (low, high, found) in ranges {
-        assert!(rt; scan_count(&mut service, alloc, low, high, 9) == Some(found));
-    }
-    assert!(rt; service.kept() == 12);
+    counter.answers_all(&rt, &cases);
+    assert!(rt; counter.kept() == 12);
 }
 
 // A key of 255 bytes, and one that begins like it.
 #[test]
-fn takes_the_longest_keys(rt: HostRuntime) -> Result<(), Fail> {
-    let alloc = rt.alloc();
-    let mut service = CounterText::new(alloc, 20);
-    let longest: Vec<u8> = vec![in alloc; b'k'; 255]?;
-    assert!(rt; puts_text(&mut service, alloc, &longest, b"x"));
-    assert!(rt; counts(&mut service, alloc, &longest[..254], 5, 5));
-    let done = append(&mut service, alloc, &longest, b"y");
-    assert!(rt; matches!(done, Some(Reply::Done)));
-    assert!(rt; has_text(&mut service, alloc, &longest, b"xy"));
-    assert!(rt; scan_count(&mut service, alloc, &longest[..254], &longest, 9) == Some(1));
-    assert!(rt; matches!(del(&mut service, alloc, &longest), Some(Reply::Done)));
-    assert!(rt; scan_count(&mut service, alloc, b"k", b"l", 9) == Some(1));
-    Ok(())
-}
-
-// The first bytes of a text, at most so many.
-fn front(text: &[u8], count: usize) -> &[u8] {
-    &text[..count.min(text.len())]
+fn takes_the_longest_keys(rt: HostRuntime) {
+    let longest = text_of(&rt, rt.alloc(), b'k', 255);
+    let key = longest.as_slice();
+    let begins = front(key, 254);
+    let cases = [
+        (Ask::Put(key, b"x"), Answer::Done),
+        (Ask::Get(key), Answer::Text(b"x")),
+        (Ask::Inc(begins, 5), Answer::Count(5)),
+        (Ask::Append(key, b"y"), Answer::Done),
+        (Ask::Get(key), Answer::Text(b"xy")),
+        (Ask::Scan(begins, key, 9), Answer::Pairs(1)),
+        (Ask::Del(key), Answer::Done),
+        (Ask::Scan(b"k", b"l", 9), Answer::Pairs(1)),
+    ];
+    Counter::new(rt.alloc(), 20).answers_all(&rt, &cases);
 }
 
 // Up to 65,535 bytes; what is refused changes nothing.
 #[test]
-fn appends_up_to_the_longest(rt: HostRuntime) -> Result<(), Fail> {
+fn appends_up_to_the_longest(rt: HostRuntime) {
     let alloc = rt.alloc();
-    let mut service = CounterText::new(alloc, 20);
-    let longest: Vec<u8> = vec![in alloc; b'x'; 65_535]?;
+    let mut counter = Counter::new(alloc, 20);
+    let longest = text_of(&rt, alloc, b'x', 65_535);
     for (tail, length) in [(0, 0), (65_534, 65_534), (1, 65_535), (0, 65_535)] {
-        let done = append(&mut service, alloc, b"k", front(&longest, tail));
-        assert!(rt; matches!(done, Some(Reply::Done)));
-        assert!(rt; has_text(&mut service, alloc, b"k", front(&longest, length)));
+        let (tail, text) = (front(&longest, tail), front(&longest, length));
+        assert!(rt; counter.answers(Ask::Append(b"k", tail), Answer::Done));
+        assert!(rt; counter.answers(Ask::Get(b"k"), Answer::Text(text)));
     }
-    let refused = append(&mut service, alloc, b"k", b"x");
-    assert!(rt; matches!(refused, Some(Reply::TooLong)));
-    assert!(rt; has_text(&mut service, alloc, b"k", &longest));
-    Ok(())
+    assert!(rt; counter.answers(Ask::Append(b"k", b"x"), Answer::TooLong));
+    assert!(rt; counter.answers(Ask::Get(b"k"), Answer::Text(&longest)));
 }
 
 #[test]
-fn appends_to_no_count(rt: HostRuntime) -> Result<(), Fail> {
-    let alloc = rt.alloc();
-    let mut service = CounterText::new(alloc, 20);
-    let longer: Vec<u8> = vec![in alloc; b'y'; 65_536]?;
-    assert!(rt;
-        matches!(
-            append(&mut service, alloc, b"a", &longer),
-            Some(Reply::TooLong)
-        )
-    );
-    assert!(rt; matches!(del(&mut service, alloc, b"a"), Some(Reply::Nothing)));
-    assert!(rt; counts(&mut service, alloc, b"a", 1, 1));
-    for tail in [b"x".as_slice(), &longer] {
-        let refused = append(&mut service, alloc, b"a", tail);
-        assert!(rt; matches!(refused, Some(Reply::WrongKind)));
-    }
-    assert!(rt; has_count(&mut service, alloc, b"a", 1));
-    Ok(())
+fn appends_to_no_count(rt: HostRuntime) {
+    let longer = text_of(&rt, rt.alloc(), b'y', 65_536);
+    let cases = [
+        (Ask::Append(b"a", &longer), Answer::TooLong),
+        (Ask::Del(b"a"), Answer::Nothing),
+        (Ask::Inc(b"a", 1), Answer::Count(1)),
+        (Ask::Append(b"a", b"x"), Answer::WrongKind),
+        (Ask::Append(b"a", &longer), Answer::WrongKind),
+        (Ask::Get(b"a"), Answer::Count(1)),
+    ];
+    Counter::new(rt.alloc(), 20).answers_all(&rt, &cases);
 }
 
 // A text that is appended to nothing, and then deleted, leaves itself and its key dead.
 #[test]
-fn appends_in_bounded_memory(rt: HostRuntime) -> Result<(), Fail> {
+fn appends_in_bounded_memory(rt: HostRuntime) {
     let alloc = rt.alloc();
-    let mut service = CounterText::new(alloc, 20);
-    let long: Vec<u8> = vec![in alloc; b'x'; 40_000]?;
+    let mut counter = Counter::new(alloc, 20);
+    let long = text_of(&rt, alloc, b'x', 40_000);
     for dead in [0, 40_001, 0, 40_001] {
-        let done = append(&mut service, alloc, b"k", &long);
-        assert!(rt; matches!(done, Some(Reply::Done)));
-        assert!(rt; service.machine().dead() == dead);
-        assert!(rt; matches!(del(&mut service, alloc, b"k"), Some(Reply::Done)));
+        assert!(rt; counter.answers(Ask::Append(b"k", &long), Answer::Done));
+        assert!(rt; counter.dead() == dead);
+        assert!(rt; counter.answers(Ask::Del(b"k"), Answer::Done));
     }
-    Ok(())
 }
 
 // A count that is deleted leaves its key dead.
 #[test]
-fn counts_in_bounded_memory(rt: HostRuntime) -> Result<(), Fail> {
+fn counts_in_bounded_memory(rt: HostRuntime) {
     let alloc = rt.alloc();
-    let mut service = CounterText::new(alloc, 1_000);
-    let longest: Vec<u8> = vec![in alloc; b'k'; 255]?;
+    let mut counter = Counter::new(alloc, 1_000);
+    let longest = text_of(&rt, alloc, b'k', 255);
     for _ in 0..300 {
-        assert!(rt; counts(&mut service, alloc, &longest, 1, 1));
-        assert!(rt; service.machine().dead() <= 65_536);
-        assert!(rt; matches!(del(&mut service, alloc, &longest), Some(Reply::Done)));
-    }
-    Ok(())
-}
-
-// Applies the request; where memory is refused, sees that nothing has changed and that it came back, and tries again.
-fn applied_in_two(
-    rt: &impl Abort,
-    service: &mut CounterText,
-    request: Request,
-) -> Result<Reply, ApplyFault> {
-    let kept = service.kept();
-    match service.apply(request) {
-        Ok(reply) => Ok(reply),
-        Err((back, fault)) => {
-            assert!(rt; fault == ApplyFault::NoMemory);
-            assert!(rt; service.kept() == kept);
-            applied(service, back)
-        }
+        assert!(rt; counter.answers(Ask::Inc(&longest, 1), Answer::Count(1)));
+        assert!(rt; counter.dead() <= 65_536);
+        assert!(rt; counter.answers(Ask::Del(&longest), Answer::Done));
     }
 }
 
 // With each growth refused in turn (`rt try --test --fail-alloc N`), the answers stay the same.
 #[test]
-fn hands_back_what_memory_refuses(rt: HostRuntime) -> Result<(), Fail> {
-    let alloc = rt.alloc();
-    let requests = [
-        put_of(alloc, b"b", b"one").ok_or("a put")?,
-        put_of(alloc, b"a", b"two").ok_or("a put")?,
-        put_of(alloc, b"b", b"three").ok_or("a put")?,
+fn hands_back_what_memory_refuses(rt: HostRuntime) {
+    let mut counter = Counter::new(rt.alloc(), 6);
+    let asked = [
+        (Ask::Put(b"b", b"one"), Answer::Done),
+        (Ask::Put(b"a", b"two"), Answer::Done),
+        (Ask::Put(b"b", b"three"), Answer::Done),
+        (Ask::Inc(b"c", 3), Answer::Count(3)),
     ];
-    let mut service = CounterText::new(alloc, 6);
-    for request in requests {
-        let done = applied_in_two(&rt, &mut service, request);
-        assert!(rt; matches!(done, Ok(Reply::Done)));
+    for (ask, answer) in asked {
+        assert!(rt; counter.answers_in_two(&rt, ask, answer));
     }
-    let inc = inc_of(alloc, b"c", 3).ok_or("an increment")?;
-    let counted = applied_in_two(&rt, &mut service, inc);
-    assert!(rt; matches!(counted, Ok(Reply::Count(3))));
-    assert!(rt; has_text(&mut service, alloc, b"a", b"two"));
-    assert!(rt; has_text(&mut service, alloc, b"b", b"three"));
-    assert!(rt; service.kept() == 6);
-    Ok(())
+    assert!(rt; counter.answers(Ask::Get(b"a"), Answer::Text(b"two")));
+    assert!(rt; counter.answers(Ask::Get(b"b"), Answer::Text(b"three")));
+    assert!(rt; counter.kept() == 6);
 }

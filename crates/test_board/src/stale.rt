@@ -1,7 +1,7 @@
 //! A reader of the published map, who is told by a note that its route is old.
-use crate::calls::migrated;
-use crate::notes::record_told;
-use crate::rule::{assign, board_of, serving, shard};
+use crate::calls::first_shard;
+use crate::rule::{alone, serving};
+use sm_ownership::change::Change;
 use sm_ownership::route::Route;
 use sm_publish::Publisher;
 use sm_ranges::layout::Layout;
@@ -23,19 +23,18 @@ fn route_read<R: Wait>(rt: &R, alloc: Global, only: Route) -> Option<Route> {
 // What was published before a migration stays with its reader, until the control's note tells it of a later generation.
 #[test]
 fn stale_reader_is_told(rt: HostRuntime) -> Result<(), Fail> {
-    let (owner, next, k) = (ServerId::of(1), ServerId::of(2), shard(0));
+    let (owner, next) = (ServerId::of(1), ServerId::of(2));
     let first = Route {
-        shard: k,
+        shard: first_shard(),
         server: owner,
         generation: 1,
     };
     let old = route_read(&rt, rt.alloc(), first).ok_or("a route")?;
     assert!(rt; old.server == owner);
-    let (board, mut chair) = board_of(rt.alloc(), 1, 1_000).ok_or("a board")?;
-    assert!(rt; assign(&board, &mut chair, k, owner));
-    assert!(rt; migrated(&board, &mut chair, k, next));
-    let note = board.chair_note(&mut chair);
-    let told = record_told(&board, note, k);
+    let mut fixture = alone(&rt, rt.alloc(), 1_000);
+    assert!(rt; fixture.change(Change::Assign(owner)));
+    assert!(rt; fixture.migrate(next));
+    let told = fixture.told_by_chair();
     assert!(rt; told == serving(next, false, 5));
     assert!(rt; old.generation < told.generation);
     Ok(())

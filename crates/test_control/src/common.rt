@@ -1,21 +1,19 @@
 //! Boards with a control, of which each test makes one.
-ghost use Rattle.std.specs.Prelude.{◌≡◌, ◌<◌, ◌≤◌, [], All, IfOk, IfSome, length};
-ghost use Rattle.sm_ranges.specs.declared.limits.TheConstants.{MAX_SERVER};
+ghost use Rattle.std.specs.Prelude.{◌≡◌, ◌<◌, ◌≤◌, [], All, IfOk, length};
 ghost use Rattle.sm_ranges.specs.declared.stand.Stand.TheVariants.{Vacant};
 
-use sm_control::{Control, ControlFault};
-use sm_desk::{Command, Desk};
+use crate::running::Running;
+use sm_desk::Desk;
 use sm_ownership::record::Record;
-use sm_place::Books;
+use sm_place::{Books, BooksFault};
 use sm_ranges::{ServerId, ShardId, Stand};
 use sm_rows::limits::MAX_DOMAIN_DOWN;
 use sm_rows::{GroupRow, ServerRow, ShardRow, equal_domains};
-use sm_rule::Board;
 use sm_service::CounterText;
 use sm_tasks::Tasks;
 use sm_tasks::laws::all_up_meets_caps;
 use std::alloc::{AllocError, Global};
-use std::test::Fail;
+use std::process::Abort;
 
 // The shard with this number.
 pub(crate) fn shard(number: u16) -> ShardId
@@ -50,18 +48,10 @@ fn server_row(id: ServerId, domain: u16) -> ServerRow {
     }
 }
 
-// A desk for so many shards of load 1, of which the first may not be down, and servers 1 to 3 of capacity 2, the first in a
-// domain of its own. One shard of the group and one server may be down.
-fn desk_of(alloc: Global, count: usize) -> Result<Desk, Fail>
-    ensures count { IfOk result (λ desk. length desk.books.shards ≡ count) }
-    ensures vacant { IfOk result (λ desk. All (λ shard. shard.stand ≡ Vacant) desk.books.shards) }
+// So many shards of load 1, of which the first may not be down.
+fn shard_rows(alloc: Global, count: usize) -> Result<Vec<ShardRow>, AllocError>
+    ensures { IfOk result (λ shards. length shards.items ≡ count) }
 {
-    let servers = [
-        server_row(ServerId::of(1), 0),
-        server_row(ServerId::of(2), 1),
-        server_row(ServerId::of(3), 1),
-    ];
-    let group = GroupRow { limit: 2, down: 1 };
     let mut shards = vec![in alloc; ShardRow {
         group: 0,
         load: 1,
@@ -70,38 +60,47 @@ fn desk_of(alloc: Global, count: usize) -> Result<Desk, Fail>
     if let Some(first) = shards.first_mut() {
         first.cap = 0;
     }
-    let domains = equal_domains(alloc, &servers, MAX_DOMAIN_DOWN)?;
-    let books = Books::new(alloc, &servers, &[group], &shards, &domains)?;
+    Ok(shards)
+}
+
+// A desk for the shards, of which one and one server may be down.
+fn desk_of(alloc: Global, servers: &[ServerRow], shards: &[ShardRow]) -> Result<Desk, BooksFault>
+    ensures count { IfOk result (λ desk. length desk.books.shards ≡ length shards.now) }
+    ensures vacant { IfOk result (λ desk. All (λ shard. shard.stand ≡ Vacant) desk.books.shards) }
+{
+    let group = GroupRow { limit: 2, down: 1 };
+    let domains = equal_domains(alloc, servers, MAX_DOMAIN_DOWN)?;
+    let books = Books::new(alloc, servers, &[group], shards, &domains)?;
     all_up_meets_caps();
     Ok(Desk::new(books, Tasks::new(1)))
 }
 
-/// A board with its control.
-#[derive(Drop)]
-pub(crate) struct Running {
-    pub(crate) board: Board<CounterText>,
-    pub(crate) control: Control<CounterText>,
-    ghost tied: { control.chair.board ≡ board },
-}
-
-impl Running {
-    /// Whether the control answers the command so.
-    pub(crate) fn answers(&mut self, command: Command, answer: Result<(), ControlFault>) -> bool {
-        self.control.command(&self.board, command) == answer
-    }
+// A desk for so many shards, and servers 1 to 3 of capacity 2, the first in a domain of its own.
+fn new_desk(alloc: Global, count: usize) -> Result<Desk, BooksFault>
+    ensures count { IfOk result (λ desk. length desk.books.shards ≡ count) }
+    ensures vacant { IfOk result (λ desk. All (λ shard. shard.stand ≡ Vacant) desk.books.shards) }
+{
+    let servers = [
+        server_row(ServerId::of(1), 0),
+        server_row(ServerId::of(2), 1),
+        server_row(ServerId::of(3), 1),
+    ];
+    let shards = shard_rows(alloc, count)?;
+    desk_of(alloc, &servers, &shards)
 }
 
 /// A board with so many vacant shards below this ceiling, and its control.
-pub(crate) fn new_running(alloc: Global, count: usize, ceiling: u64) -> Result<Running, Fail>
-    ensures { IfOk result (λ running. running.board.limits.count ≡ count) }
+pub(crate) fn new_running(
+    rt: &impl Abort,
+    alloc: Global,
+    count: usize,
+    ceiling: u64,
+) -> Running<CounterText>
+    requires { 1 ≤ count }
 {
-    let desk = desk_of(alloc, count)?;
-    let bodies = bodies(alloc, count)?;
-    let (board, chair) = Board::make(alloc, bodies, ceiling)?;
-    Ok(Running {
-        board,
-        control: Control::new(chair, desk),
-    })
+    let desk = new_desk(alloc, count).ok().expect(rt, "a desk");
+    let bodies = bodies(alloc, count).ok().expect(rt, "memory");
+    Running::new(rt, alloc, bodies, desk, ceiling)
 }
 
 pub(crate) fn idle(stand: Stand, generation: u64) -> Record {

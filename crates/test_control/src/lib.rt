@@ -6,4 +6,6 @@ mod calls;
 #[cfg(test)]
 mod common;
 #[cfg(test)]
+mod running;
+#[cfg(test)]
 mod threads;

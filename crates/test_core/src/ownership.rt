@@ -2,6 +2,7 @@ use sm_ownership::record::MAX_GENERATION;
 use sm_ownership::{AdmitFault, Change, ChangeFault, Mode, PhaseFault, Record, Table};
 use sm_ranges::limits::{MAX_SERVER, MAX_SHARD, MAX_SHARDS};
 use sm_ranges::{ServerId, ShardId, Stand};
+use std::alloc::Global;
 use std::process::Abort;
 use std::test::Fail;
 
@@ -99,10 +100,10 @@ fn follow(rt: &impl Abort, table: &mut Table, cases: &[(Call, Told)]) {
 }
 
 #[test]
-fn changes_and_admits_up_to_the_ceiling(rt: HostRuntime) -> Result<(), Fail> {
+fn changes_and_admits_up_to_the_ceiling(rt: HostRuntime) {
     let (one, two) = (ServerId::of(1), ServerId::of(2));
-    let k = ShardId::new(0).ok_or("shard 0")?;
-    let unknown = ShardId::new(1).ok_or("shard 1")?;
+    let k = ShardId::new(0).expect(&rt, "shard 0");
+    let unknown = ShardId::new(1).expect(&rt, "shard 1");
     let cases = [
         (
             Call::Apply(unknown, Change::Assign(one)),
@@ -126,15 +127,27 @@ fn changes_and_admits_up_to_the_ceiling(rt: HostRuntime) -> Result<(), Fail> {
         ),
         (Call::Admit(k, one), Told::NotAdmitted(AdmitFault::Spent)),
     ];
-    let mut table = Table::new(rt.alloc(), 1, 3)?;
+    let mut table = Table::new(rt.alloc(), 1, 3).ok().expect(&rt, "memory");
     follow(&rt, &mut table, &cases);
-    Ok(())
+}
+
+// A table of as many shards as there may be.
+fn full_table(rt: &impl Abort, alloc: Global) -> Table {
+    let table = Table::new(alloc, MAX_SHARDS, MAX_GENERATION);
+    table.ok().expect(rt, "memory")
+}
+
+// Makes the changes of the shard.
+fn make_all(rt: &impl Abort, table: &mut Table, k: ShardId, changes: &[Change]) {
+    for change in changes {
+        assert!(rt; applied(table, k, *change) == Told::Made);
+    }
 }
 
 #[test]
-fn reaches_the_last_shard_and_the_last_server(rt: HostRuntime) -> Result<(), Fail> {
+fn reaches_the_last_shard_and_the_last_server(rt: HostRuntime) {
     let (first, last) = (ServerId::of(1), ServerId::of(MAX_SERVER));
-    let k = ShardId::new(MAX_SHARD).ok_or("shard 4095")?;
+    let k = ShardId::new(MAX_SHARD).expect(&rt, "shard 4095");
     let changes = [
         Change::Assign(last),
         Change::Pause,
@@ -156,18 +169,14 @@ fn reaches_the_last_shard_and_the_last_server(rt: HostRuntime) -> Result<(), Fai
             Told::NotChanged(ChangeFault::Busy(serving(last, true, 12))),
         ),
     ];
-    let mut table = Table::new(rt.alloc(), MAX_SHARDS, MAX_GENERATION)?;
-    for change in &changes {
-        follow(&rt, &mut table, &[(Call::Apply(k, *change), Told::Made)]);
-    }
+    let mut table = full_table(&rt, rt.alloc());
+    make_all(&rt, &mut table, k, &changes);
     follow(&rt, &mut table, &cases);
-    Ok(())
 }
 
 #[test]
-fn table_has_as_many_shards_as_may_be(rt: HostRuntime) -> Result<(), Fail> {
-    assert!(rt; Table::new(rt.alloc(), MAX_SHARDS, MAX_GENERATION)?.count() == 4096);
-    Ok(())
+fn table_has_as_many_shards_as_may_be(rt: HostRuntime) {
+    assert!(rt; full_table(&rt, rt.alloc()).count() == 4096);
 }
 
 #[test]
@@ -190,9 +199,8 @@ fn spends_the_greatest_generation(rt: HostRuntime) -> Result<(), Fail> {
     Ok(())
 }
 
-#[test]
-fn executes_what_the_owner_forwards(rt: HostRuntime) {
-    let (one, two) = (ServerId::of(1), ServerId::of(2));
+// Server 2 is next of server 1, which serves.
+fn prepares_the_next(rt: &impl Abort, one: ServerId, two: ServerId) {
     let serving = Stand::Serving(one);
     let (same, prepare) = (Change::PrepareAddShard(one), Change::PrepareAddShard(two));
     let prepared = Stand::Prepared {
@@ -202,6 +210,21 @@ fn executes_what_the_owner_forwards(rt: HostRuntime) {
     assert!(rt; prepare.newly_named() == Some(two) && Change::Pause.newly_named() == None);
     assert!(rt; prepare.apply_to(serving) == Ok(prepared));
     assert!(rt; same.apply_to(serving) == Err(PhaseFault::SameServer));
+}
+
+// The next server executes what the owner forwards, below the ceiling.
+fn executes_forwarded(rt: &impl Abort, record: &Record, one: ServerId, two: ServerId) {
+    let forwarded = Mode::Forwarded(one);
+    assert!(rt; record.accepts(two, forwarded) && !record.accepts(two, Mode::Direct));
+    assert!(rt; record.admit_fault(two, forwarded, 3) == None);
+    assert!(rt; record.admit_fault(two, Mode::Direct, 3) == Some(AdmitFault::NotYet));
+    assert!(rt; record.admit_fault(two, forwarded, 2) == Some(AdmitFault::Spent));
+}
+
+#[test]
+fn executes_what_the_owner_forwards(rt: HostRuntime) {
+    let (one, two) = (ServerId::of(1), ServerId::of(2));
+    prepares_the_next(&rt, one, two);
     let record = Record {
         stand: Stand::Forwarding {
             owner: one,
@@ -210,11 +233,7 @@ fn executes_what_the_owner_forwards(rt: HostRuntime) {
         admitted: false,
         generation: 1,
     };
-    let forwarded = Mode::Forwarded(one);
     assert!(rt; record.executor() == Some(two));
     assert!(rt; record.forward_to(one) == Some(two) && record.forward_to(two) == None);
-    assert!(rt; record.accepts(two, forwarded) && !record.accepts(two, Mode::Direct));
-    assert!(rt; record.admit_fault(two, forwarded, 3) == None);
-    assert!(rt; record.admit_fault(two, Mode::Direct, 3) == Some(AdmitFault::NotYet));
-    assert!(rt; record.admit_fault(two, forwarded, 2) == Some(AdmitFault::Spent));
+    executes_forwarded(&rt, &record, one, two);
 }

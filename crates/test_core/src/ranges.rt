@@ -3,6 +3,7 @@ use sm_ranges::order::compare;
 use sm_ranges::{Key, KeyFault, Layout, LayoutFault, ServerId, ShardId, Stand};
 use std::alloc::{AllocError, Global};
 use std::cmp::Ordering;
+use std::fmt::Display;
 use std::process::Abort;
 use std::test::Fail;
 
@@ -12,6 +13,7 @@ fn finds_the_shard_of_a_key(rt: HostRuntime) -> Result<(), Fail> {
     let layout = Layout::new(rt.alloc(), &[b"", b"m"])?;
     let k = layout.shard_of(b"melon");
     assert!(rt; k.number() == 1);
+    assert!(rt; layout.covers(k, b"melon"));
     let (low, high) = layout.range(k);
     assert!(rt; low == b"m".as_slice());
     assert!(rt; high.is_none());
@@ -19,17 +21,16 @@ fn finds_the_shard_of_a_key(rt: HostRuntime) -> Result<(), Fail> {
 }
 
 // Whether a key of these bytes, and a clone of it, show them.
-fn holds(alloc: Global, bytes: &[u8]) -> Result<bool, Fail> {
-    let key = Key::new(alloc, bytes)?;
-    let clone = key.try_clone(alloc)?;
-    Ok(key.as_bytes() == bytes && clone.as_bytes() == bytes)
+fn holds(rt: &impl Abort, alloc: Global, bytes: &[u8]) -> bool {
+    let key = Key::new(alloc, bytes).ok().expect(rt, "a key");
+    let clone = key.try_clone(alloc).ok().expect(rt, "memory");
+    key.as_bytes() == bytes && clone.as_bytes() == bytes
 }
 
 #[test]
-fn key_holds_its_bytes(rt: HostRuntime) -> Result<(), Fail> {
-    assert!(rt; holds(rt.alloc(), b"m\x00")?);
-    assert!(rt; holds(rt.alloc(), &[0xFF; MAX_KEY])?);
-    Ok(())
+fn key_holds_its_bytes(rt: HostRuntime) {
+    assert!(rt; holds(&rt, rt.alloc(), b"m\x00"));
+    assert!(rt; holds(&rt, rt.alloc(), &[0xFF; MAX_KEY]));
 }
 
 #[test]
@@ -73,12 +74,17 @@ fn servers_go_from_1_to_4095(rt: HostRuntime) {
     }
 }
 
+// Whether the value is printed so.
+fn is_printed<T: Display>(rt: &impl Abort, alloc: Global, value: &T, text: &str) -> bool {
+    let printed = format!(in alloc; "{value}");
+    printed.ok().expect(rt, "memory").as_str() == text
+}
+
 #[test]
-fn servers_are_ordered_and_printed_by_their_numbers(rt: HostRuntime) -> Result<(), Fail> {
+fn servers_are_ordered_and_printed_by_their_numbers(rt: HostRuntime) {
     let last = ServerId::of(MAX_SERVER);
     assert!(rt; ServerId::of(1) < last);
-    assert!(rt; format!(in rt.alloc(); "{last}")?.as_str() == "4095");
-    Ok(())
+    assert!(rt; is_printed(&rt, rt.alloc(), &last, "4095"));
 }
 
 // What the shard of this number says its number and its place are.
@@ -100,12 +106,11 @@ fn shards_go_from_0_to_4095(rt: HostRuntime) {
 }
 
 #[test]
-fn shards_are_ordered_and_printed_by_their_numbers(rt: HostRuntime) -> Result<(), Fail> {
-    let first = ShardId::new(0).ok_or("shard 0")?;
-    let last = ShardId::new(MAX_SHARD).ok_or("shard 4095")?;
+fn shards_are_ordered_and_printed_by_their_numbers(rt: HostRuntime) {
+    let first = ShardId::new(0).expect(&rt, "shard 0");
+    let last = ShardId::new(MAX_SHARD).expect(&rt, "shard 4095");
     assert!(rt; first < last);
-    assert!(rt; format!(in rt.alloc(); "{last}")?.as_str() == "4095");
-    Ok(())
+    assert!(rt; is_printed(&rt, rt.alloc(), &last, "4095"));
 }
 
 #[test]
@@ -143,6 +148,12 @@ fn stand_names_its_servers(rt: HostRuntime) {
     }
 }
 
+// The layout of these bounds, and a clone of it.
+fn layout_of(rt: &impl Abort, alloc: Global, bounds: &[&[u8]]) -> Layout {
+    let layout = Layout::new(alloc, bounds).ok().expect(rt, "a layout");
+    layout.try_clone(alloc).ok().expect(rt, "memory")
+}
+
 // The number of the shard of a key.
 fn number_of(layout: &Layout, key: &[u8]) -> u16 {
     layout.shard_of(key).number()
@@ -154,7 +165,7 @@ fn range_of<'a>(layout: &'a Layout, key: &[u8]) -> (&'a [u8], Option<&'a [u8]>) 
 }
 
 #[test]
-fn layout_gives_each_key_its_shard(rt: HostRuntime) -> Result<(), Fail> {
+fn layout_gives_each_key_its_shard(rt: HostRuntime) {
     let mut before_m = [0xFF; 255];
     before_m[0] = b'l';
     let cases: [(&[u8], u16); 6] = [
@@ -165,23 +176,20 @@ fn layout_gives_each_key_its_shard(rt: HostRuntime) -> Result<(), Fail> {
         (b"", 0),
         (&[b'l'; 300], 0),
     ];
-    let layout = Layout::new(rt.alloc(), &[b"", b"m"])?;
+    let layout = layout_of(&rt, rt.alloc(), &[b"", b"m"]);
     for (key, number) in &cases {
         assert!(rt; number_of(&layout, key) == *number);
     }
-    Ok(())
 }
 
 #[test]
-fn layout_has_a_range_for_each_shard(rt: HostRuntime) -> Result<(), Fail> {
+fn layout_has_a_range_for_each_shard(rt: HostRuntime) {
     let cases: [(&[u8], &[u8], Option<&[u8]>); 2] = [(b"a", b"", Some(b"m")), (b"z", b"m", None)];
-    let layout = Layout::new(rt.alloc(), &[b"", b"m"])?;
+    let layout = layout_of(&rt, rt.alloc(), &[b"", b"m"]);
     assert!(rt; layout.count() == 2);
-    let layout = layout.try_clone(rt.alloc())?;
     for (key, low, high) in &cases {
         assert!(rt; range_of(&layout, key) == (*low, *high));
     }
-    Ok(())
 }
 
 #[test]
@@ -222,10 +230,9 @@ fn bounds_of<'a>(alloc: Global, texts: &'a [[u8; 255]]) -> Result<Vec<&'a [u8]>,
 // Each bound is the least key of its own shard, which ends at the next bound.
 fn finds_each(rt: &impl Abort, layout: &Layout, bounds: &[&[u8]]) {
     for (at, bound) in bounds.iter().enumerate() {
+        let next = bounds.get(at.saturating_add(1)).copied();
         assert!(rt; layout.shard_of(bound).index() == at);
-        let (low, high) = range_of(layout, bound);
-        assert!(rt; low == *bound);
-        assert!(rt; high == bounds.get(at.saturating_add(1)).copied());
+        assert!(rt; range_of(layout, bound) == (*bound, next));
     }
 }
 
@@ -239,24 +246,30 @@ fn comparisons(bounds: &[&[u8]], key: &[u8]) -> u32 {
     compared
 }
 
-#[test]
-fn layout_has_at_most_4096_bounds(rt: HostRuntime) -> Result<(), Fail> {
-    let texts: Vec<[u8; 255]> = (0..4096u16).map(bound_from).collect(rt.alloc())?;
-    let mut bounds = bounds_of(rt.alloc(), &texts)?;
-    let fault = Layout::new(rt.alloc(), &bounds).err();
-    assert!(rt; fault == Some(LayoutFault::TooMany));
-    let _ = bounds.pop();
-    let layout = Layout::new(rt.alloc(), &bounds)?.try_clone(rt.alloc())?;
+// A layout of 4,096 bounds finds each.
+fn holds_as_many_as_may_be(rt: &impl Abort, alloc: Global, bounds: &[&[u8]]) {
+    let layout = layout_of(rt, alloc, bounds);
     assert!(rt; layout.count() == MAX_SHARDS);
-    finds_each(&rt, &layout, &bounds);
-    assert!(rt; comparisons(&bounds, b"m") == 13);
-    Ok(())
+    finds_each(rt, &layout, bounds);
+    assert!(rt; comparisons(bounds, b"m") == 13);
+}
+
+fn all_texts(alloc: Global) -> Result<Vec<[u8; 255]>, AllocError> {
+    (0..4096u16).map(bound_from).collect(alloc)
 }
 
 #[test]
-fn layout_fault_prints_the_place(rt: HostRuntime) -> Result<(), Fail> {
+fn layout_has_at_most_4096_bounds(rt: HostRuntime) {
+    let texts = all_texts(rt.alloc()).ok().expect(&rt, "memory");
+    let mut bounds = bounds_of(rt.alloc(), &texts).ok().expect(&rt, "memory");
+    assert!(rt; Layout::new(rt.alloc(), &bounds).err() == Some(LayoutFault::TooMany));
+    let _ = bounds.pop();
+    holds_as_many_as_may_be(&rt, rt.alloc(), &bounds);
+}
+
+#[test]
+fn layout_fault_prints_the_place(rt: HostRuntime) {
     let fault = LayoutFault::NotRising { at: 2 };
-    let text = format!(in rt.alloc(); "{fault}")?;
-    assert!(rt; text.as_str() == "bound 2 is not above the one before it");
-    Ok(())
+    let text = "bound 2 is not above the one before it";
+    assert!(rt; is_printed(&rt, rt.alloc(), &fault, text));
 }

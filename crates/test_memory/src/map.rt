@@ -2,52 +2,25 @@ mod blocks;
 mod limits;
 mod numbers;
 mod plain;
+mod state;
+mod step;
+mod twins;
 
 use numbers::Numbers;
-use plain::{Held, Plain};
 use sm_map::{ArenaMap, Val};
-use std::alloc::{AllocError, Global};
+use state::{make_all_in_two, rebuilt_in_two};
 use std::process::Abort;
 use std::test::Fail;
-
-// What is done to a map.
-#[derive(Clone, Copy)]
-enum Step<'a> {
-    Put(&'a [u8], Val<'a>),
-    Append(&'a [u8], &'a [u8]),
-    Remove(&'a [u8]),
-}
-
-// Does the step, and tells whether it found what it needs: for `Append` a text, for `Remove` the key.
-fn made(map: &mut ArenaMap, step: Step<'_>) -> Result<bool, AllocError> {
-    match step {
-        Step::Put(key, value) => {
-            map.put(key, value)?;
-            Ok(true)
-        }
-        Step::Append(key, tail) => {
-            if let Some(Val::Text(_)) = map.get(key) {
-                map.append(key, tail)?;
-                return Ok(true);
-            }
-            Ok(false)
-        }
-        Step::Remove(key) => Ok(map.remove(key)),
-    }
-}
-
-fn rebuilt(map: ArenaMap) -> Result<ArenaMap, AllocError> {
-    match map.rebuild() {
-        Ok(map) => Ok(map),
-        Err((_, refused)) => Err(refused),
-    }
-}
+use step::{Step, make_all, rebuilt};
+use twins::Twins;
 
 // Whether these are all pairs of the map, by a scan and key by key.
-fn holds(map: &ArenaMap, pairs: &[(&[u8], Val<'_>)]) -> Result<bool, AllocError> {
-    let rows = map.scan(b"", b"\xff", usize::MAX)?;
+fn holds(map: &ArenaMap, pairs: &[(&[u8], Val<'_>)]) -> bool {
+    let Ok(rows) = map.scan(b"", b"\xff", usize::MAX) else {
+        return false;
+    };
     let each = pairs.iter().all(|pair| map.get(pair.0) == Some(pair.1));
-    Ok(each && map.len() == pairs.len() as u128 && rows.as_slice() == pairs)
+    each && map.len() == pairs.len() as u128 && rows.as_slice() == pairs
 }
 
 #[test]
@@ -61,167 +34,126 @@ fn puts_gets_and_removes(rt: HostRuntime) -> Result<(), Fail> {
     Ok(())
 }
 
-#[test]
-fn one_search_serves_several_calls(rt: HostRuntime) -> Result<(), Fail> {
-    let mut map = ArenaMap::new(rt.alloc());
-    let position = map.locate(b"a");
-    assert_eq!(rt; map.get_at(position), None);
-    map.put_at(position, Val::Text(b"x"))?;
-    let position = map.locate(b"a");
+// Searches once, finds nothing, and puts the value there.
+fn puts_new(map: &mut ArenaMap, key: &[u8], value: Val<'_>) -> bool {
+    let position = map.locate(key);
+    map.get_at(position).is_none() && map.put_at(position, value).is_ok()
+}
+
+// Searches once, finds a text, and appends to it there.
+fn appends(map: &mut ArenaMap, key: &[u8], tail: &[u8]) -> bool {
+    let position = map.locate(key);
     if let Some(Val::Text(_)) = map.get_at(position) {
-        map.append_at(position, b"y")?;
+        return map.append_at(position, tail).is_ok();
     }
-    assert_eq!(rt; map.get(b"a"), Some(Val::Text(b"xy")));
-    Ok(())
+    false
+}
+
+fn one_search_serves(map: &mut ArenaMap) -> bool {
+    puts_new(map, b"a", Val::Text(b"x"))
+        && appends(map, b"a", b"y")
+        && map.get(b"a") == Some(Val::Text(b"xy"))
 }
 
 #[test]
-fn arena_and_rebuild(rt: HostRuntime) -> Result<(), Fail> {
+fn one_search_serves_several_calls(rt: HostRuntime) {
     let mut map = ArenaMap::new(rt.alloc());
-    made(&mut map, Step::Put(b"a", Val::Text(b"x")))?;
-    made(&mut map, Step::Put(b"a", Val::Text(b"yy")))?;
-    made(&mut map, Step::Put(b"b", Val::Text(b"")))?;
-    assert!(rt; map.len() == 2 && map.dead() == 1);
-    let map = rebuilt(map)?;
-    assert!(rt; map.dead() == 0);
-    assert!(rt; holds(&map, &[(b"a", Val::Text(b"yy")), (b"b", Val::Text(b""))])?);
-    Ok(())
+    assert!(rt; one_search_serves(&mut map));
+}
+
+// Writes over a text, whose byte is dead then.
+fn writes_over(rt: &impl Abort, map: &mut ArenaMap) {
+    let steps = [
+        Step::Put(b"a", Val::Text(b"x")),
+        Step::Put(b"a", Val::Text(b"yy")),
+        Step::Put(b"b", Val::Text(b"")),
+    ];
+    make_all(rt, map, &steps);
+    assert!(*rt; map.len() == 2 && map.dead() == 1);
+}
+
+#[test]
+fn arena_and_rebuild(rt: HostRuntime) {
+    let mut map = ArenaMap::new(rt.alloc());
+    writes_over(&rt, &mut map);
+    let map = rebuilt(&rt, map);
+    let pairs: [(&[u8], Val<'_>); 2] = [(b"a", Val::Text(b"yy")), (b"b", Val::Text(b""))];
+    assert!(rt; map.dead() == 0 && holds(&map, &pairs));
+}
+
+// Keys that begin alike, an empty key, and bytes that are not UTF-8, each with a count.
+const KEYS: [&[u8]; 5] = [b"", b"m", b"m\0", b"mm", b"\xff"];
+
+fn put_keys(rt: &impl Abort, map: &mut ArenaMap) {
+    for key in KEYS {
+        Step::Put(key, Val::Count(1)).make(rt, map);
+    }
 }
 
 // Whether a scan gives these keys.
-fn scans(
-    map: &ArenaMap,
-    low: &[u8],
-    high: &[u8],
-    max: usize,
-    keys: &[&[u8]],
-) -> Result<bool, AllocError> {
-    let rows = map.scan(low, high, max)?;
-    Ok(rows.iter().map(|row| row.0).eq(keys.iter().copied()))
+fn scans(map: &ArenaMap, low: &[u8], high: &[u8], max: usize, keys: &[&[u8]]) -> bool {
+    match map.scan(low, high, max) {
+        Ok(rows) => rows.iter().map(|row| row.0).eq(keys.iter().copied()),
+        Err(_) => false,
+    }
+}
+
+fn scans_ranges(map: &ArenaMap) -> bool {
+    scans(map, b"m", b"mm", 9, &[b"m", b"m\0"])
+        && scans(map, b"a", b"mm", 1, &[b"m"])
+        && scans(map, b"m", b"mm", 0, &[])
+        && scans(map, b"m", b"m", 9, &[])
+        && scans(map, b"z", b"a", 9, &[])
 }
 
 #[test]
-fn scans_from_low_to_below_high(rt: HostRuntime) -> Result<(), Fail> {
+fn scans_from_low_to_below_high(rt: HostRuntime) {
     let mut map = ArenaMap::new(rt.alloc());
-    // Keys that begin alike, an empty key, bytes that are not UTF-8.
-    let keys: [&[u8]; 5] = [b"", b"m", b"m\0", b"mm", b"\xff"];
-    for key in keys {
-        made(&mut map, Step::Put(key, Val::Count(1)))?;
-    }
-    assert!(rt; scans(&map, b"m", b"mm", 9, &[b"m", b"m\0"])?);
-    assert!(rt; scans(&map, b"a", b"mm", 1, &[b"m"])?);
-    assert!(rt; scans(&map, b"m", b"mm", 0, &[])?);
-    assert!(rt; scans(&map, b"m", b"m", 9, &[])?);
-    assert!(rt; scans(&map, b"z", b"a", 9, &[])?);
-    Ok(())
+    put_keys(&rt, &mut map);
+    assert!(rt; scans_ranges(&map));
 }
 
-// A number made of all that four keys hold. It takes no memory.
-fn digest(map: &ArenaMap) -> u64 {
-    let mut digest: u64 = 0;
-    for key in [b'a', b'b', b'c', b'd'] {
-        digest = digest.wrapping_mul(31);
-        match map.get(&[key]) {
-            Some(Val::Text(text)) => {
-                for byte in text {
-                    digest = digest.wrapping_mul(31).wrapping_add(1 + *byte as u64);
-                }
-            }
-            Some(Val::Count(count)) => digest = digest.wrapping_add(count.unsigned_abs()),
-            None => {}
-        }
-    }
-    digest
+// Each text and count is written once or twice, and 11 bytes are dead then.
+fn writes_in_two(rt: &impl Abort, map: &mut ArenaMap) {
+    let steps = [
+        Step::Put(b"\0\0\0b", Val::Text(b"one")),
+        Step::Put(b"\0\0\0a", Val::Count(7)),
+        Step::Append(b"\0\0\0b", b", two"),
+        Step::Put(b"\0\0\0c", Val::Text(b"three")),
+        Step::Put(b"\0\0\0b", Val::Text(b"four")),
+        Step::Put(b"\0\0\0d", Val::Text(b"")),
+    ];
+    make_all_in_two(rt, map, &steps);
+    assert!(*rt; map.dead() == 11);
 }
 
-// Does the step; where memory is refused, sees that nothing has changed, and does it again.
-fn made_in_two(rt: &impl Abort, map: &mut ArenaMap, step: Step<'_>) -> Result<(), Fail> {
-    let before = (map.bytes(), map.dead(), digest(map));
-    if made(map, step).is_err() {
-        assert!(rt; before == (map.bytes(), map.dead(), digest(map)));
-        made(map, step)?;
-    }
-    Ok(())
-}
-
-fn rebuilt_in_two(rt: &impl Abort, map: ArenaMap) -> Result<ArenaMap, Fail> {
-    let before = (map.len(), map.dead(), digest(&map));
-    match map.rebuild() {
-        Ok(map) => Ok(map),
-        Err((map, _)) => {
-            assert!(rt; before == (map.len(), map.dead(), digest(&map)));
-            Ok(rebuilt(map)?)
-        }
-    }
+// Whether the map holds what was written. A refused scan is made again, too.
+fn holds_in_two(map: &ArenaMap) -> bool {
+    let pairs: [(&[u8], Val<'_>); 4] = [
+        (b"\0\0\0a", Val::Count(7)),
+        (b"\0\0\0b", Val::Text(b"four")),
+        (b"\0\0\0c", Val::Text(b"three")),
+        (b"\0\0\0d", Val::Text(b"")),
+    ];
+    holds(map, &pairs) || holds(map, &pairs)
 }
 
 // With each allocation refused in turn (`rt try --test --fail-alloc N`) a refused call leaves the map as it was, and
 // the same call made again does its work.
 #[test]
-fn keeps_what_memory_refuses(rt: HostRuntime) -> Result<(), Fail> {
+fn keeps_what_memory_refuses(rt: HostRuntime) {
     let mut map = ArenaMap::new(rt.alloc());
-    made_in_two(&rt, &mut map, Step::Put(b"b", Val::Text(b"one")))?;
-    made_in_two(&rt, &mut map, Step::Put(b"a", Val::Count(7)))?;
-    made_in_two(&rt, &mut map, Step::Append(b"b", b", two"))?;
-    made_in_two(&rt, &mut map, Step::Put(b"c", Val::Text(b"three")))?;
-    made_in_two(&rt, &mut map, Step::Put(b"b", Val::Text(b"four")))?;
-    made_in_two(&rt, &mut map, Step::Put(b"d", Val::Text(b"")))?;
-    let dead = map.dead();
-    let map = rebuilt_in_two(&rt, map)?;
-    assert!(rt; dead == 11 && map.dead() == 0);
-    let pairs: [(&[u8], Val<'_>); 4] = [
-        (b"a", Val::Count(7)),
-        (b"b", Val::Text(b"four")),
-        (b"c", Val::Text(b"three")),
-        (b"d", Val::Text(b"")),
-    ];
-    // A refused scan is made again, too.
-    assert!(rt; holds(&map, &pairs).or_else(|_| holds(&map, &pairs))?);
-    Ok(())
-}
-
-// One operation on both, chosen by the numbers; tells whether both tell the same of it.
-fn same_operation(
-    alloc: Global,
-    numbers: &mut Numbers,
-    map: &mut ArenaMap,
-    plain: &mut Plain,
-) -> Result<bool, AllocError> {
-    let key = numbers.bytes(alloc, 3)?;
-    let text = numbers.bytes(alloc, 9)?;
-    match numbers.below(8) {
-        0..3 => {
-            made(map, Step::Put(&key, Val::Text(&text)))?;
-            plain.put(key, Held::Text(text))?;
-            Ok(true)
-        }
-        3 => {
-            let count = text.len() as i64;
-            made(map, Step::Put(&key, Val::Count(count)))?;
-            plain.put(key, Held::Count(count))?;
-            Ok(true)
-        }
-        4 | 5 => Ok(made(map, Step::Append(&key, &text))? == plain.append(&key, &text)?),
-        6 => Ok(made(map, Step::Remove(&key))? == plain.remove(&key)),
-        _ => Ok(
-            map.scan(&key, &text, 5)?.as_slice() == plain.within(alloc, &key, &text, 5)?.as_slice(),
-        ),
-    }
+    writes_in_two(&rt, &mut map);
+    let map = rebuilt_in_two(&rt, map);
+    assert!(rt; map.dead() == 0 && holds_in_two(&map));
 }
 
 #[test]
-fn random_operations(rt: HostRuntime) -> Result<(), Fail> {
-    let alloc = rt.alloc();
+fn random_operations(rt: HostRuntime) {
     let mut numbers = Numbers::new(1);
-    let mut map = ArenaMap::new(alloc);
-    let mut plain = Plain::new(alloc);
-    for step in 0..2_000 {
-        assert!(rt; same_operation(alloc, &mut numbers, &mut map, &mut plain)?);
-        if step % 500 == 499 {
-            map = rebuilt(map)?;
-            assert!(rt; map.dead() == 0);
-        }
-        assert!(rt; holds(&map, &plain.within(alloc, b"", b"z", usize::MAX)?)?);
+    let mut twins = Twins::new(rt.alloc());
+    for _ in 0..4 {
+        twins.operate(&rt, &mut numbers, 500);
+        twins = twins.rebuilt(&rt);
     }
-    Ok(())
 }

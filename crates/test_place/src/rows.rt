@@ -5,7 +5,6 @@ use sm_rows::limits::{MAX_DOMAIN, MAX_DOMAIN_DOWN, MAX_GROUPS, MAX_LIMIT};
 use sm_rows::{
     DomainRow, GroupRow, ServerRow, are_domains, are_groups, are_servers, are_shards, equal_domains,
 };
-use std::test::Fail;
 
 #[test]
 fn servers_rise(rt: HostRuntime) {
@@ -30,14 +29,13 @@ fn is_shard(groups: usize, group: u16, cap: u8) -> bool {
 }
 
 #[test]
-fn servers_keep_their_limits(rt: HostRuntime) -> Result<(), Fail> {
-    let first = server_row(1, 0, 0)?;
-    let last = server_row(MAX_SERVER, MAX_DOMAIN, u32::MAX)?;
-    let beyond = server_row(1, MAX_DOMAIN + 1, 0)?;
+fn servers_keep_their_limits(rt: HostRuntime) {
+    let first = server_row(1, 0, 0);
+    let last = server_row(MAX_SERVER, MAX_DOMAIN, u32::MAX);
+    let beyond = server_row(1, MAX_DOMAIN + 1, 0);
     assert!(rt; are_servers(&[first, last]));
     assert!(rt; !are_servers(&[]));
     assert!(rt; !are_servers(&[beyond]));
-    Ok(())
 }
 
 #[test]
@@ -61,43 +59,37 @@ fn domain_row(domain: u16, down: u16) -> DomainRow {
 }
 
 // Three servers of the least and the greatest domain.
-fn servers_apart() -> Result<[ServerRow; 3], Fail> {
-    Ok([
-        server_row(1, MAX_DOMAIN, 0)?,
-        server_row(2, 0, 0)?,
-        server_row(3, 0, 0)?,
-    ])
+fn servers_apart() -> [ServerRow; 3] {
+    [
+        server_row(1, MAX_DOMAIN, 0),
+        server_row(2, 0, 0),
+        server_row(3, 0, 0),
+    ]
 }
 
 #[test]
-fn domains_keep_their_limits(rt: HostRuntime) -> Result<(), Fail> {
-    let servers = servers_apart()?;
+fn domains_keep_their_limits(rt: HostRuntime) {
+    let servers = servers_apart();
     let (first, last) = (domain_row(0, 1), domain_row(MAX_DOMAIN, MAX_DOMAIN_DOWN));
+    let beyond = domain_row(MAX_DOMAIN, MAX_DOMAIN_DOWN + 1);
     assert!(rt; last.is_in_range());
     assert!(rt; are_domains(&servers, &[first, last]));
-    assert!(rt;
-        !are_domains(
-            &servers,
-            &[first, domain_row(MAX_DOMAIN, MAX_DOMAIN_DOWN + 1)]
-        )
-    );
-    Ok(())
+    assert!(rt; !are_domains(&servers, &[first, beyond]));
 }
 
 #[test]
-fn domains_are_those_of_servers(rt: HostRuntime) -> Result<(), Fail> {
-    let servers = servers_apart()?;
+fn domains_are_those_of_servers(rt: HostRuntime) {
+    let servers = servers_apart();
     let (first, last) = (domain_row(0, 1), domain_row(MAX_DOMAIN, 1));
     assert!(rt; !are_domains(&servers, &[first]));
     assert!(rt; !are_domains(&servers, &[last, first]));
     assert!(rt; !are_domains(&servers, &[first, first, last]));
     assert!(rt; !are_domains(&servers, &[first, domain_row(1, 1), last]));
-    Ok(())
 }
 
 #[test]
-fn equal_domains_are_those_of_servers(rt: HostRuntime) -> Result<(), Fail> {
-    let rows = equal_domains(rt.alloc(), &servers_apart()?, 7)?;
+fn equal_domains_are_those_of_servers(rt: HostRuntime) {
+    let rows = equal_domains(rt.alloc(), &servers_apart(), 7);
+    let rows = rows.ok().expect(&rt, "memory");
     assert!(rt; rows.as_slice() == [domain_row(0, 7), domain_row(MAX_DOMAIN, 7)].as_slice());
-    Ok(())
 }

@@ -10,6 +10,8 @@ mod migrating;
 #[cfg(test)]
 mod running;
 #[cfg(test)]
+mod server;
+#[cfg(test)]
 mod serving;
 #[cfg(test)]
 mod threads;

@@ -4,50 +4,78 @@ ghost use Rattle.sm_ranges.specs.declared.stand.Stand.TheVariants.{Vacant};
 
 use sm_control::Control;
 use sm_desk::Desk;
-use sm_place::Books;
+use sm_place::{Books, BooksFault};
 use sm_ranges::{Layout, ServerId};
 use sm_rows::limits::MAX_DOMAIN_DOWN;
 use sm_rows::{GroupRow, ServerRow, ShardRow, equal_domains};
 use sm_rule::Board;
-use sm_service::CounterText;
+use sm_service::{CounterText, Service};
 use sm_tasks::Tasks;
 use sm_tasks::laws::all_up_meets_caps;
 use std::alloc::{AllocError, Global};
-use std::test::Fail;
+use std::process::Abort;
 
 /// How many shards the board has.
 pub(crate) const SHARDS: u16 = 64;
 
 /// A board with its control.
 #[derive(Drop)]
-pub(crate) struct Running {
-    pub(crate) board: Board<CounterText>,
-    pub(crate) control: Control<CounterText>,
+pub(crate) struct Running<S: Service> {
+    pub(crate) board: Board<S>,
+    pub(crate) control: Control<S>,
     ghost tied: { control.chair.board ≡ board },
 }
 
+impl<S: Service> Running<S> {
+    // A board with these bodies, and a control at this desk.
+    fn new(rt: &impl Abort, alloc: Global, bodies: Vec<S>, desk: Desk) -> Running<S>
+        requires count { length desk.books.shards ≡ length bodies.items }
+        requires vacant { All (λ shard. shard.stand ≡ Vacant) desk.books.shards }
+        requires initial { All (λ body. S.base body ≡ S.initial) bodies.items }
+        requires before { All (λ body. S.before body ≡ 0) bodies.items }
+        requires empty { All (λ body. S.requests body ≡ []) bodies.items }
+    {
+        let (board, chair) = Board::make(alloc, bodies, 1_000_000_000)
+            .ok()
+            .expect(rt, "a board");
+        Running {
+            board,
+            control: Control::new(chair, desk),
+        }
+    }
+}
+
 /// A board of vacant shards, and its control.
-pub(crate) fn new_running(alloc: Global) -> Result<Running, Fail> {
-    let desk = new_desk(alloc)?;
-    let bodies = new_bodies(alloc)?;
-    let (board, chair) = Board::make(alloc, bodies, 1_000_000_000)?;
-    Ok(Running {
-        board,
-        control: Control::new(chair, desk),
-    })
+pub(crate) fn new_running(rt: &impl Abort, alloc: Global) -> Running<CounterText> {
+    let desk = new_desk(alloc).ok().expect(rt, "a desk");
+    let bodies = new_bodies(alloc).ok().expect(rt, "memory");
+    Running::new(rt, alloc, bodies, desk)
 }
 
 /// The layout of the shards: all but the first begin at the byte of their number.
-pub(crate) fn new_layout(alloc: Global) -> Result<Layout, Fail> {
-    let mut bytes: Vec<[u8; 1]> = Vec::new(alloc);
+pub(crate) fn new_layout(rt: &impl Abort, alloc: Global) -> Layout {
+    let bytes = bytes_of(alloc).ok().expect(rt, "memory");
+    let bounds = bounds_of(alloc, &bytes).ok().expect(rt, "memory");
+    Layout::new(alloc, &bounds).ok().expect(rt, "a layout")
+}
+
+// The byte of each shard's number.
+fn bytes_of(alloc: Global) -> Result<Vec<[u8; 1]>, AllocError> {
+    let mut bytes = Vec::new(alloc);
     for number in 0..SHARDS as u8 {
         bytes.push([number])?;
     }
+    Ok(bytes)
+}
+
+// The empty bound, and these but the first after it.
+fn bounds_of(alloc: Global, bytes: &[[u8; 1]]) -> Result<Vec<&[u8]>, AllocError> {
     let mut bounds: Vec<&[u8]> = Vec::new(alloc);
-    for byte in bytes.iter() {
-        bounds.push(if bounds.is_empty() { b"" } else { &byte[..] })?;
+    for byte in bytes {
+        let bound: &[u8] = if bounds.is_empty() { b"" } else { byte };
+        bounds.push(bound)?;
     }
-    Ok(Layout::new(alloc, &bounds)?)
+    Ok(bounds)
 }
 
 // Bodies that have applied nothing yet.
@@ -64,36 +92,50 @@ fn new_bodies(alloc: Global) -> Result<Vec<CounterText>, AllocError>
     Ok(bodies)
 }
 
+fn server_row(id: ServerId, domain: u16) -> ServerRow {
+    ServerRow {
+        id,
+        domain,
+        capacity: 64,
+    }
+}
+
 // A desk of the shards, and of two servers that have room for all of them.
-fn new_desk(alloc: Global) -> Result<Desk, Fail>
+fn new_desk(alloc: Global) -> Result<Desk, BooksFault>
     ensures count { IfOk result (λ desk. length desk.books.shards ≡ 64) }
     ensures vacant { IfOk result (λ desk. All (λ shard. shard.stand ≡ Vacant) desk.books.shards) }
 {
-    let (id, other) = (ServerId::of(1), ServerId::of(2));
-    let capacity = 64;
     let servers = [
-        ServerRow {
-            id,
-            domain: 0,
-            capacity,
-        },
-        ServerRow {
-            id: other,
-            domain: 1,
-            capacity,
-        },
+        server_row(ServerId::of(1), 0),
+        server_row(ServerId::of(2), 1),
     ];
+    let shards = shard_rows(alloc)?;
+    desk_of(alloc, &servers, &shards)
+}
+
+// The rows of the shards, of load 1 each.
+fn shard_rows(alloc: Global) -> Result<Vec<ShardRow>, AllocError>
+    ensures { IfOk result (λ shards. length shards.items ≡ 64) }
+{
+    let row = ShardRow {
+        group: 0,
+        load: 1,
+        cap: 1,
+    };
+    vec![in alloc; row; 64]
+}
+
+// A desk of these rows, whose shards are of one group.
+fn desk_of(alloc: Global, servers: &[ServerRow], shards: &[ShardRow]) -> Result<Desk, BooksFault>
+    ensures count { IfOk result (λ desk. length desk.books.shards ≡ length shards.now) }
+    ensures vacant { IfOk result (λ desk. All (λ shard. shard.stand ≡ Vacant) desk.books.shards) }
+{
     let group = GroupRow {
         limit: 64,
         down: 64,
     };
-    let shards = vec![in alloc; ShardRow {
-        group: 0,
-        load: 1,
-        cap: 1
-    }; usize::from(SHARDS)]?;
-    let domains = equal_domains(alloc, &servers, MAX_DOMAIN_DOWN)?;
-    let books = Books::new(alloc, &servers, &[group], &shards, &domains)?;
+    let domains = equal_domains(alloc, servers, MAX_DOMAIN_DOWN)?;
+    let books = Books::new(alloc, servers, &[group], shards, &domains)?;
     all_up_meets_caps();
     Ok(Desk::new(books, Tasks::new(1)))
 }

@@ -2,8 +2,8 @@
 ghost use Rattle.std.specs.Arc.{arc_value};
 ghost use Rattle.std.specs.Prelude.{◌≡◌, None, IsSome};
 
-use crate::calls::place_of;
 use crate::running::{Running, SHARDS, new_layout, new_running};
+use crate::server::note_of;
 use sm_control::{Control, ControlFault};
 use sm_desk::{Command, CommandFault};
 use sm_envelope::Envelope;
@@ -12,12 +12,13 @@ use sm_ownership::change_fault::ChangeFault;
 use sm_ownership::record::Record;
 use sm_ranges::{Key, Layout, ServerId, ShardId};
 use sm_rule::{Board, Pass};
-use sm_server::serve;
+use sm_server::{Outcome, serve};
 use sm_service::{CounterText, Request, Service};
 use std::alloc::{AllocError, Global};
+use std::process::Abort;
 use std::sync::Arc;
-use std::test::Fail;
 use std::thread;
+use std::thread::{JoinHandle, Threads};
 
 // How many envelopes of each shard a server is to serve: 100,032 in all.
 const ROUNDS: u32 = 1_563;
@@ -25,16 +26,42 @@ const ROUNDS: u32 = 1_563;
 // How often all shards are moved to the second server and back.
 const MOVES: u32 = 100;
 
-// A server's pass and layout, which are sent to a thread with their board, and the places of its answers by shard.
+// A server's pass and layout, whose board other threads have too.
 #[derive(Drop)]
-struct Worker {
-    board: Arc<Board<CounterText>>,
+struct Post<S: Service> {
+    board: Arc<Board<S>>,
     layout: Layout,
-    pass: Pass<CounterText>,
-    places: Vec<Vec<u64>>,
+    pass: Pass<S>,
     ghost tied: { pass.board ≡ arc_value board },
     ghost server: { IsSome pass.server },
     ghost free: { pass.held ≡ None },
+}
+
+impl<S: Service> Post<S> {
+    fn new<R: Abort>(rt: &R, board: &Arc<Board<S>>, server: ServerId, layout: Layout) -> Post<S> {
+        let pass = board.pass(Some(server));
+        Post {
+            board: Arc::try_clone(board).ok().expect(rt, "memory"),
+            layout,
+            pass,
+        }
+    }
+
+    // The place of the answer to the request of a new client; none where there is no answer.
+    fn place(&mut self, k: ShardId, request: S::Request) -> Option<u64> {
+        let envelope = Envelope::new(7, k, request, note_of(&self.board));
+        match serve(&self.board, &self.layout, &mut self.pass, envelope) {
+            Outcome::Answered(answer) => Some(answer.place()),
+            _ => None,
+        }
+    }
+}
+
+// A server that is sent to a thread, and the places of its answers by shard.
+#[derive(Drop)]
+struct Worker {
+    post: Post<CounterText>,
+    places: Vec<Vec<u64>>,
 }
 
 impl Worker {
@@ -43,8 +70,7 @@ impl Worker {
         for _ in 0..rounds {
             self.serves_all(alloc);
         }
-        let Worker { places, .. } = self;
-        places
+        self.places
     }
 
     // Serves an envelope of each shard.
@@ -58,35 +84,39 @@ impl Worker {
 
     // Serves an envelope, and notes the place of its answer.
     fn serves_one(&mut self, alloc: Global, k: ShardId) {
-        let Some(place) = self.place(alloc, k) else {
+        let Some(request) = request_of(alloc, k) else {
             return;
         };
-        if let Some(places) = self.places.get_mut(k.index()) {
-            let _forgotten = places.push(place).is_err();
+        if let Some(place) = self.post.place(k, request) {
+            add_place(&mut self.places, k, place);
         }
-    }
-
-    fn place(&mut self, alloc: Global, k: ShardId) -> Option<u64> {
-        let key = Key::new(alloc, &[(k.number() & 255) as u8, 0]).ok()?;
-        let mut client = self.board.pass(None);
-        let note = self.board.note(&mut client);
-        let envelope = Envelope::new(7, k, Request::Inc(key, 1), note);
-        place_of(serve(&self.board, &self.layout, &mut self.pass, envelope))
     }
 }
 
-fn new_worker(
+// A request for the shard; none where memory is refused.
+fn request_of(alloc: Global, k: ShardId) -> Option<Request> {
+    let key = Key::new(alloc, &[(k.number() & 255) as u8, 0]).ok()?;
+    Some(Request::Inc(key, 1))
+}
+
+// Notes the place of an answer of the shard.
+fn add_place(places: &mut [Vec<u64>], k: ShardId, place: u64) {
+    if let Some(places) = places.get_mut(k.index()) {
+        let _forgotten = places.push(place).is_err();
+    }
+}
+
+fn new_worker<R: Abort>(
+    rt: &R,
     board: &Arc<Board<CounterText>>,
     server: ServerId,
     alloc: Global,
-) -> Result<Worker, Fail> {
-    let pass = board.pass(Some(server));
-    Ok(Worker {
-        board: Arc::try_clone(board)?,
-        layout: new_layout(alloc)?,
-        pass,
-        places: no_places(alloc)?,
-    })
+) -> Worker {
+    let layout = new_layout(rt, alloc);
+    Worker {
+        post: Post::new(rt, board, server, layout),
+        places: no_places(alloc).ok().expect(rt, "memory"),
+    }
 }
 
 fn no_places(alloc: Global) -> Result<Vec<Vec<u64>>, AllocError> {
@@ -99,13 +129,13 @@ fn no_places(alloc: Global) -> Result<Vec<Vec<u64>>, AllocError> {
 
 // A control on the thread of the test, with its board.
 #[derive(Drop)]
-struct Steward {
-    board: Arc<Board<CounterText>>,
-    control: Control<CounterText>,
+struct Steward<S: Service> {
+    board: Arc<Board<S>>,
+    control: Control<S>,
     ghost tied: { control.chair.board ≡ arc_value board },
 }
 
-impl Steward {
+impl<S: Service> Steward<S> {
     // Gives all shards to the server, and says whether that was done.
     fn assigns_all(&mut self, server: ServerId) -> bool {
         let mut all = true;
@@ -159,14 +189,14 @@ impl Steward {
 }
 
 // The rows of the closed board.
-fn rows_of(steward: Steward) -> Result<Vec<(Record, Option<CounterText>)>, Fail> {
+fn rows_of<S: Service, R: Abort>(rt: &R, steward: Steward<S>) -> Vec<(Record, Option<S>)> {
     let Steward { board, control } = steward;
-    let Ok(board) = Arc::try_unwrap(board) else {
-        return Err("the threads have let the board go".into());
-    };
+    let board = Arc::try_unwrap(board)
+        .ok()
+        .expect(rt, "the threads have let the board go");
     let (chair, _) = control.into_parts();
     let last = board.pass(None);
-    Ok(board.close(chair, last))
+    board.close(chair, last)
 }
 
 // Not made, where the cause is another than that a pass was first.
@@ -199,38 +229,73 @@ fn are_all_places(
     )
 }
 
+// A control in front of a board, all of whose shards server 1 owns.
+fn new_steward<R: Abort>(rt: &R, alloc: Global) -> Steward<CounterText> {
+    let Running { board, control } = new_running(rt, alloc);
+    let board = Arc::new(alloc, board).ok().expect(rt, "memory");
+    let mut steward = Steward { board, control };
+    assert!(rt; steward.assigns_all(ServerId::of(1)));
+    steward
+}
+
+// Has a worker of the server serve its envelopes in a thread of its own, which gives the places of the answers.
+fn answers_of<R: Threads + Abort>(
+    rt: &R,
+    alloc: Global,
+    board: &Arc<Board<CounterText>>,
+    server: ServerId,
+) -> JoinHandle<Vec<Vec<u64>>> {
+    let worker = new_worker(rt, board, server, alloc);
+    thread::spawn(rt, move || worker.serves(alloc, ROUNDS))
+        .ok()
+        .expect(rt, "a thread")
+}
+
+// Moves all shards to the second server and back.
+fn move_all<S: Service, R: Abort>(rt: &R, steward: &mut Steward<S>) {
+    for _ in 0..MOVES {
+        assert!(rt; steward.moves_all(ServerId::of(2)));
+        assert!(rt; steward.moves_all(ServerId::of(1)));
+    }
+}
+
+// The places of both servers' answers by shard, which they give beside the moves.
+fn serve_beside<R: Threads + Abort>(
+    rt: &R,
+    alloc: Global,
+    steward: &mut Steward<CounterText>,
+) -> (Vec<Vec<u64>>, Vec<Vec<u64>>) {
+    let one = answers_of(rt, alloc, &steward.board, ServerId::of(1));
+    let other = answers_of(rt, alloc, &steward.board, ServerId::of(2));
+    move_all(rt, steward);
+    (one.join(rt), other.join(rt))
+}
+
+// Each shard's places are all there, as many as its body kept.
+fn has_all_places<S: Service>(
+    rt: &impl Abort,
+    alloc: Global,
+    rows: &[(Record, Option<S>)],
+    places: &[Vec<u64>],
+    others: &[Vec<u64>],
+) {
+    for (k, row) in rows.iter().enumerate() {
+        let kept = row.1.as_ref().map_or(0, |body| body.kept());
+        let some = places.get(k).expect(rt, "places");
+        let more = others.get(k).expect(rt, "places");
+        assert!(rt; are_all_places(alloc, some, more, kept) == Ok(true));
+    }
+}
+
 // Two servers answer beside a control that moves all shards between them. Each answer has a place of its own, and the shards
 // keep what was answered.
 #[test]
-fn two_threads_serve(rt: HostRuntime) -> Result<(), Fail> {
-    let (alloc, one, two) = (rt.alloc(), ServerId::of(1), ServerId::of(2));
-    let Running { board, control } = new_running(alloc)?;
-    let board = Arc::new(alloc, board)?;
-    let first = new_worker(&board, one, alloc)?;
-    let second = new_worker(&board, two, alloc)?;
-    let mut steward = Steward { board, control };
-    assert!(rt; steward.assigns_all(one));
-    let one_thread = thread::spawn(&rt, move || first.serves(alloc, ROUNDS))
-        .ok()
-        .ok_or("a thread")?;
-    let other_thread = thread::spawn(&rt, move || second.serves(alloc, ROUNDS))
-        .ok()
-        .ok_or("a thread")?;
-    for _ in 0..MOVES {
-        assert!(rt; steward.moves_all(two));
-        assert!(rt; steward.moves_all(one));
-    }
-    let (places, others) = (one_thread.join(&rt), other_thread.join(&rt));
-    let rows = rows_of(steward)?;
+fn two_threads_serve(rt: HostRuntime) {
+    let alloc = rt.alloc();
+    let mut steward = new_steward(&rt, alloc);
+    let (places, others) = serve_beside(&rt, alloc, &mut steward);
+    let rows = rows_of(&rt, steward);
     assert!(rt; rows.len() == usize::from(SHARDS));
     assert!(rt; places.iter().any(|places| !places.is_empty()));
-    for (k, row) in rows.iter().enumerate() {
-        let kept = row.1.as_ref().map_or(0, |body| body.kept());
-        let (some, more) = (
-            places.get(k).ok_or("places")?,
-            others.get(k).ok_or("places")?,
-        );
-        assert!(rt; are_all_places(alloc, some, more, kept)?);
-    }
-    Ok(())
+    has_all_places(&rt, alloc, &rows, &places, &others);
 }

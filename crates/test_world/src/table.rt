@@ -1,99 +1,25 @@
-use crate::common::{new_books, shard};
-use sm_desk::{Command, CommandFault, Desk};
+mod act;
+mod fixture;
+mod phases;
+mod told;
+
+use crate::common::shard;
+use act::Act;
+use fixture::{Fixture, follow, followed, new_world};
+use sm_desk::{Command, CommandFault};
 use sm_envelope::Refusal;
 use sm_ownership::admit_fault::AdmitFault;
 use sm_ownership::change::Change;
 use sm_ownership::change_fault::ChangeFault;
 use sm_ownership::record::Record;
 use sm_ownership::route::Route;
-use sm_ranges::key::Key;
-use sm_ranges::layout::Layout;
 use sm_ranges::server_id::ServerId;
 use sm_ranges::shard_id::ShardId;
 use sm_ranges::stand::Stand;
-use sm_service::counter_text::CounterText;
-use sm_service::reply::Reply;
-use sm_service::request::Request;
-use sm_table::{Setup, Step, World, WorldAnswer, WorldFault};
-use sm_tasks::{AlreadyFailed, Tasks};
-use std::alloc::Global;
+use sm_table::{Step, WorldAnswer, WorldFault};
+use sm_tasks::AlreadyFailed;
 use std::process::Abort;
-use std::test::Fail;
-
-// Shards 0 to 3, of the keys below `m`, and from `m`, `s` and `x` on, that keep two requests each; and servers 1 to 4.
-fn new_world(alloc: Global) -> Result<World<CounterText>, Fail> {
-    let layout = Layout::new(alloc, &[b"", b"m", b"s", b"x"])?;
-    let servers = [
-        ServerId::of(1),
-        ServerId::of(2),
-        ServerId::of(3),
-        ServerId::of(4),
-    ];
-    let desk = Desk::new(new_books(alloc, layout.count(), &servers)?, Tasks::new(1));
-    let mut bodies = Vec::new(alloc);
-    for _ in 0..layout.count() {
-        bodies.push(CounterText::new(alloc, 2))?;
-    }
-    let setup = Setup {
-        layout,
-        desk,
-        ceiling: 100,
-    };
-    Ok(World::new(alloc, setup, bodies)?)
-}
-
-// A step, in which a request is told by the byte of its key.
-#[derive(Clone, Copy, Drop)]
-enum Act {
-    Change(ShardId, Change),
-    Restart(Command),
-    Look(ShardId),
-    Send(ServerId, u64, u8),
-    Deliver(usize),
-    Finish(ShardId),
-    Lose(usize),
-    Hold(ShardId, ServerId),
-    Free(ShardId),
-    Checkpoint(ShardId, ServerId),
-    Publish(ShardId),
-    RouteOf(u8),
-}
-
-fn step_of(alloc: Global, act: Act) -> Result<Step<Request>, Fail> {
-    let step = match act {
-        Act::Change(k, change) => Step::Control(Command::Change(k, change)),
-        Act::Restart(command) => Step::Control(command),
-        Act::Look(k) => Step::Look(k),
-        Act::Send(to, number, key) => Step::Send(
-            to,
-            number,
-            Request::Inc(Key::new(alloc, &[key])?, 1),
-        ),
-        Act::Deliver(place) => Step::Deliver(place),
-        Act::Finish(k) => Step::Finish(k),
-        Act::Lose(place) => Step::Lose(place),
-        Act::Hold(k, server) => Step::Hold(k, server),
-        Act::Free(k) => Step::Free(k),
-        Act::Checkpoint(k, server) => Step::Checkpoint(k, server),
-        Act::Publish(k) => Step::Publish(k),
-        Act::RouteOf(key) => Step::RouteOf(Key::new(alloc, &[key])?),
-    };
-    Ok(step)
-}
-
-// What a step answered, without a reply's text.
-#[derive(Clone, Copy, Debug, PartialEq, Eq, Drop)]
-enum Told {
-    Made,
-    Seen(Record),
-    Sent,
-    Began(ServerId),
-    Forwarded(ServerId),
-    Refused(Refusal),
-    Replied(u64, ServerId, u64),
-    Way(Option<Route>),
-    Fault(WorldFault),
-}
+use told::Told;
 
 // The shard's record, while no server is admitted to it.
 fn seen(stand: Stand, generation: u64) -> Told {
@@ -117,86 +43,32 @@ fn not_changed(fault: ChangeFault) -> Told {
     Told::Fault(WorldFault::Command(CommandFault::Change(fault)))
 }
 
-fn told_of(answer: &WorldAnswer<Reply>) -> Told {
-    match answer {
-        WorldAnswer::Made => Told::Made,
-        WorldAnswer::Seen(record) => Told::Seen(*record),
-        WorldAnswer::Sent => Told::Sent,
-        WorldAnswer::Began(server) => Told::Began(*server),
-        WorldAnswer::Forwarded(server) => Told::Forwarded(*server),
-        WorldAnswer::Refused(refusal) => Told::Refused(*refusal),
-        WorldAnswer::Replied {
-            number,
-            server,
-            place,
-            ..
-        } => Told::Replied(*number, *server, *place),
-        WorldAnswer::Way(route) => Told::Way(*route),
-    }
-}
-
-fn answer_of(world: &mut World<CounterText>, step: Step<Request>) -> Told {
-    match world.step(step) {
-        Ok(answer) => told_of(&answer),
-        Err(fault) => Told::Fault(fault),
-    }
-}
-
-// Makes the steps, each of which is to answer so.
-fn follow(
-    rt: &impl Abort,
-    alloc: Global,
-    world: &mut World<CounterText>,
-    cases: &[(Act, Told)],
-) -> Result<(), Fail> {
-    for (act, told) in cases {
-        let step = step_of(alloc, *act)?;
-        assert_eq!(rt; answer_of(world, step), *told);
-    }
-    Ok(())
-}
-
 // The example of the crate's documentation.
 #[test]
-fn assigns_a_shard(rt: HostRuntime) -> Result<(), Fail> {
-    let (one, k) = (ServerId::of(1), shard(1)?);
-    let mut world = new_world(rt.alloc())?;
-    world.step(Step::Control(Command::Change(k, Change::Assign(one))))?;
-    let answer = world.step(Step::Look(k))?;
-    assert!(rt; matches!(&answer, WorldAnswer::Seen(Record { generation: 1, .. })));
-    Ok(())
-}
-
-// Whether the request in hand is executed, and the reply is this count.
-fn counts(world: &mut World<CounterText>, k: ShardId, count: i64) -> bool {
-    match world.step(Step::Finish(k)) {
-        Ok(
-            WorldAnswer::Replied {
-                reply: Reply::Count(found),
-                ..
-            },
-        ) => found == count,
-        _ => false,
-    }
+fn assigns_a_shard(rt: HostRuntime) {
+    let (one, k) = (ServerId::of(1), shard(1));
+    let mut world = new_world(&rt, rt.alloc());
+    let assign = Step::Control(Command::Change(k, Change::Assign(one)));
+    assert!(rt; world.step(assign).is_ok());
+    let answer = world.step(Step::Look(k));
+    assert!(rt; matches!(&answer, Ok(WorldAnswer::Seen(Record { generation: 1, .. }))));
 }
 
 #[test]
-fn executes_a_request(rt: HostRuntime) -> Result<(), Fail> {
-    let (one, k) = (ServerId::of(1), shard(1)?);
+fn executes_a_request(rt: HostRuntime) {
+    let (one, k) = (ServerId::of(1), shard(1));
     let cases = [
         (Act::Change(k, Change::Assign(one)), Told::Made),
         (Act::Send(one, 7, b'm'), Told::Sent),
         (Act::Deliver(0), Told::Began(one)),
+        (Act::Finish(k), Told::Replied(7, one, 0, 1)),
     ];
-    let mut world = new_world(rt.alloc())?;
-    follow(&rt, rt.alloc(), &mut world, &cases)?;
-    assert!(rt; counts(&mut world, k, 1));
-    Ok(())
+    follow(&rt, rt.alloc(), &cases);
 }
 
 #[test]
-fn refuses_by_the_record(rt: HostRuntime) -> Result<(), Fail> {
-    let (one, k) = (ServerId::of(1), shard(1)?);
+fn refuses_by_the_record(rt: HostRuntime) {
+    let (one, k) = (ServerId::of(1), shard(1));
     let vacant = Told::Refused(Refusal::Admit(AdmitFault::Vacant));
     let admitted = Told::Refused(Refusal::Admit(AdmitFault::Admitted));
     let cases = [
@@ -209,47 +81,56 @@ fn refuses_by_the_record(rt: HostRuntime) -> Result<(), Fail> {
         (Act::Deliver(0), admitted),
         (Act::Deliver(0), Told::Fault(WorldFault::NoEnvelope)),
     ];
-    let mut world = new_world(rt.alloc())?;
-    follow(&rt, rt.alloc(), &mut world, &cases)
+    follow(&rt, rt.alloc(), &cases);
 }
 
-#[test]
-fn keeps_so_many_requests(rt: HostRuntime) -> Result<(), Fail> {
-    let (two, k) = (ServerId::of(2), shard(1)?);
-    let cases = [
-        (Act::Change(k, Change::Assign(two)), Told::Made),
-        (Act::Send(two, 0, b'm'), Told::Sent),
-        (Act::Deliver(0), Told::Began(two)),
-        (Act::Finish(k), Told::Replied(0, two, 0)),
-        (Act::Send(two, 1, b'm'), Told::Sent),
-        (Act::Deliver(0), Told::Began(two)),
-        (Act::Finish(k), Told::Replied(1, two, 1)),
-        (Act::Send(two, 2, b'm'), Told::Sent),
-        (Act::Deliver(0), Told::Began(two)),
+// The server is sent the request of this number, and executes it as the one at this place.
+fn executed(server: ServerId, k: ShardId, number: u64, place: u64, count: i64) -> [(Act, Told); 3] {
+    [
+        (Act::Send(server, number, b'm'), Told::Sent),
+        (Act::Deliver(0), Told::Began(server)),
+        (Act::Finish(k), Told::Replied(number, server, place, count)),
+    ]
+}
+
+// The server is given the shard, and executes a first request.
+fn executes_first(rt: &impl Abort, fixture: &mut Fixture, server: ServerId, k: ShardId) {
+    fixture.follow(rt, &[(Act::Change(k, Change::Assign(server)), Told::Made)]);
+    fixture.follow(rt, &executed(server, k, 0, 0, 1));
+}
+
+fn keeps_two(rt: &impl Abort, fixture: &mut Fixture, server: ServerId, k: ShardId) {
+    let refused = [
+        (Act::Send(server, 2, b'm'), Told::Sent),
+        (Act::Deliver(0), Told::Began(server)),
         (Act::Finish(k), Told::Refused(Refusal::KeptFull)),
     ];
-    let mut world = new_world(rt.alloc())?;
-    follow(&rt, rt.alloc(), &mut world, &cases)
+    executes_first(rt, fixture, server, k);
+    fixture.follow(rt, &executed(server, k, 1, 1, 2));
+    fixture.follow(rt, &refused);
 }
 
 #[test]
-fn keeps_requests_again_after_a_checkpoint(rt: HostRuntime) -> Result<(), Fail> {
-    let (two, k) = (ServerId::of(2), shard(1)?);
-    let cases = [
-        (Act::Change(k, Change::Assign(two)), Told::Made),
-        (Act::Send(two, 0, b'm'), Told::Sent),
-        (Act::Deliver(0), Told::Began(two)),
-        (Act::Finish(k), Told::Replied(0, two, 0)),
-        (Act::Checkpoint(k, two), Told::Made),
-        (Act::Checkpoint(k, two), Told::Made),
-        (Act::Look(k), seen(Stand::Serving(two), 7)),
-        (Act::Send(two, 1, b'm'), Told::Sent),
-        (Act::Deliver(0), Told::Began(two)),
+fn keeps_so_many_requests(rt: HostRuntime) {
+    let mut fixture = Fixture::new(&rt, rt.alloc());
+    keeps_two(&rt, &mut fixture, ServerId::of(2), shard(1));
+}
+
+fn makes_checkpoints(rt: &impl Abort, fixture: &mut Fixture, server: ServerId, k: ShardId) {
+    let checkpoints = [
+        (Act::Checkpoint(k, server), Told::Made),
+        (Act::Checkpoint(k, server), Told::Made),
+        (Act::Look(k), seen(Stand::Serving(server), 7)),
     ];
-    let mut world = new_world(rt.alloc())?;
-    follow(&rt, rt.alloc(), &mut world, &cases)?;
-    assert!(rt; counts(&mut world, k, 2));
-    Ok(())
+    executes_first(rt, fixture, server, k);
+    fixture.follow(rt, &checkpoints);
+    fixture.follow(rt, &executed(server, k, 1, 1, 2));
+}
+
+#[test]
+fn keeps_requests_again_after_a_checkpoint(rt: HostRuntime) {
+    let mut fixture = Fixture::new(&rt, rt.alloc());
+    makes_checkpoints(&rt, &mut fixture, ServerId::of(2), shard(1));
 }
 
 // The route of a shard to its owner at a generation.
@@ -262,8 +143,8 @@ fn way(shard: ShardId, server: ServerId, generation: u64) -> Told {
 }
 
 #[test]
-fn publishes_newer_routes_alone(rt: HostRuntime) -> Result<(), Fail> {
-    let (one, two, k, unknown) = (ServerId::of(1), ServerId::of(2), shard(1)?, shard(4)?);
+fn publishes_newer_routes_alone(rt: HostRuntime) {
+    let (one, two, k, unknown) = (ServerId::of(1), ServerId::of(2), shard(1), shard(4));
     let cases = [
         (Act::RouteOf(b'm'), Told::Way(None)),
         (Act::Publish(unknown), Told::Fault(WorldFault::UnknownShard)),
@@ -278,13 +159,12 @@ fn publishes_newer_routes_alone(rt: HostRuntime) -> Result<(), Fail> {
         (Act::RouteOf(b'm'), way(k, two, 3)),
         (Act::RouteOf(b's'), Told::Way(None)),
     ];
-    let mut world = new_world(rt.alloc())?;
-    follow(&rt, rt.alloc(), &mut world, &cases)
+    follow(&rt, rt.alloc(), &cases);
 }
 
 #[test]
-fn makes_no_checkpoint(rt: HostRuntime) -> Result<(), Fail> {
-    let (one, five, k, unknown) = (ServerId::of(1), ServerId::of(5), shard(1)?, shard(4)?);
+fn makes_no_checkpoint(rt: HostRuntime) {
+    let (one, five, k, unknown) = (ServerId::of(1), ServerId::of(5), shard(1), shard(4));
     let vacant = Told::Fault(WorldFault::Admit(AdmitFault::Vacant));
     let cases = [
         (
@@ -298,13 +178,12 @@ fn makes_no_checkpoint(rt: HostRuntime) -> Result<(), Fail> {
         (Act::Checkpoint(k, one), vacant),
         (Act::Look(k), seen(Stand::Vacant, 0)),
     ];
-    let mut world = new_world(rt.alloc())?;
-    follow(&rt, rt.alloc(), &mut world, &cases)
+    follow(&rt, rt.alloc(), &cases);
 }
 
 #[test]
-fn reaches_no_failed_server(rt: HostRuntime) -> Result<(), Fail> {
-    let (one, two, k) = (ServerId::of(1), ServerId::of(2), shard(1)?);
+fn reaches_no_failed_server(rt: HostRuntime) {
+    let (one, two, k) = (ServerId::of(1), ServerId::of(2), shard(1));
     let failed = WorldFault::Command(CommandFault::Fail(AlreadyFailed));
     let cases = [
         (Act::Change(k, Change::Assign(one)), Told::Made),
@@ -323,15 +202,13 @@ fn reaches_no_failed_server(rt: HostRuntime) -> Result<(), Fail> {
         (Act::Send(one, 9, b'm'), Told::Sent),
         (Act::Deliver(0), Told::Forwarded(two)),
     ];
-    let mut world = new_world(rt.alloc())?;
-    follow(&rt, rt.alloc(), &mut world, &cases)?;
-    assert!(rt; world.desk().reaches(two));
-    Ok(())
+    let fixture = followed(&rt, rt.alloc(), &cases);
+    assert!(rt; fixture.reaches(two));
 }
 
 #[test]
-fn names_the_first_fault(rt: HostRuntime) -> Result<(), Fail> {
-    let (five, k, unknown) = (ServerId::of(5), shard(1)?, shard(4)?);
+fn names_the_first_fault(rt: HostRuntime) {
+    let (five, k, unknown) = (ServerId::of(5), shard(1), shard(4));
     let cases = [
         (Act::Look(unknown), Told::Fault(WorldFault::UnknownShard)),
         (
@@ -360,8 +237,5 @@ fn names_the_first_fault(rt: HostRuntime) -> Result<(), Fail> {
             not_changed(ChangeFault::WrongPhase),
         ),
     ];
-    let mut world = new_world(rt.alloc())?;
-    follow(&rt, rt.alloc(), &mut world, &cases)
+    follow(&rt, rt.alloc(), &cases);
 }
-
-mod phases;

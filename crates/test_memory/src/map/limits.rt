@@ -1,79 +1,81 @@
-use super::{Step, made, rebuilt};
+use super::step::{Step, rebuilt};
 use sm_map::{ArenaMap, Val};
-use std::alloc::{AllocError, Global};
-use std::test::Fail;
+use std::alloc::Global;
+use std::process::Abort;
 
 const PAIRS: u32 = 2_000;
 
 // A key of 255 bytes, which ends with the number.
-fn longest_key(alloc: Global, number: u32) -> Result<Vec<u8>, AllocError> {
-    let mut key = Vec::with_capacity(alloc, 255)?;
-    for _ in 0..251 {
-        key.push(b'k')?;
-    }
-    key.extend_from_slice(&number.to_be_bytes())?;
-    Ok(key)
+fn longest_key(number: u32) -> [u8; 255] {
+    let mut key = [b'k'; 255];
+    key[251..].copy_from_slice(&number.to_be_bytes());
+    key
 }
 
 // A map from each key to its number. The keys come in no order.
-fn filled(alloc: Global) -> Result<ArenaMap, AllocError> {
+fn filled(rt: &impl Abort, alloc: Global) -> ArenaMap {
     let mut map = ArenaMap::new(alloc);
     for turn in 0..PAIRS {
         let number = turn * 7_919 % PAIRS;
-        map.put(&longest_key(alloc, number)?, Val::Count(number as i64))?;
+        let put = map.put(&longest_key(number), Val::Count(number as i64));
+        assert!(*rt; put.is_ok());
     }
-    Ok(map)
+    map
 }
 
 // Whether each key holds its number.
-fn has_each(alloc: Global, map: &ArenaMap) -> Result<bool, AllocError> {
+fn has_each(map: &ArenaMap) -> bool {
     for number in 0..PAIRS {
-        let key = longest_key(alloc, number)?;
-        if map.get(&key) != Some(Val::Count(number as i64)) {
-            return Ok(false);
+        if map.get(&longest_key(number)) != Some(Val::Count(number as i64)) {
+            return false;
         }
     }
-    Ok(true)
+    true
 }
 
 // Whether a scan gives so many pairs, and the numbers from this one on.
-fn scans_from(map: &ArenaMap, low: &[u8], first: u32, count: usize) -> Result<bool, AllocError> {
-    let rows = map.scan(low, b"\xff", usize::MAX)?;
-    let mut numbers = first..PAIRS;
-    let each = rows.iter().all(|row| numbers.next().map(|number| Val::Count(number as i64))
-        == Some(row.1));
-    Ok(each && rows.len() == count)
+fn scans_from(map: &ArenaMap, low: &[u8], first: u32, count: usize) -> bool {
+    let Ok(rows) = map.scan(low, b"\xff", usize::MAX) else {
+        return false;
+    };
+    for (row, number) in rows.iter().zip(first..PAIRS) {
+        if row.1 != Val::Count(number as i64) {
+            return false;
+        }
+    }
+    rows.len() == count
 }
 
 // Removes every key, and tells whether each was there.
-fn removes_each(alloc: Global, map: &mut ArenaMap) -> Result<bool, AllocError> {
+fn removes_each(map: &mut ArenaMap) -> bool {
     for number in 0..PAIRS {
-        if !map.remove(&longest_key(alloc, number)?) {
-            return Ok(false);
+        if !map.remove(&longest_key(number)) {
+            return false;
         }
     }
-    Ok(true)
+    true
 }
 
 #[test]
-fn longest_keys_hold(rt: HostRuntime) -> Result<(), Fail> {
-    let map = filled(rt.alloc())?;
+fn longest_keys_hold(rt: HostRuntime) {
+    let map = filled(&rt, rt.alloc());
     assert!(rt; map.len() == 2_000 && map.bytes() == 510_000);
-    assert!(rt; has_each(rt.alloc(), &map)?);
-    let map = rebuilt(map)?;
-    assert!(rt; has_each(rt.alloc(), &map)?);
-    Ok(())
+    assert!(rt; has_each(&map));
+    assert!(rt; has_each(&rebuilt(&rt, map)));
+}
+
+fn scans_and_removes(map: &mut ArenaMap) -> bool {
+    scans_from(map, b"", 0, 2_000)
+        && scans_from(map, &longest_key(1_999), 1_999, 1)
+        && removes_each(map)
+        && map.len() == 0
+        && map.dead() == 510_000
 }
 
 #[test]
-fn longest_keys_are_scanned_and_removed(rt: HostRuntime) -> Result<(), Fail> {
-    let mut map = filled(rt.alloc())?;
-    assert!(rt; scans_from(&map, b"", 0, 2_000)?);
-    let last = longest_key(rt.alloc(), 1_999)?;
-    assert!(rt; scans_from(&map, &last, 1_999, 1)?);
-    assert!(rt; removes_each(rt.alloc(), &mut map)?);
-    assert!(rt; map.len() == 0 && map.dead() == 510_000);
-    Ok(())
+fn longest_keys_are_scanned_and_removed(rt: HostRuntime) {
+    let mut map = filled(&rt, rt.alloc());
+    assert!(rt; scans_and_removes(&mut map));
 }
 
 // Whether the key holds a text of so many bytes `x`.
@@ -84,15 +86,20 @@ fn holds_bytes(map: &ArenaMap, key: &[u8], count: usize) -> bool {
     }
 }
 
-// A text of a mebibyte, which is then half of one.
+// Puts a text of a mebibyte, and appends as much to it.
+fn doubles(rt: &impl Abort, map: &mut ArenaMap, text: &[u8]) {
+    let key = longest_key(7);
+    assert!(*rt; Step::Put(&key, Val::Text(text)).make(rt, map));
+    assert!(*rt; holds_bytes(map, &key, 1_048_576));
+    assert!(*rt; Step::Append(&key, text).make(rt, map));
+    assert!(*rt; holds_bytes(map, &key, 2_097_152) && map.dead() == 1_048_576);
+}
+
 #[test]
-fn longest_texts_hold(rt: HostRuntime) -> Result<(), Fail> {
-    let text = vec![in rt.alloc(); b'x'; 1_048_576]?;
-    let key = longest_key(rt.alloc(), 7)?;
+fn longest_texts_hold(rt: HostRuntime) {
+    let text = vec![in rt.alloc(); b'x'; 1_048_576]
+        .ok()
+        .expect(&rt, "a text");
     let mut map = ArenaMap::new(rt.alloc());
-    map.put(&key, Val::Text(&text))?;
-    assert!(rt; holds_bytes(&map, &key, 1_048_576));
-    made(&mut map, Step::Append(&key, &text))?;
-    assert!(rt; holds_bytes(&map, &key, 2_097_152) && map.dead() == 1_048_576);
-    Ok(())
+    doubles(&rt, &mut map, &text);
 }

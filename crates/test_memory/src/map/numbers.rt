@@ -1,7 +1,5 @@
 ghost use Rattle.std.specs.Prelude.{◌<◌};
 
-use std::alloc::{AllocError, Global};
-
 // A small generator of numbers: a linear congruence, of which the high bits are taken.
 #[derive(Drop)]
 pub(crate) struct Numbers {
@@ -24,14 +22,12 @@ impl Numbers {
         (self.state >> 33) % bound
     }
 
-    // Up to `most` bytes, of four different values.
-    pub(crate) fn bytes(&mut self, alloc: Global, most: u64) -> Result<Vec<u8>, AllocError>
-        requires { most < 1000 }
-    {
-        let mut bytes = Vec::new(alloc);
-        for _ in 0..self.below(most + 1) {
-            bytes.push(b'a' + self.below(4) as u8)?;
+    // Bytes of four different values.
+    pub(crate) fn letters(&mut self) -> [u8; 9] {
+        let mut letters = [b'a'; 9];
+        for letter in &mut letters {
+            *letter = b'a' + self.below(4) as u8;
         }
-        Ok(bytes)
+        letters
     }
 }

@@ -3,9 +3,25 @@ use std::alloc::{AllocError, Global};
 
 // What a row holds: a text, or a count.
 #[derive(Drop)]
-pub(crate) enum Held {
+enum Held {
     Text(Vec<u8>),
     Count(i64),
+}
+
+impl Held {
+    fn of(alloc: Global, value: Val<'_>) -> Result<Held, AllocError> {
+        match value {
+            Val::Text(text) => Ok(Held::Text(Vec::from_slice(alloc, text)?)),
+            Val::Count(count) => Ok(Held::Count(count)),
+        }
+    }
+
+    fn value(&self) -> Val<'_> {
+        match self {
+            Held::Text(text) => Val::Text(text),
+            Held::Count(count) => Val::Count(*count),
+        }
+    }
 }
 
 // A plain list of rows in the order of their keys, which each operation goes through from its begin.
@@ -31,11 +47,7 @@ impl Plain {
         let mut seen = Vec::new(alloc);
         for (key, held) in &self.rows {
             if seen.len() < max && key.as_slice() >= low && key.as_slice() < high {
-                let value = match held {
-                    Held::Text(text) => Val::Text(text),
-                    Held::Count(count) => Val::Count(*count),
-                };
-                seen.push((key.as_slice(), value))?;
+                seen.push((key.as_slice(), held.value()))?;
             }
         }
         Ok(seen)
@@ -47,11 +59,21 @@ impl Plain {
         self.rows.len() < before
     }
 
-    pub(crate) fn put(&mut self, key: Vec<u8>, held: Held) -> Result<(), AllocError> {
-        self.remove(&key);
-        let below = self.rows.iter().filter(|row| row.0 < key).count();
+    pub(crate) fn put(
+        &mut self,
+        alloc: Global,
+        key: &[u8],
+        value: Val<'_>,
+    ) -> Result<(), AllocError> {
+        self.remove(key);
+        let below = self
+            .rows
+            .iter()
+            .filter(|row| row.0.as_slice() < key)
+            .count();
         let at = below.min(self.rows.len());
-        self.rows.insert(at, (key, held))?;
+        let row = (Vec::from_slice(alloc, key)?, Held::of(alloc, value)?);
+        self.rows.insert(at, row)?;
         Ok(())
     }
 

@@ -1,47 +1,57 @@
 use super::*;
+use std::process::Abort;
 
-// What the envelope first in flight is answered in the course of a migration of the shard.
-fn delivered_while_migrating(world: &mut World<CounterText>, k: ShardId, next: ServerId) -> Told {
-    answer_of(
-        world,
-        Step::Control(Command::Change(k, Change::PrepareAddShard(next))),
-    );
-    answer_of(
-        world,
-        Step::Control(Command::Change(k, Change::PrepareDropShard)),
-    );
-    let delivered = answer_of(world, Step::Deliver(0));
-    answer_of(world, Step::Control(Command::Change(k, Change::AddShard)));
-    answer_of(world, Step::Control(Command::Change(k, Change::DropShard)));
-    delivered
+// A migration of the shard, in whose course the envelope first in flight reaches the former owner, and is answered so.
+fn migration(k: ShardId, next: ServerId, delivered: Told) -> [(Act, Told); 5] {
+    [
+        (Act::Change(k, Change::PrepareAddShard(next)), Told::Made),
+        (Act::Change(k, Change::PrepareDropShard), Told::Made),
+        (Act::Deliver(0), delivered),
+        (Act::Change(k, Change::AddShard), Told::Made),
+        (Act::Change(k, Change::DropShard), Told::Made),
+    ]
 }
 
-#[test]
-fn envelope_goes_round(rt: HostRuntime) -> Result<(), Fail> {
-    let (one, two, k) = (ServerId::of(1), ServerId::of(2), shard(0)?);
+// The envelope follows the shard from owner to owner, as often as it may.
+fn goes_round(rt: &impl Abort, fixture: &mut Fixture, k: ShardId) {
+    let (one, two) = (ServerId::of(1), ServerId::of(2));
+    for next in [two, one, two, one] {
+        fixture.follow(rt, &migration(k, next, Told::Forwarded(next)));
+    }
+    let refused = Told::Refused(Refusal::TooManyHops);
+    fixture.follow(rt, &migration(k, two, refused));
+}
+
+fn sends_one(rt: &impl Abort, fixture: &mut Fixture, k: ShardId) {
+    let one = ServerId::of(1);
     let sent = [
         (Act::Change(k, Change::Assign(one)), Told::Made),
         (Act::Send(one, 0, b'a'), Told::Sent),
     ];
+    fixture.follow(rt, &sent);
+}
+
+fn loses_one(rt: &impl Abort, fixture: &mut Fixture) {
     let lost = [
         (Act::Deliver(0), Told::Fault(WorldFault::NoEnvelope)),
-        (Act::Send(two, 1, b'a'), Told::Sent),
+        (Act::Send(ServerId::of(2), 1, b'a'), Told::Sent),
         (Act::Lose(0), Told::Made),
         (Act::Deliver(0), Told::Fault(WorldFault::NoEnvelope)),
     ];
-    let mut world = new_world(rt.alloc())?;
-    follow(&rt, rt.alloc(), &mut world, &sent)?;
-    for next in [two, one, two, one] {
-        assert!(rt; delivered_while_migrating(&mut world, k, next) == Told::Forwarded(next));
-    }
-    let last = delivered_while_migrating(&mut world, k, two);
-    assert!(rt; last == Told::Refused(Refusal::TooManyHops));
-    follow(&rt, rt.alloc(), &mut world, &lost)
+    fixture.follow(rt, &lost);
 }
 
 #[test]
-fn holds_and_frees(rt: HostRuntime) -> Result<(), Fail> {
-    let (one, two, k) = (ServerId::of(1), ServerId::of(2), shard(0)?);
+fn envelope_goes_round(rt: HostRuntime) {
+    let mut fixture = Fixture::new(&rt, rt.alloc());
+    sends_one(&rt, &mut fixture, shard(0));
+    goes_round(&rt, &mut fixture, shard(0));
+    loses_one(&rt, &mut fixture);
+}
+
+#[test]
+fn holds_and_frees(rt: HostRuntime) {
+    let (one, two, k) = (ServerId::of(1), ServerId::of(2), shard(0));
     let busy = not_changed(ChangeFault::Busy(admitted(one, 2)));
     let prepared = Stand::Prepared {
         owner: one,
@@ -62,13 +72,12 @@ fn holds_and_frees(rt: HostRuntime) -> Result<(), Fail> {
         (Act::Free(k), Told::Fault(WorldFault::NotHeld)),
         (Act::Look(k), seen(prepared, 4)),
     ];
-    let mut world = new_world(rt.alloc())?;
-    follow(&rt, rt.alloc(), &mut world, &cases)
+    follow(&rt, rt.alloc(), &cases);
 }
 
 #[test]
-fn frees_no_request(rt: HostRuntime) -> Result<(), Fail> {
-    let (one, k) = (ServerId::of(1), shard(0)?);
+fn frees_no_request(rt: HostRuntime) {
+    let (one, k) = (ServerId::of(1), shard(0));
     let vacant = WorldFault::Admit(AdmitFault::Vacant);
     let cases = [
         (Act::Hold(k, one), Told::Fault(vacant)),
@@ -76,15 +85,14 @@ fn frees_no_request(rt: HostRuntime) -> Result<(), Fail> {
         (Act::Send(one, 7, b'a'), Told::Sent),
         (Act::Deliver(0), Told::Began(one)),
         (Act::Free(k), Told::Fault(WorldFault::NotHeld)),
-        (Act::Finish(k), Told::Replied(7, one, 0)),
+        (Act::Finish(k), Told::Replied(7, one, 0, 1)),
     ];
-    let mut world = new_world(rt.alloc())?;
-    follow(&rt, rt.alloc(), &mut world, &cases)
+    follow(&rt, rt.alloc(), &cases);
 }
 
 #[test]
-fn pauses_and_reassigns(rt: HostRuntime) -> Result<(), Fail> {
-    let (one, two, k) = (ServerId::of(1), ServerId::of(2), shard(0)?);
+fn pauses_and_reassigns(rt: HostRuntime) {
+    let (one, two, k) = (ServerId::of(1), ServerId::of(2), shard(0));
     let prepared = Stand::Prepared {
         owner: one,
         next: two,
@@ -113,20 +121,15 @@ fn pauses_and_reassigns(rt: HostRuntime) -> Result<(), Fail> {
         ),
         (Change::Reassign(two), Told::Made, Stand::Serving(two), 7),
     ];
-    let mut world = new_world(rt.alloc())?;
+    let mut fixture = Fixture::new(&rt, rt.alloc());
     for (change, told, stand, generation) in cases {
-        let cases = [
-            (Act::Change(k, change), told),
-            (Act::Look(k), seen(stand, generation)),
-        ];
-        follow(&rt, rt.alloc(), &mut world, &cases)?;
+        fixture.change(&rt, k, change, told, seen(stand, generation));
     }
-    Ok(())
 }
 
 #[test]
-fn refusals_leave_the_generation(rt: HostRuntime) -> Result<(), Fail> {
-    let (three, four, k) = (ServerId::of(3), ServerId::of(4), shard(3)?);
+fn refusals_leave_the_generation(rt: HostRuntime) {
+    let (three, four, k) = (ServerId::of(3), ServerId::of(4), shard(3));
     let cases = [
         (
             Act::Change(k, Change::Pause),
@@ -156,13 +159,12 @@ fn refusals_leave_the_generation(rt: HostRuntime) -> Result<(), Fail> {
         ),
         (Act::Look(k), seen(Stand::Serving(four), 1)),
     ];
-    let mut world = new_world(rt.alloc())?;
-    follow(&rt, rt.alloc(), &mut world, &cases)
+    follow(&rt, rt.alloc(), &cases);
 }
 
 #[test]
-fn refusals_leave_the_generation_of_an_admission(rt: HostRuntime) -> Result<(), Fail> {
-    let (four, k) = (ServerId::of(4), shard(3)?);
+fn refusals_leave_the_generation_of_an_admission(rt: HostRuntime) {
+    let (four, k) = (ServerId::of(4), shard(3));
     let cases = [
         (Act::Change(k, Change::Assign(four)), Told::Made),
         (Act::Send(four, 9, b'x'), Told::Sent),
@@ -180,9 +182,8 @@ fn refusals_leave_the_generation_of_an_admission(rt: HostRuntime) -> Result<(), 
         (Act::Look(k), Told::Seen(admitted(four, 2))),
         (Act::Free(k), Told::Fault(WorldFault::NotHeld)),
         (Act::Look(k), Told::Seen(admitted(four, 2))),
-        (Act::Finish(k), Told::Replied(9, four, 0)),
+        (Act::Finish(k), Told::Replied(9, four, 0, 1)),
         (Act::Look(k), seen(Stand::Serving(four), 3)),
     ];
-    let mut world = new_world(rt.alloc())?;
-    follow(&rt, rt.alloc(), &mut world, &cases)
+    follow(&rt, rt.alloc(), &cases);
 }

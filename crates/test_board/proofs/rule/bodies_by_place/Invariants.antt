@@ -1,6 +1,0 @@
-use Rattle.std.proofs.Common.{◌≡◌, [], length}
-use Rattle.std.specs.Prelude.{All}
-use Rattle.test_board.proofs.rule.bodies_by_place.Given as goal
-
-abbrev pub invariant-loop-place : goal.invariant-loop-place
-invariant-loop-place l = (length l.bodies.items ≡ l.place) × All (λ body. body.base ≡ []) l.bodies.items × All (λ body. body.before ≡ 0) l.bodies.items × All (λ body. body.requests ≡ []) l.bodies.items
