@@ -8,7 +8,7 @@ ghost use Rattle.std.specs.Prelude.{◌≡◌, ◌≤◌};
 use sm_arena::arena::Arena;
 use sm_map::arena_map::ArenaMap;
 use sm_map::val::Val;
-use std::alloc::{AllocError, Global};
+use std::alloc::Global;
 
 const KEY_BYTES: usize = 16;
 
@@ -22,25 +22,36 @@ fn row(bytes: &[u8], length: usize, at: u32) -> &[u8]
     bytes.get(start..start + length).unwrap_or(&[])
 }
 
-/// A map of all keys, put in in their order.
-fn map_of(alloc: Global, keys: &[u8], texts: &[u8]) -> Result<ArenaMap, AllocError> {
-    let mut map = ArenaMap::new(alloc);
+/// Puts all keys in, in their order, and tells whether there was memory for them.
+fn put_all(map: &mut ArenaMap, keys: &[u8], texts: &[u8]) -> bool {
     for (key, text) in keys
         .chunks_exact(KEY_BYTES)
         .zip(texts.chunks_exact(TEXT_BYTES))
     {
-        map.put(key, Val::Text(text))?;
+        if map.put(key, Val::Text(text)).is_err() {
+            return false;
+        }
     }
-    Ok(map)
+    true
+}
+
+/// A map of all keys.
+fn map_of(alloc: Global, keys: &[u8], texts: &[u8]) -> Option<ArenaMap> {
+    let mut map = ArenaMap::new(alloc);
+    if put_all(&mut map, keys, texts) {
+        Some(map)
+    } else {
+        None
+    }
 }
 
 /// A number made of a text's length and its first byte.
 fn seen(value: Option<Val<'_>>) -> u64 {
     match value {
-        Some(Val::Text(text)) => text.iter().take(1).fold(
-            text.len() as u64,
-            |sum, byte| sum.wrapping_add(*byte as u64),
-        ),
+        Some(Val::Text(text)) => {
+            let first = text.first().copied().unwrap_or(0);
+            (text.len() as u64).wrapping_add(first as u64)
+        }
         _ => 0,
     }
 }
@@ -54,90 +65,156 @@ fn sum_of(map: &ArenaMap, keys: &[u8]) -> u64 {
     sum
 }
 
-fn placed(alloc: Global, piece: &[u8], count: usize) -> Result<u64, AllocError> {
+fn placed(alloc: Global, piece: &[u8], count: usize) -> Option<u64> {
     let mut arena = Arena::new(alloc);
     for _ in 0..count {
-        arena.place(piece)?;
+        arena.place(piece).ok()?;
     }
-    Ok(u64::try_from(arena.bytes()).unwrap_or(u64::MAX))
+    u64::try_from(arena.bytes()).ok()
 }
 
-fn read(alloc: Global, keys: &[u8], texts: &[u8], order: &[u32]) -> Result<u64, AllocError> {
+fn read(alloc: Global, keys: &[u8], texts: &[u8], order: &[u32]) -> Option<u64> {
     let map = map_of(alloc, keys, texts)?;
     let mut sum: u64 = 0;
     for at in order {
         sum = sum.wrapping_add(seen(map.get(row(keys, KEY_BYTES, *at))));
     }
-    Ok(sum)
+    Some(sum)
 }
 
-/// Writes over the keys in turn, each with the text that comes at that place in the order from its end, and rebuilds the map where
-/// more than `most_dead` bytes are dead.
+/// Rebuilds the map where more than `most_dead` bytes are dead, and tells whether there was memory for it.
+fn tidy(map: &mut ArenaMap, most_dead: u64) -> bool {
+    if map.dead() <= most_dead as u128 {
+        return true;
+    }
+    match map.copy() {
+        Ok(copy) => {
+            *map = copy;
+            true
+        }
+        Err(_) => false,
+    }
+}
+
+/// Writes over the keys in turn, each with the text that comes at that place in the order from its end, and tells whether there was
+/// memory for them.
+fn write_over(
+    map: &mut ArenaMap,
+    keys: &[u8],
+    texts: &[u8],
+    order: &[u32],
+    most_dead: u64,
+) -> bool {
+    for (at, other) in order.iter().zip(order.iter().rev()) {
+        let text = Val::Text(row(texts, TEXT_BYTES, *other));
+        if map.put(row(keys, KEY_BYTES, *at), text).is_err() || !tidy(map, most_dead) {
+            return false;
+        }
+    }
+    true
+}
+
 fn written_over(
     alloc: Global,
     keys: &[u8],
     texts: &[u8],
     order: &[u32],
     most_dead: u64,
-) -> Result<u64, AllocError> {
+) -> Option<u64> {
     let mut map = map_of(alloc, keys, texts)?;
-    for (at, other) in order.iter().zip(order.iter().rev()) {
-        let text = row(texts, TEXT_BYTES, *other);
-        map.put(row(keys, KEY_BYTES, *at), Val::Text(text))?;
-        if map.dead() > most_dead as u128 {
-            map = map.rebuild().map_err(|refused| refused.1)?;
+    if write_over(&mut map, keys, texts, order, most_dead) {
+        Some(sum_of(&map, keys))
+    } else {
+        None
+    }
+}
+
+/// Appends to the key's text, where it holds one, and tells whether there was memory for it.
+fn append(map: &mut ArenaMap, key: &[u8], tail: &[u8]) -> bool {
+    let position = map.locate(key);
+    match map.get_at(position) {
+        Some(Val::Text(_)) => map.append_at(position, tail).is_ok(),
+        _ => true,
+    }
+}
+
+fn append_each(map: &mut ArenaMap, keys: &[u8], texts: &[u8], order: &[u32]) -> bool {
+    for at in order {
+        if !append(map, row(keys, KEY_BYTES, *at), row(texts, TEXT_BYTES, *at)) {
+            return false;
         }
     }
-    Ok(sum_of(&map, keys))
+    true
 }
 
 /// Appends to the keys' texts in turn.
-fn lengthened(alloc: Global, keys: &[u8], texts: &[u8], order: &[u32]) -> Result<u64, AllocError> {
+fn lengthened(alloc: Global, keys: &[u8], texts: &[u8], order: &[u32]) -> Option<u64> {
     let mut map = map_of(alloc, keys, texts)?;
-    for at in order {
-        let position = map.locate(row(keys, KEY_BYTES, *at));
-        if let Some(Val::Text(_)) = map.get_at(position) {
-            map.append_at(position, row(texts, TEXT_BYTES, *at))?;
-        }
+    if append_each(&mut map, keys, texts, order) {
+        Some(sum_of(&map, keys))
+    } else {
+        None
     }
-    Ok(sum_of(&map, keys))
+}
+
+/// The sum over pairs.
+fn sum_of_pairs(pairs: &[(&[u8], Val<'_>)]) -> u64 {
+    let mut sum: u64 = 0;
+    for (key, value) in pairs {
+        sum = sum
+            .wrapping_add(key.len() as u64)
+            .wrapping_add(seen(Some(*value)));
+    }
+    sum
+}
+
+/// The sum over up to 100 pairs from the key on.
+fn sum_from(map: &ArenaMap, key: &[u8]) -> Option<u64> {
+    let pairs = map.scan(key, b"\xff", 100).ok()?;
+    Some(sum_of_pairs(&pairs))
 }
 
 /// Reads up to 100 pairs from each key in turn.
-fn scanned(alloc: Global, keys: &[u8], texts: &[u8], order: &[u32]) -> Result<u64, AllocError> {
+fn scanned(alloc: Global, keys: &[u8], texts: &[u8], order: &[u32]) -> Option<u64> {
     let map = map_of(alloc, keys, texts)?;
     let mut sum: u64 = 0;
     for at in order {
-        for (key, value) in map.scan(row(keys, KEY_BYTES, *at), b"\xff", 100)? {
-            sum = sum
-                .wrapping_add(key.len() as u64)
-                .wrapping_add(seen(Some(value)));
+        sum = sum.wrapping_add(sum_from(&map, row(keys, KEY_BYTES, *at))?);
+    }
+    Some(sum)
+}
+
+fn put_each(map: &mut ArenaMap, keys: &[u8], texts: &[u8], order: &[u32]) -> bool {
+    for at in order {
+        let text = Val::Text(row(texts, TEXT_BYTES, *at));
+        if map.put(row(keys, KEY_BYTES, *at), text).is_err() {
+            return false;
         }
     }
-    Ok(sum)
+    true
 }
 
 /// A map into which the keys were put in turn.
-fn filled(alloc: Global, keys: &[u8], texts: &[u8], order: &[u32]) -> Result<ArenaMap, AllocError> {
+fn filled(alloc: Global, keys: &[u8], texts: &[u8], order: &[u32]) -> Option<ArenaMap> {
     let mut map = ArenaMap::new(alloc);
-    for at in order {
-        let text = row(texts, TEXT_BYTES, *at);
-        map.put(row(keys, KEY_BYTES, *at), Val::Text(text))?;
+    if put_each(&mut map, keys, texts, order) {
+        Some(map)
+    } else {
+        None
     }
-    Ok(map)
 }
 
 /// How many pairs such a map has.
-fn inserted(alloc: Global, keys: &[u8], texts: &[u8], order: &[u32]) -> Result<u64, AllocError> {
+fn inserted(alloc: Global, keys: &[u8], texts: &[u8], order: &[u32]) -> Option<u64> {
     let map = filled(alloc, keys, texts, order)?;
-    Ok(u64::try_from(map.len()).unwrap_or(u64::MAX))
+    u64::try_from(map.len()).ok()
 }
 
 /// How many such a map has once it was rebuilt.
-fn rebuilt(alloc: Global, keys: &[u8], texts: &[u8], order: &[u32]) -> Result<u64, AllocError> {
+fn rebuilt(alloc: Global, keys: &[u8], texts: &[u8], order: &[u32]) -> Option<u64> {
     let map = filled(alloc, keys, texts, order)?;
-    let map = map.rebuild().map_err(|refused| refused.1)?;
-    Ok(u64::try_from(map.len()).unwrap_or(u64::MAX))
+    let map = map.rebuild().ok()?;
+    u64::try_from(map.len()).ok()
 }
 
 /// Places the piece so many times.

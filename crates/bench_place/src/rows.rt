@@ -21,35 +21,15 @@ impl Rows {
     /// The rows of so many shards and groups, and of one server less, up to 4,095. The servers from the number `roomy` on
     /// have room for all shards, and the others for none.
     pub(crate) fn new(alloc: Global, size: u16, roomy: u16) -> Result<Rows, AllocError> {
-        let mut servers = Vec::new(alloc);
-        for number in 1..size {
-            if let Some(id) = ServerId::new(number) {
-                let capacity = if number >= roomy { 4096 } else { 0 };
-                servers.push(ServerRow {
-                    id,
-                    domain: number,
-                    capacity,
-                })?;
-            }
-        }
-        let mut groups = Vec::new(alloc);
-        let mut shards = Vec::new(alloc);
-        for group in 0..size {
-            groups.push(GroupRow {
-                limit: 1,
-                down: 4096,
-            })?;
-            shards.push(ShardRow {
-                group,
-                load: 1,
-                cap: 1,
-            })?;
-        }
+        let servers = servers_of(alloc, size, roomy)?;
         Ok(Rows {
             domains: equal_domains(alloc, &servers, MAX_DOMAIN_DOWN)?,
             servers,
-            groups,
-            shards,
+            groups: vec![in alloc; GroupRow {
+                limit: 1,
+                down: 4096
+            }; usize::from(size)]?,
+            shards: shards_of(alloc, size)?,
         })
     }
 
@@ -63,6 +43,35 @@ impl Rows {
             &self.domains,
         )
     }
+}
+
+// One server less than so many, up to 4,095, each in a domain of its own.
+fn servers_of(alloc: Global, size: u16, roomy: u16) -> Result<Vec<ServerRow>, AllocError> {
+    let mut servers = Vec::new(alloc);
+    for number in 1..size {
+        if let Some(id) = ServerId::new(number) {
+            let capacity = if number >= roomy { 4096 } else { 0 };
+            servers.push(ServerRow {
+                id,
+                domain: number,
+                capacity,
+            })?;
+        }
+    }
+    Ok(servers)
+}
+
+// So many shards of load 1, each of a group of its own.
+fn shards_of(alloc: Global, size: u16) -> Result<Vec<ShardRow>, AllocError> {
+    let mut shards = Vec::new(alloc);
+    for group in 0..size {
+        shards.push(ShardRow {
+            group,
+            load: 1,
+            cap: 1,
+        })?;
+    }
+    Ok(shards)
 }
 
 /// Has the server serve each shard that fits it.

@@ -86,40 +86,51 @@ fn route_of(shard: u16, generation: u64) -> Option<Route> {
     })
 }
 
-/// Reads at keys chosen at random, and takes the time.
-fn read_all<R: Clock>(rt: &R, reader: &mut Reader, layout: &Layout) -> io::Result<()> {
-    let mut choice = reader.choice;
-    let mut found = 0u64;
-    let start = Instant::now(rt)?;
+/// Reads at keys chosen at random.
+fn read_each(reader: &mut Reader, layout: &Layout) {
     for _ in 0..READS {
-        choice = next(choice);
-        let key = bound_of(((choice >> 40) & 4095) as u16);
+        reader.choice = next(reader.choice);
+        let key = bound_of(((reader.choice >> 40) & 4095) as u16);
         if reader.router.route(layout, &key).is_some() {
-            found = found.wrapping_add(1);
+            reader.found = reader.found.wrapping_add(1);
         }
     }
-    reader.nanoseconds = u64::try_from(start.elapsed(rt)?.as_nanos()).unwrap_or(u64::MAX);
-    reader.choice = choice;
-    reader.found = found;
+}
+
+/// The same, and takes the time.
+fn read_all<R: Clock>(rt: &R, reader: &mut Reader, layout: &Layout) -> io::Result<()> {
+    let start = Instant::now(rt)?;
+    read_each(reader, layout);
+    reader.nanoseconds = nanoseconds_since(rt, start)?;
     Ok(())
 }
 
-/// Looks up keys chosen at random, which are the bounds from this byte on, and answers the nanoseconds and the sum of the
-/// shards' numbers.
-fn look_up_all<R: Clock>(rt: &R, layout: &Layout, from: usize) -> io::Result<(u64, u64)>
+fn nanoseconds_since<R: Clock>(rt: &R, start: Instant) -> io::Result<u64> {
+    Ok(u64::try_from(start.elapsed(rt)?.as_nanos()).unwrap_or(u64::MAX))
+}
+
+/// Looks up keys chosen at random, which are the bounds from this byte on, and answers the sum of the shards' numbers.
+fn look_up_each(layout: &Layout, from: usize) -> u64
     requires { from ≤ 40 }
 {
     let mut choice = FIRST_CHOICE;
     let mut sum = 0u64;
-    let start = Instant::now(rt)?;
     for _ in 0..READS {
         choice = next(choice);
         let key = long_bound_of(((choice >> 40) & 4095) as u16);
         let shard = layout.shard_of(&key[from..]);
         sum = sum.wrapping_add(u64::from(shard.number()));
     }
-    let nanoseconds = u64::try_from(start.elapsed(rt)?.as_nanos()).unwrap_or(u64::MAX);
-    Ok((nanoseconds, sum))
+    sum
+}
+
+/// The same, and answers the nanoseconds too.
+fn look_up_all<R: Clock>(rt: &R, layout: &Layout, from: usize) -> io::Result<(u64, u64)>
+    requires { from ≤ 40 }
+{
+    let start = Instant::now(rt)?;
+    let sum = look_up_each(layout, from);
+    Ok((nanoseconds_since(rt, start)?, sum))
 }
 
 /// Sleeps until so many milliseconds have passed since the start.
@@ -164,25 +175,45 @@ fn bounds_of(alloc: Global) -> Result<Vec<[u8; LONG_BOUND]>, AllocError> {
     Ok(bounds)
 }
 
+/// The empty bound, and these but the first after it, each from this byte on.
+fn slices_of(
+    alloc: Global,
+    bounds: &[[u8; LONG_BOUND]],
+    from: usize,
+) -> Result<Vec<&[u8]>, AllocError>
+    requires { from ≤ 40 }
+{
+    let mut slices: Vec<&[u8]> = Vec::new(alloc);
+    for bound in bounds {
+        let slice: &[u8] = if slices.is_empty() {
+            b""
+        } else {
+            &bound[from..]
+        };
+        slices.push(slice)?;
+    }
+    Ok(slices)
+}
+
 /// The layout of all shards, whose bounds have the bytes from this one on.
 fn layout_of(alloc: Global, from: usize) -> Option<Layout>
     requires { from ≤ 40 }
 {
     let bounds = bounds_of(alloc).ok()?;
-    let mut slices: Vec<&[u8]> = Vec::new(alloc);
-    for bound in bounds.iter() {
-        slices
-            .push(if slices.is_empty() {
-                b""
-            } else {
-                &bound[from..]
-            })
-            .ok()?;
-    }
+    let slices = slices_of(alloc, &bounds, from).ok()?;
     Layout::new(alloc, &slices).ok()
 }
 
-/// Publishes every shard once, reads with all readers beside the publisher, and answers how many routes were published meanwhile.
+/// Publishes every shard once.
+fn publish_all<R: Wait>(rt: &R, publisher: &mut Publisher) {
+    for shard in 0..SHARDS {
+        if let Some(route) = route_of(shard, 1) {
+            let _refused = publisher.publish(rt, route).is_err();
+        }
+    }
+}
+
+/// Reads with all readers beside the publisher, and answers how many routes were published meanwhile.
 fn measure<R: Threads + Sync + Clock + Wait>(
     rt: &R,
     publisher: &mut Publisher,
@@ -190,28 +221,28 @@ fn measure<R: Threads + Sync + Clock + Wait>(
     pace: Pace,
     layout: &Layout,
 ) -> u64 {
-    for shard in 0..SHARDS {
-        if let Some(route) = route_of(shard, 1) {
-            let _refused = publisher.publish(rt, route).is_err();
-        }
-    }
     let stop = AtomicBool::new(false);
     let (published, ()) = thread::join(
         rt,
         || publish_until(rt, publisher, pace, &stop).unwrap_or(u64::MAX),
         || {
-            thread::for_each_mut(
-                rt,
-                readers,
-                MOST_READERS,
-                &|_, reader| {
-                    let _failed = read_all(rt, reader, layout).is_err();
-                },
-            );
+            read_beside(rt, readers, layout);
             stop.store(true, Ordering::SeqCst);
         },
     );
     published
+}
+
+/// Reads with each reader in a thread of its own.
+fn read_beside<R: Threads + Sync + Clock>(rt: &R, readers: &mut [Reader], layout: &Layout) {
+    thread::for_each_mut(
+        rt,
+        readers,
+        MOST_READERS,
+        &|_, reader| {
+            let _failed = read_all(rt, reader, layout).is_err();
+        },
+    );
 }
 
 /// A reader with each router.
@@ -238,17 +269,14 @@ fn pace_of(word: &str) -> Option<Pace> {
     }
 }
 
-/// What the command line asks for.
-fn asked(rt: &HostRuntime) -> io::Result<Option<Task>> {
-    let mut words = env::args(rt)?.skip(1);
-    let (Some(first), Some(second)) = (words.next(), words.next()) else {
-        return Ok(None);
-    };
-    Ok(match first.as_str() {
-        "bounds" if second.as_str() == "2" => Some(Task::ShortBounds),
-        "bounds" if second.as_str() == "40" => Some(Task::LongBounds),
-        _ => reads_of(&first, &second),
-    })
+/// What the words after the program's name ask for.
+fn asked(words: &[String]) -> Option<Task> {
+    let (first, second) = (words.get(1)?.as_str(), words.get(2)?.as_str());
+    match first {
+        "bounds" if second == "2" => Some(Task::ShortBounds),
+        "bounds" if second == "40" => Some(Task::LongBounds),
+        _ => reads_of(first, second),
+    }
 }
 
 fn reads_of(readers: &str, pace: &str) -> Option<Task> {
@@ -258,14 +286,19 @@ fn reads_of(readers: &str, pace: &str) -> Option<Task> {
     })
 }
 
-/// Times the look-ups, and prints picoseconds and the sum of the shards.
-fn time_look_ups(rt: &HostRuntime, from: usize) -> anyhow::Result<ExitCode>
+/// Times the look-ups, and answers nanoseconds and the sum of the shards.
+fn time_look_ups<R: Clock>(rt: &R, alloc: Global, from: usize) -> Option<(u64, u64)>
     requires { from ≤ 40 }
 {
-    let Some(layout) = layout_of(rt.alloc(), from) else {
+    let layout = layout_of(alloc, from)?;
+    look_up_all(rt, &layout, from).ok()
+}
+
+/// Prints picoseconds and the sum of the shards.
+fn print_look_ups(rt: &impl Print, timed: Option<(u64, u64)>) -> anyhow::Result<ExitCode> {
+    let Some((nanoseconds, sum)) = timed else {
         return Ok(ExitCode::FAILURE);
     };
-    let (nanoseconds, sum) = look_up_all(rt, &layout, from)?;
     println!(rt; "{} {}", nanoseconds / (READS / 1000), sum)?;
     Ok(ExitCode::SUCCESS)
 }
@@ -282,41 +315,67 @@ fn time_reads<R: Threads + Sync + Clock + Wait>(
     }
     let layout = layout_of(alloc, LONG_BOUND - 2)?;
     let (mut publisher, routers) = Publisher::new(rt, alloc, SHARDS as usize, count).ok()?;
-    let Ok(mut readers) = readers_of(alloc, routers) else {
-        publisher.end(rt);
-        return None;
-    };
-    let published = measure(rt, &mut publisher, &mut readers, pace, &layout);
+    let timed = time_routers(rt, alloc, &mut publisher, routers, pace, &layout);
     publisher.end(rt);
+    timed
+}
+
+/// Times the reads of these routers beside the publisher.
+fn time_routers<R: Threads + Sync + Clock + Wait>(
+    rt: &R,
+    alloc: Global,
+    publisher: &mut Publisher,
+    routers: Vec<Router>,
+    pace: Pace,
+    layout: &Layout,
+) -> Option<(Vec<Reader>, u64)> {
+    let mut readers = readers_of(alloc, routers).ok()?;
+    publish_all(rt, publisher);
+    let published = measure(rt, publisher, &mut readers, pace, layout);
     Some((readers, published))
 }
 
-/// Prints for each reader picoseconds, how many routes it found, and how many were published meanwhile.
-fn print_reads(rt: &HostRuntime, readers: &[Reader], published: u64) -> anyhow::Result<()> {
+/// Prints picoseconds, how many routes the reader found, and how many were published meanwhile.
+fn print_reader(rt: &impl Print, reader: &Reader, published: u64) -> io::Result<()> {
+    println!(rt;
+        "{} {} {}",
+        reader.nanoseconds / (READS / 1000),
+        reader.found,
+        published
+    )
+}
+
+/// Prints so of each reader.
+fn print_reads(rt: &impl Print, timed: &Option<(Vec<Reader>, u64)>) -> anyhow::Result<ExitCode> {
+    let Some((readers, published)) = timed else {
+        return Ok(ExitCode::FAILURE);
+    };
     for reader in readers {
-        println!(rt;
-            "{} {} {}",
-            reader.nanoseconds / (READS / 1000),
-            reader.found,
-            published
-        )?;
+        print_reader(rt, reader, *published)?;
     }
-    Ok(())
+    Ok(ExitCode::SUCCESS)
+}
+
+/// Does what was asked, and prints what it took.
+fn run<R: Threads + Sync + Clock + Wait + Print>(
+    rt: &R,
+    alloc: Global,
+    task: Task,
+) -> anyhow::Result<ExitCode> {
+    match task {
+        Task::Reads { readers, pace } => { print_reads(rt, &time_reads(rt, alloc, readers, pace)) }
+        Task::ShortBounds => print_look_ups(rt, time_look_ups(rt, alloc, LONG_BOUND - 2)),
+        Task::LongBounds => print_look_ups(rt, time_look_ups(rt, alloc, 0)),
+    }
 }
 
 fn main(rt: HostRuntime) -> anyhow::Result<ExitCode> {
-    match asked(&rt)? {
-        Some(Task::Reads { readers, pace }) => {
-            let Some((readers, published)) = time_reads(&rt, rt.alloc(), readers, pace) else {
-                return Ok(ExitCode::FAILURE);
-            };
-            print_reads(&rt, &readers, published)?;
-        }
-        Some(Task::ShortBounds) => return time_look_ups(&rt, LONG_BOUND - 2),
-        Some(Task::LongBounds) => return time_look_ups(&rt, 0),
+    let words: Vec<String> = env::args(&rt)?.collect(rt.alloc())?;
+    match asked(&words) {
+        Some(task) => run(&rt, rt.alloc(), task),
         None => {
             println!(rt; "usage: bench_publish READERS rest|millisecond|always, or bounds 2|40")?;
+            Ok(ExitCode::SUCCESS)
         }
     }
-    Ok(ExitCode::SUCCESS)
 }

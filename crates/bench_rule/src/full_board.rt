@@ -49,6 +49,17 @@ fn told_by(state: &Record) -> u64 {
     }
 }
 
+/// A loop on a board, by the name of its method.
+#[derive(Clone, Copy)]
+pub(crate) enum Loop {
+    Looks,
+    ChainedLooks,
+    Admissions,
+    Executions,
+    Notes,
+    Meetings,
+}
+
 /// A board of 4,096 shards, its chair, and a pass with server 1, which serves all shards.
 #[derive(Drop)]
 pub(crate) struct FullBoard {
@@ -89,8 +100,20 @@ impl FullBoard {
         }
     }
 
-    /// Looks at shards chosen at random, and sums what they tell.
-    pub(crate) fn looks(&mut self, looks: u64) -> u64 {
+    /// Runs the loop so often, and gives its sum.
+    pub(crate) fn run(&mut self, which: Loop, turns: u64) -> u64 {
+        match which {
+            Loop::Looks => self.looks(turns),
+            Loop::ChainedLooks => self.chained_looks(turns),
+            Loop::Admissions => self.admissions(turns),
+            Loop::Executions => self.executions(turns),
+            Loop::Notes => self.notes(turns),
+            Loop::Meetings => self.meetings(turns),
+        }
+    }
+
+    // Looks at shards chosen at random, and sums what they tell.
+    fn looks(&mut self, looks: u64) -> u64 {
         let mut choice = FIRST_CHOICE;
         let mut told = 0u64;
         for _ in 0..looks {
@@ -100,8 +123,8 @@ impl FullBoard {
         told
     }
 
-    /// Looks at a shard that the look before it tells, again and again, and sums what they tell.
-    pub(crate) fn chained_looks(&mut self, looks: u64) -> u64 {
+    // Looks at a shard that the look before it tells, again and again, and sums what they tell.
+    fn chained_looks(&mut self, looks: u64) -> u64 {
         let mut choice = FIRST_CHOICE;
         let mut told = 0u64;
         for _ in 0..looks {
@@ -111,8 +134,8 @@ impl FullBoard {
         told
     }
 
-    /// Is admitted to shards chosen at random and ends that at once, and sums the generations that this leaves.
-    pub(crate) fn admissions(&mut self, tries: u64) -> u64 {
+    // Is admitted to shards chosen at random and ends that at once, and sums the generations that this leaves.
+    fn admissions(&mut self, tries: u64) -> u64 {
         let mut choice = FIRST_CHOICE;
         let mut left = 0u64;
         for _ in 0..tries {
@@ -126,8 +149,8 @@ impl FullBoard {
         told_by(&self.board.look(&mut self.pass, k))
     }
 
-    /// Is admitted to shards chosen at random, counts in their bodies and ends that, and sums the counts.
-    pub(crate) fn executions(&mut self, tries: u64) -> u64 {
+    // Is admitted to shards chosen at random, counts in their bodies and ends that, and sums the counts.
+    fn executions(&mut self, tries: u64) -> u64 {
         let mut choice = FIRST_CHOICE;
         let mut counted = 0u64;
         for _ in 0..tries {
@@ -137,8 +160,8 @@ impl FullBoard {
         counted
     }
 
-    /// Makes so many notes of the pass and drops each, and counts them.
-    pub(crate) fn notes(&mut self, notes: u64) -> u64 {
+    // Makes so many notes of the pass and drops each, and counts them.
+    fn notes(&mut self, notes: u64) -> u64 {
         let mut made = 0u64;
         for _ in 0..notes {
             made = made.wrapping_add(self.note());
@@ -146,8 +169,8 @@ impl FullBoard {
         made
     }
 
-    /// Makes so many notes of the pass, has it meet each, and counts them.
-    pub(crate) fn meetings(&mut self, notes: u64) -> u64 {
+    // Makes so many notes of the pass, has it meet each, and counts them.
+    fn meetings(&mut self, notes: u64) -> u64 {
         let mut met = 0u64;
         for _ in 0..notes {
             met = met.wrapping_add(self.meeting());

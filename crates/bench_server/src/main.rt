@@ -24,47 +24,99 @@ const USAGE: &str =
 
 const THREADS: usize = 4;
 
+/// What answers the requests.
+#[derive(Clone, Copy)]
+enum Way {
+    Nobody,
+    Bodies,
+    Permits,
+    Serve,
+    /// Servers on four threads, which choose so.
+    Threads(Reach),
+}
+
 fn main(rt: HostRuntime) -> anyhow::Result<()> {
-    let alloc = rt.alloc();
-    let words: Vec<String> = env::args(&rt)?.collect(alloc)?;
-    if words.len() < 4 {
-        println!(rt; "{USAGE}")?;
-        return Ok(());
-    }
-    let kind = match words[2].as_str() {
-        "get" => Kind::Get,
-        _ => Kind::Put,
-    };
-    let tries = words[3].parse().unwrap_or(0);
-    let (Some(site), Some(bodies)) = (Site::make(alloc), Bodies::new(alloc)) else {
-        return Err(AllocError.into());
-    };
-    match words[1].as_str() {
-        "nobody" => alone(&rt, alloc, Nobody, kind, tries),
-        "bodies" => alone(&rt, alloc, bodies, kind, tries),
-        "permits" => alone(&rt, alloc, Permits::new(&site), kind, tries),
-        "serve" => alone(&rt, alloc, Worker::new(&site), kind, tries),
-        "spread" => together(&rt, alloc, &site, Reach::Spread, kind, tries),
-        "apart" => together(&rt, alloc, &site, Reach::Apart, kind, tries),
-        "same" => together(&rt, alloc, &site, Reach::Same, kind, tries),
-        _ => {
+    let words: Vec<String> = env::args(&rt)?.collect(rt.alloc())?;
+    match asked(&words) {
+        Some((way, kind, tries)) => measure(&rt, rt.alloc(), way, kind, tries),
+        None => {
             println!(rt; "{USAGE}")?;
             Ok(())
         }
     }
 }
 
-// Prints the nanoseconds of so many requests, and what the replies told.
-fn alone<A: Answering + Drop>(
-    rt: &(impl Clock + Print),
+// What the words after the program's name ask for; none where they aren't three, or the first is unknown.
+fn asked(words: &[String]) -> Option<(Way, Kind, u64)> {
+    let way = way_of(words.get(1)?)?;
+    let kind = match words.get(2)?.as_str() {
+        "get" => Kind::Get,
+        _ => Kind::Put,
+    };
+    Some((way, kind, words.get(3)?.parse().unwrap_or(0)))
+}
+
+fn way_of(word: &str) -> Option<Way> {
+    match word {
+        "nobody" => Some(Way::Nobody),
+        "bodies" => Some(Way::Bodies),
+        "permits" => Some(Way::Permits),
+        "serve" => Some(Way::Serve),
+        "spread" => Some(Way::Threads(Reach::Spread)),
+        "apart" => Some(Way::Threads(Reach::Apart)),
+        "same" => Some(Way::Threads(Reach::Same)),
+        _ => None,
+    }
+}
+
+// Measures so many requests of one kind.
+fn measure<R: Threads + Sync + Clock + Print>(
+    rt: &R,
     alloc: Global,
-    mut to: A,
+    way: Way,
     kind: Kind,
     tries: u64,
 ) -> anyhow::Result<()> {
-    fill(&mut to, alloc);
+    match way {
+        Way::Nobody => alone(rt, alloc, &mut Nobody, kind, tries),
+        Way::Bodies => {
+            let mut bodies = Bodies::new(alloc).ok_or(AllocError)?;
+            alone(rt, alloc, &mut bodies, kind, tries)
+        }
+        _ => {
+            let site = Site::make(alloc).ok_or(AllocError)?;
+            measure_site(rt, alloc, &site, way, kind, tries)
+        }
+    }
+}
+
+// The same of ways that need a site.
+fn measure_site<R: Threads + Sync + Clock + Print>(
+    rt: &R,
+    alloc: Global,
+    site: &Site,
+    way: Way,
+    kind: Kind,
+    tries: u64,
+) -> anyhow::Result<()> {
+    match way {
+        Way::Threads(reach) => together(rt, alloc, site, reach, kind, tries),
+        Way::Permits => alone(rt, alloc, &mut Permits::new(site), kind, tries),
+        _ => alone(rt, alloc, &mut Worker::new(site), kind, tries),
+    }
+}
+
+// Prints the nanoseconds of so many requests, and what the replies told.
+fn alone<A: Answering>(
+    rt: &(impl Clock + Print),
+    alloc: Global,
+    to: &mut A,
+    kind: Kind,
+    tries: u64,
+) -> anyhow::Result<()> {
+    fill(to, alloc);
     let start = Instant::now(rt)?;
-    let told = answers(&mut to, alloc, kind, Choice::new(Reach::Spread, 0), tries);
+    let told = answers(to, alloc, kind, Choice::new(Reach::Spread, 0), tries);
     println!(rt; "{} {told}", start.elapsed(rt)?.as_nanos())?;
     Ok(())
 }

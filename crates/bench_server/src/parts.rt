@@ -2,12 +2,12 @@
 ghost use Rattle.std.specs.Prelude.{◌≡◌, ◌<◌, None, length};
 
 use crate::request::{Answering, told_by};
-use crate::site::{Site, bodies_of};
+use crate::site::{Body, Site, bodies_of};
 use sm_ownership::mode::Mode;
 use sm_ranges::server_id::ServerId;
 use sm_ranges::shard_id::ShardId;
-use sm_rule::Pass;
-use sm_service::{CounterText, Request, Service};
+use sm_rule::{Board, Pass};
+use sm_service::{Request, Service};
 use std::alloc::Global;
 
 /// Nobody, which drops all requests.
@@ -24,7 +24,7 @@ impl Answering for Nobody {
 /// The bodies of all shards without a board.
 #[derive(Drop)]
 pub(crate) struct Bodies {
-    bodies: Vec<CounterText>,
+    bodies: Vec<Body>,
 }
 
 impl Bodies {
@@ -52,7 +52,7 @@ impl Answering for Bodies {
 #[derive(Drop)]
 pub(crate) struct Permits<'a> {
     site: &'a Site,
-    pass: Pass<CounterText>,
+    pass: Pass<Body>,
     ghost tied: { pass.board ≡ site.now.board },
     ghost free: { pass.held ≡ None },
 }
@@ -72,12 +72,28 @@ impl Answering for Permits<'_> {
         if k.index() >= board.count() as usize {
             return 0;
         }
-        let Ok(permit) = board.admit(&mut self.pass, k, Mode::Direct) else {
-            return 0;
-        };
-        match board.execute(&mut self.pass, permit, request).0 {
-            Ok(reply) => told_by(&reply),
-            Err(_) => 0,
+        match executed(board, &mut self.pass, k, request) {
+            Some(reply) => told_by(&reply),
+            None => 0,
         }
     }
+}
+
+// The reply to the request under a permit of the pass; none where the pass isn't admitted, or the request isn't applied.
+fn executed<S: Service>(
+    board: &Board<S>,
+    pass: &mut Pass<S>,
+    k: ShardId,
+    request: S::Request,
+) -> Option<S::Reply>
+    requires board { pass.old.board ≡ board.now }
+    requires shard { k < board.now.limits.count }
+    requires free { pass.old.held ≡ None }
+    ensures board { pass.new.board ≡ board.now }
+    ensures free { pass.new.held ≡ None }
+{
+    let Ok(permit) = board.admit(pass, k, Mode::Direct) else {
+        return None;
+    };
+    board.execute(pass, permit, request).0.ok()
 }

@@ -2,6 +2,7 @@ ghost use Rattle.std.specs.Prelude.{All, ◌≡◌, ◌<◌, IfSome, [], length}
 
 use crate::choice::SHARDS;
 use crate::request::layout_of;
+use sm_body::Boxed;
 use sm_ownership::change::Change;
 use sm_ranges::layout::Layout;
 use sm_ranges::server_id::ServerId;
@@ -16,10 +17,13 @@ const KEPT: usize = 100_000_000;
 
 const CEILING: u64 = (1 << 36) - 1;
 
+/// The body of a shard, of which an admission moves the pointer alone.
+pub(crate) type Body = Boxed<CounterText>;
+
 /// A board of 4,096 shards that server 1 serves, and the layout of their keys.
 #[derive(Drop)]
 pub(crate) struct Site {
-    pub(crate) board: Board<CounterText>,
+    pub(crate) board: Board<Body>,
     pub(crate) layout: Layout,
     ghost full: { board.limits.count ≡ 4096 },
 }
@@ -35,7 +39,7 @@ impl Site {
 }
 
 // Gives all shards to server 1.
-fn assign_all(board: &Board<CounterText>, chair: &mut Chair<CounterText>)
+fn assign_all(board: &Board<Body>, chair: &mut Chair<Body>)
     requires board { chair.old.board ≡ board.now }
     requires full { board.now.limits.count ≡ 4096 }
 {
@@ -46,7 +50,7 @@ fn assign_all(board: &Board<CounterText>, chair: &mut Chair<CounterText>)
     }
 }
 
-fn assign(board: &Board<CounterText>, chair: &mut Chair<CounterText>, k: ShardId)
+fn assign(board: &Board<Body>, chair: &mut Chair<Body>, k: ShardId)
     requires board { chair.old.board ≡ board.now }
     requires full { board.now.limits.count ≡ 4096 }
     ensures { chair.new.board ≡ board.now }
@@ -59,7 +63,7 @@ fn assign(board: &Board<CounterText>, chair: &mut Chair<CounterText>, k: ShardId
 }
 
 /// A body that has applied nothing, for each shard.
-pub(crate) fn bodies_of(alloc: Global) -> Option<Vec<CounterText>>
+pub(crate) fn bodies_of(alloc: Global) -> Option<Vec<Body>>
     ensures length { IfSome result (λ bodies. length bodies.items ≡ 4096) }
     ensures initial { IfSome result (λ bodies. All (λ body. body.base ≡ []) bodies.items) }
     ensures before { IfSome result (λ bodies. All (λ body. body.before ≡ 0) bodies.items) }
@@ -67,7 +71,8 @@ pub(crate) fn bodies_of(alloc: Global) -> Option<Vec<CounterText>>
 {
     let mut bodies = Vec::with_capacity(alloc, usize::from(SHARDS)).ok()?;
     for _body in 0..usize::from(SHARDS) {
-        bodies.push(CounterText::new(alloc, KEPT)).ok()?;
+        let body = Boxed::new(alloc, CounterText::new(alloc, KEPT)).ok()?;
+        bodies.push(body).ok()?;
     }
     Some(bodies)
 }
