@@ -10,10 +10,17 @@ from collections import namedtuple
 TOP = pathlib.Path(__file__).resolve().parent.parent
 PROGRAM = str(TOP / "crates" / "sm_cli" / "out" / "sm_cli")
 EXAMPLES = sorted((TOP / "examples").glob("*.in"))
+# Those with lines that run on threads alone.
+THREADS_EXAMPLES = sorted((TOP / "examples" / "threads").glob("*.in"))
 
-SECONDS = 60
+SECONDS = 300
 # What a run left: its exit status, what it wrote, and whether it met the failure that it was asked to meet.
 Run = namedtuple("Run", "status output complaint has_failed")
+
+
+def examples_of(engine):
+    """The examples that run on an engine."""
+    return EXAMPLES + THREADS_EXAMPLES if engine == "threads" else EXAMPLES
 
 
 def finished(command, **how):
