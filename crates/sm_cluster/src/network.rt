@@ -4,13 +4,13 @@ ghost use Rattle.std.specs.Prelude.{◌≡◌, IfErr, IfOk};
 ghost use Rattle.sm_cluster.specs.Replies.{IsOfTheWay};
 
 use crate::call_refused::CallFault;
-use crate::counters::Counters;
-use crate::counts::ServerCounts;
 use crate::crew::Inbox;
 use crate::message::{Message, Parcel};
-use crate::tally::Tally;
 use crossbeam_channel::{Receiver, SendError, Sender, unbounded};
 use sm_body::service::Service;
+use sm_counts::counters::Counters;
+use sm_counts::counts::ServerCounts;
+use sm_counts::tally::Tally;
 use sm_ranges::layout::Layout;
 use sm_ranges::server_id::ServerId;
 use sm_rows::ServerRow;

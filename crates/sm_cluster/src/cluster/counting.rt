@@ -2,8 +2,8 @@
 ghost use Rattle.std.specs.Prelude.{◌≡◌, ◌<◌, IfOk, length};
 
 use super::Cluster;
-use crate::counts::{Counts, ShardCounts};
 use sm_body::service::Service;
+use sm_counts::counts::{Counts, ShardCounts};
 use sm_ranges::limits::MAX_SHARDS;
 use sm_ranges::shard_id::ShardId;
 use std::alloc::{AllocError, Global};

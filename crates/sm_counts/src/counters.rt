@@ -8,7 +8,7 @@ use std::sync::atomic::{AtomicU64, Ordering};
 
 /// The counters of a cluster, into which its workers, clients and commands count.
 #[derive(Drop)]
-pub(crate) struct Counters {
+pub struct Counters {
     // By the servers' rising numbers.
     tallies: Vec<Tally>,
     // By the shards' numbers.
@@ -17,12 +17,8 @@ pub(crate) struct Counters {
 }
 
 impl Counters {
-    /// Counters of so many servers and shards, all at 0.
-    pub(crate) fn new(
-        alloc: Global,
-        servers: usize,
-        shards: usize,
-    ) -> Result<Counters, AllocError> {
+    /// Counters of so many servers and shards, all at 0; an error is want of memory.
+    pub fn new(alloc: Global, servers: usize, shards: usize) -> Result<Counters, AllocError> {
         let mut tallies = Vec::new(alloc);
         for _ in 0..servers {
             tallies.push(Tally::new())?;
@@ -34,13 +30,13 @@ impl Counters {
         })
     }
 
-    /// The tally of the server at this place.
-    pub(crate) fn tally(&self, at: usize) -> Option<&Tally> {
+    /// The tally of the server at this place, by rising numbers; `None` where there is no such place.
+    pub fn tally(&self, at: usize) -> Option<&Tally> {
         self.tallies.get(at)
     }
 
-    /// Counts a command that was made.
-    pub(crate) fn count_command(&self, command: &Command) {
+    /// Counts a command that was made, where it is a change of a shard.
+    pub fn count_command(&self, command: &Command) {
         let Command::Change(k, _) = command else {
             return;
         };
@@ -50,12 +46,12 @@ impl Counters {
     }
 
     /// Counts a request that is made anew.
-    pub(crate) fn count_retry(&self) {
+    pub fn count_retry(&self) {
         self.retried.fetch_add(1, Ordering::SeqCst);
     }
 
-    /// What was counted of these servers.
-    pub(crate) fn servers(
+    /// What was counted of these servers, which stand by rising numbers; an error is want of memory.
+    pub fn servers(
         &self,
         alloc: Global,
         servers: &[ServerId],
@@ -67,8 +63,8 @@ impl Counters {
         Ok(rows)
     }
 
-    /// How many changes of the shard were made.
-    pub(crate) fn changes(&self, k: ShardId) -> u64 {
+    /// How many changes of the shard were made; 0 for a shard that has no counter.
+    pub fn changes(&self, k: ShardId) -> u64 {
         match self.changes.get(k.index()) {
             Some(changes) => changes.load(Ordering::SeqCst),
             None => 0,
@@ -76,7 +72,7 @@ impl Counters {
     }
 
     /// How many requests were made anew.
-    pub(crate) fn retried(&self) -> u64 {
+    pub fn retried(&self) -> u64 {
         self.retried.load(Ordering::SeqCst)
     }
 }

@@ -8,7 +8,7 @@ use std::sync::atomic::{AtomicU64, Ordering};
 
 /// What the workers of a server and its door count.
 #[derive(Drop)]
-pub(crate) struct Tally {
+pub struct Tally {
     answered: AtomicU64,
     forwarded: AtomicU64,
     refused: RefusalTally,
@@ -32,7 +32,7 @@ struct RefusalTally {
 
 impl Tally {
     /// A tally of nothing.
-    pub(crate) fn new() -> Tally {
+    pub fn new() -> Tally {
         Tally {
             answered: AtomicU64::new(0),
             forwarded: AtomicU64::new(0),
@@ -41,7 +41,7 @@ impl Tally {
     }
 
     /// Counts a step of the server.
-    pub(crate) fn count<A, E>(&self, outcome: &Outcome<A, E>) {
+    pub fn count<A, E>(&self, outcome: &Outcome<A, E>) {
         let counter = match outcome {
             Outcome::Answered(_) => &self.answered,
             Outcome::Forward(_, _) => &self.forwarded,
@@ -51,12 +51,12 @@ impl Tally {
     }
 
     /// Counts an envelope that found the server's door shut.
-    pub(crate) fn count_unreachable(&self) {
+    pub fn count_unreachable(&self) {
         self.refused.unreachable.fetch_add(1, Ordering::SeqCst);
     }
 
     /// What was counted of this server.
-    pub(crate) fn counts(&self, server: ServerId) -> ServerCounts {
+    pub fn counts(&self, server: ServerId) -> ServerCounts {
         ServerCounts {
             server,
             answered: self.answered.load(Ordering::SeqCst),
