@@ -20,14 +20,19 @@ fn refused(fault: CommandFault) -> Answer {
     Err(ControlFault::Command(fault))
 }
 
-// Gives the commands in turn, each of which has its answer.
-fn give_all<S: Service>(rt: &impl Abort, running: &mut Running<S>, commands: &[(Command, Answer)]) {
+/// Gives the commands in turn, each of which has its answer.
+pub(crate) fn give_all<S: Service>(
+    rt: &impl Abort,
+    running: &mut Running<S>,
+    commands: &[(Command, Answer)],
+) {
     for (command, answer) in commands {
         assert!(rt; running.command(*command) == *answer);
     }
 }
 
-fn change(k: u16, change: Change) -> (Command, Answer)
+/// The change of the shard with this number, which is made.
+pub(crate) fn change(k: u16, change: Change) -> (Command, Answer)
     requires { k < 4096 }
 {
     (Command::Change(shard(k), change), Ok(()))

@@ -40,11 +40,11 @@ fn bodies(alloc: Global, count: usize) -> Result<Vec<CounterText>, AllocError>
     Ok(bodies)
 }
 
-fn server_row(id: ServerId, domain: u16) -> ServerRow {
+fn server_row(id: ServerId, domain: u16, capacity: u32) -> ServerRow {
     ServerRow {
         id,
         domain,
-        capacity: 2,
+        capacity,
     }
 }
 
@@ -63,12 +63,17 @@ fn shard_rows(alloc: Global, count: usize) -> Result<Vec<ShardRow>, AllocError>
     Ok(shards)
 }
 
-// A desk for the shards, of which one and one server may be down.
-fn desk_of(alloc: Global, servers: &[ServerRow], shards: &[ShardRow]) -> Result<Desk, BooksFault>
+// A desk for the shards, of which as many as this may be in one domain. One of them and one server may be down.
+fn desk_of(
+    alloc: Global,
+    servers: &[ServerRow],
+    limit: u16,
+    shards: &[ShardRow],
+) -> Result<Desk, BooksFault>
     ensures count { IfOk result (λ desk. length desk.books.shards ≡ length shards.now) }
     ensures vacant { IfOk result (λ desk. All (λ shard. shard.stand ≡ Vacant) desk.books.shards) }
 {
-    let group = GroupRow { limit: 2, down: 1 };
+    let group = GroupRow { limit, down: 1 };
     let domains = equal_domains(alloc, servers, MAX_DOMAIN_DOWN)?;
     let books = Books::new(alloc, servers, &[group], shards, &domains)?;
     all_up_meets_caps();
@@ -81,12 +86,25 @@ fn new_desk(alloc: Global, count: usize) -> Result<Desk, BooksFault>
     ensures vacant { IfOk result (λ desk. All (λ shard. shard.stand ≡ Vacant) desk.books.shards) }
 {
     let servers = [
-        server_row(ServerId::of(1), 0),
-        server_row(ServerId::of(2), 1),
-        server_row(ServerId::of(3), 1),
+        server_row(ServerId::of(1), 0, 2),
+        server_row(ServerId::of(2), 1, 2),
+        server_row(ServerId::of(3), 1, 2),
     ];
     let shards = shard_rows(alloc, count)?;
-    desk_of(alloc, &servers, &shards)
+    desk_of(alloc, &servers, 2, &shards)
+}
+
+// A desk for as many shards as there are, server 1 of room for all but one, and server 4,095 of room for one.
+fn full_desk(alloc: Global) -> Result<Desk, BooksFault>
+    ensures count { IfOk result (λ desk. length desk.books.shards ≡ 4096) }
+    ensures vacant { IfOk result (λ desk. All (λ shard. shard.stand ≡ Vacant) desk.books.shards) }
+{
+    let servers = [
+        server_row(ServerId::of(1), 0, 4_095),
+        server_row(ServerId::of(4_095), 4_095, 1),
+    ];
+    let shards = shard_rows(alloc, 4_096)?;
+    desk_of(alloc, &servers, 4_095, &shards)
 }
 
 /// A board with so many vacant shards below this ceiling, and its control.
@@ -101,6 +119,13 @@ pub(crate) fn new_running(
     let desk = new_desk(alloc, count).ok().expect(rt, "a desk");
     let bodies = bodies(alloc, count).ok().expect(rt, "memory");
     Running::new(rt, alloc, bodies, desk, ceiling)
+}
+
+/// A board of as many vacant shards as there are, and its control of servers 1 and 4,095. The second has room for one shard.
+pub(crate) fn new_full(rt: &impl Abort, alloc: Global) -> Running<CounterText> {
+    let desk = full_desk(alloc).ok().expect(rt, "a desk");
+    let bodies = bodies(alloc, 4_096).ok().expect(rt, "memory");
+    Running::new(rt, alloc, bodies, desk, 68_719_476_735)
 }
 
 pub(crate) fn idle(stand: Stand, generation: u64) -> Record {

@@ -6,6 +6,8 @@ mod calls;
 #[cfg(test)]
 mod common;
 #[cfg(test)]
+mod limits;
+#[cfg(test)]
 mod running;
 #[cfg(test)]
 mod threads;

@@ -66,6 +66,18 @@ impl<S: Service> Running<S> {
         self.control.prepare_add_shard(&self.board, k, next)
     }
 
+    pub(crate) fn prepare_drop_shard(&mut self, k: ShardId) -> Answer {
+        self.control.prepare_drop_shard(&self.board, k)
+    }
+
+    pub(crate) fn add_shard(&mut self, k: ShardId) -> Answer {
+        self.control.add_shard(&self.board, k)
+    }
+
+    pub(crate) fn drop_shard(&mut self, k: ShardId) -> Answer {
+        self.control.drop_shard(&self.board, k)
+    }
+
     pub(crate) fn cancel(&mut self, k: ShardId) -> Answer {
         self.control.cancel(&self.board, k)
     }

@@ -1,6 +1,7 @@
 //! What the tests do at a server.
 ghost use Rattle.std.specs.Prelude.{◌≡◌, ◌<◌, []};
 
+use crate::running::{layout_of, new_bodies};
 use crate::server::{Served, Server};
 use sm_ownership::change::Change;
 use sm_ownership::record::Record;
@@ -36,6 +37,12 @@ pub(crate) fn new_owner<R: Abort>(rt: &R, alloc: Global, limit: usize) -> Server
     let mut server = new_server(rt, alloc, limit);
     assert!(rt; server.change(shard(0), Change::Assign(ServerId::of(1))));
     server
+}
+
+// Server 1 of the most shards that there are, none of which is its yet. The last one has the key of the requests below.
+pub(crate) fn new_full<R: Abort>(rt: &R, alloc: Global) -> Server<CounterText> {
+    let bodies = new_bodies(alloc, 4_096).ok().expect(rt, "bodies");
+    Server::of(rt, alloc, bodies, layout_of(rt, alloc, 4_096))
 }
 
 pub(crate) fn get_of<R: Abort>(rt: &R, alloc: Global) -> Request {

@@ -4,9 +4,13 @@
 #[cfg(test)]
 mod calls;
 #[cfg(test)]
+mod counting;
+#[cfg(test)]
 mod memory;
 #[cfg(test)]
 mod migrating;
+#[cfg(test)]
+mod refusing;
 #[cfg(test)]
 mod running;
 #[cfg(test)]

@@ -48,45 +48,47 @@ impl<S: Service> Running<S> {
 /// A board of vacant shards, and its control.
 pub(crate) fn new_running(rt: &impl Abort, alloc: Global) -> Running<CounterText> {
     let desk = new_desk(alloc).ok().expect(rt, "a desk");
-    let bodies = new_bodies(alloc).ok().expect(rt, "memory");
+    let bodies = new_bodies(alloc, usize::from(SHARDS))
+        .ok()
+        .expect(rt, "memory");
     Running::new(rt, alloc, bodies, desk)
 }
 
-/// The layout of the shards: all but the first begin at the byte of their number.
-pub(crate) fn new_layout(rt: &impl Abort, alloc: Global) -> Layout {
-    let bytes = bytes_of(alloc).ok().expect(rt, "memory");
+/// The layout of so many shards: all but the first begin at the two bytes of their number.
+pub(crate) fn layout_of(rt: &impl Abort, alloc: Global, shards: u16) -> Layout {
+    let bytes = bytes_of(alloc, shards).ok().expect(rt, "memory");
     let bounds = bounds_of(alloc, &bytes).ok().expect(rt, "memory");
     Layout::new(alloc, &bounds).ok().expect(rt, "a layout")
 }
 
-// The byte of each shard's number.
-fn bytes_of(alloc: Global) -> Result<Vec<[u8; 1]>, AllocError> {
+// The bytes of each shard's number.
+fn bytes_of(alloc: Global, shards: u16) -> Result<Vec<[u8; 2]>, AllocError> {
     let mut bytes = Vec::new(alloc);
-    for number in 0..SHARDS as u8 {
-        bytes.push([number])?;
+    for number in 0..shards {
+        bytes.push(number.to_be_bytes())?;
     }
     Ok(bytes)
 }
 
 // The empty bound, and these but the first after it.
-fn bounds_of(alloc: Global, bytes: &[[u8; 1]]) -> Result<Vec<&[u8]>, AllocError> {
+fn bounds_of(alloc: Global, bytes: &[[u8; 2]]) -> Result<Vec<&[u8]>, AllocError> {
     let mut bounds: Vec<&[u8]> = Vec::new(alloc);
-    for byte in bytes {
-        let bound: &[u8] = if bounds.is_empty() { b"" } else { byte };
+    for number in bytes {
+        let bound: &[u8] = if bounds.is_empty() { b"" } else { number };
         bounds.push(bound)?;
     }
     Ok(bounds)
 }
 
-// Bodies that have applied nothing yet.
-fn new_bodies(alloc: Global) -> Result<Vec<CounterText>, AllocError>
-    ensures length { IfOk result (λ bodies. length bodies.items ≡ 64) }
+/// So many bodies that have applied nothing yet.
+pub(crate) fn new_bodies(alloc: Global, count: usize) -> Result<Vec<CounterText>, AllocError>
+    ensures length { IfOk result (λ bodies. length bodies.items ≡ count) }
     ensures initial { IfOk result (λ bodies. All (λ body. body.base ≡ []) bodies.items) }
     ensures before { IfOk result (λ bodies. All (λ body. body.before ≡ 0) bodies.items) }
     ensures empty { IfOk result (λ bodies. All (λ body. body.requests ≡ []) bodies.items) }
 {
-    let mut bodies = Vec::with_capacity(alloc, usize::from(SHARDS))?;
-    for _body in 0..usize::from(SHARDS) {
+    let mut bodies = Vec::with_capacity(alloc, count)?;
+    for _body in 0..count {
         bodies.push(CounterText::new(alloc, 1_000_000))?;
     }
     Ok(bodies)

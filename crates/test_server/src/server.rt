@@ -1,5 +1,5 @@
-//! A server of a board of two shards.
-ghost use Rattle.std.specs.Prelude.{◌≡◌, ◌<◌, [], All, IfErr, IfSome, IsSome, IsTrue, None, length};
+//! A server of a board.
+ghost use Rattle.std.specs.Prelude.{◌≡◌, ◌<◌, [], All, IfErr, IfSome, IsSome, IsTrue, None};
 ghost use Rattle.sm_ownership.specs.Rules.{phase_fault};
 
 use sm_envelope::Envelope;
@@ -12,14 +12,13 @@ use sm_service::Service;
 use std::alloc::Global;
 use std::process::Abort;
 
-/// A server's pass at a board of two shards, and the board's chair. Shard 0 has the keys below `m`, and shard 1 the others.
+/// A server's pass at a board, and the board's chair.
 #[derive(Drop)]
 pub(crate) struct Server<S: Service> {
     board: Board<S>,
     chair: Chair<S>,
     layout: Layout,
     pass: Pass<S>,
-    ghost shards: { board.limits.count ≡ 2 },
     ghost its_chair: { chair.board ≡ board },
     ghost its_pass: { pass.board ≡ board },
     ghost server: { IsSome pass.server },
@@ -41,9 +40,18 @@ pub(crate) type Served<S> = Result<
 >;
 
 impl<S: Service> Server<S> {
-    /// Server 1, of which no shard is yet.
+    /// Server 1 of two shards, neither of which is its yet. Shard 0 has the keys below `m`, and shard 1 the others.
     pub(crate) fn new<R: Abort>(rt: &R, alloc: Global, bodies: Vec<S>) -> Server<S>
-        requires length { length bodies.items ≡ 2 }
+        requires initial { All (λ body. S.base body ≡ S.initial) bodies.items }
+        requires before { All (λ body. S.before body ≡ 0) bodies.items }
+        requires empty { All (λ body. S.requests body ≡ []) bodies.items }
+    {
+        let layout = Layout::new(alloc, &[b"", b"m"]).ok().expect(rt, "a layout");
+        Server::of(rt, alloc, bodies, layout)
+    }
+
+    /// Server 1 of a board of these bodies, of which no shard is yet.
+    pub(crate) fn of<R: Abort>(rt: &R, alloc: Global, bodies: Vec<S>, layout: Layout) -> Server<S>
         requires initial { All (λ body. S.base body ≡ S.initial) bodies.items }
         requires before { All (λ body. S.before body ≡ 0) bodies.items }
         requires empty { All (λ body. S.requests body ≡ []) bodies.items }
@@ -51,7 +59,6 @@ impl<S: Service> Server<S> {
         let (board, chair) = Board::make(alloc, bodies, 1_000_000)
             .ok()
             .expect(rt, "a board");
-        let layout = Layout::new(alloc, &[b"", b"m"]).ok().expect(rt, "a layout");
         let pass = board.pass(Some(ServerId::of(1)));
         Server {
             board,
@@ -68,11 +75,17 @@ impl<S: Service> Server<S> {
         self.pass = self.board.pass(Some(server));
     }
 
-    /// Makes the change where the shard's stand allows it, and whether it was made.
-    pub(crate) fn change(&mut self, k: ShardId, change: Change) -> bool
-        requires { k < 2 }
+    // Whether the board has the shard.
+    fn has(&self, k: ShardId) -> bool
+        ensures { IsTrue result → k < self.now.board.limits.count }
     {
-        allows(self.chair.stand(k), &change)
+        u32::from(k.number()) < self.board.count()
+    }
+
+    /// Makes the change where the board has the shard and its stand allows that, and whether it was made.
+    pub(crate) fn change(&mut self, k: ShardId, change: Change) -> bool {
+        self.has(k)
+            && allows(self.chair.stand(k), &change)
             && self.board.change(&mut self.chair, k, change).is_ok()
     }
 
@@ -131,31 +144,29 @@ impl<S: Service> Server<S> {
         rt: &R,
         k: ShardId,
         request: S::Request,
-    ) -> Served<S>
-        requires { k < 2 }
-    {
+    ) -> Served<S> {
         match self.serve(k, request) {
             Err((Unserved::Refused(Refusal::NoMemory), back)) => {
-                assert!(rt; !self.is_admitted(k));
+                assert!(rt; !self.is_admitted(rt, k));
                 self.serve_again(back)
             }
             served => served,
         }
     }
 
-    // Whether a pass is admitted to the shard.
-    fn is_admitted(&mut self, k: ShardId) -> bool
-        requires { k < 2 }
+    /// Whether a pass is admitted to the shard.
+    pub(crate) fn is_admitted<R: Abort>(&mut self, rt: &R, k: ShardId) -> bool
         ensures { self.new.board ≡ self.old.board }
     {
+        assert!(rt; self.has(k));
         self.board.look(&mut self.pass, k).admitted
     }
 
-    /// Makes a checkpoint of the shard.
-    pub(crate) fn checkpoint(&mut self, k: ShardId) -> Option<CheckpointFault>
-        requires { k < 2 }
+    /// Makes a checkpoint of the shard, or says why not.
+    pub(crate) fn checkpoint<R: Abort>(&mut self, rt: &R, k: ShardId) -> Option<CheckpointFault>
         ensures { self.new.board ≡ self.old.board }
     {
+        assert!(rt; self.has(k));
         checkpoint(&self.board, &mut self.pass, k).err()
     }
 

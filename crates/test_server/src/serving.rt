@@ -1,7 +1,7 @@
 //! What a server answers, and refuses.
-ghost use Rattle.std.specs.Prelude.{◌<◌};
-
-use crate::calls::{get_of, inc_of, new_owner, new_server, place_of, shard};
+use crate::calls::{
+    get_of, inc_of, is_text_at, new_full, new_owner, new_server, place_of, put_of, shard, told,
+};
 use crate::server::{Server, note_of};
 use sm_envelope::Envelope;
 use sm_ownership::admit_fault::AdmitFault;
@@ -64,18 +64,16 @@ fn serve_refuses_then_answers(rt: HostRuntime) -> Result<(), Fail> {
     Ok(())
 }
 
-// The place of a request that a full shard hands back, once a checkpoint is made.
-fn place_past_full<S: Service, R: Abort>(
+/// The place of a request that a full shard hands back, once a checkpoint is made.
+pub(crate) fn place_past_full<S: Service, R: Abort>(
     rt: &R,
     server: &mut Server<S>,
     k: ShardId,
     request: S::Request,
-) -> Option<u64>
-    requires { k < 2 }
-{
+) -> Option<u64> {
     let (refusal, back) = server.refused(k, request).expect(rt, "a refusal");
     assert!(rt; refusal == Refusal::KeptFull);
-    assert!(rt; server.checkpoint(k).is_none());
+    assert!(rt; server.checkpoint(rt, k).is_none());
     place_of(server.serve_again(back))
 }
 
@@ -92,9 +90,21 @@ fn full_shard_hands_back(rt: HostRuntime) {
 #[test]
 fn vacant_shard_makes_no_checkpoint(rt: HostRuntime) {
     let mut server = new_server(&rt, rt.alloc(), 1);
-    let is_vacant = match server.checkpoint(shard(0)) {
+    let is_vacant = match server.checkpoint(&rt, shard(0)) {
         Some(CheckpointFault::Admit(refusal)) => is_vacant(refusal),
         _ => false,
     };
     assert!(rt; is_vacant);
+}
+
+// The last server of the greatest board answers for the last shard, before a checkpoint and after it.
+#[test]
+fn serves_at_the_limits(rt: HostRuntime) {
+    let (alloc, k, last) = (rt.alloc(), shard(4_095), ServerId::of(4_095));
+    let mut server = new_full(&rt, alloc);
+    assert!(rt; server.change(k, Change::Assign(last)));
+    server.go_on_as(last);
+    assert!(rt; place_of(server.serve(k, put_of(&rt, alloc, b"x"))) == Some(0));
+    assert!(rt; server.checkpoint(&rt, k).is_none());
+    assert!(rt; is_text_at(told(server.serve(k, get_of(&rt, alloc))), 1, b"x"));
 }

@@ -2,7 +2,7 @@
 ghost use Rattle.std.specs.Arc.{arc_value};
 ghost use Rattle.std.specs.Prelude.{◌≡◌, None, IsSome};
 
-use crate::running::{Running, SHARDS, new_layout, new_running};
+use crate::running::{Running, SHARDS, layout_of, new_running};
 use crate::server::note_of;
 use sm_control::{Control, ControlFault};
 use sm_desk::{Command, CommandFault};
@@ -95,7 +95,7 @@ impl Worker {
 
 // A request for the shard; none where memory is refused.
 fn request_of(alloc: Global, k: ShardId) -> Option<Request> {
-    let key = Key::new(alloc, &[(k.number() & 255) as u8, 0]).ok()?;
+    let key = Key::new(alloc, &k.number().to_be_bytes()).ok()?;
     Some(Request::Inc(key, 1))
 }
 
@@ -112,7 +112,7 @@ fn new_worker<R: Abort>(
     server: ServerId,
     alloc: Global,
 ) -> Worker {
-    let layout = new_layout(rt, alloc);
+    let layout = layout_of(rt, alloc, SHARDS);
     Worker {
         post: Post::new(rt, board, server, layout),
         places: no_places(alloc).ok().expect(rt, "memory"),
