@@ -214,8 +214,8 @@ impl Running {
     }
 }
 
-// The last of the clients, which all are the cluster's.
-fn pop_client<R: Abort>(
+/// The last of the clients, which all are the cluster's.
+pub(crate) fn pop_client<R: Abort>(
     rt: &R,
     _cluster: &Cluster<Holding>,
     clients: &mut Vec<Client<Holding>>,
