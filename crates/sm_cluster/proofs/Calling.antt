@@ -4,7 +4,6 @@ use Rattle.std.specs.Prelude.{Some, Result, Ok, Err, IfOk, IfErr}
 use Rattle.sm_body.specs.Service.{Service}
 use Rattle.sm_publish.specs.Seen.{RouterView}
 use Rattle.sm_rule.specs.Passes.{PassValue}
-use Rattle.sm_rule.specs.Views.{Begins}
 use Rattle.sm_rule.specs.lemmas.Passing.{begins_begins}
 use Rattle.sm_server.specs.Answers.{AnswerValue, IsAnswer}
 use Rattle.sm_server.specs.lemmas.Beginnings.{none_begins}
@@ -105,9 +104,13 @@ module _ {Q R : Type 0} (service : Service Q R) (caller : PassValue Q) (shard nu
   call_fault (Err refused) why = fault_for caller shard number request sent refused.fault of why
 
 -- what is known of a call at the server of a route
-pub fault_by_route : {Q : Type 0} (client : ClientValue Q) (read : RouterView) (shard number : ℕ) (request : Q) (fault : CallFault) → FaultAt client.pass shard number request fault → FaultByRoute client read shard number request fault
+fault_by_route : {Q : Type 0} (client : ClientValue Q) (read : RouterView) (shard number : ℕ) (request : Q) (fault : CallFault) → FaultAt client.pass shard number request fault → FaultByRoute client read shard number request fault
 fault_by_route client read shard number request NoRoute never = absurd never
 fault_by_route client read shard number request Unreachable why = why
 fault_by_route client read shard number request (Refused refusal) why = why
 fault_by_route client read shard number request NoMemory why = why
 fault_by_route client read shard number request Closed why = why
+
+pub by_route : {Q X : Type 0} (client : ClientValue Q) (read : RouterView) (shard number : ℕ) (request : Q) (result : Result X (CallRefused Q)) → IfErr result (λ refused. FaultAt client.pass shard number request refused.fault) → IfErr result (λ refused. FaultByRoute client read shard number request refused.fault)
+by_route client read shard number request (Ok answer) why = tt
+by_route client read shard number request (Err refused) why = fault_by_route client read shard number request refused.fault why

@@ -6,7 +6,6 @@ ghost use Rattle.sm_publish.specs.Seen.{Extends};
 ghost use Rattle.sm_ranges.specs.Ranges.{shard_of};
 ghost use Rattle.sm_rule.specs.Passes.{PassLooks, record_of};
 ghost use Rattle.sm_rule.specs.Views.{IsMet};
-ghost use Rattle.sm_server.specs.Serving.{Sent};
 ghost use Rattle.sm_cluster.specs.Calls.{FaultAt, FaultByRoute, Gives, HandsBack, IsAnswerFor, IsEnvelopeOf, client_reading, client_seeing};
 ghost use Rattle.sm_cluster.specs.Replies.{IsAnswerTo};
 ghost use Rattle.sm_cluster.specs.Exchanging.{IsFaultOf, answer_of};
