@@ -1,6 +1,6 @@
 -- What a closed board leaves to the clients that came back.
 use Rattle.std.proofs.Common.{◌≡◌, ℕ, false, List, ◌++◌, length, arith, subst}
-use Rattle.std.specs.Prelude.{All, Option, Some, slice_get}
+use Rattle.std.specs.Prelude.{All, Option, Some, Result, Ok, Err, IfOk, slice_get}
 use mathlib.Core.Option.{some}
 use lib.ListN.{get_elem?}
 use Rattle.std.proofs.lemmas.List.Elements.{All-weaker}
@@ -19,6 +19,10 @@ use Rattle.sm_cluster.specs.Calls.{ClientValue}
 use Rattle.sm_cluster.specs.Clusters.{ClusterValue, WasStopped}
 use Rattle.sm_cluster.specs.Holding.{AreEndedIn}
 use Rattle.sm_cluster.proofs.Placing.{stands_in}
+
+pub ok_then : {T E : Type 0} (result : Result T E) (P : T → Type 0) (R : T → Type 0) → IfOk result P → ((value : T) → P value → R value) → IfOk result R
+ok_then (Ok value) P R held then = then value held
+ok_then (Err refused) P R held then = tt
 
 pub all_of_nobody : {X : Type 0} (P : X → Type 0) (xs : List X) → length xs ≡ 0 → All P xs
 all_of_nobody P xs none k d less = absurd (omega (arith, none, less))

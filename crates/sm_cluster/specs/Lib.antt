@@ -1,6 +1,7 @@
 pub mod Basing
 pub mod Calls
 pub mod Clusters
+pub mod Exchanging
 pub mod Holding
 pub mod Loads
 pub mod Publications

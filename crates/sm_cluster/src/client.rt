@@ -6,14 +6,16 @@ ghost use Rattle.sm_publish.specs.Seen.{Extends};
 ghost use Rattle.sm_ranges.specs.Ranges.{shard_of};
 ghost use Rattle.sm_rule.specs.Passes.{PassLooks, record_of};
 ghost use Rattle.sm_rule.specs.Views.{IsMet};
-ghost use Rattle.sm_server.specs.Serving.{Sent};
-ghost use Rattle.sm_cluster.specs.Calls.{FaultAt, FaultByRoute, Gives, HandsBack, IsAnswerFor, client_reading, client_seeing};
+ghost use Rattle.sm_cluster.specs.Calls.{FaultAt, FaultByRoute, Gives, HandsBack, IsAnswerFor, IsEnvelopeOf, client_reading, client_seeing};
+ghost use Rattle.sm_cluster.specs.Replies.{IsAnswerTo};
+ghost use Rattle.sm_cluster.specs.Exchanging.{IsFaultOf, answer_of};
 
 use crate::call_refused::{CallFault, CallRefused};
 use crate::message::Message;
 use crate::network::Network;
-use crate::reply::{Reply, reply_channel};
+use crate::reply::{Reply, ReplyOf, ReplyReceiver, reply_channel};
 use crate::told::Told;
+use crossbeam_channel::RecvError;
 use sm_body::service::Service;
 use sm_envelope::envelope::Envelope;
 use sm_ownership::record::Record;
@@ -35,7 +37,7 @@ use std::sync::{Arc, Wait};
 #[derive(Drop)]
 pub struct Client<S: Service> {
     board: Arc<Board<S>>,
-    network: Arc<Network<S>>,
+    network: Arc<Network<Message<S>>>,
     pass: Pass<S>,
     router: Router,
 }
@@ -54,7 +56,11 @@ impl<S: Service> Model for Client<S> {
 
 impl<S: Service> Client<S> {
     /// A client that has seen what the board has at some moment, and no route.
-    pub(crate) fn new(board: Arc<Board<S>>, network: Arc<Network<S>>, router: Router) -> Client<S>
+    pub(crate) fn new(
+        board: Arc<Board<S>>,
+        network: Arc<Network<Message<S>>>,
+        router: Router,
+    ) -> Client<S>
         ensures board { result.pass.board ≡ arc_value board }
         ensures router { result.router ≡ router }
         ensures bounds { result.bounds ≡ (arc_value network).layout }
@@ -128,28 +134,36 @@ impl<S: Service> Client<S> {
         ensures fault { IfErr result (λ refused. FaultAt self.old.pass k number request refused.fault) }
         ensures unchanged { self.new ≡ self.old }
     {
-        let Ok(board) = Arc::try_clone(&self.board) else {
-            return Err(CallRefused {
+        match self.message(alloc, k, number, request) {
+            Ok((message, receiver)) => exchange(rt, &*self.network, server, message, receiver),
+            Err(request) => Err(CallRefused {
                 fault: CallFault::NoMemory,
                 back: Some(request),
-            });
+            }),
+        }
+    }
+
+    // The message of a new call, and the end on which its reply is received. The request comes back where memory is refused.
+    fn message(
+        &mut self,
+        alloc: Global,
+        k: ShardId,
+        number: u64,
+        request: S::Request,
+    ) -> Result<(Message<S>, ReplyReceiver<S>), S::Request>
+        ensures message { IfOk result (λ made. IsEnvelopeOf self.old.pass k number request made.0) }
+        ensures receiver { IfOk result (λ made. made.1 ≡ Some made.0) }
+        ensures back { IfErr result (λ back. back ≡ request) }
+        ensures unchanged { self.new ≡ self.old }
+    {
+        let Ok(board) = Arc::try_clone(&self.board) else {
+            return Err(request);
         };
         let note = board.note(&mut self.pass);
         let envelope = Envelope::new(number, k, request, note);
-        let Ok((sender, receiver)) = reply_channel::<S>(alloc, &envelope) else {
-            return Err(handed_back(CallFault::NoMemory, envelope));
-        };
-        let message = Message::new(board, envelope, sender);
-        if let Err(unsent) = self.network.send(rt, server, message) {
-            return Err(handed_back(unsent.fault, unsent.message.into_envelope()));
-        }
-        match receiver.receive(rt) {
-            Ok(Reply::Answered(answer)) => return Ok(answer),
-            Ok(Reply::Refused(fault, envelope)) => Err(handed_back(fault, envelope)),
-            Err(_) => Err(CallRefused {
-                fault: CallFault::Closed,
-                back: None,
-            }),
+        match reply_channel::<S>(alloc, &envelope) {
+            Ok((sender, receiver)) => Ok((Message::new(board, envelope, sender), receiver)),
+            Err(_) => Err(request_of(envelope)),
         }
     }
 
@@ -209,6 +223,41 @@ impl<S: Service> Client<S> {
     }
 }
 
+// Sends the message of a new call to the server, and waits for the reply.
+fn exchange<S: Service, R: Wait>(
+    rt: &R,
+    network: &Network<Message<S>>,
+    server: ServerId,
+    message: Message<S>,
+    receiver: ReplyReceiver<S>,
+) -> Result<Answer<S>, CallRefused<S::Request>>
+    requires { receiver ≡ Some message }
+    ensures answer { IfOk result (λ answer. IsAnswerTo (meaning_of S.initial S.next S.answer S.key_of) message answer) }
+    ensures back { IfErr result (λ refused. HandsBack message.request refused) }
+    ensures fault { IfErr result (λ refused. IsFaultOf message refused.fault) }
+{
+    match network.send(rt, server, message) {
+        Ok(()) => answer_of(receiver.receive(rt)),
+        Err(unsent) => Err(handed_back(unsent.fault, unsent.message.into_envelope())),
+    }
+}
+
+// What a caller makes of the reply; there is none where the message was let go.
+fn answer_of<S: Service>(
+    reply: Result<ReplyOf<S, S::Request>, RecvError>,
+) -> Result<Answer<S>, CallRefused<S::Request>>
+    ensures { result ≡ answer_of reply }
+{
+    match reply {
+        Ok(Reply::Answered(answer)) => Ok(answer),
+        Ok(Reply::Refused(fault, envelope)) => Err(handed_back(fault, envelope)),
+        Err(_) => Err(CallRefused {
+            fault: CallFault::Closed,
+            back: None,
+        }),
+    }
+}
+
 // A call that was not answered, with its request.
 fn handed_back<S: Service>(
     fault: CallFault,
@@ -216,9 +265,16 @@ fn handed_back<S: Service>(
 ) -> CallRefused<S::Request>
     ensures { result ≡ record { fault = fault; back = Some envelope.request } }
 {
-    let (request, _, _) = envelope.parts();
     CallRefused {
         fault,
-        back: Some(request),
+        back: Some(request_of(envelope)),
     }
+}
+
+// The request of an envelope.
+fn request_of<S: Service>(envelope: Envelope<S::Request, Note<S>>) -> S::Request
+    ensures { result ≡ envelope.request }
+{
+    let (request, _, _) = envelope.parts();
+    request
 }

@@ -9,6 +9,7 @@ mod stopping;
 
 use crate::crew::Crew;
 use crate::holds::Holds;
+use crate::message::Message;
 use crate::network::Network;
 use sm_body::service::Service;
 use sm_control::Control;
@@ -24,11 +25,11 @@ use std::sync::Arc;
 /// Its calls take it by `&mut`, so that contracts say what each did. Who calls from several threads puts it under a lock.
 pub struct Cluster<S: Service> {
     board: Arc<Board<S>>,
-    network: Arc<Network<S>>,
+    network: Arc<Network<Message<S>>>,
     control: Control<S>,
     publisher: Publisher,
     holds: Holds<S>,
-    crew: Crew<S>,
+    crew: Crew,
 }
 
 impl<S: Service> Model for Cluster<S> {

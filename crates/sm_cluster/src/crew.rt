@@ -2,24 +2,17 @@
 ghost use Rattle.std.specs.Prelude.{◌≢◌, IfErr};
 
 use crate::gate::Gate;
-use crate::message::Parcel;
+use crate::inbox::Inbox;
+use crate::message::Message;
 use crate::network::Network;
 use crate::start_fault::StartFault;
 use crate::worker::work;
-use crossbeam_channel::Receiver;
 use sm_body::service::Service;
 use sm_ranges::server_id::ServerId;
 use std::alloc::Global;
 use std::sync::{Arc, Wait};
 use std::thread;
 use std::thread::{JoinHandle, Threads};
-
-/// The inbox of a server.
-#[derive(Drop)]
-pub(crate) struct Inbox<S: Service> {
-    pub(crate) server: ServerId,
-    pub(crate) parcels: Receiver<Parcel<S>>,
-}
 
 // The workers of one server.
 #[derive(Drop)]
@@ -29,8 +22,7 @@ struct Team {
 }
 
 /// All workers. It has to be stopped: it can't be dropped.
-pub(crate) struct Crew<S: Service> {
-    network: Arc<Network<S>>,
+pub(crate) struct Crew {
     teams: Vec<Team>,
 }
 
@@ -39,9 +31,9 @@ impl Team {
     fn start_worker<S, G, R>(
         &mut self,
         rt: &R,
-        network: &Arc<Network<S>>,
+        network: &Arc<Network<Message<S>>>,
         gate: &Arc<G>,
-        parcels: &Receiver<Parcel<S>>,
+        inbox: &Inbox<Message<S>>,
     ) -> Result<(), StartFault>
     where
         S: Service + 'static,
@@ -54,15 +46,11 @@ impl Team {
         let Ok(theirs) = rt.clone() else {
             return Err(StartFault::NoMemory);
         };
-        let server = self.server;
         let network = Arc::try_clone(network)?;
         let gate = Arc::try_clone(gate)?;
-        let parcels = parcels.clone()?;
+        let inbox = inbox.shared()?;
         self.threads.reserve(1)?;
-        match thread::spawn(
-            rt,
-            move || work(&theirs, &parcels, &*network, &*gate, server),
-        ) {
+        match thread::spawn(rt, move || work(&theirs, &inbox, &*network, &*gate)) {
             Ok(thread) => {
                 self.threads.push_reserved(thread);
                 Ok(())
@@ -75,9 +63,9 @@ impl Team {
     fn start<S, G, R>(
         &mut self,
         rt: &R,
-        network: &Arc<Network<S>>,
+        network: &Arc<Network<Message<S>>>,
         gate: &Arc<G>,
-        parcels: &Receiver<Parcel<S>>,
+        inbox: &Inbox<Message<S>>,
         workers: u32,
     ) -> Result<(), StartFault>
     where
@@ -89,13 +77,13 @@ impl Team {
         ensures { IfErr result (λ fault. fault ≢ StartFault.TooManyWorkers) }
     {
         for _ in 0..workers {
-            self.start_worker(rt, network, gate, parcels)?;
+            self.start_worker(rt, network, gate, inbox)?;
         }
         Ok(())
     }
 
     // Tells as many workers to stop as the team has.
-    fn tell_to_stop<S: Service, R: Wait>(&self, rt: &R, network: &Network<S>) {
+    fn tell_to_stop<M: Drop, R: Wait>(&self, rt: &R, network: &Network<M>) {
         for _ in 0..self.threads.len() {
             network.tell_to_stop(rt, self.server);
         }
@@ -109,39 +97,42 @@ impl Team {
     }
 }
 
-impl<S: Service> Crew<S> {
+impl Crew {
     /// A crew of nobody.
-    pub(crate) fn new(alloc: Global, network: Arc<Network<S>>) -> Crew<S> {
+    pub(crate) fn new(alloc: Global) -> Crew {
         Crew {
-            network,
             teams: Vec::new(alloc),
         }
     }
 
     /// Starts so many workers for each inbox. Where a thread or memory is refused, those that were started go on.
-    pub(crate) fn start<G, R>(
+    pub(crate) fn start<S, G, R>(
         &mut self,
         rt: &R,
         alloc: Global,
-        gate: &Arc<G>,
-        inboxes: &[Inbox<S>],
+        network: &Arc<Network<Message<S>>>,
+        gate: G,
+        inboxes: &[Inbox<Message<S>>],
         workers: u32,
     ) -> Result<(), StartFault>
     where
-        S: 'static,
+        S: Service + 'static,
         S::Request: 'static,
         S::Reply: 'static,
         G: Gate + Send + Sync + Drop + 'static,
         R: Threads + Wait + Clone + Send + Drop + 'static,
         ensures { IfErr result (λ fault. fault ≢ StartFault.TooManyWorkers) }
     {
+        let Ok(gate) = Arc::new(alloc, gate) else {
+            return Err(StartFault::NoMemory);
+        };
         for inbox in inboxes {
             self.teams.reserve(1)?;
             let mut team = Team {
                 server: inbox.server,
                 threads: Vec::new(alloc),
             };
-            let started = team.start(rt, &self.network, gate, &inbox.parcels, workers);
+            let started = team.start(rt, network, &gate, inbox, workers);
             self.teams.push_reserved(team);
             started?;
         }
@@ -149,11 +140,11 @@ impl<S: Service> Crew<S> {
     }
 
     /// Shuts all doors, and stops and joins the workers.
-    pub(crate) fn stop<R: Threads + Wait>(self, rt: &R) {
-        let Crew { network, teams } = self;
+    pub(crate) fn stop<M: Drop, R: Threads + Wait>(self, rt: &R, network: &Network<M>) {
         network.shut();
+        let Crew { teams } = self;
         for team in teams {
-            team.tell_to_stop(rt, &*network);
+            team.tell_to_stop(rt, network);
             team.join(rt);
         }
     }

@@ -28,6 +28,7 @@ pub mod gate;
 mod hold;
 pub mod hold_fault;
 mod holds;
+mod inbox;
 pub mod laws;
 pub mod loading;
 mod message;

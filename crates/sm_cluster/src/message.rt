@@ -1,4 +1,4 @@
-//! What an inbox holds.
+//! The requests of calls on their way.
 ghost use Rattle.std.specs.Prelude.{◌≡◌, Some};
 ghost use Rattle.std.specs.Arc.{arc_value};
 ghost use Rattle.sm_body.specs.Service.{meaning_of};
@@ -37,13 +37,6 @@ impl<S: Service> Model for Message<S> {
 
     ghost invariant = { λ message. (message.envelope.note.board ≡ arc_value message.board)
         × (sent : Sent S.Request) × (message.sender ≡ Some sent) × IsOnTheWay sent message.envelope };
-}
-
-/// What a worker takes out of its inbox.
-#[derive(Drop)]
-pub(crate) enum Parcel<S: Service> {
-    Serve(Message<S>),
-    Stop,
 }
 
 impl<S: Service> Message<S> {
@@ -96,7 +89,7 @@ impl<S: Service> Message<S> {
     pub(crate) fn serve<R: Wait>(
         self,
         rt: &R,
-        network: &Network<S>,
+        network: &Network<Message<S>>,
         server: ServerId,
         tally: Option<&Tally>,
     ) {
@@ -135,7 +128,7 @@ impl<S: Service> Message<S> {
     }
 
     // Sends it on to the server, or the fault back.
-    fn forward<R: Wait>(self, rt: &R, network: &Network<S>, to: ServerId) {
+    fn forward<R: Wait>(self, rt: &R, network: &Network<Message<S>>, to: ServerId) {
         if let Err(unsent) = network.send(rt, to, self) {
             unsent.message.refuse(rt, unsent.fault);
         }

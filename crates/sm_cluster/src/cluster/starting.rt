@@ -9,9 +9,11 @@ ghost use Rattle.sm_cluster.specs.Holding.{AreHoldsOn};
 use super::Cluster;
 use crate::MAX_WORKERS;
 use crate::client::Client;
-use crate::crew::{Crew, Inbox};
+use crate::crew::Crew;
 use crate::gate::Gate;
 use crate::holds::Holds;
+use crate::inbox::Inbox;
+use crate::message::Message;
 use crate::network::{Network, network_of};
 use crate::setup::Setup;
 use crate::start_fault::StartFault;
@@ -28,9 +30,9 @@ use std::thread::Threads;
 #[derive(Drop)]
 struct Parts<S: Service> {
     board: Arc<Board<S>>,
-    network: Arc<Network<S>>,
+    network: Arc<Network<Message<S>>>,
     control: Control<S>,
-    inboxes: Vec<Inbox<S>>,
+    inboxes: Vec<Inbox<Message<S>>>,
 }
 
 impl<S: Service + 'static> Cluster<S>
@@ -78,22 +80,8 @@ where
         if is_too_many(&setup.desk, workers) {
             return Err(StartFault::TooManyWorkers);
         }
-        let shards = bodies.len();
         let parts = parts_of(rt, alloc, setup, bodies, workers)?;
-        let Ok(gate) = Arc::new(alloc, gate) else {
-            return Err(StartFault::NoMemory);
-        };
-        let (publisher, routers) = Publisher::new(rt, alloc, shards, clients)?;
-        match clients_of(alloc, &parts.board, &parts.network, routers) {
-            Ok(clients) => match manned(rt, alloc, parts, publisher, workers, &gate) {
-                Ok(cluster) => Ok((cluster, clients)),
-                Err(fault) => Err(fault),
-            },
-            Err(_) => {
-                publisher.end(rt);
-                Err(StartFault::NoMemory)
-            }
-        }
+        with_clients(rt, alloc, parts, workers, clients, gate)
     }
 }
 
@@ -134,13 +122,7 @@ fn parts_of<S: Service, R: Wait>(
         desk,
         ceiling,
     } = setup;
-    let Ok((board, chair)) = Board::make(alloc, bodies, ceiling) else {
-        return Err(StartFault::NoMemory);
-    };
-    let control = Control::new(chair, desk);
-    let Ok(board) = Arc::new(alloc, board) else {
-        return Err(StartFault::NoMemory);
-    };
+    let (board, control) = board_of(alloc, bodies, desk, ceiling)?;
     let rows = control.desk().books().rows();
     let (network, inboxes) = network_of(rt, alloc, layout, rows, workers)?;
     Ok(Parts {
@@ -151,11 +133,83 @@ fn parts_of<S: Service, R: Wait>(
     })
 }
 
+// A board of these bodies, with its control.
+fn board_of<S: Service>(
+    alloc: Global,
+    bodies: Vec<S>,
+    desk: Desk,
+    ceiling: u64,
+) -> Result<(Arc<Board<S>>, Control<S>), StartFault>
+    requires sizes { make_fault (length bodies.items) ceiling ≡ None }
+    requires shards { length desk.books.shards ≡ length bodies.items }
+    requires vacant { All (λ shard. shard.stand ≡ Vacant) desk.books.shards }
+    requires initial { All (λ body. S.base body ≡ S.initial) bodies.items }
+    requires before { All (λ body. S.before body ≡ 0) bodies.items }
+    requires empty { All (λ body. S.requests body ≡ []) bodies.items }
+    ensures fault { IfErr result (λ fault. fault ≢ StartFault.TooManyWorkers) }
+    ensures seen { IfOk result (λ made. made.1.chair.seen ≡ []) }
+    ensures desk { IfOk result (λ made. made.1.desk ≡ desk) }
+    ensures count { IfOk result (λ made. made.1.chair.board.limits.count ≡ length bodies.items) }
+    ensures ceiling { IfOk result (λ made. made.1.chair.board.limits.ceiling ≡ ceiling) }
+    ensures limits { IfOk result (λ made. made.1.chair.board.limits.bodies ≡ map S.limit bodies.items) }
+    ensures board { IfOk result (λ made. made.1.chair.board ≡ arc_value made.0) }
+{
+    let Ok((board, chair)) = Board::make(alloc, bodies, ceiling) else {
+        return Err(StartFault::NoMemory);
+    };
+    match Arc::new(alloc, board) {
+        Ok(board) => Ok((board, Control::new(chair, desk))),
+        Err(_) => Err(StartFault::NoMemory),
+    }
+}
+
+// The cluster of these parts, whose workers are started, and so many clients of it.
+fn with_clients<
+    S: Service + 'static,
+    G: Gate + Send + Sync + Drop + 'static,
+    R: Threads + Wait + Clone + Send + Drop + 'static,
+>(
+    rt: &R,
+    alloc: Global,
+    parts: Parts<S>,
+    workers: u32,
+    clients: usize,
+    gate: G,
+) -> Result<(Cluster<S>, Vec<Client<S>>), StartFault>
+where
+    S::Request: 'static,
+    S::Reply: 'static,
+    requires board { parts.control.chair.board ≡ arc_value parts.board }
+    requires clients { (0 < clients) × (clients < 2 ^ 32) }
+    ensures fault { IfErr result (λ fault. fault ≢ StartFault.TooManyWorkers) }
+    ensures control { IfOk result (λ made. made.0.control ≡ parts.control) }
+    ensures bounds { IfOk result (λ made. made.0.bounds ≡ (arc_value parts.network).layout) }
+    ensures holds { IfOk result (λ made. made.0.holds ≡ replicate parts.control.chair.board.limits.count None) }
+    ensures map { IfOk result (λ made. made.0.map.map ≡ record { count = parts.control.chair.board.limits.count; published = [] }) }
+    ensures routers { IfOk result (λ made.
+        map (λ client. client.router) made.1.items ≡ replicate clients (record { table = made.0.map.table; seen = [] })) }
+    ensures clients { IfOk result (λ made. length made.1.items ≡ clients) }
+    ensures theirs { IfOk result (λ made. All (IsClientOf made.0) made.1.items) }
+{
+    let shards = parts.board.count() as usize;
+    let (publisher, routers) = Publisher::new(rt, alloc, shards, clients)?;
+    match clients_of(alloc, &parts.board, &parts.network, routers) {
+        Ok(clients) => match manned(rt, alloc, parts, publisher, workers, gate) {
+            Ok(cluster) => Ok((cluster, clients)),
+            Err(fault) => Err(fault),
+        },
+        Err(_) => {
+            publisher.end(rt);
+            Err(StartFault::NoMemory)
+        }
+    }
+}
+
 // A client for each of the routers.
 fn clients_of<S: Service>(
     alloc: Global,
     board: &Arc<Board<S>>,
-    network: &Arc<Network<S>>,
+    network: &Arc<Network<Message<S>>>,
     routers: Vec<Router>,
 ) -> Result<Vec<Client<S>>, AllocError>
     ensures count { IfOk result (λ clients. length clients.items ≡ length routers.items) }
@@ -183,7 +237,7 @@ fn manned<
     parts: Parts<S>,
     publisher: Publisher,
     workers: u32,
-    gate: &Arc<G>,
+    gate: G,
 ) -> Result<Cluster<S>, StartFault>
 where
     S::Request: 'static,
@@ -195,29 +249,13 @@ where
     ensures bounds { IfOk result (λ cluster. cluster.bounds ≡ (arc_value parts.network).layout) }
     ensures holds { IfOk result (λ cluster. cluster.holds ≡ replicate parts.control.chair.board.limits.count None) }
 {
-    let Parts {
-        board,
-        network,
-        control,
-        inboxes,
-    } = parts;
-    let Ok(shared) = Arc::try_clone(&network) else {
-        publisher.end(rt);
-        return Err(StartFault::NoMemory);
-    };
-    let mut crew = Crew::new(alloc, shared);
-    let started = crew.start(rt, alloc, gate, inboxes.as_slice(), workers);
-    match room_once(started, alloc, &*board) {
-        Ok(holds) => Ok(Cluster {
-            board,
-            network,
-            control,
-            publisher,
-            holds,
-            crew,
-        }),
+    let mut crew = Crew::new(alloc);
+    let inboxes = parts.inboxes.as_slice();
+    let started = crew.start(rt, alloc, &parts.network, gate, inboxes, workers);
+    match room_once(started, alloc, &*parts.board) {
+        Ok(holds) => Ok(cluster_of(parts, publisher, holds, crew)),
         Err(fault) => {
-            crew.stop(rt);
+            crew.stop(rt, &*parts.network);
             publisher.end(rt);
             Err(fault)
         }
@@ -238,4 +276,31 @@ fn room_once<S: Service>(
     started?;
     let holds = Holds::new(alloc, board)?;
     Ok(holds)
+}
+
+// The cluster of these parts, with its map, its holds and its crew.
+fn cluster_of<S: Service>(
+    parts: Parts<S>,
+    publisher: Publisher,
+    holds: Holds<S>,
+    crew: Crew,
+) -> Cluster<S>
+    requires board { parts.control.chair.board ≡ arc_value parts.board }
+    requires holds { AreHoldsOn (arc_value parts.board) holds }
+    ensures { result ≡ record { control = parts.control; map = publisher; bounds = (arc_value parts.network).layout; holds = holds } }
+{
+    let Parts {
+        board,
+        network,
+        control,
+        inboxes: _,
+    } = parts;
+    Cluster {
+        board,
+        network,
+        control,
+        publisher,
+        holds,
+        crew,
+    }
 }

@@ -1,6 +1,8 @@
 //! The end of a cluster.
+ghost use Rattle.std.specs.Arc.{arc_value};
 ghost use Rattle.std.specs.Prelude.{◌≡◌, All, IfOk, None};
 ghost use Rattle.sm_rule.specs.Bodies.{Keeps};
+ghost use Rattle.sm_rule.specs.Closing.{WasClosed};
 ghost use Rattle.sm_rule.specs.Views.{Begins};
 ghost use Rattle.sm_cluster.specs.Clusters.{IsClientOf, WasStopped};
 
@@ -8,6 +10,7 @@ use super::Cluster;
 use crate::client::Client;
 use crate::stop_fault::StopFault;
 use sm_body::service::Service;
+use sm_control::Control;
 use sm_ownership::record::Record;
 use sm_rule::board::Board;
 use sm_rule::pass::Pass;
@@ -35,16 +38,30 @@ impl<S: Service> Cluster<S> {
             crew,
         } = self;
         network.shut();
-        drop(network);
         let mut closer = told(&*board, clients);
         holds.end(&*board, &mut closer);
-        crew.stop(rt);
+        crew.stop(rt, &*network);
+        drop(network);
         publisher.end(rt);
-        let (chair, _) = control.into_parts();
-        match Arc::try_unwrap(board) {
-            Ok(board) => Ok(board.close(chair, closer)),
-            Err(_) => Err(StopFault::ClientOut),
-        }
+        closed(board, control, closer)
+    }
+}
+
+// What the board leaves, unless a client still has it.
+fn closed<S: Service>(
+    board: Arc<Board<S>>,
+    control: Control<S>,
+    closer: Pass<S>,
+) -> Result<Vec<(Record, Option<S>)>, StopFault>
+    requires board { control.chair.board ≡ arc_value board }
+    requires pass { closer.board ≡ arc_value board }
+    requires free { closer.held ≡ None }
+    ensures { IfOk result (λ rows. WasClosed (Keeps S.initial S.next S.base S.before S.requests) S.limit control.chair closer rows.items) }
+{
+    let (chair, _) = control.into_parts();
+    match Arc::try_unwrap(board) {
+        Ok(board) => Ok(board.close(chair, closer)),
+        Err(_) => Err(StopFault::ClientOut),
     }
 }
 

@@ -1,9 +1,0 @@
-use Rattle.std.proofs.Common.{◌≡◌, ◌∙◌, rules}
-use Rattle.std.specs.Arc.{arc_value}
-use Rattle.sm_cluster.proofs.cluster.Cluster.start.Goals as goal
-
-pub returns-in-Ok-manned-clause-theirs : goal.returns-in-Ok-manned-clause-theirs
-returns-in-Ok-manned-clause-theirs g c =
-    let board : arc_value c.in_ok-parts.parts.board ≡ c.in-Ok-manned.cluster.control.chair.board = search rules in
-    let bounds : (arc_value c.in_ok-parts.parts.network).layout ≡ c.in-Ok-manned.cluster.bounds = search rules in
-    λ k d less. (c.in-Ok-clients_of.ensures.boards k d less ∙ board, c.in-Ok-clients_of.ensures.bounds k d less ∙ bounds)
