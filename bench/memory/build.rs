@@ -1,11 +1,11 @@
-//! Links the proved static library, whose heap calls go to the C library by the toolchain's libc_c.
+//! Links the proved library of this bench, and the C side of the toolchain's allocator. The script `run` says where they lie.
 
 fn main() {
-    let toolchain = std::env::var("RATTLE_KIT").unwrap_or_else(|_| "/opt/rattle".into());
-    let library = format!("{}/../../crates/bench_map/out", env!("CARGO_MANIFEST_DIR"));
-    println!("cargo:rustc-link-search=native={library}");
-    println!("cargo:rustc-link-search=native={toolchain}/c");
-    println!("cargo:rustc-link-lib=static=bench_map");
-    println!("cargo:rustc-link-lib=static=libc_c");
-    println!("cargo:rerun-if-changed={library}/libbench_map.a");
+    for (folder, library) in [("PROVED", "bench_map"), ("KIT_C", "libc_c")] {
+        println!("cargo:rerun-if-env-changed={folder}");
+        let path = std::env::var(folder).unwrap_or_else(|_| panic!("{folder} isn't set: start `run`"));
+        println!("cargo:rustc-link-search=native={path}");
+        println!("cargo:rerun-if-changed={path}/lib{library}.a");
+        println!("cargo:rustc-link-lib=static={library}");
+    }
 }

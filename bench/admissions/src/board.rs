@@ -10,7 +10,7 @@ unsafe extern "C" {
 }
 
 pub fn looks(operations: u64) -> u64 {
-    // SAFETY: crates/bench_rule defines it with this signature; its allocator has no bytes, and so isn't passed.
+    // SAFETY: bench_rule of crate/ defines it with this signature; its allocator has no bytes, and so isn't passed.
     unsafe { bench_rule_looks(operations) }
 }
 

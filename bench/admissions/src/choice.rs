@@ -1,4 +1,4 @@
-//! The pseudo-random choices that all ways make, as crates/bench_rule makes them.
+//! The pseudo-random choices that all ways make, as crate/src/full_board.rs makes them.
 
 pub const SHARDS: usize = 4096;
 

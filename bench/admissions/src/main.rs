@@ -1,4 +1,4 @@
-//! Times looks, admissions and notes on a board of 4,096 shards: the proved board of crates/bench_rule, atomic words in Rust, and a
+//! Times looks, admissions and notes on a board of 4,096 shards: the proved board of bench_rule of crate/, atomic words in Rust, and a
 //! lock for each shard in Rust, in alternating rounds. Each line is a row, a way, its round and its nanoseconds for each operation.
 
 mod board;

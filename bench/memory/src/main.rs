@@ -1,5 +1,5 @@
-//! Times whole runs of crates/bench_map against the same runs over Rust's own memory and maps, in turn, and compares the answers. Each
-//! line names a run, and has the nanoseconds of an operation on both sides in one round. With three arguments it only fills a map, so
+//! Times whole runs of bench_map of crate/ against the same runs over Rust's own memory and maps, in turn, and compares the answers.
+//! Each line names a run, and has the nanoseconds of an operation on both sides in one round. With three arguments it only fills a map, so
 //! that a heap profiler sees what that takes: whose (`none`, `ours`, `rebuilt` or `theirs`), how many keys, and in which order.
 
 mod ours;

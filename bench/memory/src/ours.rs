@@ -1,4 +1,4 @@
-//! The proved runs of crates/bench_map.
+//! The proved runs of bench_map of crate/.
 
 use crate::Rows;
 

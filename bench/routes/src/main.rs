@@ -1,5 +1,5 @@
-//! The counterpart of crates/bench_publish in Rust: reads of a map of 4,096 routes beside a publisher at the pace that it is given, by
-//! arc-swap (the publisher copies the map) and by a lock for readers and a writer; and look-ups of bounds alone.
+//! What bench_publish of crate/ does, in Rust: reads of a map of 4,096 routes beside a publisher at the pace that it is given,
+//! by arc-swap (the publisher copies the map) and by a lock for readers and a writer; and look-ups of bounds alone.
 
 use arc_swap::ArcSwap;
 use std::hint::black_box;

@@ -1,4 +1,4 @@
-//! The pseudo-random choices, as crates/bench_server makes them.
+//! The pseudo-random choices, as crate/src/choice.rs makes them.
 
 pub const SHARDS: u16 = 4096;
 

@@ -1,4 +1,4 @@
-//! The counterpart of crates/bench_server in Rust: the same requests of as many threads, by a lock for each shard round a map. It
+//! What bench_server of crate/ does, in Rust: the same requests of as many threads, by a lock for each shard round a map. It
 //! prints the nanoseconds of all requests, and what the replies told.
 
 mod choice;
