@@ -1,5 +1,5 @@
 /// Where a piece lies in the arena that placed it. It takes 12 bytes.
-#[derive(Clone, Copy, PartialEq, Eq, Debug)]
+#[derive(Clone, Copy, PartialEq, Eq)]
 pub struct Span {
     pub(crate) chunk: u32,
     pub(crate) start: u32,

@@ -22,7 +22,7 @@ pub enum CallFault {
 }
 
 /// A call that was not answered, and its request, but where the message was let go.
-#[derive(Debug, Drop)]
+#[derive(Drop)]
 pub struct CallRefused<Q: Drop> {
     pub fault: CallFault,
     pub back: Option<Q>,

@@ -8,7 +8,7 @@ pub trait Gate {
 }
 
 /// The gate that holds nobody.
-#[derive(Clone, Copy, Debug, Drop)]
+#[derive(Clone, Copy, Drop)]
 pub struct Open;
 
 impl Gate for Open {

@@ -24,7 +24,7 @@ const MOST_THREADS: usize = 64;
 const MOST_RETRIES: u32 = 1_000;
 
 /// What came of a load.
-#[derive(Clone, Copy, Debug, PartialEq, Eq, Drop)]
+#[derive(Clone, Copy, PartialEq, Eq, Drop)]
 pub struct LoadReport {
     /// How many incs were answered by a count.
     pub acked: u64,

@@ -1,7 +1,7 @@
 use sm_ranges::server_id::ServerId;
 
 /// What a client learned of an answer.
-#[derive(Clone, Copy, Debug, PartialEq, Eq, Drop)]
+#[derive(Clone, Copy, PartialEq, Eq, Drop)]
 pub struct Told<R> {
     /// The number of the call.
     pub number: u64,

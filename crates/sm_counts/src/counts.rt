@@ -2,7 +2,7 @@ use sm_ranges::server_id::ServerId;
 use sm_ranges::shard_id::ShardId;
 
 /// What the servers of a cluster did and the shards went through since its start.
-#[derive(Debug, Drop)]
+#[derive(Drop)]
 pub struct Counts {
     /// A row for each server, by rising numbers.
     pub servers: Vec<ServerCounts>,
@@ -13,7 +13,7 @@ pub struct Counts {
 }
 
 /// What became of the envelopes that came to a server.
-#[derive(Clone, Copy, Debug, PartialEq, Eq, Drop)]
+#[derive(Clone, Copy, PartialEq, Eq, Drop)]
 pub struct ServerCounts {
     pub server: ServerId,
     /// How many it answered.
@@ -25,7 +25,7 @@ pub struct ServerCounts {
 }
 
 /// How many envelopes a server refused, by the reason.
-#[derive(Clone, Copy, Debug, PartialEq, Eq, Drop)]
+#[derive(Clone, Copy, PartialEq, Eq, Drop)]
 pub struct RefusalCounts {
     pub wrong_shard: u64,
     pub too_many_hops: u64,
@@ -45,7 +45,7 @@ pub struct RefusalCounts {
 }
 
 /// What a shard went through.
-#[derive(Clone, Copy, Debug, PartialEq, Eq, Drop)]
+#[derive(Clone, Copy, PartialEq, Eq, Drop)]
 pub struct ShardCounts {
     pub shard: ShardId,
     /// How often a server was admitted to it.

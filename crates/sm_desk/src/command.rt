@@ -7,7 +7,7 @@ use sm_tasks::{AlreadyFailed, AlreadyUp, ApproveFault, NotUp, StoppedFault};
 use thiserror::Error;
 
 /// A command of the control.
-#[derive(Clone, Copy, Debug, PartialEq, Eq, Drop)]
+#[derive(Clone, Copy, PartialEq, Eq, Drop)]
 pub enum Command {
     /// Changes the stand of the shard.
     Change(ShardId, Change),

@@ -13,7 +13,7 @@ use std::marker::Model;
 pub const MOST_HOPS: u8 = 4;
 
 /// A request on its way to a shard: its number, its shard, how it came, how often it was forwarded, and a note that goes with it.
-#[derive(Debug, Drop)]
+#[derive(Drop)]
 pub struct Envelope<Q: Drop, N: Drop> {
     shell: Shell,
     request: Q,

@@ -10,7 +10,7 @@ use sm_ranges::shard_id::ShardId;
 use std::marker::Model;
 
 /// An envelope but for its request and its note. Only `Envelope::parts` gives one.
-#[derive(Debug, Drop)]
+#[derive(Drop)]
 pub struct Shell {
     number: u64,
     shard: ShardId,

@@ -38,7 +38,7 @@ impl Model for LineReader {
 }
 
 /// What stands in front of a [`LineReader`].
-#[derive(Clone, Copy, Debug, PartialEq, Eq)]
+#[derive(Clone, Copy, PartialEq, Eq)]
 pub enum Next {
     /// A line within the limit.
     Line,
@@ -49,7 +49,7 @@ pub enum Next {
 }
 
 /// Why no line was read.
-#[derive(Clone, Copy, Debug, PartialEq, Eq)]
+#[derive(Clone, Copy, PartialEq, Eq)]
 pub enum ReadFault {
     /// The reader failed, or was called [`COUNT_LIMIT`] times.
     Read,

@@ -8,7 +8,7 @@ use std::io::Write;
 use std::marker::Model;
 
 /// The writer failed, or took none of the bytes that it was given.
-#[derive(Clone, Copy, Debug, PartialEq, Eq)]
+#[derive(Clone, Copy, PartialEq, Eq)]
 pub struct WriteFault;
 
 /// Writes all of the bytes; after a fault the writer has taken a front of them.

@@ -12,7 +12,7 @@ use std::alloc::Global;
 use std::io::{Read, Write};
 
 /// Runs scripts on a world, on one thread, exactly as the definitions say.
-#[derive(Clone, Copy, Debug, Drop)]
+#[derive(Clone, Copy, Drop)]
 pub struct ModelEngine {
     alloc: Global,
 }

@@ -5,7 +5,7 @@ use sm_ranges::server_id::ServerId;
 use sm_ranges::stand::Stand;
 
 /// A change of a shard's stand: the steps of a graceful migration, and those round it.
-#[derive(Clone, Copy, Debug, PartialEq, Eq, Drop)]
+#[derive(Clone, Copy, PartialEq, Eq, Drop)]
 pub enum Change {
     /// A vacant shard gets this owner.
     Assign(ServerId),
@@ -28,7 +28,7 @@ pub enum Change {
 }
 
 /// Why a stand doesn't allow a change.
-#[derive(Clone, Copy, Debug, PartialEq, Eq, Drop)]
+#[derive(Clone, Copy, PartialEq, Eq, Drop)]
 pub enum PhaseFault {
     /// The change doesn't begin from this kind of stand.
     WrongPhase,

@@ -4,7 +4,7 @@ use sm_ranges::server_id::ServerId;
 use sm_ranges::shard_id::ShardId;
 
 /// How an admission ended.
-#[derive(Debug, Drop)]
+#[derive(Drop)]
 pub enum Ending<Q> {
     /// No request was executed.
     Nothing,
@@ -15,7 +15,7 @@ pub enum Ending<Q> {
 }
 
 /// What an entry of a history records.
-#[derive(Debug, Drop)]
+#[derive(Drop)]
 pub enum Kind<Q> {
     /// The control changed the shard's stand.
     Change(Change),
@@ -28,7 +28,7 @@ pub enum Kind<Q> {
 /// One event of a shard's history: who acted, on which shard, and what happened.
 ///
 /// Actor 0 is the control. In a world the other actors are the servers, by their numbers.
-#[derive(Debug, Drop)]
+#[derive(Drop)]
 pub struct Entry<Q> {
     pub actor: u64,
     pub shard: ShardId,

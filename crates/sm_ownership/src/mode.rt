@@ -1,7 +1,7 @@
 use sm_ranges::server_id::ServerId;
 
 /// How a request came to a server.
-#[derive(Clone, Copy, Debug, PartialEq, Eq, Drop)]
+#[derive(Clone, Copy, PartialEq, Eq, Drop)]
 pub enum Mode {
     /// From a client.
     Direct,

@@ -16,7 +16,7 @@ use std::alloc::{AllocError, Global};
 use std::marker::Model;
 
 /// The ownership table: each shard's record, and the ceiling, which no generation passes.
-#[derive(Debug, Drop)]
+#[derive(Drop)]
 pub struct Table {
     records: Vec<Record>,
     ceiling: u64,

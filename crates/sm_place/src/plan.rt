@@ -7,7 +7,7 @@ use std::alloc::{AllocError, Global};
 use std::marker::Model;
 
 /// A shard and the server that it goes to.
-#[derive(Clone, Copy, Debug, PartialEq, Eq, Drop)]
+#[derive(Clone, Copy, PartialEq, Eq, Drop)]
 pub struct Move {
     /// The shard that moves.
     pub shard: ShardId,
@@ -16,7 +16,7 @@ pub struct Move {
 }
 
 /// Where shards go, and which fit none of the plan's servers in their turn, each in the order of the shards.
-#[derive(Debug, Drop)]
+#[derive(Drop)]
 pub struct Plan {
     moves: Vec<Move>,
     left: Vec<ShardId>,

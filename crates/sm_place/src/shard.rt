@@ -6,7 +6,7 @@ use sm_rows::ShardRow;
 use std::alloc::{AllocError, Global};
 
 /// A shard in the books.
-#[derive(Clone, Copy, Debug, PartialEq, Eq, Drop)]
+#[derive(Clone, Copy, PartialEq, Eq, Drop)]
 pub struct Shard {
     /// The shard as the settings give it.
     pub row: ShardRow,

@@ -11,7 +11,7 @@ use std::marker::Model;
 pub type JobQueue = Logged<QueueMachine>;
 
 /// What the queue keeps: the jobs of all keys, in the order in which they came.
-#[derive(Debug, Drop)]
+#[derive(Drop)]
 pub struct QueueMachine {
     jobs: VecDeque<Job>,
 }

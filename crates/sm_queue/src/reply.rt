@@ -1,7 +1,7 @@
 use crate::job::Job;
 
 /// What the queue replies.
-#[derive(Debug, Drop)]
+#[derive(Drop)]
 pub enum Reply {
     /// The job waits.
     Queued,

@@ -2,7 +2,7 @@ use crate::job::Job;
 use sm_body::bytes::Bytes;
 
 /// What a client asks of the queue.
-#[derive(Debug, Drop)]
+#[derive(Drop)]
 pub enum Request {
     /// The job is to wait behind those of its key.
     Push(Job),

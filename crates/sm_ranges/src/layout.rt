@@ -13,7 +13,7 @@ use thiserror::Error;
 
 /// How the key space is cut into shards: shard k has the keys from bound k on, up to the next bound.
 /// There are 1 to 4,096 bounds of at most 255 bytes; the first is empty, and each is above the one before it.
-#[derive(Debug, Drop)]
+#[derive(Drop)]
 pub struct Layout {
     bounds: Vec<Bound>,
 }
@@ -30,7 +30,7 @@ impl Model for Layout {
 }
 
 // Where a shard begins. Unlike a key, it may be empty.
-#[derive(Debug, Drop)]
+#[derive(Drop)]
 struct Bound {
     bytes: Vec<u8>,
 }

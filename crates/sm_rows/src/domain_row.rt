@@ -10,7 +10,7 @@ use std::alloc::{AllocError, Global};
 const DOMAINS: usize = MAX_DOMAIN as usize + 1;
 
 /// A fault domain, as the settings give it.
-#[derive(Clone, Copy, Debug, PartialEq, Eq, Drop)]
+#[derive(Clone, Copy, PartialEq, Eq, Drop)]
 pub struct DomainRow {
     /// The fault domain, 0 to 4,095.
     pub domain: u16,

@@ -5,7 +5,7 @@ ghost use Rattle.sm_rows.specs.Rows.{are_groups, is_group_row};
 use crate::limits::{MAX_GROUPS, MAX_LIMIT};
 
 /// A group of shards, as the settings give it.
-#[derive(Clone, Copy, Debug, PartialEq, Eq, Drop)]
+#[derive(Clone, Copy, PartialEq, Eq, Drop)]
 pub struct GroupRow {
     /// How many of its shards may name a server of one fault domain, 0 to 4,096.
     pub limit: u16,

@@ -7,7 +7,7 @@ use sm_ranges::limits::MAX_SERVER;
 use sm_ranges::server_id::ServerId;
 
 /// A server, as the settings give it.
-#[derive(Clone, Copy, Debug, PartialEq, Eq, Drop)]
+#[derive(Clone, Copy, PartialEq, Eq, Drop)]
 pub struct ServerRow {
     /// The number of the server.
     pub id: ServerId,

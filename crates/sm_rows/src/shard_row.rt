@@ -6,7 +6,7 @@ use crate::limits::MAX_CAP;
 use sm_ranges::limits::MAX_SHARDS;
 
 /// A shard, as the settings give it.
-#[derive(Clone, Copy, Debug, PartialEq, Eq, Drop)]
+#[derive(Clone, Copy, PartialEq, Eq, Drop)]
 pub struct ShardRow {
     /// The place of its group among the groups, from 0.
     pub group: u16,

@@ -2,7 +2,7 @@ use sm_settings::SettingsFault;
 use std::alloc::AllocError;
 
 /// Why an engine began no session with settings that are accepted otherwise.
-#[derive(Clone, Copy, Debug, PartialEq, Eq, Drop)]
+#[derive(Clone, Copy, PartialEq, Eq, Drop)]
 pub enum BeginFault {
     /// The engine can't run these settings, for this reason.
     Settings(SettingsFault),

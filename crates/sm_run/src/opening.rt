@@ -13,7 +13,7 @@ use std::alloc::{AllocError, Global};
 use std::io::{Read, Write};
 
 /// What the first line of the input is.
-#[derive(Debug, Drop)]
+#[derive(Drop)]
 pub enum Opening {
     /// These settings.
     Accepted(Settings),

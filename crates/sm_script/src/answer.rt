@@ -18,7 +18,7 @@ use sm_service::reply::Reply;
 use std::alloc::AllocError;
 
 /// The answer to a line of a script.
-#[derive(Debug, Drop)]
+#[derive(Drop)]
 pub enum Answer {
     /// What the line asked for was done.
     Made,

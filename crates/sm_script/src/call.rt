@@ -7,7 +7,7 @@ use sm_ranges::shard_id::ShardId;
 use sm_service::request::Request;
 
 /// What a line of a script asks for.
-#[derive(Debug, Drop)]
+#[derive(Drop)]
 pub enum Call {
     /// A command of the control: `assign K A`, `drop K` and the other changes of a shard, `ask A` and the other steps of a
     /// server's restart.

@@ -5,7 +5,7 @@ use crate::shape::MAX_CLIENTS;
 use std::marker::Model;
 
 /// How many clients add to a count in a load: 1 to 16.
-#[derive(Clone, Copy, Debug, PartialEq, Eq, Drop)]
+#[derive(Clone, Copy, PartialEq, Eq, Drop)]
 pub struct LoadClients {
     count: u8,
 }

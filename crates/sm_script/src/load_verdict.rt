@@ -2,7 +2,7 @@ ghost use Rattle.std.specs.Prelude.{◌≡◌};
 ghost use Rattle.sm_script.specs.Answers.{load_verdict_name};
 
 /// What the counts of a load say.
-#[derive(Clone, Copy, Debug, PartialEq, Eq, Drop)]
+#[derive(Clone, Copy, PartialEq, Eq, Drop)]
 pub enum LoadVerdict {
     /// Each addition was acknowledged or refused, and the count grew by those that were acknowledged.
     Agrees,

@@ -9,7 +9,7 @@ use sm_place::PlaceFault;
 use sm_tasks::{ApproveFault, StoppedFault};
 
 /// Why a call of a script was refused.
-#[derive(Clone, Copy, Debug, PartialEq, Eq, Drop)]
+#[derive(Clone, Copy, PartialEq, Eq, Drop)]
 pub enum Refused {
     /// There is no such shard.
     UnknownShard,

@@ -16,7 +16,7 @@ pub(crate) const MAX_CLIENTS: u64 = 16;
 pub(crate) const MAX_EACH: u64 = 10_000;
 
 /// What a word of a line has to be.
-#[derive(Clone, Copy, Debug, PartialEq, Eq, Drop)]
+#[derive(Clone, Copy, PartialEq, Eq, Drop)]
 pub(crate) enum Shape {
     /// The number of a shard, 0 to 4,095.
     Shard,

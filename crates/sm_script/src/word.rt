@@ -3,7 +3,7 @@ ghost use Rattle.std.specs.Prelude.{◌≡◌};
 use crate::shape::Shape;
 
 /// The word that a line begins with, or that follows `at A` or `client`.
-#[derive(Clone, Copy, Debug, PartialEq, Eq, Drop)]
+#[derive(Clone, Copy, PartialEq, Eq, Drop)]
 pub(crate) enum Word {
     /// `get KEY`: what the key holds.
     Get,

@@ -7,7 +7,7 @@ use sm_map::val::Val;
 use std::alloc::{AllocError, Global};
 
 // What a key held, with its text in memory of its own.
-#[derive(Debug, Drop)]
+#[derive(Drop)]
 pub(crate) enum Held {
     Text(Bytes),
     Count(i64),

@@ -8,7 +8,7 @@ use std::alloc::{AllocError, Global};
 use std::marker::Model;
 
 /// A key and what it held when a scan found it.
-#[derive(Debug, Drop)]
+#[derive(Drop)]
 pub struct Pair {
     key: Bytes,
     held: Held,

@@ -7,7 +7,7 @@ use std::alloc::{AllocError, Global};
 use std::marker::Model;
 
 /// The pairs that a scan found, in the order of their keys.
-#[derive(Debug, Drop)]
+#[derive(Drop)]
 pub struct PairList {
     pairs: Vec<Pair>,
 }

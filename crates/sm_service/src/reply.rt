@@ -2,7 +2,7 @@ use crate::bytes::Bytes;
 use crate::pair_list::PairList;
 
 /// What the sample service replies.
-#[derive(Debug, Drop)]
+#[derive(Drop)]
 pub enum Reply {
     /// The key holds nothing.
     Nothing,

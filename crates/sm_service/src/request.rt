@@ -2,7 +2,7 @@ use crate::bytes::Bytes;
 use sm_ranges::key::Key;
 
 /// What a client asks of the sample service.
-#[derive(Debug, Drop)]
+#[derive(Drop)]
 pub enum Request {
     /// What does the key hold?
     Get(Key),

@@ -37,7 +37,7 @@ pub const MAX_CEILING: u64 = (1 << 36) - 1;
 pub const MAX_WORKERS: u64 = 8;
 
 /// What a settings line says: how the keys are cut into shards, the servers, groups and shards, and the limits of a run.
-#[derive(Debug, Drop)]
+#[derive(Drop)]
 pub struct Settings {
     pub layout: Layout,
     pub servers: Vec<ServerRow>,

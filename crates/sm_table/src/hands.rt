@@ -7,14 +7,14 @@ use std::alloc::{AllocError, Global};
 use std::marker::Model;
 
 /// What the server admitted to a shard has in hand: a request, or none where it only holds the shard.
-#[derive(Debug, Drop)]
+#[derive(Drop)]
 pub struct InHand<Q: Drop> {
     pub server: ServerId,
     pub work: Option<Work<Q>>,
 }
 
 /// A request that a server has begun, and its number.
-#[derive(Debug, Drop)]
+#[derive(Drop)]
 pub struct Work<Q: Drop> {
     pub number: u64,
     pub request: Q,

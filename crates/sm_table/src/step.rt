@@ -4,7 +4,7 @@ use sm_ranges::server_id::ServerId;
 use sm_ranges::shard_id::ShardId;
 
 /// A step of a world.
-#[derive(Debug, Drop)]
+#[derive(Drop)]
 pub enum Step<Q> {
     /// The control gives a command.
     Control(Command),

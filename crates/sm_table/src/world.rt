@@ -47,7 +47,7 @@ pub struct Setup {
 }
 
 /// An envelope in flight, and the server that it goes to.
-#[derive(Debug, Drop)]
+#[derive(Drop)]
 pub struct Flight<Q: Drop> {
     pub to: ServerId,
     pub envelope: Envelope<Q, ()>,

@@ -4,7 +4,7 @@ use sm_ownership::route::Route;
 use sm_ranges::server_id::ServerId;
 
 /// What a step answers.
-#[derive(Debug, Drop)]
+#[derive(Drop)]
 pub enum WorldAnswer<R> {
     /// It was done.
     Made,
