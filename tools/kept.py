@@ -1,0 +1,81 @@
+"""Keeps the program of tests that `rt try` builds, runs and removes, and runs tests of it again: each allocation
+refused in turn, or leaks looked for.
+
+`rt try --fail-alloc N` compiles N into the program, and would compile anew for the next one. So it is given NEVER
+here, which no test comes to, and a copy of the program has another number in the place of those bytes. Leaks are
+looked for by the address sanitizer that is in it, which also says how many allocations a test makes.
+
+    kept = Kept(ROOM)           ROOM: the TMPDIR of `rt try --test --fail-alloc NEVER`
+    kept.program                where tools/trying.py is to keep it while that process runs
+    kept.names()                the names of its tests; none where it wasn't built
+    kept.prepare()              once it was kept, before tests run (with cc); ValueError where it has no place for N
+    kept.failure(TEST, N)       runs a test, where its N-th allocation is refused: none, or what it wrote where it
+                                failed, misused memory or leaked
+    kept.allocations(TEST)      how many allocations it makes
+"""
+import pathlib
+import re
+import shutil
+import subprocess
+import threading
+
+NEVER = 0x5A5A5A5A5A5A5A5A
+SECONDS = 300
+BYTES = NEVER.to_bytes(8, "little")
+CALLS = re.compile(r"^Stats: .* (?:malloced .*|realloced )by (\d+) calls$", re.M)
+
+
+class Kept:
+    def __init__(self, room):
+        self.room = pathlib.Path(room)
+        self.program = self.room / "kept"
+        self.lock = threading.Lock()
+
+    def prepare(self):
+        """Finds where the program has the number, and compiles what has it end by exit."""
+        self.places = [it.start() for it in re.finditer(re.escape(BYTES), self.program.read_bytes())]
+        if not self.places:
+            raise ValueError("the program hasn't the number of the allocation to refuse")
+        source = pathlib.Path(__file__).with_name("leave.c")
+        words = ["cc", "-O2", "-Wall", "-Wextra", "-Werror", "-shared", "-fPIC"]
+        subprocess.run([*words, "-o", self.room / "leave.so", source], check=True)
+
+    def names(self):
+        if not self.program.exists():
+            return []
+        listed = subprocess.run([self.program, "--list"], capture_output=True, text=True, check=True).stdout
+        return re.findall(r"(?m)^(\S+): test$", listed)
+
+    def refusing(self, number):
+        """Returns a program that refuses the allocation of this number; each thread has one of its own."""
+        program = self.room / f"refuses_{threading.get_ident()}"
+        if not program.exists():
+            shutil.copy(self.program, program)
+        with open(program, "r+b") as file:
+            for at in self.places:
+                file.seek(at)
+                file.write(number.to_bytes(8, "little"))
+        return program
+
+    def run(self, test, number, options):
+        """Runs a test, and returns its exit status and what it wrote."""
+        told = {"ASAN_OPTIONS": options, "LD_PRELOAD": str(self.room / "leave.so")}
+        how = {"stdout": subprocess.PIPE, "stderr": subprocess.STDOUT, "stdin": subprocess.DEVNULL}
+        how = {**how, "text": True, "errors": "replace", "cwd": self.room, "env": told}
+        # No program starts while another one is written, which it would hold open.
+        with self.lock:
+            ran = subprocess.Popen([self.refusing(number), test], **how)
+        try:
+            said = ran.communicate(timeout=SECONDS)[0]
+        except subprocess.TimeoutExpired:
+            ran.kill()
+            return None, ran.communicate()[0] + f"it had not ended after {SECONDS} seconds"
+        return ran.returncode, said
+
+    def failure(self, test, number=NEVER):
+        status, said = self.run(test, number, "detect_leaks=1")
+        return None if status == 0 else f"exit status {status}\n{said.strip()}"
+
+    def allocations(self, test):
+        _, said = self.run(test, NEVER, "print_stats=1:atexit=1")
+        return sum(map(int, CALLS.findall(said)))

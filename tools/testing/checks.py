@@ -1,0 +1,76 @@
+"""Sees which checks of the prover run below a process, and what each has cost, by reading /proc.
+
+A check is one run of the prover: the proof of a crate, of its tests, or of one of its must-fail edits. A prover that
+shares a check with copies of itself waits for them, and their time is in its own. What a check does after the last
+look at it is lost.
+"""
+import collections
+import os
+import re
+import time
+
+TICKS = os.sysconf("SC_CLK_TCK")
+PARTS = ("proof", "tests", "edits")
+
+
+class Check:
+    """One run of the prover: its crate and part, its folder, whether it goes on from what was proved before, when it
+    was first and last seen, its processor seconds and its memory in KiB."""
+
+    def __init__(self, crate, part, folder, goes_on, now):
+        self.crate, self.part, self.folder, self.goes_on, self.began = crate, part, folder, goes_on, now
+        self.ended, self.seconds, self.memory = now, 0.0, 0
+
+
+def read(pid, name):
+    with open(f"/proc/{pid}/{name}", "rb") as file:
+        return file.read().decode(errors="replace")
+
+
+def fields_of(pid):
+    """Returns the fields of /proc/PID/stat from the third on: the second, in brackets, may hold spaces."""
+    return read(pid, "stat").rpartition(")")[2].split()
+
+
+def below(root):
+    """Returns the processes that this one started, and those that they started, and so on."""
+    children = collections.defaultdict(list)
+    for pid in filter(str.isdigit, os.listdir("/proc")):
+        try:
+            children[int(fields_of(pid)[1])].append(int(pid))
+        except (OSError, IndexError, ValueError):  # it has just ended
+            pass
+    found = [root]
+    for pid in found:
+        found += children[pid]
+    return found
+
+
+def crate_of(words):
+    """Returns the crate that a process checks, if it is the prover."""
+    found = re.search(r"--crate-name (\S+)", " ".join(words))
+    return found[1] if found and os.path.basename(words[0]) == "rattle" else None
+
+
+def look(root, checks):
+    """Notes in `checks` what each check that runs now has used so far, and returns those that run."""
+    running, now, provers = [], time.time(), set()
+    for pid in below(root):
+        try:
+            words = read(pid, "cmdline").split("\0")
+            crate = crate_of(words)
+            if not crate:
+                continue
+            provers.add(pid)
+            fields, folder = fields_of(pid), os.readlink(f"/proc/{pid}/cwd")
+            if int(fields[1]) in provers:
+                continue
+            memory = re.search(r"VmHWM:\s+(\d+)", read(pid, "status"))
+        except (OSError, IndexError, ValueError):  # it has just ended
+            continue
+        part = "edits" if "/rt-edit-" in folder else "tests" if "--test" in words else "proof"
+        check = checks.setdefault((pid, fields[19]), Check(crate, part, folder, "--incremental" in words, now))
+        check.ended, check.seconds = now, sum(map(int, fields[11:15])) / TICKS
+        check.memory = max(check.memory, int(memory[1]) if memory else 0)
+        running.append(check)
+    return running

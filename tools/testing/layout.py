@@ -1,0 +1,33 @@
+"""Sees whether each crate is as `rt fmt` lays it out. `rt` has no way to ask, but the program behind it has."""
+import pathlib
+import shutil
+import subprocess
+
+import beside
+import sources
+from testing.part import verdict
+
+RATTLE = pathlib.Path(shutil.which("rt") or "rt").resolve().with_name("rattle")
+ENDINGS = (".rt", ".antt")
+
+
+def files_of(folder):
+    """Returns the files of a crate that the toolchain reads, as paths below its folder."""
+    found = [it for part in ("src", "specs", "proofs") for it in sorted((folder / part).rglob("*"))]
+    return [str(it.relative_to(folder)) for it in found if it.suffix in ENDINGS]
+
+
+def of_benches(room):
+    """Returns the folders of the crates that benches time, once they are crates in this room."""
+    for path, text in beside.wanted("bench").items():
+        beside.write(pathlib.Path(room) / path, text)
+    return [pathlib.Path(room) / "crates" / it for it in beside.folders("bench")]
+
+
+def laid_out(room):
+    """Each crate of crates.txt, and each that a bench times, is laid out. Those of tests are looked at by their tool."""
+    for folder in [*(sources.CRATES / it for it in sources.crates()), *of_benches(room)]:
+        command = [RATTLE, "fmt", "--check", *files_of(folder)]
+        ran = subprocess.run(command, cwd=folder, capture_output=True, text=True, errors="replace")
+        why = f"rt fmt would change it:\n{(ran.stdout + ran.stderr)[-2000:]}"
+        yield verdict(f"the layout of {folder.name}", ran.returncode == 0, why)

@@ -1,0 +1,113 @@
+"""Tries whether the repository is as it has to be: what has to pass before a change is merged.
+
+What is cheap comes first, so that most failures show within minutes:
+
+  without proof   the sources' layout, the docs, the tests, and the examples on a program that is built without proof
+  proofs          rt ci: each crate from nothing, and each wrong body, which the prover must refuse
+  what is proved  the examples, and tools that look for faults, on the program that was just proved, as each of two
+                  compilers built it
+
+A line tells how far it is; what fails is said at once, with its reason. The last line is 'N passed, M failed', and
+the exit status is 1 where anything failed. It runs from any folder.
+"""
+import argparse
+import os
+import resource
+import sys
+import tempfile
+import time
+
+import sources
+from testing import costs, report, stages
+from testing.proofs import Proofs
+from testing.part import Part
+from testing.runner import Runner, processors
+
+
+def arguments():
+    parser = argparse.ArgumentParser(
+        prog="./test", description=__doc__, formatter_class=argparse.RawDescriptionHelpFormatter
+    )
+    parser.add_argument(
+        "crates", nargs="*", metavar="CRATE", help="tries these crates and all that stand on them, and no more"
+    )
+    parser.add_argument(
+        "--quick", action="store_true", help="proves nothing: pages, tests and examples, in some five minutes"
+    )
+    parser.add_argument(
+        "--cached",
+        action="store_true",
+        help="takes what was proved of the same sources on this machine before; never in CI",
+    )
+    endings = parser.add_mutually_exclusive_group()
+    endings.add_argument(
+        "--keep-going", action="store_true", help="tries all, whatever fails (what it does where nothing is said)"
+    )
+    endings.add_argument("--fail-fast", action="store_true", help="ends at the first failure")
+    parser.add_argument(
+        "--proved-tests", action="store_true", help="proves the tests too, which takes some 70 processor minutes more"
+    )
+    parser.add_argument("--write-costs", action="store_true", help="writes what a whole run took into docs/GATE.md")
+    given = parser.parse_args()
+    if given.cached and os.environ.get("CI") == "true":
+        parser.error("in CI all is proved from nothing, so --cached is not for it")
+    if given.quick and (given.crates or given.proved_tests):
+        parser.error("--quick proves nothing, and takes no crates")
+    if given.write_costs and (given.quick or given.cached or given.crates):
+        parser.error("--write-costs is for a whole run from nothing")
+    return given
+
+
+def proofs_of(given):
+    """What is to be proved: nothing, these crates and those on which they stand, or all."""
+    if given.quick:
+        return Proofs([], [])
+    words = ["rt", "ci", *([] if given.cached else ["--anew"])]
+    if not given.crates:
+        return Proofs(words, stages.listed())
+    names = sorted(stages.above(given.crates))
+    return Proofs([*words, *names], stages.below(names))
+
+
+def stages_of(given, proofs, room):
+    """The stages of a run: a name for each, and its parts."""
+    touched = stages.above(given.crates) if given.crates else None
+    names = [it for it, below in stages.crates_of_tests().items() if not touched or touched & set(below)]
+    found = [("without proof", stages.without_proof(room, names, given.proved_tests))]
+    if given.quick:
+        return [*found, ("the program without proof", stages.quick_program(room))]
+    found += [("examples without proof", stages.unproved_program(room)), ("proofs", [Part(proofs.name, proofs.work)])]
+    if not given.crates:
+        found += [("programs", [Part("programs", stages.programs)]), ("what is proved", stages.proved(print))]
+    return found
+
+
+def tell(runner, proofs, began):
+    """Says at the end what it cost, and what failed."""
+    checks = [*proofs.checks.values()]
+    if checks:
+        print(costs.brief(checks))
+        print("\n".join(report.lines(checks)))
+    used = resource.getrusage(resource.RUSAGE_CHILDREN)
+    spent, passed = (used.ru_utime + used.ru_stime) / 60, (time.time() - began) / 60
+    print(f"All of it took {spent:.0f} processor minutes and {passed:.1f} minutes on {processors()} processors.")
+    for name in runner.failed:
+        print(f"FAILED: {name}")
+    print(f"{runner.passed} passed, {len(runner.failed)} failed")
+
+
+def main():
+    os.chdir(sources.TOP)
+    given, began = arguments(), time.time()
+    proofs = proofs_of(given)
+    with tempfile.TemporaryDirectory(prefix="sm-test-") as room:
+        runner = Runner(stages_of(given, proofs, room), proofs, given.fail_fast)
+        try:
+            is_well = runner.run()
+        except KeyboardInterrupt:
+            proofs.stop()
+            sys.exit(130)
+    if given.write_costs and is_well:
+        costs.write(proofs.checks.values(), runner.seconds)
+    tell(runner, proofs, began)
+    sys.exit(0 if is_well else 1)

@@ -1,0 +1,16 @@
+"""A part of ./test, and what it finds."""
+from collections import namedtuple
+
+# A part: its name, and what it does: `work(room)`, a folder of its own, gives a Verdict for each thing that it tries.
+Part = namedtuple("Part", "name work")
+# What was tried, and why it failed; no reason where it passed.
+Verdict = namedtuple("Verdict", "name reason")
+
+
+def passed(name):
+    return Verdict(name, None)
+
+
+def verdict(name, is_well, reason="it isn't so"):
+    """What was tried, and whether it is well."""
+    return Verdict(name, None if is_well else reason)

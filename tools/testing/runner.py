@@ -1,0 +1,92 @@
+"""Runs the parts of ./test in their stages, says at once what fails, and counts."""
+import concurrent.futures
+import os
+import tempfile
+import threading
+import time
+
+from testing import costs
+from testing.part import Verdict
+from testing.progress import Progress
+
+# Seconds of a part of which the table of costs knows nothing yet.
+UNKNOWN = 20
+
+
+def processors():
+    return len(os.sched_getaffinity(0))
+
+
+class FirstFailure(Exception):
+    """Something failed, and the run is to end there."""
+
+
+class Runner:
+    """A run: its stages, each a list of parts that run side by side, one a processor; and what they came to."""
+
+    def __init__(self, stages, proofs, is_fail_fast):
+        self.stages, self.proofs, self.is_fail_fast = stages, proofs, is_fail_fast
+        self.known, self.seconds, self.running = costs.read(), {}, {}
+        self.passed, self.failed, self.turn, self.stopped = 0, [], threading.Lock(), threading.Event()
+        self.progress = Progress(self.load)
+        self.proofs.say = self.progress.say
+
+    def run(self):
+        """Runs all, and returns whether nothing failed."""
+        try:
+            with self.progress:
+                for name, parts in self.stages:
+                    self.run_stage(name, parts)
+        except FirstFailure:
+            pass
+        return not self.failed
+
+    def run_stage(self, name, parts):
+        self.progress.say(f"== {name}")
+        with concurrent.futures.ThreadPoolExecutor(processors()) as pool:
+            for made in concurrent.futures.as_completed([pool.submit(self.run_part, it) for it in parts]):
+                made.result()
+        if self.is_fail_fast and self.failed:
+            raise FirstFailure
+
+    def run_part(self, part):
+        """Runs a part, and says what it came to in one line."""
+        if self.stopped.is_set():
+            return
+        began = self.running[part.name] = time.time()
+        found = [self.judged(part.name, it) for it in self.verdicts(part)]
+        self.running.pop(part.name)
+        self.seconds[part.name] = time.time() - began
+        how = f"{found.count(False)} of {len(found)} FAILED" if False in found else f"{len(found)} passed"
+        self.progress.say(f"{part.name}: {how}, {self.seconds[part.name]:.0f} s")
+
+    def verdicts(self, part):
+        """Gives what the part finds; one that ends by an error has failed."""
+        with tempfile.TemporaryDirectory(prefix="sm-test-") as room:
+            try:
+                yield from part.work(room)
+            except Exception as error:  # whatever went wrong there, the other parts go on
+                yield Verdict(part.name, f"{type(error).__name__}: {error}")
+
+    def judged(self, part, verdict):
+        """Counts a verdict, says at once what failed, and returns whether it passed."""
+        with self.turn:
+            if verdict.reason is None:
+                self.passed += 1
+                return True
+            self.failed.append(verdict.name)
+        self.progress.say(f"FAILED: {part}: {verdict.name}\n{verdict.reason}")
+        if self.is_fail_fast:
+            self.stopped.set()
+            self.proofs.stop()
+        return False
+
+    def load(self):
+        """What runs, the parts done and all of them, and the seconds left: a proof and a must-fail edit count as
+        parts of their own."""
+        names = [part.name for _, parts in self.stages for part in parts if part.name != self.proofs.name]
+        undone = [it for it in names if it not in self.seconds]
+        left = sum(self.known[it].whole if it in self.known else UNKNOWN for it in undone) + self.proofs.left()
+        running = [it for it in [*self.running] if it != self.proofs.name] + self.proofs.running()
+        done, of = len(names) - len(undone) + self.proofs.done(), len(names) + self.proofs.of()
+        return running, done, of, left / processors()

@@ -1,0 +1,154 @@
+"""The parts of ./test in their stages: what is cheap first, then the proofs, then what was proved."""
+import re
+import shutil
+
+import beside
+import sources
+from testing import front, layout, tests
+from testing.part import Part, verdict
+from testing.program import EXAMPLES, Program, opens_nothing, tool
+
+DOCS = ("definitions", "doc-crates", "doc-examples", "doc-paths", "edits", "reading-list")
+PROVED = sources.CRATES / "sm_cli/out/sm_cli"
+BY_RATTLE = sources.CRATES / "sm_cli/out/sm_cli.by-rattle"
+SOAK = sources.CRATES / "bench_cluster/out/bench_cluster"
+
+
+def listed():
+    """Returns the crates of crates.txt, with the crates that each stands on."""
+    lines = (sources.TOP / "crates.txt").read_text(encoding="utf-8").splitlines()
+    found = [re.match(r"(\w+)[^:]*:(.*)", it) for it in lines]
+    return {it[1]: it[2].split() for it in found if it}
+
+
+def crates_of_tests():
+    """Returns the crates of tests by their folders in tests/, with the crates that each stands on."""
+    found = beside.listed("tests").values()
+    return {folder.name: line.partition(":")[2].split() for folder, line in found}
+
+
+def above(crates):
+    """Returns these crates and all that stand on them."""
+    stands_on, wanted = listed(), set(crates)
+    lacking = sorted(wanted - set(stands_on))
+    if lacking:
+        raise SystemExit(f"test: crates.txt lists no crate {', '.join(lacking)}")
+    while more := {it for it in stands_on if wanted & set(stands_on[it])} - wanted:
+        wanted |= more
+    return wanted
+
+
+def below(crates):
+    """Returns these crates and all on which they stand."""
+    stands_on, wanted = listed(), set(crates)
+    while more := {below for it in wanted for below in stands_on[it] if below in stands_on} - wanted:
+        wanted |= more
+    return sorted(wanted)
+
+
+def pages():
+    """The layout of all sources, and what the docs say of them."""
+    return [Part("layout", layout.laid_out), Part("docs", lambda _room: map(tool, DOCS))]
+
+
+def built(name, path):
+    """A program without proof, from which nothing is concluded but that a change is worth a proof."""
+    return Part(f"{name}, built without proof", lambda _room: [tool("unproved", "--crate", name, path)])
+
+
+def without_proof(room, names, is_proved):
+    """The stage before any proof: pages, tests, and the program as sources alone make it."""
+    with_proof = lambda _room: [tool("run-tests", "--proved", *names)]
+    proved = [Part("tests, proved", with_proof)] if is_proved else []
+    return [Part("tests", tests.work(names)), built("sm_cli", f"{room}/sm_cli"), *proved, *pages()]
+
+
+def unproved_program(room):
+    program = Program(f"{room}/sm_cli", "unproved")
+    return [Part("examples, unproved", program.examples), Part("exit statuses, unproved", program.statuses)]
+
+
+def quick_program(room):
+    """What tells most of a change of a page or a script in few minutes. The sanitizer's memory can't be refused from
+    outside, so that is tried on what is proved."""
+    path = f"{room}/sm_cli"
+    program = Program(path, "unproved")
+    streams = ["failing-streams", "--calls", 5, path, EXAMPLES / "migration.in"]
+    return [
+        Part("explanations, unproved", program.explanations),
+        Part("random scripts, unproved", program.scripts(count=8, on_threads=2)),
+        Part("spoilt scripts, unproved", lambda _room: [tool("malformed", "--every", 740, "--random", 20, path)]),
+        *unproved_program(room),
+        Part("failing streams, unproved", lambda _room: [tool(*streams)]),
+        Part("the shell, unproved", program.shell),
+    ]
+
+
+def when_built(path, parts):
+    """These parts, of which each finds nothing where the program wasn't built: that it has to be is a part of its
+    own."""
+
+    def guarded(work):
+        return lambda room: work(room) if path.exists() else []
+
+    return [Part(it.name, guarded(it.work)) for it in parts]
+
+
+def on_program(path, how):
+    """What each of the two builds of the proved program passes."""
+    program = Program(path, how)
+    parts = [
+        Part(f"spoilt scripts, {how}", program.spoilt(every=37, count=500, every_on_threads=370, on_threads=50)),
+        Part(f"random scripts, {how}", program.scripts(count=20, on_threads=5)),
+        Part(f"a script at the limits, {how}", program.full_size),
+        Part(f"explanations, {how}", program.explanations),
+        Part(f"examples, {how}", program.examples),
+        Part(f"exit statuses, {how}", program.statuses),
+    ]
+    return when_built(path, parts)
+
+
+def faults(say):
+    """What takes more than the program: a C compiler, to make calls fail, and valgrind."""
+    program, parts = Program(PROVED, "proved"), []
+    if shutil.which("cc"):
+        parts += [
+            Part("refused memory, proved", program.memory),
+            Part("failing streams, proved", program.streams),
+            Part("fuzzing, proved", program.fuzzed),
+            Part("what the program calls", opens_nothing(PROVED)),
+        ]
+    else:
+        say("cc isn't installed: no allocation is refused, no stream fails, and nobody looks what the program calls")
+    if shutil.which("valgrind"):
+        parts.append(Part("under valgrind, proved", program.watched))
+    else:
+        say("valgrind isn't installed: no example runs under it")
+    return parts
+
+
+def programs(_room):
+    """What the proofs built. `rt ci` may have taken over a program that it built before, under --cached; it is as new as
+    its sources all the same, which is how ./sm sees that it is proved."""
+    for path in (PROVED, SOAK):
+        yield verdict(f"{path.name} was proved and built", path.exists())
+        if path.exists():
+            path.touch()
+
+
+def proved(say):
+    """The stage after the proofs: the programs that they made. Rattle's own compiler may decline one, which `rt ci`
+    then says."""
+    program = Program(PROVED, "proved")
+    parts = [
+        Part("pictures, proved", program.pictures),
+        Part("the shell, proved", program.shell),
+        Part("./sm", front.words),
+        *faults(say),
+    ]
+    return [
+        *on_program(PROVED, "proved"),
+        *on_program(BY_RATTLE, "by Rattle's compiler"),
+        *when_built(PROVED, parts),
+        *when_built(SOAK, [Part("a cluster by chance", lambda _room: [tool("soak", "--seconds", 5, SOAK)])]),
+    ]
