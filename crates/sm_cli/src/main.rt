@@ -1,6 +1,11 @@
 //! The program sm_cli: runs a script of the shard manager, one command at a time.
 #![tactic(auto)]
 
+ghost use Rattle.std.specs.Prelude.{◌≡◌, OnOk, Ok};
+ghost use Rattle.std.specs.Io.KnownBytes.{IsAtEnd};
+ghost use Rattle.sm_model.specs.Runs.{WroteScript};
+ghost use Rattle.sm_threads.specs.Runs.{WroteAnswers};
+
 mod counts_table;
 
 use crate::counts_table::CountsTable;
@@ -13,6 +18,7 @@ use sm_model::{ModelEngine, run_model};
 use sm_run::{RunFault, Status, run};
 use sm_threads::{run_threads, run_threads_explained};
 use std::alloc::Global;
+use std::io::{Read, Write};
 use std::process::ExitCode;
 use std::rt::Runtime;
 use std::sync::Wait;
@@ -187,6 +193,27 @@ fn end_plain<R: Runtime>(rt: &R, ended: Result<Status, RunFault>) -> anyhow::Res
     }
 }
 
+/// Runs the script of the reader, and writes its answers, on any streams alike. Of streams that tell their bytes, as a buffer in
+/// memory does, what was written is what the runner's definition says. Standard input and output, which `main` hands over, tell none.
+fn run_on<I: Read, W: Write, R: Threads + Wait + Clone + Send + Sync + Drop + 'static>(
+    rt: &R,
+    alloc: Global,
+    runner: Runner,
+    reader: &mut Watched<I>,
+    writer: &mut Watched<W>,
+) -> Result<Status, RunFault>
+    ensures model { runner ≡ Runner.Model → OnOk result (WroteScript (I.remaining reader.old.inner)
+        (W.contents writer.old.inner) (W.contents writer.new.inner)) }
+    ensures threads { runner ≡ Runner.Threads → result ≡ Ok Status.Ran → WroteAnswers (I.remaining reader.old.inner)
+        (W.contents writer.old.inner) (W.contents writer.new.inner) }
+    ensures read_all { result ≡ Ok Status.Ran → IsAtEnd (I.remaining reader.new.inner) }
+{
+    match runner {
+        Runner::Model => run_model(alloc, reader, writer),
+        Runner::Threads => run_threads(rt, alloc, reader, writer, &Open),
+    }
+}
+
 /// Runs the script of standard input.
 fn run_plain<R: Runtime + Threads + Wait + Send + Sync + 'static>(
     rt: &R,
@@ -195,10 +222,7 @@ fn run_plain<R: Runtime + Threads + Wait + Send + Sync + 'static>(
 ) -> anyhow::Result<ExitCode> {
     let mut reader = Watched::new(rt.reader());
     let mut writer = Watched::new(io::writer(rt));
-    let ended = match runner {
-        Runner::Model => run_model(alloc, &mut reader, &mut writer),
-        Runner::Threads => run_threads(rt, alloc, &mut reader, &mut writer, &Open),
-    };
+    let ended = run_on(rt, alloc, runner, &mut reader, &mut writer);
     end_plain(rt, ended)
 }
 
