@@ -7,7 +7,9 @@ use std::alloc::{AllocError, Global};
 use std::io::{Read, Write};
 use std::process::Abort;
 use std::test::Fail;
-use test_lines::stops::{Runs, is_written, wrong_stop_of_reader, wrong_stop_of_writer};
+use test_lines::stops::{
+    Runs, is_written, is_written_in_two, wrong_stop_of_reader, wrong_stop_of_writer,
+};
 
 /// A line of settings: shard 0 below `m`, shard 1 from `m` on.
 const SETTINGS: &[u8] =
@@ -114,4 +116,21 @@ fn stops_where_the_writer_fails(rt: HostRuntime) {
     assert_eq!(rt; wrong, None);
     let wrong = wrong_stop_of_writer(&Model, rt.alloc(), b"{}", b"settings BadVersion\n");
     assert_eq!(rt; wrong, None);
+}
+
+// What follows the settings, with lines that ask for plans and for what is kept, and the answers.
+const WIDE_PATH: &[u8] =
+    b"place\nassign 0 1\nassign 1 2\nput c one\nappend c  two\ninc b 7\nscan b d 9\nscan b d\npublish 0\nclient get c\ncheckpoint 0 1\ndrain 1\nlook 0\n";
+
+const WIDE_ANSWERS: &[u8] =
+    b"plan 0>1 1>1 left\nok\nok\ndone @1#0\ndone @1#1\ncount 7 @1#2\npairs 2 1:b c7 1:c t7:one two @1#3\nerror BadLine\nok\ntext 7:one two @1#4\nok\nplan 0>2 left\nServing 1 0 idle 13\n";
+
+// With each allocation refused in turn (`tools/run-tests` does it): those of a session, of its world, and of calls and their answers.
+#[test]
+fn refused_memory_stops_between_lines(rt: HostRuntime) {
+    let alloc = rt.alloc();
+    let script = script_of(alloc, WIDE_PATH).ok().expect(&rt, "memory");
+    let room = Vec::with_capacity(alloc, 400);
+    let mut written: Vec<u8> = room.ok().expect(&rt, "memory");
+    assert!(rt; is_written_in_two(&Model, alloc, &script, &mut written, WIDE_ANSWERS));
 }
