@@ -144,8 +144,7 @@ fn publish_in_two<R: Wait + Abort>(rt: &R, running: &mut Running) {
 }
 
 // The request of a call that memory was refused for, on its way or at the server.
-fn request_back<R: Abort>(rt: &R, refused: CallRefused<Request>) -> Request {
-    let CallRefused { fault, back } = refused;
+fn request_back<R: Abort>(rt: &R, fault: CallFault, back: Option<Request>) -> Request {
     let is_want = matches!(
         fault,
         CallFault::NoMemory | CallFault::Refused(Refusal::NoMemory)
@@ -172,6 +171,21 @@ fn called<R: Wait>(
     }
 }
 
+// The client learns the answer.
+fn told<R: Wait + Abort>(
+    rt: &R,
+    alloc: Global,
+    client: &mut Client<Holding>,
+    at: Option<ServerId>,
+    request: Request,
+) -> Told<Reply>
+    ensures board { client.new.pass.board ≡ client.old.pass.board }
+    ensures bounds { client.new.bounds ≡ client.old.bounds }
+{
+    let answer = called(rt, alloc, client, at, request);
+    client.learn(answer.ok().expect(rt, "the answer"))
+}
+
 // The client increments. Where memory is refused, the request comes back, and is called with again.
 fn told_in_two<R: Wait + Abort>(
     rt: &R,
@@ -184,10 +198,9 @@ fn told_in_two<R: Wait + Abort>(
 {
     match called(rt, alloc, client, at, inc_of(rt, alloc, b"a")) {
         Ok(answer) => client.learn(answer),
-        Err(refused) => {
-            let back = request_back(rt, refused);
-            let answer = called(rt, alloc, client, at, back);
-            client.learn(answer.ok().expect(rt, "the answer"))
+        Err(CallRefused { fault, back }) => {
+            let request = request_back(rt, fault, back);
+            told(rt, alloc, client, at, request)
         }
     }
 }

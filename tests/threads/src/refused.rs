@@ -5,7 +5,7 @@ use sm_explain::Listener;
 use sm_lines::Watched;
 use sm_ranges::Key;
 use sm_run::{RunFault, Status};
-use sm_threads::{CountsListener, KeyCount, run_threads, run_threads_explained};
+use sm_threads::{CountsListener, KeyCount, run_threads_explained};
 use std::alloc::Global;
 use std::io::{Read, Write};
 use std::process::Abort;
@@ -20,26 +20,7 @@ const SCRIPT: &[u8] =
 const ANSWERS: &[u8] =
     b"plan 0>1 left\nok\nok\ndone @1#0\ndone @1#1\npairs 1 1:a t7:one two @1#2\nrefused NotExecutor\nok\nplan 0>2 left\nServing 1 0 idle 9\n";
 
-/// Runs scripts on a cluster.
-#[derive(Drop)]
-struct Plain<'a, R> {
-    rt: &'a R,
-}
-
-impl<T: Threads + Wait + Clone + Send + Sync + Drop + 'static> Runs for Plain<'_, T> {
-    fn run_on<R: Read + Drop, W: Write + Drop>(
-        &self,
-        alloc: Global,
-        reader: R,
-        writer: W,
-    ) -> Result<Status, RunFault> {
-        let mut reader = Watched::new(reader);
-        let mut writer = Watched::new(writer);
-        run_threads(self.rt, alloc, &mut reader, &mut writer, &Open)
-    }
-}
-
-/// The same, and tells it why lines were refused and what the cluster counted.
+/// Runs scripts on a cluster, and tells an ear why lines were refused and what the cluster counted.
 #[derive(Drop)]
 struct Told<'a, R> {
     rt: &'a R,
@@ -84,16 +65,7 @@ fn refused_memory_stops_between_lines(rt: HostRuntime) {
     let alloc = rt.alloc();
     let room = Vec::with_capacity(alloc, 400);
     let mut written: Vec<u8> = room.ok().expect(&rt, "memory");
-    let plain = Plain { rt: &rt };
-    assert!(rt; is_written_in_two(&plain, alloc, SCRIPT, &mut written, ANSWERS));
-    asks_in_two(&rt, alloc);
-}
-
-#[test]
-fn refused_memory_stops_explained_lines(rt: HostRuntime) {
-    let alloc = rt.alloc();
-    let room = Vec::with_capacity(alloc, 400);
-    let mut written: Vec<u8> = room.ok().expect(&rt, "memory");
     let told = Told { rt: &rt };
     assert!(rt; is_written_in_two(&told, alloc, SCRIPT, &mut written, ANSWERS));
+    asks_in_two(&rt, alloc);
 }
