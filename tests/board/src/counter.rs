@@ -1,5 +1,6 @@
 use crate::answer::{Answer, answer_of};
 use crate::ask::Ask;
+use sm_ranges::ServerId;
 use sm_service::{ApplyFault, CounterText, Reply, Request, Service};
 use std::alloc::Global;
 use std::process::Abort;
@@ -67,6 +68,11 @@ impl Counter {
                 applied(&mut self.body, back)
             }
         }
+    }
+
+    /// Settles the body for the server, for which it moves into fresh memory where that isn't refused.
+    pub(crate) fn settle(&mut self, server: ServerId) {
+        self.body.settle(server);
     }
 
     /// How many requests are kept.

@@ -22,6 +22,8 @@ mod fixture;
 #[cfg(test)]
 mod logged;
 #[cfg(test)]
+mod memory;
+#[cfg(test)]
 mod notes;
 #[cfg(test)]
 mod queue;

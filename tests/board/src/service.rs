@@ -3,6 +3,7 @@ use crate::answer::Answer;
 use crate::ask::Ask;
 use crate::counter::Counter;
 use sm_body::Boxed;
+use sm_ranges::ServerId;
 use sm_ranges::key::{Key, KeyFault};
 use sm_service::{ApplyFault, Bytes, CounterText, Reply, Request, Service};
 use std::alloc::{AllocError, Global};
@@ -284,20 +285,25 @@ fn counts_in_bounded_memory(rt: HostRuntime) {
     }
 }
 
-// With each allocation refused in turn (`tools/run-tests` does it), the answers stay the same.
+// With each allocation refused in turn (`tools/run-tests` does it), the answers stay the same, be the body moved into fresh memory
+// or not.
 #[test]
 fn hands_back_what_memory_refuses(rt: HostRuntime) {
-    let mut counter = Counter::new(rt.alloc(), 6);
+    let mut counter = Counter::new(rt.alloc(), 9);
     let asked = [
         (Ask::Put(b"b", b"one"), Answer::Done),
         (Ask::Put(b"a", b"two"), Answer::Done),
         (Ask::Put(b"b", b"three"), Answer::Done),
+        (Ask::Append(b"a", b" more"), Answer::Done),
         (Ask::Inc(b"c", 3), Answer::Count(3)),
+        (Ask::Scan(b"a", b"d", 9), Answer::Pairs(3)),
     ];
     for (ask, answer) in asked {
         assert!(rt; counter.answers_in_two(&rt, ask, answer));
     }
-    assert!(rt; counter.answers_in_two(&rt, Ask::Get(b"a"), Answer::Text(b"two")));
+    counter.settle(ServerId::of(1));
+    assert!(rt; counter.answers_in_two(&rt, Ask::Get(b"a"), Answer::Text(b"two more")));
+    assert!(rt; counter.answers_in_two(&rt, Ask::Del(b"a"), Answer::Done));
     assert!(rt; counter.answers_in_two(&rt, Ask::Get(b"b"), Answer::Text(b"three")));
-    assert!(rt; counter.kept() == 6);
+    assert!(rt; counter.kept() == 9);
 }

@@ -1,4 +1,4 @@
-//! The sample service, whose requests may have to stay at a latch while they are applied.
+//! The sample service, whose requests may have to stay at a latch while they are applied, or whose first checkpoint is refused memory.
 use crate::latch::Latch;
 use sm_ranges::server_id::ServerId;
 use sm_service::{ApplyFault, CounterText, Reply, Request, Service};
@@ -6,11 +6,13 @@ use std::alloc::{AllocError, Global};
 use std::marker::Model;
 use std::sync::Arc;
 
-/// A body of the sample service. Where it has a latch, each request stays there while it is applied.
+/// A body of the sample service. Where it has a latch, each request stays there while it is applied. Where it is refusing, it refuses
+/// its first checkpoint, and makes the others.
 #[derive(Drop)]
 pub(crate) struct Holding {
     body: CounterText,
     latch: Option<Arc<Latch>>,
+    is_refusing: bool,
 }
 
 impl Model for Holding {
@@ -33,6 +35,20 @@ impl Holding {
         Holding {
             body: CounterText::new(alloc, limit),
             latch,
+            is_refusing: false,
+        }
+    }
+
+    /// The same without a latch, which refuses its first checkpoint.
+    pub(crate) fn refusing(alloc: Global, limit: usize) -> Holding
+        ensures base { result.base ≡ [] }
+        ensures before { result.before ≡ 0 }
+        ensures empty { result.requests ≡ [] }
+    {
+        Holding {
+            body: CounterText::new(alloc, limit),
+            latch: None,
+            is_refusing: true,
         }
     }
 }
@@ -89,6 +105,10 @@ impl Service for Holding {
     }
 
     fn checkpoint(&mut self) -> Result<(), AllocError> {
+        if self.is_refusing {
+            self.is_refusing = false;
+            return Err(AllocError);
+        }
         self.body.checkpoint()
     }
 }

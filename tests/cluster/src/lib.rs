@@ -24,6 +24,8 @@ mod loads;
 #[cfg(test)]
 mod promises;
 #[cfg(test)]
+mod refused;
+#[cfg(test)]
 mod running;
 #[cfg(test)]
 mod starting;

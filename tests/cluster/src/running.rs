@@ -8,7 +8,7 @@ use crate::latch::Latch;
 use sm_cluster::{Client, Cluster, FreeFault, Gate, HoldFault, Setup, Told};
 use sm_desk::{Command, Desk};
 use sm_ownership::{Change, Record};
-use sm_place::Books;
+use sm_place::{Books, BooksFault};
 use sm_ranges::limits::MAX_SERVER;
 use sm_ranges::{Key, Layout, ServerId, ShardId, Stand};
 use sm_rows::limits::MAX_DOMAIN_DOWN;
@@ -54,8 +54,8 @@ fn server_row(id: ServerId, domain: u16) -> ServerRow {
     }
 }
 
-// Servers 1 to 3 with room for both shards each, the first in a domain of its own. One server may be down, and the second shard.
-fn desk_of(alloc: Global) -> Result<Desk, Fail>
+/// Servers 1 to 3 with room for both shards each, the first in a domain of its own. One server may be down, and the second shard.
+pub(crate) fn desk_of(alloc: Global) -> Result<Desk, BooksFault>
     ensures count { IfOk result (λ desk. length desk.books.shards ≡ 2) }
     ensures vacant { IfOk result (λ desk. All (λ shard. shard.stand ≡ Vacant) desk.books.shards) }
 {

@@ -8,6 +8,8 @@ mod common;
 #[cfg(test)]
 mod limits;
 #[cfg(test)]
+mod memory;
+#[cfg(test)]
 mod running;
 #[cfg(test)]
 mod threads;

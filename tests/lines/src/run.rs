@@ -3,7 +3,9 @@
 use crate::fakes::FailingReader;
 use crate::lines::Echo;
 use crate::settings::PLAIN;
-use crate::stops::{Runs, is_written, wrong_stop_of_reader, wrong_stop_of_writer};
+use crate::stops::{
+    Runs, is_written, is_written_in_two, wrong_stop_of_reader, wrong_stop_of_writer,
+};
 use sm_lines::Watched;
 use sm_run::{BeginFault, Engine, RunFault, Status, run};
 use sm_settings::{MAX_SETTINGS, Settings};
@@ -135,4 +137,14 @@ fn reads_nothing_after_the_end(rt: HostRuntime) {
     assert!(rt; reads_each_once(rt.alloc(), &input, b"one\n"));
     let input = script_of(rt.alloc(), b"one\n").ok().expect(&rt, "memory");
     assert!(rt; reads_each_once(rt.alloc(), &input, b"one\n"));
+}
+
+// With each allocation refused in turn (`tools/run-tests` does it), those of what reads lines, settings among them, and writes answers.
+#[test]
+fn refused_memory_stops_between_lines(rt: HostRuntime) {
+    let alloc = rt.alloc();
+    let script = script_of(alloc, LINES).ok().expect(&rt, "memory");
+    let room = Vec::with_capacity(alloc, 200);
+    let mut written: Vec<u8> = room.ok().expect(&rt, "memory");
+    assert!(rt; is_written_in_two(&EchoEngine, alloc, &script, &mut written, ANSWERS));
 }

@@ -9,6 +9,10 @@ use std::test::Fail;
 pub(crate) const PLAIN: &str =
     r#"{"version":1,"bounds":["","m"],"servers":[{"id":1,"domain":0,"capacity":2},{"id":2,"domain":1,"capacity":2},{"id":3,"domain":1,"capacity":2}],"groups":[{"limit":2,"down":1}],"shards":[{"group":0,"load":1,"cap":0},{"group":0,"load":1,"cap":1}],"ops":1,"kept":100,"ceiling":1000,"workers":2}"#;
 
+/// A short line of version 2.
+const SMALL: &str =
+    r#"{"version":2,"bounds":[""],"servers":[{"id":1,"domain":0,"capacity":1}],"groups":[{"limit":1,"down":1}],"shards":[{"group":0,"load":1,"cap":1}],"domains":[{"domain":0,"down":1}],"ops":1,"kept":100,"ceiling":1000,"workers":1}"#;
+
 /// The plain line with the first `old` in it changed to `new`.
 fn changed(rt: &impl Abort, alloc: Global, old: &str, new: &str) -> String {
     let (front, back) = PLAIN.split_once(old).expect(rt, "not in the plain line");
@@ -237,6 +241,26 @@ fn last_of_equal_members_counts(rt: HostRuntime) {
     let versions = "\"version\":1,\"version\":3";
     let fault = fault_with(&rt, rt.alloc(), "\"version\":1", versions);
     assert!(rt; fault == Some(SettingsFault::BadVersion));
+}
+
+// The settings of the line, read again where memory is refused.
+fn read_in_two(rt: &impl Abort, alloc: Global, line: &[u8]) -> Settings {
+    match Settings::read(alloc, line) {
+        Ok(settings) => settings,
+        Err(fault) => {
+            assert!(rt; fault == SettingsFault::NoMemory);
+            Settings::read(alloc, line).ok().expect(rt, "the settings")
+        }
+    }
+}
+
+// With each allocation refused in turn (`tools/run-tests` does it), settings of either version.
+#[test]
+fn refused_memory_reads_nothing(rt: HostRuntime) {
+    let alloc = rt.alloc();
+    assert!(rt; has_plain_rows(&read_in_two(&rt, alloc, PLAIN.as_bytes())));
+    let settings = read_in_two(&rt, alloc, SMALL.as_bytes());
+    assert!(rt; settings.domains.as_slice() == [domain_row(0, 1)].as_slice());
 }
 
 // The plain line with so many bytes, of which the last ones are spaces.

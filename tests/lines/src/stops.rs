@@ -60,6 +60,25 @@ pub fn wrong_stop_of_writer<T: Runs>(
     None
 }
 
+/// Whether the run of the script, into an empty vector that has room, writes this output. Where memory is refused, it should have written
+/// the answers to a front of the lines, and the same run once more all.
+pub fn is_written_in_two<T: Runs>(
+    on: &T,
+    alloc: Global,
+    script: &[u8],
+    written: &mut Vec<u8>,
+    output: &[u8],
+) -> bool {
+    let ended = on.run_on(alloc, script, &mut *written);
+    if ended != Err(RunFault::NoMemory) && ended != Err(RunFault::NoThread) {
+        return ended == Ok(Status::Ran) && written.as_slice() == output;
+    }
+    let is_right = is_front(written, output);
+    written.clear();
+    let ended = on.run_on(alloc, script, &mut *written);
+    is_right && ended == Ok(Status::Ran) && written.as_slice() == output
+}
+
 // Whether the run stops where the reader fails once it gave the bytes `read`.
 fn is_stopped_reading<T: Runs>(
     on: &T,

@@ -230,9 +230,9 @@ fn all_or_nothing(shelf: &mut Shelf, short: &[u8], long: &[u8]) -> bool {
         && shelf.dead() == 0
 }
 
-// Does so three times, which takes some twelve chunks, so that the list of them grows.
+// Does so twice, which takes some nine chunks, so that the list of them grows twice.
 fn each_all_or_nothing(shelf: &mut Shelf, short: &[u8], long: &[u8]) -> bool {
-    for _ in 0..3 {
+    for _ in 0..2 {
         if !all_or_nothing(shelf, short, long) {
             return false;
         }
@@ -243,10 +243,11 @@ fn each_all_or_nothing(shelf: &mut Shelf, short: &[u8], long: &[u8]) -> bool {
 // Passes with each allocation refused in turn (`tools/run-tests` does it).
 #[test]
 fn refused_memory_changes_nothing(rt: HostRuntime) {
-    let Ok(short) = bytes_from(rt.alloc(), 1, 40_000) else {
+    // No two of the short pieces fit into a chunk, and the long one has a chunk of its own.
+    let Ok(short) = bytes_from(rt.alloc(), 1, 33_000) else {
         return;
     };
-    let Ok(long) = bytes_from(rt.alloc(), 2, 80_000) else {
+    let Ok(long) = bytes_from(rt.alloc(), 2, 66_000) else {
         return;
     };
     if let Ok(mut shelf) = Shelf::new(rt.alloc(), b"first") {

@@ -288,15 +288,22 @@ fn publish_or_nothing<R: Wait + Abort>(
     }
 }
 
+// A map of two shards and its routers, made again where memory is refused.
+fn published_in_two<R: Wait + Abort>(rt: &R, alloc: Global) -> (Publisher, Vec<Router>) {
+    match Publisher::new(rt, alloc, 2, 3) {
+        Ok(made) => made,
+        Err(AllocError) => Publisher::new(rt, alloc, 2, 3)
+            .ok()
+            .expect(rt, "the publisher"),
+    }
+}
+
 // Passes with each allocation refused in turn (`tools/run-tests` does it).
 #[test]
 fn refused_memory_changes_nothing(rt: HostRuntime) {
-    let Ok(layout) = Layout::new(rt.alloc(), &[b"", b"m"]) else {
-        return;
-    };
-    let Ok((mut publisher, mut routers)) = Publisher::new(&rt, rt.alloc(), 2, 3) else {
-        return;
-    };
-    publish_or_nothing(&rt, &mut publisher, &mut routers[0], &layout);
+    let layout = two_shards(&rt, rt.alloc());
+    let (mut publisher, mut routers) = published_in_two(&rt, rt.alloc());
+    let mut router = routers.pop().expect(&rt, "a router");
+    publish_or_nothing(&rt, &mut publisher, &mut router, &layout);
     publisher.end(&rt);
 }

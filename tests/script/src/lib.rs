@@ -4,4 +4,6 @@
 #[cfg(test)]
 mod model;
 #[cfg(test)]
+mod refused;
+#[cfg(test)]
 mod script;

@@ -7,7 +7,9 @@ use std::alloc::{AllocError, Global};
 use std::io::{Read, Write};
 use std::process::Abort;
 use std::test::Fail;
-use test_lines::stops::{Runs, is_written, wrong_stop_of_reader, wrong_stop_of_writer};
+use test_lines::stops::{
+    Runs, is_written, is_written_in_two, wrong_stop_of_reader, wrong_stop_of_writer,
+};
 
 /// A line of settings: shard 0 below `m`, shard 1 from `m` on.
 const SETTINGS: &[u8] =
@@ -114,4 +116,20 @@ fn stops_where_the_writer_fails(rt: HostRuntime) {
     assert_eq!(rt; wrong, None);
     let wrong = wrong_stop_of_writer(&Model, rt.alloc(), b"{}", b"settings BadVersion\n");
     assert_eq!(rt; wrong, None);
+}
+
+/// Settings of two servers and one shard, and lines that ask for plans and for what is kept.
+const SMALL: &[u8] =
+    b"{\"version\":1,\"bounds\":[\"\"],\"servers\":[{\"id\":1,\"domain\":0,\"capacity\":1},{\"id\":2,\"domain\":1,\"capacity\":1}],\"groups\":[{\"limit\":1,\"down\":1}],\"shards\":[{\"group\":0,\"load\":1,\"cap\":1}],\"ops\":1,\"kept\":100,\"ceiling\":1000,\"workers\":1}\nplace\nassign 0 1\nput a one\nappend a  two\npublish 0\nclient inc b 7\nscan a c 9\nat 2 get a\ncheckpoint 0 1\ndrain 1\nscan b d\nlook 0\n";
+
+/// What is written for them.
+const SMALL_ANSWERS: &[u8] =
+    b"plan 0>1 left\nok\ndone @1#0\ndone @1#1\nok\ncount 7 @1#2\npairs 2 1:a t7:one two 1:b c7 @1#3\nrefused NotExecutor\nok\nplan 0>2 left\nerror BadLine\nServing 1 0 idle 11\n";
+
+// With each allocation refused in turn (`tools/run-tests` does it): those of a session, of its world, and of calls and their answers.
+#[test]
+fn refused_memory_stops_between_lines(rt: HostRuntime) {
+    let room = Vec::with_capacity(rt.alloc(), 400);
+    let mut written: Vec<u8> = room.ok().expect(&rt, "memory");
+    assert!(rt; is_written_in_two(&Model, rt.alloc(), SMALL, &mut written, SMALL_ANSWERS));
 }

@@ -9,8 +9,7 @@ mod counting;
 mod memory;
 #[cfg(test)]
 mod migrating;
-#[cfg(test)]
-mod refusing;
+pub mod refusing;
 #[cfg(test)]
 mod running;
 #[cfg(test)]

@@ -6,7 +6,7 @@ use std::marker::Model;
 
 /// A body of the sample service that refuses its first checkpoint, and makes the others.
 #[derive(Drop)]
-pub(crate) struct Refusing {
+pub struct Refusing {
     body: CounterText,
     is_refusing: bool,
 }
@@ -23,7 +23,7 @@ impl Refusing {
     ghost use Rattle.std.specs.Prelude.{◌≡◌, []};
 
     /// A body that has applied nothing, and keeps at most so many requests.
-    pub(crate) fn new(alloc: Global, limit: usize) -> Refusing
+    pub fn new(alloc: Global, limit: usize) -> Refusing
         ensures base { result.base ≡ [] }
         ensures before { result.before ≡ 0 }
         ensures empty { result.requests ≡ [] }

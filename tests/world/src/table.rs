@@ -1,6 +1,7 @@
 mod act;
 mod fixture;
 mod phases;
+mod refused;
 mod told;
 
 use crate::common::shard;

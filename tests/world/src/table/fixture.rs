@@ -18,7 +18,7 @@ use std::alloc::{AllocError, Global};
 use std::process::Abort;
 
 // So many bodies that have applied nothing yet and keep two requests each.
-fn new_bodies(alloc: Global, count: usize) -> Result<Vec<CounterText>, AllocError>
+pub fn new_bodies(alloc: Global, count: usize) -> Result<Vec<CounterText>, AllocError>
     ensures length { IfOk result (λ bodies. length bodies.items ≡ count) }
     ensures initial { IfOk result (λ bodies. All (λ body. body.base ≡ []) bodies.items) }
     ensures before { IfOk result (λ bodies. All (λ body. body.before ≡ 0) bodies.items) }
@@ -68,12 +68,16 @@ pub struct Fixture {
 
 impl Fixture {
     pub fn new(rt: &impl Abort, alloc: Global) -> Fixture {
-        let world = new_world(rt, alloc);
+        Fixture::of(alloc, new_world(rt, alloc))
+    }
+
+    // This world, which has this memory for keys.
+    pub fn of(alloc: Global, world: World<CounterText>) -> Fixture {
         Fixture { alloc, world }
     }
 
     // What the step is answered, where there is memory for its key.
-    fn told(&mut self, act: &Act) -> Told {
+    pub fn told(&mut self, act: &Act) -> Told {
         let Ok(step) = act.step(self.alloc) else {
             return Told::Fault(WorldFault::NoMemory);
         };
