@@ -27,7 +27,33 @@ def words(room):
     )
     said = runs.finished([link, "--help"]).output.decode()
     yield verdict("./sm --help", "\n./sm settings " in f"\n{said}" and "\n  prepare_add K B " in said, said)
+    yield Verdict("./sm with an unknown word", fault_of([link, "modle"], 2, b"", "there is no modle"))
+    yield from strict()
+    yield from settings_over_lines(pathlib.Path(room) / "script")
     yield Verdict("./sm without rt", without_rt(pathlib.Path(room)))
+
+
+def strict():
+    """With --strict, before or behind the file, a script with a line that is answered by error ends with 3."""
+    for script, status, complaint in (("malformed", 3, "line 2: error BadNumber"), ("migration", 0, "")):
+        given, output = EXAMPLES / f"{script}.in", (EXAMPLES / f"{script}.out").read_bytes()
+        yield Verdict(f"./sm --strict {script}", fault_of([SM, "model", "--strict", given], status, output, complaint))
+        yield Verdict(f"./sm {script} --strict", fault_of([SM, "model", given, "--strict"], status, output, complaint))
+    given, output = EXAMPLES / "malformed.in", (EXAMPLES / "malformed.out").read_bytes()
+    yield Verdict(
+        "./sm with --explain behind the file", fault_of([SM, "model", given, "--explain"], 3, output, "refused")
+    )
+
+
+def settings_over_lines(script):
+    """A script whose settings stand over several lines is pointed to ./sm check, which makes what runs."""
+    first, _, rest = (EXAMPLES / "first-path.in").read_bytes().partition(b"\n")
+    script.write_bytes(b"# settings\n" + first.replace(b",", b",\n") + b"\n" + rest)
+    pointed = fault_of([SM, "model", script], 1, b"settings BadJson\n", "./sm check")
+    yield Verdict("./sm with settings over several lines", pointed)
+    output = (EXAMPLES / "first-path.out").read_bytes()
+    piped = ["bash", "-c", '"$0" check "$1" | "$0" model', SM, script]
+    yield Verdict("what ./sm check makes of them", fault_of(piped, 0, output))
 
 
 def without_rt(room):

@@ -1,6 +1,7 @@
 """What a built program sm_cli passes: examples on both engines, exit statuses, and the tools that run it."""
 import os
 import pathlib
+import re
 import subprocess
 
 import runs
@@ -181,54 +182,91 @@ class Program:
             found = fault_of([*watch, self.path, "model"], 0, script.with_suffix(".out").read_bytes(), "", script)
             yield Verdict(f"{name} under valgrind", found)
 
-    def pictures(self, room):
-        """The pictures in docs/ are those of their scripts."""
+    def drawn(self, script, engine="model"):
+        """What tools/picture draws of an example, and what it says."""
+        command = [sources.TOP / "tools/picture", "--engine", engine, "--program", self.path, EXAMPLES / f"{script}.in"]
+        return runs.finished(command)
+
+    def pictures(self, _room):
+        """The pictures in docs/ are those of their scripts; the bars of a failed server execute nothing; racks are shown
+        where they have several servers; and no caption is cut."""
         for script, engine in (
             ("migration", "model"),
             ("rolling-restart", "model"),
             ("threads/restart-under-load", "threads"),
         ):
-            with open(EXAMPLES / f"{script}.in", "rb") as stream:
-                ran = runs.finished([sources.TOP / "tools/picture", "--engine", engine, self.path], stdin=stream)
             page = sources.TOP / "docs" / f"{pathlib.Path(script).name}.svg"
             yield verdict(
                 f"docs/{page.name}",
-                ran.output == page.read_bytes(),
+                self.drawn(script, engine).output == page.read_bytes(),
                 f"another picture than tools/picture draws of {script}.in",
             )
+        failed = self.drawn("failed-owner").output.decode()
+        yield verdict("the picture of a failed server", "shard 0: server 2 can't be reached from line 6 on" in failed)
+        racks = self.drawn("threads/rack-under-load", "threads").output.decode()
+        yield verdict("the picture of racks", [racks.count(f">rack {it}<") for it in (0, 1, 2)] == [2, 2, 0])
+        caption = "may be down<"
+        yield verdict("a long caption of a picture", caption in racks, f"{caption} isn't in it")
+        ran = runs.finished([sources.TOP / "tools/picture", "--program", self.path, EXAMPLES / "bad-kept.in"])
+        yield verdict(
+            "the picture of settings that aren't accepted",
+            (ran.status, ran.output) == (1, b"") and b"./sm check" in ran.complaint,
+            ran.complaint.decode(errors="replace"),
+        )
+
+    def shell_said(self, lines, *options):
+        """What the shell writes for these lines."""
+        command = [sources.TOP / "tools/shell", "--program", self.path, *options]
+        return runs.finished(command, input="".join(f"{it}\n" for it in lines).encode()).output.decode(errors="replace")
 
     def shell(self, room):
         """What ./sm shell sends by itself is answered as wanted, and what it saves runs again."""
-        words = [
+        lines = [
             "assign 0 1",
             "put a x",
             "migrate 0 2",
+            "client get a",
+            "place!",
             "drain! 2",
             "restart 1",
-            "get a",
+            "client get a",
             "shards",
             f"save {room}/saved",
             "quit",
         ]
         for engine in ("model", "threads"):
-            shell = [
-                sources.TOP / "tools/shell",
-                "--program",
-                self.path,
-                "--engine",
-                engine,
-                "--servers",
-                "3",
-                "--shards",
-                "2",
-            ]
-            said = runs.finished(shell, input="\n".join([*words, ""]).encode()).output
+            said = self.shell_said(lines, "--engine", engine, "--servers", "3", "--shards", "2")
             with open(f"{room}/saved", "rb") as saved:
-                again = runs.finished([self.path, engine], stdin=saved).output
-            is_well = (
-                all(b"\ntext 1:x @1" in it for it in (b"\n" + said, b"\n" + again)) and b"\nserver 1 is back" in said
-            )
-            yield verdict(f"the shell on {engine}", is_well, (said + again).decode(errors="replace")[-2000:])
+                again = runs.finished([self.path, engine], stdin=saved).output.decode(errors="replace")
+            wanted = ("\ntext 1:x @2#1\n", "\ntext 1:x @1#2\n")
+            is_well = all(it in said and it in f"\n{again}" for it in wanted) and "\nserver 1 is back" in said
+            yield verdict(f"the shell on {engine}", is_well, (said + again)[-2000:])
+        yield from self.shell_explains()
+        yield from self.shell_spreads()
+
+    def shell_explains(self):
+        """After a line that is refused the shell tells why, how the shard stands and what to do."""
+        told = {
+            "asign 0 1": 'why: unknown word "asign"; did you mean assign?',
+            "look 4096": "why: K is 4096, and may be 0 to 4095",
+            "look 8": "there are shards 0 to 7",
+            "add 0": "now: shard 0 is Serving, its owner is server 1, and add begins from Forwarding",
+            "at 2 get a": "try: ask the owner",
+            "approve 3": "try: ask 3, and then approve 3",
+        }
+        said = self.shell_said(["assign 0 1", *told])
+        lacking = [it for it in told.values() if it not in said]
+        yield verdict("what the shell explains", not lacking, f"{lacking} isn't in\n{said}")
+        many = self.shell_said([], "--engine", "threads", "--servers", "65")
+        yield verdict("too many workers in the shell", "65 workers, and threads runs 64" in many, many)
+
+    def shell_spreads(self):
+        """Under --spread what place! and then drain! of a server carry out is even."""
+        for server in ("1", "2", "3"):
+            said = self.shell_said(["place!", f"drain! {server}"], "--spread", "--servers", "4", "--shards", "10")
+            owned = [[int(it) for it in re.findall(r"owns (\d+)", line)] for line in said.split("\n") if "owns" in line]
+            is_even = all(sum(it) == 10 and max(it) <= 4 and sorted(it)[1] >= 3 for it in owned)
+            yield verdict(f"a drain of server {server} from even capacities", len(owned) == 2 and is_even, said[-500:])
 
 
 def opens_nothing(path):

@@ -80,6 +80,7 @@ def quick_program(room):
         Part("spoilt scripts, unproved", lambda _room: [tool("malformed", "--every", 740, "--random", 20, path)]),
         *unproved_program(room),
         Part("failing streams, unproved", lambda _room: [tool(*streams)]),
+        Part("pictures, unproved", program.pictures),
         Part("the shell, unproved", program.shell),
     ]
 

@@ -1,0 +1,34 @@
+"""How the tools that a user calls end: with a sentence and an exit status, and never with a traceback."""
+import os
+import sys
+
+CLOSED, INTERRUPTED = 141, 130
+
+
+def of(name, main):
+    """Runs a tool's main function, and returns its exit status: 141 where the reader of its output went away, 130 after
+    an interrupt from the keyboard, and 1 where a file or the output can't be read or written, which is said."""
+    try:
+        return finished(main)
+    except BrokenPipeError:
+        status = CLOSED
+    except KeyboardInterrupt:
+        status = INTERRUPTED
+    except OSError as error:
+        where = error.filename if error.filename is not None else "standard output"
+        print(f"{name}: {where}: {error.strerror}", file=sys.stderr)
+        status = 1
+    # Python would write the rest of the output at its end, and fail again.
+    os.dup2(os.open(os.devnull, os.O_WRONLY), sys.stdout.fileno())
+    return status
+
+
+def finished(main):
+    """Runs it, and writes all that it left to be written."""
+    try:
+        status = main()
+    except SystemExit as end:
+        status = end.code
+    if sys.stdout:
+        sys.stdout.flush()
+    return status

@@ -1,0 +1,199 @@
+"""What the words of scripts and the names of answers mean: tools/help, tools/shell and tools/check tell it.
+
+The program has how each word is written, and why a line is refused; both are read from its sources, so they
+stand there alone. What to do about a name is TO_DO, below.
+
+    help_lines(WORD)        what the program's help says of a word, or None
+    meaning_of(NAME)        why a line or settings are answered by this name, or None
+    to_do(NAME, VALUES)     what to do about it, or None; VALUES has K, A and N, and KEY, where they are known
+    fault_in(LINE)          what is wrong with a line: its name and a sentence with the word or the number; or None
+"""
+import collections
+import difflib
+import re
+
+import runs
+
+SCRIPTS = runs.loaded("random-scripts")
+REQUESTS = SCRIPTS.REQUESTS
+ALL = {**SCRIPTS.COMMANDS, **REQUESTS, b"at": "A REQUEST", b"client": "REQUEST"}
+WORDS = sorted(it.decode() for it in ALL)
+# The words of tools/shell, which are none of scripts.
+SHELL_WORDS = ["help", "shards", "migrate", "place!", "drain!", "restart", "sent", "save", "quit"]
+ENTRY = re.compile(r'\(\s*"(\w+)",\s*"((?:[^"\\]|\\.)*)",?\s*\)')
+COLUMN = 20
+
+# What to do about a name: K is the shard in question, A the server, N the number in the answer.
+TO_DO = {
+    "LineTooLong": "cut the line, or put a text in pieces: put KEY .., then append KEY ..",
+    "UnknownWord": "./sm help lists the words, and help does in the shell",
+    "BadLine": "./sm help WORD tells how the word is written",
+    "BadNumber": "write a number of the range that is told",
+    "BadKey": "take another key; two spaces enclose an empty word",
+    "NotHere": "run it by ./sm threads, or in ./sm shell --engine threads",
+    "UnknownShard": "name a shard of the settings; shards lists them in the shell",
+    "UnknownServer": "name a server of the settings",
+    "WrongPhase": "a migration goes prepare_add, prepare_drop, add, publish, drop; cancel {K} gives one up before add",
+    "SameServer": "name another server, or leave it as it is",
+    "Spent": "this shard takes no more; settings with a greater ceiling allow more",
+    "Busy": "free {K}, and then the line again",
+    "NotHeld": "nothing is held, so leave it as it is",
+    "TooManyHops": "ask the owner, which look {K} tells",
+    "KeptFull": "checkpoint {K} {A} makes room, at the server that executes; or settings with a greater kept",
+    "Vacant": "assign {K} A gives it an owner; place! does so for all of them in the shell",
+    "Paused": "resume {K}, or reassign {K} B to give it to another server",
+    "NotExecutor": "ask the owner, as the request without at A does; publish {K} tells clients the owner",
+    "NotYet": "ask the owner, which forwards; or make this server the owner, by add {K}",
+    "Admitted": "free {K} ends what hold began; then the line again",
+    "Unreachable": "bring the server up, by back; pause {K}, and reassign {K} B, give a shard that it owns to server B",
+    "Leaving": "name a server that is up, or bring this one up by back {A}",
+    "NoCapacity": "name a server with room, or give the servers more capacity in the settings",
+    "DomainLimit": "name a server of another domain, or give the group a greater limit in the settings",
+    "NotUp": "back {A} ends a restart, or a failure",
+    "NotAsked": "ask {A}, and then approve {A}",
+    "GlobalCap": "bring a server up that is away, by back; or settings with greater ops (./sm settings --ops N)",
+    "ShardCap": "move shard {N} away first: drain {A} plans where to, and drain! {A} does it in the shell",
+    "GroupCap": "move shards of group {N} away first: drain {A} plans where to, and drain! {A} does it in the shell",
+    "DomainCap": "bring the server of domain {N} up that is away, by back; or a greater down of it in the settings",
+    "NotApproved": "ask {A}, and then approve {A}",
+    "StillServing": "move shard {N} away (drain {A} plans where to), or pause {N}",
+    "AlreadyUp": "leave it as it is",
+    "AlreadyFailed": "leave it as it is, or bring it up by back {A}",
+    "NoRoute": "publish {K} makes the owner the shard's route",
+    "OldRoute": "leave it as it is: the published route is the owner's at this generation",
+    "WrongShard": "ask for the key without at A",
+    "Raced": "send the line again",
+    "Closed": "look what the key holds before the line is sent again",
+}  # fmt: skip
+
+
+def source(path):
+    return (runs.TOP / "crates" / path).read_text(encoding="utf-8")
+
+
+def script_help():
+    """Returns the help on scripts that the program has."""
+    text = re.search(r'const SCRIPT_HELP: &str = "\\\n(.*?)";\n', source("sm_cli/src/main.rt"), re.S)[1]
+    return text.replace('\\"', '"')
+
+
+def table(name):
+    """Returns a table of the program's explanations."""
+    text = source("sm_explain/src/sentences.rt").partition(f"const {name}:")[2].partition("\n];")[0]
+    return dict(ENTRY.findall(text))
+
+
+def help_lines(word):
+    """Returns the heading and the line of the program's help in which a word of scripts stands, or None."""
+    heading = ""
+    for line in script_help().partition("\nExample:")[0].split("\n"):
+        if line.endswith(":"):
+            heading = line
+        elif line.startswith("  ") and word in [it.split()[0] for it in line[:COLUMN].split(",") if it.strip()]:
+            return [heading, line]
+    return [table("FORMS")[word]] if word in table("FORMS") else None
+
+
+def meaning_of(name):
+    if name == "BadLine":  # the program tells the word's form
+        return "too few or too many words"
+    return table("REFUSALS").get(name) or table("SETTINGS").get(name)
+
+
+class Named(collections.defaultdict):
+    """Values by their names; one that isn't known stands for itself."""
+
+    def __missing__(self, name):
+        return name
+
+
+def to_do(name, values=()):
+    return TO_DO[name].format_map(Named(None, values)) if name in TO_DO else None
+
+
+def shown(text):
+    """Text without what a terminal would obey: each other byte is told by its number."""
+    if isinstance(text, bytes):
+        text = text.decode(errors="surrogateescape")
+    return "".join(
+        it if it.isprintable() else "".join(f"\\x{byte:02x}" for byte in it.encode(errors="surrogateescape"))
+        for it in text
+    )
+
+
+def unknown_told(word, words):
+    """What is said of a word that none of these is."""
+    text = shown(word[:40])
+    if not word:
+        return "a word is empty: one space stands between two words, and none before the first"
+    if text in SHELL_WORDS:
+        return f"{text} is a word of ./sm shell, which sends the lines of scripts for it"
+    near = difflib.get_close_matches(text.lower(), [it.decode() for it in words], 1, 0.6)
+    return f'unknown word "{text}"' + (f"; did you mean {near[0]}?" if near else "")
+
+
+def number_told(name, word, kind):
+    low, high = SCRIPTS.RANGES[kind]
+    text = shown(word[:40])
+    if re.fullmatch(rb"-?[0-9]+", word) and not re.match(rb"-?0[0-9]|-0", word):
+        return f"{name} is {text}, and may be {low} to {high}"
+    return f'{name} is "{text}", and has to be a number from {low} to {high}, in digits with no 0 before them'
+
+
+def value_told(name, word, kind):
+    """What is wrong with a word that is to be of this kind, or None."""
+    try:
+        SCRIPTS.value_of(word, kind)
+    except SCRIPTS.LineError as fault:
+        if str(fault) == "BadKey":
+            return f"{name} has {len(word)} bytes, and may have 1 to 255"
+        return number_told(name, word, kind)
+    return None
+
+
+def values_told(word, rest):
+    """What is wrong with the first of the words behind this one that isn't as it has to be."""
+    names = table("FORMS")[word.decode()].partition(": ")[2].split()[1:]
+    kinds = ALL[word].split()
+    told = map(value_told, names, SCRIPTS.words_of(rest, kinds), kinds)
+    return next(filter(None, told), None)
+
+
+def told_in_request(line, name):
+    """What is wrong with a line of `at` or `client`, once it has words enough."""
+    word, _, rest = line.partition(b" ")
+    server, _, request = rest.partition(b" ") if word == b"at" else (None, None, rest)
+    asked, blank, after = request.partition(b" ")
+    if name == "UnknownWord":
+        told = unknown_told(asked, REQUESTS)
+        return told + f", as a request after {word.decode()}{' A' if server is not None else ''}"
+    if name == "BadLine":
+        return table("FORMS")[asked.decode()]
+    is_bad = server is not None and value_told("A", server, "A")
+    return is_bad or values_told(asked, after if blank else None)
+
+
+def told_of(line, name):
+    word, blank, rest = line.partition(b" ")
+    if name == "UnknownWord" and word not in ALL:
+        return unknown_told(word, ALL)
+    is_short = len(line.split(b" ")) < {b"at": 3, b"client": 2}.get(word, 0)
+    if word in (b"at", b"client") and not is_short:
+        return told_in_request(line, name)
+    if name == "BadLine":
+        return table("FORMS")[word.decode()]
+    return values_told(word, rest if blank else None)
+
+
+def fault_in(line):
+    """Returns the name of what is wrong with a line, as a run answers it, and a sentence; or None."""
+    if not line or line.startswith(b"#"):
+        return None
+    if len(line) > SCRIPTS.MAX_LINE:
+        return "LineTooLong", f"the line has {len(line)} bytes, and may have {SCRIPTS.MAX_LINE}"
+    try:
+        SCRIPTS.call_of(line)
+    except SCRIPTS.LineError as fault:
+        told = told_of(line, str(fault))
+        return str(fault), told + ("; the line ends with a carriage return" if line.endswith(b"\r") else "")
+    return None
