@@ -4,10 +4,15 @@ use Rattle.std.specs.Prelude.{ℤ, Option}
 use Rattle.std.proofs.lemmas.List.{append-nil}
 use Rattle.sm_body.specs.Service.{Service}
 use Rattle.sm_ranges.specs.Ranges.{shard_of}
-use Rattle.sm_rule.specs.lemmas.Passing.{begins_begins}
+use Rattle.sm_publish.specs.Seen.{Extends}
+use Rattle.sm_rule.specs.Passes.{PassValue}
+use Rattle.sm_rule.specs.Views.{Begins}
+use Rattle.sm_rule.specs.lemmas.Passing.{begins_begins, looks_begins}
 use Rattle.sm_server.specs.Answers.{AnswerValue, IsAnswer}
 use Rattle.sm_server.specs.lemmas.Beginnings.{none_begins}
-use Rattle.sm_cluster.specs.Calls.{ClientValue, Gives}
+use Rattle.sm_cluster.specs.declared.call_refused.CallFault.{CallFault}
+use Rattle.sm_cluster.specs.declared.call_refused.CallFault.TheVariants.{NoRoute, Unreachable, Refused, NoMemory, Closed}
+use Rattle.sm_cluster.specs.Calls.{ClientValue, FaultByRoute, Gives, client_reading}
 use Rattle.sm_cluster.specs.Loads.{HasLearned, HasLearnedReply, IsClientSince, WasTold}
 use Rattle.sm_cluster.proofs.Travelling.{begins_same}
 
@@ -25,6 +30,28 @@ since_since a b c first second = record {
   seen = begins_begins a.pass.seen b.pass.seen c.pass.seen first.seen second.seen;
   read = extends_extends a.router.seen b.router.seen c.router.seen first.read second.read;
 }
+
+-- a client that has read some routes has seen no less
+since_read : {Q : Type 0} (before after : ClientValue Q) → after ≡ client_reading before after.router → Extends after.router.seen before.router.seen → IsClientSince before after
+since_read {Q} before after is read = record {
+  board = ap (λ (client : ClientValue Q). client.pass.board) is;
+  bounds = ap (λ (client : ClientValue Q). client.bounds) is;
+  seen = subst (λ (pass : PassValue Q). Begins before.pass.seen pass.seen) (sym (ap (λ (client : ClientValue Q). client.pass) is)) (begins_same before.pass.seen);
+  read = read;
+}
+
+-- nor has one whose call isn't answered
+pub since_fault : {Q R : Type 0} (service : Service Q R) (before after : ClientValue Q) (number : ℕ) (request : Q) (fault : CallFault) → FaultByRoute service before after number request fault → Extends after.router.seen before.router.seen → IsClientSince before after
+since_fault service before after number request NoRoute why read = since_read before after why.1 read
+since_fault service before after number request Unreachable why read = since_read before after why read
+since_fault {Q} service before after number request (Refused refusal) why read = record {
+  board = ap (λ (pass : PassValue Q). pass.board) why.0.1;
+  bounds = ap (λ (client : ClientValue Q). client.bounds) why.1;
+  seen = looks_begins before.pass after.pass why.0;
+  read = read;
+}
+since_fault service before after number request NoMemory why read = since_read before after why read
+since_fault service before after number request Closed why read = since_read before after why read
 
 module _ {Q R : Type 0} (service : Service Q R) (count : R → Option ℤ) (request : Q) where
   -- what was learned stays so
