@@ -8,6 +8,7 @@ ghost use Rattle.sm_rule.specs.Passes.{PassLooks, record_of};
 ghost use Rattle.sm_rule.specs.Views.{IsMet};
 ghost use Rattle.sm_cluster.specs.Calls.{FaultAt, FaultByRoute, Gives, HandsBack, client_reading, client_seeing};
 ghost use Rattle.sm_cluster.specs.Exchanging.{IsCallOf, IsLeftAfter, IsLeftBy, SendsBackOn, answer_of};
+ghost use Rattle.sm_cluster.specs.Loads.{IsClientSince};
 ghost use Rattle.sm_cluster.specs.Replies.{Fits};
 
 use crate::call_refused::{CallFault, CallRefused};
@@ -89,7 +90,7 @@ impl<S: Service> Client<S> {
         ensures answered { OnOk result (self.new ≡ client_reading self.old self.new.router) }
         ensures back { IfErr result (λ refused. HandsBack request refused) }
         ensures fault { IfErr result (λ refused. FaultByRoute (meaning_of S.initial S.next S.answer S.key_of) self.old self.new number request refused.fault) }
-        ensures later { Extends self.new.router.seen self.old.router.seen }
+        ensures since { IsClientSince self.old self.new }
     {
         let Some(route) = self.route(S::key(&request)) else {
             return Err(CallRefused {
@@ -115,6 +116,7 @@ impl<S: Service> Client<S> {
         ensures answered { OnOk result (self.new ≡ self.old) }
         ensures back { IfErr result (λ refused. HandsBack request refused) }
         ensures fault { IfErr result (λ refused. FaultAt (meaning_of S.initial S.next S.answer S.key_of) self.old self.new number request refused.fault) }
+        ensures since { IsClientSince self.old self.new }
     {
         match self.message(alloc, number, request) {
             Ok((message, receiver)) => {
@@ -163,10 +165,13 @@ impl<S: Service> Client<S> {
     {
         match reply {
             Ok(Reply::Answered(answer)) => Ok(answer),
-            Ok(Reply::Refused(fault, envelope)) => Err(CallRefused {
-                fault,
-                back: Some(self.taken_back(fault, envelope)),
-            }),
+            Ok(Reply::Refused(fault, envelope)) => {
+                let request = self.taken_back(&fault, envelope);
+                Err(CallRefused {
+                    fault,
+                    back: Some(request),
+                })
+            }
             Err(_) => Err(CallRefused {
                 fault: CallFault::Closed,
                 back: None,
@@ -177,12 +182,12 @@ impl<S: Service> Client<S> {
     // The request of an envelope that came back. Where a server refused it, the client learns what its note tells.
     fn taken_back(
         &mut self,
-        fault: CallFault,
+        fault: &CallFault,
         envelope: Envelope<S::Request, Note<S>>,
     ) -> S::Request
         requires { envelope.note.board ≡ self.old.pass.board }
         ensures request { result ≡ envelope.request }
-        ensures client { IsLeftBy self.old fault envelope.note self.new }
+        ensures client { IsLeftBy self.old fault.now envelope.note self.new }
     {
         let (request, note, _) = envelope.parts();
         match fault {
