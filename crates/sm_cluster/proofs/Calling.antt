@@ -3,7 +3,7 @@ use Rattle.std.proofs.Common.{◌≡◌, ℕ, List, ◌∙◌, ap, refl, subst, 
 use Rattle.std.specs.Prelude.{Some, Result, Ok, Err, IfOk, IfErr, OnOk}
 use Rattle.sm_body.specs.Service.{Service}
 use Rattle.sm_ownership.specs.declared.entry.Entry.{Entry}
-use Rattle.sm_publish.specs.Seen.{Extends, RouterView}
+use Rattle.sm_publish.specs.Seen.{RouterView}
 use Rattle.sm_rule.specs.Boards.{BoardValue}
 use Rattle.sm_rule.specs.Passes.{PassValue}
 use Rattle.sm_rule.specs.Views.{Begins}
@@ -129,3 +129,9 @@ module _ {Q R : Type 0} (service : Service Q R) (number : ℕ) (request : Q) whe
   pub by_route : {X : Type 0} (before after : ClientValue Q) (result : Result X (CallRefused Q)) → IfErr result (λ refused. FaultAt service (client_reading before after.router) after number request refused.fault) → IfErr result (λ refused. FaultByRoute service before after number request refused.fault)
   by_route before after (Ok answer) why = tt
   by_route before after (Err refused) why = fault_by_route before after refused.fault why
+
+-- an answer by a route leaves the client as it was but for its router
+pub answered_by_route : {Q X : Type 0} (before mid after : ClientValue Q) (result : Result X (CallRefused Q)) → mid ≡ client_reading before mid.router → OnOk result (after ≡ mid) → OnOk result (after ≡ client_reading before after.router)
+answered_by_route {Q} before mid after (Ok answer) read same =
+    same ∙ (read ∙ ap (λ (router : RouterView). client_reading before router) (sym (ap (λ (client : ClientValue Q). client.router) same)))
+answered_by_route before mid after (Err refused) read same = tt

@@ -87,7 +87,7 @@ answered_since may request before mid after (Err why) result same gives faults l
     IfOk-weaker result (λ told. (option_map IsRefused (call_refused why.fault) ≡ Some told) × (after ≡ mid)) (λ told. WasAnswered may before request told after)
     (λ (told : Answer) was. by_refusal may before request after why.fault (call_refused why.fault) told refl (subst (λ (client : ClientValue Request). may client why.fault) (sym was.1) faults) was.0) refused
 
-abbrev faults_at : ClientValue Request → Request → ClientValue Request → CallFault → Type 0
+abbrev pub faults_at : ClientValue Request → Request → ClientValue Request → CallFault → Type 0
 faults_at before request after = FaultAt counter_text before after 0 request
 
 pub answered_at : (before after : SessionValue) (server : ℕ) (request : Request) (result : Result Answer AllocError) → is_known before.cluster.control.desk.books.servers server ≡ true
