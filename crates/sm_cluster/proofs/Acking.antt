@@ -1,13 +1,19 @@
 -- What clients learn, one call after another and one client beside another.
 use Rattle.std.proofs.Common.{◌≡◌, ℕ, List, [], ◌++◌, refl, sym, ap, ◌∙◌, subst, append_assoc}
-use Rattle.std.specs.Prelude.{ℤ, Option}
+use Rattle.std.specs.Prelude.{ℤ, IfErr, OnOk, Option, Result, Ok, Err}
 use Rattle.std.proofs.lemmas.List.{append-nil}
 use Rattle.sm_body.specs.Service.{Service}
 use Rattle.sm_ranges.specs.Ranges.{shard_of}
-use Rattle.sm_rule.specs.lemmas.Passing.{begins_begins}
+use Rattle.sm_publish.specs.Seen.{Extends}
+use Rattle.sm_rule.specs.Passes.{PassValue}
+use Rattle.sm_rule.specs.Views.{Begins}
+use Rattle.sm_rule.specs.lemmas.Passing.{begins_begins, looks_begins}
 use Rattle.sm_server.specs.Answers.{AnswerValue, IsAnswer}
 use Rattle.sm_server.specs.lemmas.Beginnings.{none_begins}
-use Rattle.sm_cluster.specs.Calls.{ClientValue, Gives}
+use Rattle.sm_cluster.specs.declared.call_refused.CallFault.{CallFault}
+use Rattle.sm_cluster.specs.declared.call_refused.CallFault.TheVariants.{NoRoute, Unreachable, Refused, NoMemory, Closed}
+use Rattle.sm_cluster.specs.declared.call_refused.CallRefused.{CallRefused}
+use Rattle.sm_cluster.specs.Calls.{ClientValue, FaultAt, Gives, client_reading}
 use Rattle.sm_cluster.specs.Loads.{HasLearned, HasLearnedReply, IsClientSince, WasTold}
 use Rattle.sm_cluster.proofs.Travelling.{begins_same}
 
@@ -24,6 +30,33 @@ since_since a b c first second = record {
   bounds = second.bounds ∙ first.bounds;
   seen = begins_begins a.pass.seen b.pass.seen c.pass.seen first.seen second.seen;
   read = extends_extends a.router.seen b.router.seen c.router.seen first.read second.read;
+}
+
+-- a client whose call at a server ended so has seen no less
+module _ {Q R : Type 0} (service : Service Q R) (number : ℕ) (request : Q) where
+  since_at : (before after : ClientValue Q) (fault : CallFault) → FaultAt service before after number request fault → IsClientSince before after
+  since_at before after NoRoute never = absurd never
+  since_at before after Unreachable same = subst (λ (client : ClientValue Q). IsClientSince before client) (sym same) (since_same before)
+  since_at before after (Refused refusal) why = record {
+    board = ap (λ (pass : PassValue Q). pass.board) why.0.1;
+    bounds = ap (λ (client : ClientValue Q). client.bounds) why.1;
+    seen = looks_begins before.pass after.pass why.0;
+    read = ([], ap (λ (client : ClientValue Q). client.router.seen) why.1 ∙ sym (append-nil before.router.seen));
+  }
+  since_at before after NoMemory same = subst (λ (client : ClientValue Q). IsClientSince before client) (sym same) (since_same before)
+  since_at before after Closed same = subst (λ (client : ClientValue Q). IsClientSince before client) (sym same) (since_same before)
+
+  pub since_call : {X : Type 0} (before after : ClientValue Q) (result : Result X (CallRefused Q)) → OnOk result (after ≡ before) → IfErr result (λ refused. FaultAt service before after number request refused.fault) → IsClientSince before after
+  since_call before after (Ok answer) same why = subst (λ (client : ClientValue Q). IsClientSince before client) (sym same) (since_same before)
+  since_call before after (Err refused) same why = since_at before after refused.fault why
+
+-- a client that has read routes has seen no less
+pub since_read : {Q : Type 0} (before after : ClientValue Q) → after ≡ client_reading before after.router → Extends after.router.seen before.router.seen → IsClientSince before after
+since_read {Q} before after is read = record {
+  board = ap (λ (client : ClientValue Q). client.pass.board) is;
+  bounds = ap (λ (client : ClientValue Q). client.bounds) is;
+  seen = subst (λ (client : ClientValue Q). Begins before.pass.seen client.pass.seen) (sym is) (begins_same before.pass.seen);
+  read = read;
 }
 
 module _ {Q R : Type 0} (service : Service Q R) (count : R → Option ℤ) (request : Q) where

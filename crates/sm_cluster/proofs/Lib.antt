@@ -5,4 +5,5 @@ pub mod Placing
 pub mod Publishing
 pub mod Replying
 pub mod Stopping
+pub mod Telling
 pub mod Travelling

@@ -8,7 +8,7 @@ use Rattle.sm_publish.specs.declared.publish_fault.PublishFault.{PublishFault}
 use Rattle.sm_publish.specs.declared.publish_fault.PublishFault.TheVariants.{NoMemory}
 use Rattle.sm_publish.specs.Publishing.{publish_fault}
 use Rattle.sm_cluster.specs.declared.publish_refusal.PublishRefusal.TheVariants.{Publish as Unpublished}
-use Rattle.sm_cluster.specs.Clusters.{ClusterValue, cluster_publishing}
+use Rattle.sm_cluster.specs.Clusters.{ClusterValue, TellsMore, cluster_publishing}
 use Rattle.sm_cluster.specs.Publications.{IsMapFault, Published}
 
 same_err : {X E : Type 0} (result : Result X E) (x y : E) → result ≡ Err x → result ≡ Err y → x ≡ y
@@ -22,6 +22,6 @@ pub map_fault : (first : Option PublishFault) (result : Result (Unit {0}) Publis
 map_fault (Some fault) result refused is some none = same_err result refused fault is some
 map_fault None result refused is some none = subst (λ (one : Result (Unit {0}) PublishFault). IsOkUnless one NoMemory) is none
 
-pub unpublished : {Q : Type 0} (fault : Option RouteFault) (before after : ClusterValue Q) (shard : ℕ) (route : Route) (refused : PublishFault) → Routed fault before.control after.control shard (Ok route) → IsMapFault (publish_fault before.map.map route) refused → after.map ≡ before.map → after ≡ cluster_publishing before after.control after.map → Published fault before after shard (Err (Unpublished refused))
+pub unpublished : {Q : Type 0} (fault : Option RouteFault) (before after : ClusterValue Q) (shard : ℕ) (route : Route) (refused : PublishFault) → Routed fault before.control after.control shard (Ok route) → IsMapFault (publish_fault before.map.map route) refused → after.map ≡ before.map → TellsMore (cluster_publishing before after.control after.map) after → Published fault before after shard (Err (Unpublished refused))
 unpublished (Some fault) before after shard route refused routed why map frame = absurd (not_ok (Ok route) route fault refl routed.0)
 unpublished None before after shard route refused routed why map frame = (route, (routed.0, routed.1, frame, routed.2), why, map)

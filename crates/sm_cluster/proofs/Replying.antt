@@ -10,25 +10,25 @@ use Rattle.sm_body.specs.Service.{Service}
 use Rattle.sm_server.specs.Answers.{AnswerValue}
 use Rattle.sm_server.specs.Serving.{Sent}
 use Rattle.sm_cluster.specs.declared.reply.Reply.{Reply}
-use Rattle.sm_cluster.specs.Replies.{AllFit, Fits, HoldsReplies}
+use Rattle.sm_cluster.specs.Replies.{AllFit, CallValue, Fits, HoldsReplies}
 
 fit_append : {T : Type 0} (Fit : T → Type 0) (replies : List T) (reply : T) → AllFit Fit replies → Fit reply → AllFit Fit (replies ++ reply ∷ [])
 fit_append Fit [] reply fit last = (last, tt)
 fit_append Fit (one ∷ replies) reply fit last = (fit.0, fit_append Fit replies reply fit.1 last)
 
 module _ {Q R : Type 0} (service : Service Q R) where
-  no_fit : (asked : Option (Sent Q)) (replies : List (Reply (AnswerValue Q R) (Sent Q))) → AllFit (Fits service None) replies → AllFit (Fits service asked) replies
+  no_fit : (asked : Option (CallValue Q)) (replies : List (Reply (AnswerValue Q R) (Sent Q))) → AllFit (Fits service None) replies → AllFit (Fits service asked) replies
   no_fit asked [] fit = tt
   no_fit asked (reply ∷ replies) fit = absurd fit.0
 
   pub begins : HoldsReplies service [] (None ∷ [])
   begins = record { asked = None; agree = begins_agree; fit = tt; alone = λ _. refl }
     where
-      begins_agree : (pass : ℕ) (view : Option (Sent Q)) → get_elem? (None ∷ []) pass ≡ some view → view ≡ None
+      begins_agree : (pass : ℕ) (view : Option (CallValue Q)) → get_elem? (None ∷ []) pass ≡ some view → view ≡ None
       begins_agree zero view at = sym (some-injective None view at)
       begins_agree (suc pass) view at = absurd (some-ne-none view (sym at))
 
-  pub sends : (room pass : ℕ) (known : Option (Sent Q)) (reply : Reply (AnswerValue Q R) (Sent Q)) → Fits service known reply → Pushes (HoldsReplies service) room pass known reply (λ after. after ≡ known)
+  pub sends : (room pass : ℕ) (known : Option (CallValue Q)) (reply : Reply (AnswerValue Q R) (Sent Q)) → Fits service known reply → Pushes (HoldsReplies service) room pass known reply (λ after. after ≡ known)
   sends room pass known reply fits replies views short holds at =
       let same : known ≡ holds.asked = holds.agree pass known at in (
         known,
@@ -41,7 +41,7 @@ module _ {Q R : Type 0} (service : Service Q R) where
         refl,
       )
 
-  pub receives : (pass : ℕ) (known : Option (Sent Q)) → Pops (HoldsReplies service) pass known (λ reply after. Fits service known reply)
+  pub receives : (pass : ℕ) (known : Option (CallValue Q)) → Pops (HoldsReplies service) pass known (λ reply after. Fits service known reply)
   receives pass known reply replies views holds at =
       let same : known ≡ holds.asked = holds.agree pass known at in (
         known,
@@ -54,7 +54,7 @@ module _ {Q R : Type 0} (service : Service Q R) where
         subst (λ asked. Fits service asked reply) (sym same) holds.fit.0,
       )
 
-  learns_agree : (views : List (Option (Sent Q))) (pass : ℕ) (known asked view : Option (Sent Q)) (i : ℕ) → length views ≡ 1 → get_elem? views pass ≡ some known
+  learns_agree : (views : List (Option (CallValue Q))) (pass : ℕ) (known asked view : Option (CallValue Q)) (i : ℕ) → length views ≡ 1 → get_elem? views pass ≡ some known
       → get_elem? (set views pass asked ++ asked ∷ []) i ≡ some view → view ≡ asked
   learns_agree [] pass known asked view i one at e = absurd (omega arith)
   learns_agree (x ∷ []) zero known asked view zero one at e = sym (some-injective asked view e)
@@ -63,11 +63,11 @@ module _ {Q R : Type 0} (service : Service Q R) where
   learns_agree (x ∷ []) (suc pass) known asked view i one at e = absurd (some-ne-none known (sym at))
   learns_agree (x ∷ y ∷ ys) pass known asked view i one at e = absurd (omega arith)
 
-  never_none : (asked : Option (Sent Q)) → IsSome asked → asked ≡ None → ⊥
+  never_none : (asked : Option (CallValue Q)) → IsSome asked → asked ≡ None → ⊥
   never_none None is none = search rules
   never_none (Some sent) is none = search rules
 
-  pub learns : (pass : ℕ) (known asked : Option (Sent Q)) → known ≡ None → IsSome asked → Forks (HoldsReplies service) pass known asked asked
+  pub learns : (pass : ℕ) (known asked : Option (CallValue Q)) → known ≡ None → IsSome asked → Forks (HoldsReplies service) pass known asked asked
   learns pass known asked blank is replies views holds at =
       let none : holds.asked ≡ None = sym (holds.agree pass known at) ∙ blank in
       record {

@@ -33,9 +33,9 @@ ended_later holds history later begins ended shard pass is =
     let one = ended shard pass is in
     (one.0, one.1, begins_begins one.0.seen history later one.2 begins)
 
--- what the closing pass had seen extends what each client had, and the end of each hold
-pub closed_stopped : {S Q : Type 0} (keeps : S → ℕ → List Q → Type 0) (limit : S → ℕ) (cluster : ClusterValue Q) (told closer : PassValue Q) (clients : List (ClientValue Q)) (rows : List (Record × Option S)) → WasClosed keeps limit cluster.control.chair closer rows → All (λ client. Begins client.pass.seen told.seen) clients → Begins told.seen closer.seen → AreEndedIn closer.seen cluster.holds → WasStopped keeps limit cluster clients rows
-closed_stopped {S} {Q} keeps limit cluster told closer clients rows closed all more ended =
+-- what the closing pass had seen extends what the cluster told, what each client had seen, and the end of each hold
+pub closed_stopped : {S Q : Type 0} (keeps : S → ℕ → List Q → Type 0) (limit : S → ℕ) (cluster : ClusterValue Q) (told closer : PassValue Q) (clients : List (ClientValue Q)) (rows : List (Record × Option S)) → WasClosed keeps limit cluster.control.chair closer rows → All (λ client. Begins client.pass.seen told.seen) clients → Begins told.seen closer.seen → AreEndedIn closer.seen cluster.holds → Begins cluster.told told.seen → WasStopped keeps limit cluster clients rows
+closed_stopped {S} {Q} keeps limit cluster told closer clients rows closed all more ended first =
     let history = cluster.control.chair.seen ++ closed.0 in (
       closed.0,
       closed.1,
@@ -44,6 +44,7 @@ closed_stopped {S} {Q} keeps limit cluster told closer clients rows closed all m
           (λ client seen. begins_begins client.pass.seen told.seen history seen (begins_begins told.seen closer.seen history more closed.3)) clients all,
       closed.4,
       ended_later cluster.holds closer.seen history closed.3 ended,
+      begins_begins cluster.told told.seen history first (begins_begins told.seen closer.seen history more closed.3),
     )
 
 -- what a client that came back had learned is among the requests on which the body of its shard rests

@@ -1,21 +1,25 @@
 -- Envelopes of a call on their way.
-use Rattle.std.proofs.Common.{◌≡◌, ℕ, Bool, List, [], refl, sym, ap, ◌∙◌, subst}
+use Rattle.std.proofs.Common.{◌≡◌, ℕ, List, [], refl, sym, ap, ◌∙◌, subst}
+use Rattle.std.specs.Prelude.{Some}
 use Rattle.std.proofs.lemmas.List.{append-nil}
 use Rattle.sm_body.specs.Service.{Service}
-use Rattle.sm_envelope.specs.Envelope.{ShellView}
+use Rattle.sm_envelope.specs.Envelope.{ShellView, shell_of, whole}
 use Rattle.sm_ownership.specs.declared.entry.Entry.{Entry}
-use Rattle.sm_rule.specs.Passes.{PassValue}
+use Rattle.sm_rule.specs.Boards.{BoardValue}
+use Rattle.sm_rule.specs.Passes.{PassLooks, PassValue}
 use Rattle.sm_rule.specs.Views.{Begins}
 use Rattle.sm_rule.specs.lemmas.Passing.{begins_begins}
 use Rattle.sm_server.specs.lemmas.Beginnings.{none_begins}
-use Rattle.sm_server.specs.declared.outcome.Outcome.{Outcome}
 use Rattle.sm_server.specs.declared.outcome.Outcome.TheVariants.{Answered, Forward, Refused}
 use Rattle.sm_server.specs.Answers.{AnswerValue, IsAnswer}
-use Rattle.sm_server.specs.Serving.{IsAnswered, IsHandedBack, Sent, Served}
+use Rattle.sm_server.specs.declared.refusal.Refusal.{Refusal}
+use Rattle.sm_server.specs.Serving.{IsAnswered, IsHandedBack, Sent, Served, is_here}
 use Rattle.sm_cluster.specs.declared.call_refused.CallFault.{CallFault}
 use Rattle.sm_cluster.specs.declared.call_refused.CallFault.TheVariants as call
-use Rattle.sm_cluster.specs.Replies.{ComesBackFor, IsAnswerTo, IsOfTheWay, IsOnTheWay}
-use Rattle.sm_cluster.specs.Telling.{Tells}
+use Rattle.sm_cluster.specs.declared.reply.Reply.TheVariants as reply
+use Rattle.sm_cluster.specs.Passes.{IsNewPass}
+use Rattle.sm_cluster.specs.Replies.{CallValue, ComesBackFor, Fits, IsAnswerTo, IsOfTheWay, IsOnTheWay, IsRefusalTo}
+use Rattle.sm_cluster.specs.Telling.{IsNotedAgain}
 
 pub begins_same : {Q : Type 0} (history : List (Entry Q)) → Begins history history
 begins_same history = ([], sym (append-nil history))
@@ -51,20 +55,85 @@ number_of_shell shell = shell.number
 abbrev shard_of_shell : ShellView → ℕ
 shard_of_shell shell = shell.shard
 
--- what a server's step tells, whether the envelope came to the right shard or not
-pub tells : {Q R : Type 0} (service : Service Q R) (here : Bool) (before after : PassValue Q) (envelope : Sent Q) → envelope.note.board ≡ before.board → (outcome : Outcome (AnswerValue Q R) (Sent Q)) → Served service here before after envelope outcome → Tells service envelope outcome
-tells service here before after envelope board (Answered answer) served sent way = answers service before envelope sent answer board way served.1
-tells service here before after envelope board (Forward to back) served sent way =
-    way_on sent envelope back way served.1 (ap number_of_shell served.2.shell) (ap shard_of_shell served.2.shell)
-tells service here before after envelope board (Refused refusal back) served sent way = (
-  way_on sent envelope back way served.1 (ap number_of_shell served.2) (ap shard_of_shell served.2),
-  record { envelope = envelope; before = before; after = after; way = way; board = sym board ∙ way.board; why = served.3 },
-)
+-- an envelope with another note of what was seen is on its way
+pub way_noted : {Q : Type 0} (sent envelope again : Sent Q) → IsOnTheWay sent envelope → IsNotedAgain envelope again → IsOnTheWay sent again
+way_noted sent envelope again way noted = record {
+  number = ap number_of_shell noted.shell ∙ way.number;
+  shard = ap shard_of_shell noted.shell ∙ way.shard;
+  request = noted.request ∙ way.request;
+  board = noted.board ∙ way.board;
+  told = begins_begins sent.note.seen envelope.note.seen again.note.seen way.told noted.told;
+}
+
+-- an envelope that is put together of its parts and another note
+pub noted_again : {Q : Type 0} (envelope again : Sent Q) (shell : ShellView) (request : Q) (note : PassValue Q) → again ≡ whole shell request note → shell ≡ shell_of envelope → request ≡ envelope.request → note.board ≡ envelope.note.board → Begins envelope.note.seen note.seen → IsNotedAgain envelope again
+noted_again {Q} envelope again shell request note is shell_is request_is board_is told = record {
+  shell = ap (λ (one : Sent Q). shell_of one) is ∙ shell_is;
+  request = ap (λ (one : Sent Q). one.request) is ∙ request_is;
+  board = ap (λ (one : Sent Q). one.note.board) is ∙ board_is;
+  told = subst (λ (one : Sent Q). Begins envelope.note.seen one.note.seen) (sym is) told;
+}
+
+-- what a new pass was told, it was told by less
+pub new_told : {Q : Type 0} (board other : BoardValue) (server : ℕ) (told earlier : List (Entry Q)) (pass : PassValue Q) → board ≡ other → Begins earlier told → IsNewPass board server told pass → IsNewPass other server earlier pass
+new_told board other server told earlier pass board_is begins new = record {
+  board_is = new.board_is ∙ board_is;
+  server_is = new.server_is;
+  free = new.free;
+  legal = new.legal;
+  seen = begins_begins earlier told pass.seen begins new.seen;
+  new = new.new;
+}
+
+-- a server's step on an envelope, by a new pass that was told what its note had seen
+module _ {Q R : Type 0} (service : Service Q R) (stepped asked : CallValue Q) (board : BoardValue) (server : ℕ) (before after : PassValue Q) (envelope : Sent Q)
+    (board_is : stepped.sent.note.board ≡ board) (new : IsNewPass board server stepped.sent.note.seen before) (noted : IsNotedAgain stepped.sent envelope)
+    (bounds : asked.bounds ≡ stepped.bounds) (way : IsOnTheWay asked.sent stepped.sent) where
+  board_asked : board ≡ asked.sent.note.board
+  board_asked = sym board_is ∙ way.board
+
+  still : IsOnTheWay asked.sent envelope
+  still = way_noted asked.sent stepped.sent envelope way noted
+
+  -- an answer is one to the call
+  pub answered : (answer : AnswerValue Q R) → Served service (is_here service stepped.bounds board.limits.count envelope) before after envelope (Answered answer) → IsAnswerTo service asked.sent answer
+  answered answer served =
+      answers service before envelope asked.sent answer (noted.board ∙ (board_is ∙ sym new.board_is)) still served.1
+
+  pub forwards : (to : ℕ) (back : Sent Q) → Served service (is_here service stepped.bounds board.limits.count envelope) before after envelope (Forward to back) → IsOnTheWay asked.sent back
+  forwards to back served =
+      way_on asked.sent envelope back still served.1 (ap number_of_shell served.2.shell) (ap shard_of_shell served.2.shell)
+
+  -- a refusal comes back with a note of all by which it was decided
+  pub refuses : (refusal : Refusal) (back again : Sent Q) → PassLooks before after → Served service (is_here service stepped.bounds board.limits.count envelope) before after envelope (Refused refusal back) → IsNotedAgain back again → Begins after.seen again.note.seen
+      → IsOnTheWay asked.sent again × IsRefusalTo service asked refusal again.note.seen
+  refuses refusal back again looks served noted_back read = (
+    way_noted asked.sent back again (way_on asked.sent envelope back still served.1 (ap number_of_shell served.2) (ap shard_of_shell served.2)) noted_back,
+    record {
+      envelope = envelope;
+      back = back;
+      server = server;
+      before = before;
+      after = after;
+      way = still;
+      new = new_told board asked.sent.note.board server stepped.sent.note.seen asked.sent.note.seen before board_asked way.told new;
+      looks = looks;
+      served =
+          subst (λ (pair : List (List ℕ) × BoardValue). Served service (is_here service pair.0 pair.1.limits.count envelope) before after envelope (Refused refusal back))
+          (λ i. (sym bounds i, board_asked i)) served;
+      read = read;
+      given = noted_back.told;
+    },
+  )
 
 -- what holds a message up on its way sends its envelope back
-pub comes_back : {Q : Type 0} (sent : Sent Q) (fault : CallFault) (back : Sent Q) → IsOfTheWay fault → ComesBackFor sent fault back
-comes_back sent call.NoRoute back never = never
-comes_back sent call.Unreachable back way = way
-comes_back sent (call.Refused refusal) back never = absurd never
-comes_back sent call.NoMemory back way = way
-comes_back sent call.Closed back never = never
+pub comes_back : {Q R : Type 0} (service : Service Q R) (asked : CallValue Q) (fault : CallFault) (back : Sent Q) → IsOfTheWay fault → ComesBackFor service asked fault back
+comes_back service asked call.NoRoute back never = never
+comes_back service asked call.Unreachable back way = way
+comes_back service asked (call.Refused refusal) back never = absurd never
+comes_back service asked call.NoMemory back way = way
+comes_back service asked call.Closed back never = never
+
+-- what holds a message up on its way is a reply that fits its call
+pub held_up : {Q R : Type 0} (service : Service Q R) (asked : CallValue Q) (fault : CallFault) (envelope : Sent Q) → IsOnTheWay asked.sent envelope → IsOfTheWay fault → Fits service (Some asked) (reply.Refused fault envelope)
+held_up service asked fault envelope on way = (on, comes_back service asked fault envelope way)

@@ -1,13 +1,14 @@
 -- What a checkpoint of a cluster's shard leaves.
-use Rattle.std.specs.Prelude.{ℕ, ◌≡◌, [], Some, Result, Ok, Err}
-use Rattle.sm_ownership.specs.History.{NoneBy, kept}
+use Rattle.std.specs.Prelude.{ℕ, ◌≡◌, [], Result, Ok, Err}
+use Rattle.sm_ownership.specs.History.{kept}
 use Rattle.sm_rule.specs.declared.permit.Front.{Front}
 use Rattle.sm_rule.specs.Passes.{PassValue, record_of}
 use Rattle.sm_rule.specs.Views.{Begins}
 use Rattle.sm_server.specs.Basing.{CheckpointRefused, HasMadeCheckpoint}
 use Rattle.sm_cluster.specs.declared.checkpoint_refusal.CheckpointRefusal.{CheckpointRefusal}
 use Rattle.sm_cluster.specs.declared.checkpoint_refusal.CheckpointRefusal.TheVariants.{Checkpoint}
-use Rattle.sm_cluster.specs.Clusters.{ClusterValue}
+use Rattle.sm_cluster.specs.Clusters.{ClusterValue, TellsMore}
+use Rattle.sm_cluster.specs.Passes.{IsNewPass}
 
 -- what the pass that makes a checkpoint, as it was before and is after, leaves and answers
 abbrev pub BasesOrRefuses : {Q : Type 0} → PassValue Q → ℕ → PassValue Q → Result Front CheckpointRefusal → Type 0
@@ -17,12 +18,11 @@ BasesOrRefuses before shard after (Ok front) =
 BasesOrRefuses before shard after (Err (Checkpoint fault)) = CheckpointRefused before shard after fault
 BasesOrRefuses before shard after (Err refusal) = ⊥
 
--- a new pass of the server, which had seen all that the control has, made the checkpoint or was refused
-pub record IsBasedBy {Q : Type 0} (cluster : ClusterValue Q) (shard server : ℕ) (result : Result Front CheckpointRefusal) : Type 0 where
+-- a new pass of the server, which had seen all that the cluster told, made the checkpoint or was refused; the cluster then tells all that it has seen
+pub record IsBasedBy {Q : Type 0} (cluster : ClusterValue Q) (shard server : ℕ) (result : Result Front CheckpointRefusal) (later : ClusterValue Q) : Type 0 where
   pub before : PassValue Q
   pub after : PassValue Q
-  pub board : before.board ≡ cluster.control.chair.board
-  pub server_is : before.server ≡ Some server
-  pub seen : Begins cluster.control.chair.seen before.seen
-  pub new : NoneBy before.number before.seen
+  pub new : IsNewPass cluster.control.chair.board server cluster.told before
   pub made : BasesOrRefuses before shard after result
+  pub told : Begins after.seen later.told
+  pub others : TellsMore cluster later

@@ -1,19 +1,22 @@
 -- Clients as contracts see them, and what a call gives.
 use Rattle.std.specs.Prelude.{ℕ, ◌≡◌, ◌⊎◌, List, Option, Some, None}
 use Rattle.sm_body.specs.Service.{Service}
+use Rattle.sm_ownership.specs.declared.entry.Entry.{Entry}
 use Rattle.sm_ownership.specs.declared.mode.Mode.{Mode}
 use Rattle.sm_ownership.specs.History.{NoneBy}
 use Rattle.sm_ownership.specs.Routes.{routes_of}
 use Rattle.sm_publish.specs.Seen.{RouterView}
 use Rattle.sm_ranges.specs.Ranges.{shard_of}
-use Rattle.sm_rule.specs.Passes.{PassValue}
+use Rattle.sm_rule.specs.Passes.{PassLooks, PassValue}
 use Rattle.sm_rule.specs.Views.{Begins}
 use Rattle.sm_server.specs.Answers.{AnswerValue, IsAnswer}
 use Rattle.sm_server.specs.declared.refusal.Refusal.{Refusal}
-use Rattle.sm_server.specs.Serving.{RefusedFor, Sent}
+use Rattle.sm_server.specs.declared.outcome.Outcome.TheVariants as outcome
+use Rattle.sm_server.specs.Serving.{Sent, Served, is_here}
 use Rattle.sm_cluster.specs.declared.call_refused.CallFault.{CallFault}
 use Rattle.sm_cluster.specs.declared.call_refused.CallFault.TheVariants.{NoRoute, Refused, Closed}
 use Rattle.sm_cluster.specs.declared.call_refused.CallRefused.{CallRefused}
+use Rattle.sm_cluster.specs.Passes.{IsNewPass}
 
 -- a client: its pass, what its router has seen, and the bounds of the shards
 pub record ClientValue (Q : Type 0) : Type 0 where
@@ -37,9 +40,13 @@ pub record IsAnswerFor {Q R : Type 0} (service : Service Q R) (caller : PassValu
   pub mode : Mode
   pub executed : IsAnswer service shard mode request answer
 
+-- the shard of a request's key by the client's bounds
+abbrev pub shard_asked : {Q R : Type 0} → Service Q R → ClientValue Q → Q → ℕ
+shard_asked service client request = shard_of client.bounds (service.key_of request)
+
 -- what a call of a client gives: an answer for its pass, from the shard of the request's key
 abbrev pub Gives : {Q R : Type 0} → Service Q R → ClientValue Q → ℕ → Q → AnswerValue Q R → Type 0
-Gives service client number request answer = IsAnswerFor service client.pass (shard_of client.bounds (service.key_of request)) number request answer
+Gives service client number request answer = IsAnswerFor service client.pass (shard_asked service client request) number request answer
 
 -- the request of a call that was not answered comes back, but where no reply will come
 abbrev pub handed_back : {Q : Type 0} → CallFault → Q → Option Q
@@ -58,28 +65,36 @@ pub record IsEnvelopeOf {Q : Type 0} (caller : PassValue Q) (shard number : ℕ)
   pub board : envelope.note.board ≡ caller.board
   pub seen : Begins caller.seen envelope.note.seen
 
--- a server's step on an envelope of the call refused it for this reason: by what a pass of the same board had seen before and has
--- after, or by the note with which the envelope came back
-pub record WasRefused {Q : Type 0} (caller : PassValue Q) (shard number : ℕ) (request : Q) (refusal : Refusal) : Type 0 where
+-- a server's step on an envelope of the client's call refused it for this reason: by a new pass of the server, which had seen what the
+-- client had. What the pass then has seen, and the note that the step gave back, is told
+pub record WasRefused {Q R : Type 0} (service : Service Q R) (client : ClientValue Q) (number : ℕ) (request : Q) (refusal : Refusal) (told : List (Entry Q)) : Type 0 where
   pub envelope : Sent Q
   pub back : Sent Q
+  pub server : ℕ
   pub before : PassValue Q
   pub after : PassValue Q
-  pub is_its : IsEnvelopeOf caller shard number request envelope
-  pub board : before.board ≡ caller.board
-  pub why : RefusedFor before after envelope back refusal
+  pub is_its : IsEnvelopeOf client.pass (shard_asked service client request) number request envelope
+  pub new : IsNewPass client.pass.board server client.pass.seen before
+  pub looks : PassLooks before after
+  pub served : Served service (is_here service client.bounds client.pass.board.limits.count envelope) before after envelope (outcome.Refused refusal back)
+  pub read : Begins after.seen told
+  pub given : Begins back.note.seen told
 
--- why a call at a server isn't answered: it asks for no route, and of a server's refusal is known what that server's step tells
-abbrev pub FaultAt : {Q : Type 0} → PassValue Q → ℕ → ℕ → Q → CallFault → Type 0
-FaultAt caller shard number request NoRoute = ⊥
-FaultAt caller shard number request (Refused refusal) = WasRefused caller shard number request refusal
-FaultAt caller shard number request fault = Unit {0}
+-- why a call at a server isn't answered, and the client that this leaves: it asks for no route; where a server refused it, the client
+-- has then seen all by which it was refused; and else nothing has changed
+abbrev pub FaultAt : {Q R : Type 0} → Service Q R → ClientValue Q → ClientValue Q → ℕ → Q → CallFault → Type 0
+FaultAt service before after number request NoRoute = ⊥
+FaultAt service before after number request (Refused refusal) =
+    PassLooks before.pass after.pass × (after ≡ client_seeing before after.pass)
+    × WasRefused service before number request refusal after.pass.seen
+FaultAt service before after number request fault = after ≡ before
 
 -- the router has seen no route of the shard, or its read was refused
 abbrev pub ReadsNoRoute : RouterView → RouterView → ℕ → Type 0
 ReadsNoRoute before after shard = (routes_of after.seen shard ≡ None) ⊎ (after.seen ≡ before.seen)
 
--- why a call isn't answered that goes by a route: the router gave none, or it is as at a server
-abbrev pub FaultByRoute : {Q : Type 0} → ClientValue Q → RouterView → ℕ → ℕ → Q → CallFault → Type 0
-FaultByRoute client read shard number request NoRoute = ReadsNoRoute client.router read shard
-FaultByRoute client read shard number request fault = FaultAt client.pass shard number request fault
+-- why a call isn't answered that goes by a route, and the client that this leaves: the router gave none, or it is as at a server
+abbrev pub FaultByRoute : {Q R : Type 0} → Service Q R → ClientValue Q → ClientValue Q → ℕ → Q → CallFault → Type 0
+FaultByRoute service before after number request NoRoute =
+    ReadsNoRoute before.router after.router (shard_asked service before request) × (after ≡ client_reading before after.router)
+FaultByRoute service before after number request fault = FaultAt service (client_reading before after.router) after number request fault

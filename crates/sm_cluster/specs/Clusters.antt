@@ -16,14 +16,16 @@ use Rattle.sm_cluster.specs.declared.hold_fault.FreeFault.TheVariants as free
 use Rattle.sm_cluster.specs.declared.hold_fault.HoldFault.{HoldFault}
 use Rattle.sm_cluster.specs.declared.hold_fault.HoldFault.TheVariants as hold
 use Rattle.sm_cluster.specs.Calls.{ClientValue}
-use Rattle.sm_cluster.specs.Holding.{AreEndedIn, IsHold, IsTold, IsTurnedAway, hold_at}
+use Rattle.sm_cluster.specs.Holding.{AreEndedIn, IsHold, IsTurnedAway, hold_at}
+use Rattle.sm_cluster.specs.Passes.{IsNewPass}
 
--- a cluster: its control, the published map, the bounds of the shards, and the pass by which each shard is held, if any
+-- a cluster: its control, the published map, the bounds of the shards, the pass by which each shard is held, if any, and the history that it tells, which has what its calls have done
 pub record ClusterValue (Q : Type 0) : Type 0 where
   pub control : ControlValue Q
   pub map : PublisherView
   pub bounds : List (List ℕ)
   pub holds : List (Option (PassValue Q))
+  pub told : List (Entry Q)
 
 abbrev pub cluster_commanded : {Q : Type 0} → ClusterValue Q → ControlValue Q → ClusterValue Q
 cluster_commanded cluster control = record cluster { control = control }
@@ -34,31 +36,40 @@ cluster_publishing cluster control map = record cluster { control = control; map
 abbrev pub cluster_holding : {Q : Type 0} → ClusterValue Q → ℕ → Option (PassValue Q) → ClusterValue Q
 cluster_holding cluster shard hold = record cluster { holds = slice_set cluster.holds shard hold }
 
+abbrev pub cluster_telling : {Q : Type 0} → ClusterValue Q → List (Entry Q) → ClusterValue Q
+cluster_telling cluster told = record cluster { told = told }
+
+-- the same cluster, which may tell more
+abbrev pub TellsMore : {Q : Type 0} → ClusterValue Q → ClusterValue Q → Type 0
+TellsMore before after = Begins before.told after.told × (after ≡ cluster_telling before after.told)
+
 -- the cluster has the shard and the server
 abbrev pub KnowsBoth : {Q : Type 0} → ClusterValue Q → ℕ → ℕ → Type 0
 KnowsBoth cluster shard server =
     (shard < cluster.control.chair.board.limits.count) × (is_known cluster.control.desk.books.servers server ≡ true)
 
--- the shard is held by a new pass of the server, and nothing else has changed
+-- the shard is held by a new pass of the server, which had seen all that the cluster told; the cluster tells of its admission, and nothing else has changed
 abbrev pub HasHeld : {Q : Type 0} → ClusterValue Q → ℕ → ℕ → ClusterValue Q → Type 0
 HasHeld {Q} before shard server after =
     KnowsBoth before shard server
-    × (pass : PassValue Q) × IsHold before.control.chair shard server pass × (after ≡ cluster_holding before shard (Some pass))
+    × (pass : PassValue Q) × IsHold before.control.chair.board before.told shard server pass × Begins pass.seen after.told
+    × TellsMore (cluster_holding before shard (Some pass)) after
 
--- why a shard isn't held: the first fault that applies
-abbrev pub HoldRefused : {Q : Type 0} → ClusterValue Q → ℕ → ℕ → HoldFault → Type 0
-HoldRefused cluster shard server hold.UnknownShard = cluster.control.chair.board.limits.count ≤ shard
-HoldRefused cluster shard server hold.UnknownServer =
-    (shard < cluster.control.chair.board.limits.count) × (is_known cluster.control.desk.books.servers server ≡ false)
-HoldRefused {Q} cluster shard server (hold.Admit refusal) =
-    KnowsBoth cluster shard server
-    × (pass : PassValue Q) × IsTold cluster.control.chair server pass × IsTurnedAway pass shard refusal
+-- why a shard isn't held, the first fault that applies, and the cluster that this leaves: a new pass that had seen all that the cluster told is refused by the record that it read, which the cluster then tells
+abbrev pub HoldRefused : {Q : Type 0} → ClusterValue Q → ℕ → ℕ → HoldFault → ClusterValue Q → Type 0
+HoldRefused before shard server hold.UnknownShard after = (before.control.chair.board.limits.count ≤ shard) × (after ≡ before)
+HoldRefused before shard server hold.UnknownServer after =
+    (shard < before.control.chair.board.limits.count) × (is_known before.control.desk.books.servers server ≡ false) × (after ≡ before)
+HoldRefused {Q} before shard server (hold.Admit refusal) after =
+    KnowsBoth before shard server
+    × (pass : PassValue Q) × IsNewPass before.control.chair.board server before.told pass × IsTurnedAway pass shard refusal after.told
+    × TellsMore before after
 
--- the pass that held the shard has ended its admission with nothing, and nothing else has changed
+-- the pass that held the shard has ended its admission with nothing, which the cluster tells, and nothing else has changed
 abbrev pub HasFreed : {Q : Type 0} → ClusterValue Q → ℕ → ClusterValue Q → Type 0
 HasFreed {Q} before shard after =
     (pass : PassValue Q) × (ended : PassValue Q) × (hold_at before.holds shard ≡ Some pass)
-    × PassAdds pass shard (Done Nothing) ended × (after ≡ cluster_holding before shard None)
+    × PassAdds pass shard (Done Nothing) ended × Begins ended.seen after.told × TellsMore (cluster_holding before shard None) after
 
 -- why a shard isn't freed: the first fault that applies
 abbrev pub FreeRefused : {Q : Type 0} → ClusterValue Q → ℕ → FreeFault → Type 0
@@ -71,7 +82,7 @@ abbrev pub IsClientOf : {Q : Type 0} → ClusterValue Q → ClientValue Q → Ty
 IsClientOf cluster client = (client.pass.board ≡ cluster.control.chair.board) × (client.bounds ≡ cluster.bounds)
 
 -- the rows are those of all shards after one legal history, to which passes alone have added since the chair last looked, which
--- extends what each client that came back had seen, and in which each hold was ended
+-- extends what each client that came back had seen, in which each hold was ended, and which extends what the cluster told
 abbrev pub WasStopped : {S Q : Type 0} → (S → ℕ → List Q → Type 0) → (S → ℕ) → ClusterValue Q → List (ClientValue Q) → List (Record × Option S) → Type 0
 WasStopped {S} {Q} keeps limit cluster clients rows =
     let chair = cluster.control.chair in
@@ -81,3 +92,4 @@ WasStopped {S} {Q} keeps limit cluster clients rows =
     × All (λ client. Begins client.pass.seen (chair.seen ++ later)) clients
     × AreLeft keeps limit chair.board.limits (chair.seen ++ later) rows
     × AreEndedIn (chair.seen ++ later) cluster.holds
+    × Begins cluster.told (chair.seen ++ later)

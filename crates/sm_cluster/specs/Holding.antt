@@ -5,13 +5,12 @@ use Rattle.sm_ownership.specs.declared.entry.Ending.TheVariants.{Nothing}
 use Rattle.sm_ownership.specs.declared.entry.Kind.TheVariants.{Done}
 use Rattle.sm_ownership.specs.declared.mode.Mode.TheVariants.{Direct}
 use Rattle.sm_ownership.specs.declared.record.Record.{Record}
-use Rattle.sm_ownership.specs.History.{NoneBy}
 use Rattle.sm_rule.specs.declared.admit_refusal.AdmitRefusal.{AdmitRefusal}
 use Rattle.sm_rule.specs.Admissions.{PassAdmitted, RefusedBy, held_admission}
 use Rattle.sm_rule.specs.Boards.{BoardValue}
-use Rattle.sm_rule.specs.Changes.{ChairValue}
 use Rattle.sm_rule.specs.Passes.{PassAdds, PassLooks, PassValue}
 use Rattle.sm_rule.specs.Views.{Begins}
+use Rattle.sm_cluster.specs.Passes.{IsNewPass}
 
 -- the pass by which the shard is held, if any
 abbrev pub hold_at : {Q : Type 0} → List (Option (PassValue Q)) → ℕ → Option (PassValue Q)
@@ -26,18 +25,14 @@ pub record AreHoldsOn {Q : Type 0} (board : BoardValue) (holds : List (Option (P
   pub many : length holds ≡ board.limits.count
   pub each : (shard : ℕ) (pass : PassValue Q) → hold_at holds shard ≡ Some pass → (pass.board ≡ board) × HoldsShard pass shard
 
--- a new pass of the server, without an entry, that has seen all that the chair has, and holds nothing
-abbrev pub IsTold : {Q : Type 0} → ChairValue Q → ℕ → PassValue Q → Type 0
-IsTold chair server pass =
-    (pass.board ≡ chair.board) × (pass.server ≡ Some server) × (pass.held ≡ None) × Begins chair.seen pass.seen × NoneBy pass.number pass.seen
+-- the pass has seen more, and isn't admitted for a direct request to the shard by the record that it has then seen, which is told
+abbrev pub IsTurnedAway : {Q : Type 0} → PassValue Q → ℕ → AdmitRefusal → List (Entry Q) → Type 0
+IsTurnedAway {Q} before shard refusal told =
+    (after : PassValue Q) × PassLooks before after × RefusedBy before after shard Direct refusal × Begins after.seen told
 
--- the pass has seen more, and isn't admitted for a direct request to the shard by the record that it has then seen
-abbrev pub IsTurnedAway : {Q : Type 0} → PassValue Q → ℕ → AdmitRefusal → Type 0
-IsTurnedAway {Q} before shard refusal = (after : PassValue Q) × PassLooks before after × RefusedBy before after shard Direct refusal
-
--- a new pass of the server that had seen all that the chair has was admitted to the shard, for a direct request
-abbrev pub IsHold : {Q : Type 0} → ChairValue Q → ℕ → ℕ → PassValue Q → Type 0
-IsHold {Q} chair shard server pass = (before : PassValue Q) × IsTold chair server before × PassAdmitted before shard Direct pass
+-- a new pass of the server that had seen all that was told was admitted to the shard, for a direct request
+abbrev pub IsHold : {Q : Type 0} → BoardValue → List (Entry Q) → ℕ → ℕ → PassValue Q → Type 0
+IsHold {Q} board told shard server pass = (before : PassValue Q) × IsNewPass board server told before × PassAdmitted before shard Direct pass
 
 -- the admission of a pass has ended with nothing
 abbrev pub HasEnded : {Q : Type 0} → PassValue Q → PassValue Q → Type 0

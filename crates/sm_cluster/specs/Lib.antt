@@ -4,6 +4,7 @@ pub mod Clusters
 pub mod Exchanging
 pub mod Holding
 pub mod Loads
+pub mod Passes
 pub mod Publications
 pub mod Replies
 pub mod Telling

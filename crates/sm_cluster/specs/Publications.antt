@@ -9,13 +9,13 @@ use Rattle.sm_publish.specs.Publishing.{publish_fault, with_route}
 use Rattle.sm_rule.specs.Changes.{ChairLooks}
 use Rattle.sm_cluster.specs.declared.publish_refusal.PublishRefusal.{PublishRefusal}
 use Rattle.sm_cluster.specs.declared.publish_refusal.PublishRefusal.TheVariants.{Publish as Unpublished, Route as Unrouted}
-use Rattle.sm_cluster.specs.Clusters.{ClusterValue, cluster_publishing}
+use Rattle.sm_cluster.specs.Clusters.{ClusterValue, TellsMore, cluster_publishing}
 
--- the chair has looked, and this is the shard's route; the desk stays, and all but the control and the map
+-- the chair has looked, and this is the shard's route; the desk stays, and all but the control and the map, and that the cluster tells more
 abbrev pub ReadsRoute : {Q : Type 0} → ClusterValue Q → ClusterValue Q → ℕ → Route → Type 0
 ReadsRoute before after shard route =
     ChairLooks before.control.chair after.control.chair × (after.control.desk ≡ before.control.desk)
-    × (after ≡ cluster_publishing before after.control after.map) × IsRouteOf after.control.chair shard route
+    × TellsMore (cluster_publishing before after.control after.map) after × IsRouteOf after.control.chair shard route
 
 -- why the map doesn't take a route whose first fault there is this one, or none
 abbrev pub IsMapFault : Option PublishFault → PublishFault → Type 0

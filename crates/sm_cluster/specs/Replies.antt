@@ -4,16 +4,24 @@ use mathlib.Core.Option.{some}
 use lib.ListN.{get_elem?}
 use Rattle.sm_body.specs.Service.{Service}
 use Rattle.sm_ownership.specs.declared.mode.Mode.{Mode}
+use Rattle.sm_ownership.specs.declared.entry.Entry.{Entry}
 use Rattle.sm_ownership.specs.History.{NoneBy}
-use Rattle.sm_rule.specs.Passes.{PassValue}
+use Rattle.sm_rule.specs.Passes.{PassLooks, PassValue}
 use Rattle.sm_rule.specs.Views.{Begins}
 use Rattle.sm_server.specs.Answers.{AnswerValue, IsAnswer}
 use Rattle.sm_server.specs.declared.refusal.Refusal.{Refusal}
-use Rattle.sm_server.specs.Serving.{RefusedFor, Sent}
+use Rattle.sm_server.specs.declared.outcome.Outcome.TheVariants as outcome
+use Rattle.sm_server.specs.Serving.{Sent, Served, is_here}
 use Rattle.sm_cluster.specs.declared.call_refused.CallFault.{CallFault}
 use Rattle.sm_cluster.specs.declared.call_refused.CallFault.TheVariants as call
 use Rattle.sm_cluster.specs.declared.reply.Reply.{Reply}
 use Rattle.sm_cluster.specs.declared.reply.Reply.TheVariants.{Answered, Refused}
+use Rattle.sm_cluster.specs.Passes.{IsNewPass}
+
+-- a call: the bounds of the shards by which it is served, and its envelope
+pub record CallValue (Q : Type 0) : Type 0 where
+  pub bounds : List (List ℕ)
+  pub sent : Sent Q
 
 -- an answer to the call whose envelope was first sent so: its history extends what the envelope's note had seen, by the entries by
 -- which the request was executed among others
@@ -33,14 +41,20 @@ pub record IsOnTheWay {Q : Type 0} (sent envelope : Sent Q) : Type 0 where
   pub board : envelope.note.board ≡ sent.note.board
   pub told : Begins sent.note.seen envelope.note.seen
 
--- a server's step on the envelope of that call, on its way, refused it for this reason
-pub record IsRefusalTo {Q : Type 0} (sent : Sent Q) (refusal : Refusal) (back : Sent Q) : Type 0 where
+-- a server's step on the envelope of that call, on its way, refused it for this reason: by a new pass of the server, which had seen what the
+-- call's first note had. What the pass then has seen, and the note that the step gave back, is told
+pub record IsRefusalTo {Q R : Type 0} (service : Service Q R) (asked : CallValue Q) (refusal : Refusal) (told : List (Entry Q)) : Type 0 where
   pub envelope : Sent Q
+  pub back : Sent Q
+  pub server : ℕ
   pub before : PassValue Q
   pub after : PassValue Q
-  pub way : IsOnTheWay sent envelope
-  pub board : before.board ≡ sent.note.board
-  pub why : RefusedFor before after envelope back refusal
+  pub way : IsOnTheWay asked.sent envelope
+  pub new : IsNewPass asked.sent.note.board server asked.sent.note.seen before
+  pub looks : PassLooks before after
+  pub served : Served service (is_here service asked.bounds asked.sent.note.board.limits.count envelope) before after envelope (outcome.Refused refusal back)
+  pub read : Begins after.seen told
+  pub given : Begins back.note.seen told
 
 -- what may hold a message up on its way: a shut door, or want of memory
 abbrev pub IsOfTheWay : CallFault → Type 0
@@ -48,24 +62,24 @@ IsOfTheWay call.Unreachable = Unit {0}
 IsOfTheWay call.NoMemory = Unit {0}
 IsOfTheWay fault = ⊥
 
--- why the envelope of that call comes back
-abbrev pub ComesBackFor : {Q : Type 0} → Sent Q → CallFault → Sent Q → Type 0
-ComesBackFor sent (call.Refused refusal) back = IsRefusalTo sent refusal back
-ComesBackFor sent fault back = IsOfTheWay fault
+-- why the envelope of that call comes back: a server's refusal comes with a note of all by which it was decided
+abbrev pub ComesBackFor : {Q R : Type 0} → Service Q R → CallValue Q → CallFault → Sent Q → Type 0
+ComesBackFor service asked (call.Refused refusal) back = IsRefusalTo service asked refusal back.note.seen
+ComesBackFor service asked fault back = IsOfTheWay fault
 
 -- what may be sent as the reply to a call: nothing before it is known
-abbrev pub Fits : {Q R : Type 0} → Service Q R → Option (Sent Q) → Reply (AnswerValue Q R) (Sent Q) → Type 0
+abbrev pub Fits : {Q R : Type 0} → Service Q R → Option (CallValue Q) → Reply (AnswerValue Q R) (Sent Q) → Type 0
 Fits service None reply = ⊥
-Fits service (Some sent) (Answered answer) = IsAnswerTo service sent answer
-Fits service (Some sent) (Refused fault envelope) = IsOnTheWay sent envelope × ComesBackFor sent fault envelope
+Fits service (Some asked) (Answered answer) = IsAnswerTo service asked.sent answer
+Fits service (Some asked) (Refused fault envelope) = IsOnTheWay asked.sent envelope × ComesBackFor service asked fault envelope
 
 abbrev pub AllFit : {T : Type 0} → (T → Type 0) → List T → Type 0
 AllFit Fit [] = Unit {0}
 AllFit Fit (reply ∷ replies) = Fit reply × AllFit Fit replies
 
 -- the rule of a reply's channel: each pass knows the same call, and each reply fits it; before the call is known there is one pass
-pub record HoldsReplies {Q R : Type 0} (service : Service Q R) (replies : List (Reply (AnswerValue Q R) (Sent Q))) (views : List (Option (Sent Q))) : Type 0 where
-  pub asked : Option (Sent Q)
-  pub agree : (pass : ℕ) (view : Option (Sent Q)) → get_elem? views pass ≡ some view → view ≡ asked
+pub record HoldsReplies {Q R : Type 0} (service : Service Q R) (replies : List (Reply (AnswerValue Q R) (Sent Q))) (views : List (Option (CallValue Q))) : Type 0 where
+  pub asked : Option (CallValue Q)
+  pub agree : (pass : ℕ) (view : Option (CallValue Q)) → get_elem? views pass ≡ some view → view ≡ asked
   pub fit : AllFit (Fits service asked) replies
   pub alone : asked ≡ None → length views ≡ 1

@@ -1,4 +1,4 @@
-ghost use Rattle.std.specs.Prelude.{◌≡◌, ◌<◌, ◌⊎◌, None, Some, IfErr, IfOk};
+ghost use Rattle.std.specs.Prelude.{◌≡◌, ◌<◌, ◌⊎◌, None, Some, IfErr, IfOk, OnOk};
 ghost use Rattle.std.specs.Arc.{arc_value};
 ghost use Rattle.sm_body.specs.Service.{meaning_of};
 ghost use Rattle.sm_ownership.specs.Routes.{routes_of};
@@ -6,11 +6,13 @@ ghost use Rattle.sm_publish.specs.Seen.{Extends};
 ghost use Rattle.sm_ranges.specs.Ranges.{shard_of};
 ghost use Rattle.sm_rule.specs.Passes.{PassLooks, record_of};
 ghost use Rattle.sm_rule.specs.Views.{IsMet};
-ghost use Rattle.sm_cluster.specs.Calls.{FaultAt, FaultByRoute, Gives, HandsBack, IsAnswerFor, IsEnvelopeOf, client_reading, client_seeing};
-ghost use Rattle.sm_cluster.specs.Replies.{IsAnswerTo};
-ghost use Rattle.sm_cluster.specs.Exchanging.{IsFaultOf, answer_of};
+ghost use Rattle.sm_cluster.specs.Calls.{FaultAt, FaultByRoute, Gives, HandsBack, client_reading, client_seeing};
+ghost use Rattle.sm_cluster.specs.Exchanging.{IsCallOf, IsLeftAfter, IsLeftBy, SendsBackOn, answer_of};
+ghost use Rattle.sm_cluster.specs.Loads.{IsClientSince};
+ghost use Rattle.sm_cluster.specs.Replies.{Fits};
 
 use crate::call_refused::{CallFault, CallRefused};
+use crate::ground::Ground;
 use crate::message::Message;
 use crate::network::Network;
 use crate::reply::{Reply, ReplyOf, ReplyReceiver, reply_channel};
@@ -23,7 +25,6 @@ use sm_ownership::route::Route;
 use sm_publish::Router;
 use sm_ranges::server_id::ServerId;
 use sm_ranges::shard_id::ShardId;
-use sm_rule::board::Board;
 use sm_rule::note::Note;
 use sm_rule::pass::Pass;
 use sm_server::Answer;
@@ -36,7 +37,7 @@ use std::sync::{Arc, Wait};
 /// Contracts see its pass, its router, and the bounds of the shards.
 #[derive(Drop)]
 pub struct Client<S: Service> {
-    board: Arc<Board<S>>,
+    ground: Arc<Ground<S>>,
     network: Arc<Network<Message<S>>>,
     pass: Pass<S>,
     router: Router,
@@ -49,25 +50,25 @@ impl<S: Service> Model for Client<S> {
 
     ghost Value = { ClientValue S.Request };
 
-    ghost view = { λ client. record { pass = client.pass; router = client.router; bounds = (arc_value client.network).layout } };
+    ghost view = { λ client. record { pass = client.pass; router = client.router; bounds = (arc_value client.ground).layout } };
 
-    ghost invariant = { λ client. (client.pass.board ≡ arc_value client.board) × (client.pass.held ≡ None) };
+    ghost invariant = { λ client. (client.pass.board ≡ (arc_value client.ground).board) × (client.pass.held ≡ None) };
 }
 
 impl<S: Service> Client<S> {
     /// A client that has seen what the board has at some moment, and no route.
     pub(crate) fn new(
-        board: Arc<Board<S>>,
+        ground: Arc<Ground<S>>,
         network: Arc<Network<Message<S>>>,
         router: Router,
     ) -> Client<S>
-        ensures board { result.pass.board ≡ arc_value board }
+        ensures board { result.pass.board ≡ (arc_value ground).board }
         ensures router { result.router ≡ router }
-        ensures bounds { result.bounds ≡ (arc_value network).layout }
+        ensures bounds { result.bounds ≡ (arc_value ground).layout }
     {
-        let pass = board.pass(None);
+        let pass = ground.board.pass(None);
         Client {
-            board,
+            ground,
             network,
             pass,
             router,
@@ -76,7 +77,8 @@ impl<S: Service> Client<S> {
 
     /// Has a server answer the request: the one of the route that the client's router gives of the key. The answer's history
     /// extends all that the client had seen. A request that was not answered comes back, but after `Closed`. `NoRoute` comes only where
-    /// the router gives no route, and `Refused` where a server's step on an envelope of this call gave that reason.
+    /// the router gives no route, and `Refused` where a server's step on an envelope of this call gave that reason; the client then
+    /// has seen the record by which it did.
     pub fn call<R: Wait>(
         &mut self,
         rt: &R,
@@ -85,10 +87,10 @@ impl<S: Service> Client<S> {
         request: S::Request,
     ) -> Result<Answer<S>, CallRefused<S::Request>>
         ensures answer { IfOk result (λ answer. Gives (meaning_of S.initial S.next S.answer S.key_of) self.old number request answer) }
+        ensures answered { OnOk result (self.new ≡ client_reading self.old self.new.router) }
         ensures back { IfErr result (λ refused. HandsBack request refused) }
-        ensures fault { IfErr result (λ refused. FaultByRoute self.old self.new.router (shard_of self.old.bounds (S.key_of request)) number request refused.fault) }
-        ensures later { Extends self.new.router.seen self.old.router.seen }
-        ensures unchanged { self.new ≡ client_reading self.old self.new.router }
+        ensures fault { IfErr result (λ refused. FaultByRoute (meaning_of S.initial S.next S.answer S.key_of) self.old self.new number request refused.fault) }
+        ensures since { IsClientSince self.old self.new }
     {
         let Some(route) = self.route(S::key(&request)) else {
             return Err(CallRefused {
@@ -101,7 +103,7 @@ impl<S: Service> Client<S> {
 
     /// Has this server answer the request, or one that it forwards it to. The answer's history extends all that the client had
     /// seen. A request that was not answered comes back, but after `Closed`. `NoRoute` never comes, and `Refused` only where a server's
-    /// step on an envelope of this call gave that reason.
+    /// step on an envelope of this call gave that reason; the client then has seen the record by which it did.
     pub fn call_at<R: Wait>(
         &mut self,
         rt: &R,
@@ -111,31 +113,16 @@ impl<S: Service> Client<S> {
         request: S::Request,
     ) -> Result<Answer<S>, CallRefused<S::Request>>
         ensures answer { IfOk result (λ answer. Gives (meaning_of S.initial S.next S.answer S.key_of) self.old number request answer) }
+        ensures answered { OnOk result (self.new ≡ self.old) }
         ensures back { IfErr result (λ refused. HandsBack request refused) }
-        ensures fault { IfErr result (λ refused. FaultAt self.old.pass (shard_of self.old.bounds (S.key_of request)) number request refused.fault) }
-        ensures unchanged { self.new ≡ self.old }
+        ensures fault { IfErr result (λ refused. FaultAt (meaning_of S.initial S.next S.answer S.key_of) self.old self.new number request refused.fault) }
+        ensures since { IsClientSince self.old self.new }
     {
-        let k = self.network.layout().shard_of(S::key(&request));
-        self.send(rt, alloc, server, k, number, request)
-    }
-
-    // Sends the request to the server, and waits for the reply.
-    fn send<R: Wait>(
-        &mut self,
-        rt: &R,
-        alloc: Global,
-        server: ServerId,
-        k: ShardId,
-        number: u64,
-        request: S::Request,
-    ) -> Result<Answer<S>, CallRefused<S::Request>>
-        ensures answer { IfOk result (λ answer. IsAnswerFor (meaning_of S.initial S.next S.answer S.key_of) self.old.pass k number request answer) }
-        ensures back { IfErr result (λ refused. HandsBack request refused) }
-        ensures fault { IfErr result (λ refused. FaultAt self.old.pass k number request refused.fault) }
-        ensures unchanged { self.new ≡ self.old }
-    {
-        match self.message(alloc, k, number, request) {
-            Ok((message, receiver)) => exchange(rt, &*self.network, server, message, receiver),
+        match self.message(alloc, number, request) {
+            Ok((message, receiver)) => {
+                let reply = exchange(rt, &*self.network, server, message, receiver);
+                self.taken(reply)
+            }
             Err(request) => Err(CallRefused {
                 fault: CallFault::NoMemory,
                 back: Some(request),
@@ -147,23 +134,71 @@ impl<S: Service> Client<S> {
     fn message(
         &mut self,
         alloc: Global,
-        k: ShardId,
         number: u64,
         request: S::Request,
     ) -> Result<(Message<S>, ReplyReceiver<S>), S::Request>
-        ensures message { IfOk result (λ made. IsEnvelopeOf self.old.pass k number request made.0) }
+        ensures message { IfOk result (λ made. IsCallOf (meaning_of S.initial S.next S.answer S.key_of) self.old number request made.0) }
         ensures receiver { IfOk result (λ made. made.1 ≡ Some made.0) }
         ensures back { IfErr result (λ back. back ≡ request) }
         ensures unchanged { self.new ≡ self.old }
     {
-        let Ok(board) = Arc::try_clone(&self.board) else {
+        let Ok(ground) = Arc::try_clone(&self.ground) else {
             return Err(request);
         };
-        let note = board.note(&mut self.pass);
+        let k = ground.layout.shard_of(S::key(&request));
+        let note = ground.board.note(&mut self.pass);
         let envelope = Envelope::new(number, k, request, note);
-        match reply_channel::<S>(alloc, &envelope) {
-            Ok((sender, receiver)) => Ok((Message::new(board, envelope, sender), receiver)),
+        match reply_channel::<S>(alloc, &ground.layout, &envelope) {
+            Ok((sender, receiver)) => Ok((Message::new(ground, envelope, sender), receiver)),
             Err(_) => Err(request_of(envelope)),
+        }
+    }
+
+    // What the client makes of the reply to its call; there is none where the message was let go.
+    fn taken(
+        &mut self,
+        reply: Result<ReplyOf<S, S::Request>, RecvError>,
+    ) -> Result<Answer<S>, CallRefused<S::Request>>
+        requires { IfOk reply (SendsBackOn self.old.pass.board) }
+        ensures answer { result ≡ answer_of reply }
+        ensures client { IsLeftAfter self.old reply self.new }
+    {
+        match reply {
+            Ok(Reply::Answered(answer)) => Ok(answer),
+            Ok(Reply::Refused(fault, envelope)) => {
+                let request = self.taken_back(&fault, envelope);
+                Err(CallRefused {
+                    fault,
+                    back: Some(request),
+                })
+            }
+            Err(_) => Err(CallRefused {
+                fault: CallFault::Closed,
+                back: None,
+            }),
+        }
+    }
+
+    // The request of an envelope that came back. Where a server refused it, the client learns what its note tells.
+    fn taken_back(
+        &mut self,
+        fault: &CallFault,
+        envelope: Envelope<S::Request, Note<S>>,
+    ) -> S::Request
+        requires { envelope.note.board ≡ self.old.pass.board }
+        ensures request { result ≡ envelope.request }
+        ensures client { IsLeftBy self.old fault.now envelope.note self.new }
+    {
+        let (request, note, _) = envelope.parts();
+        match fault {
+            CallFault::Refused(_) => {
+                self.hear(note);
+                request
+            }
+            CallFault::NoRoute => request,
+            CallFault::Unreachable => request,
+            CallFault::NoMemory => request,
+            CallFault::Closed => request,
         }
     }
 
@@ -174,7 +209,7 @@ impl<S: Service> Client<S> {
         ensures state { result ≡ record_of self.new.pass k }
         ensures unchanged { self.new ≡ client_seeing self.old self.new.pass }
     {
-        self.board.look(&mut self.pass, k)
+        self.ground.board.look(&mut self.pass, k)
     }
 
     /// The route of the key's shard that was published last of those that the client's router has then seen, or none where it
@@ -185,7 +220,7 @@ impl<S: Service> Client<S> {
             ⊎ ((result ≡ None) × (self.new.router.seen ≡ self.old.router.seen)) }
         ensures unchanged { self.new ≡ client_reading self.old self.new.router }
     {
-        self.router.route(self.network.layout(), key)
+        self.router.route(&self.ground.layout, key)
     }
 
     /// Learns an answer: the client then has seen the history that the answer's note tells.
@@ -200,13 +235,23 @@ impl<S: Service> Client<S> {
         let server = answer.server();
         let place = answer.place();
         let (reply, note) = answer.parts();
-        self.board.meet(&mut self.pass, note);
+        self.hear(note);
         Told {
             number,
             server,
             reply,
             place,
         }
+    }
+
+    /// Tells the client what a note tells.
+    pub(crate) fn hear(&mut self, note: Note<S>)
+        requires { note.board ≡ self.old.pass.board }
+        ensures seen { PassLooks self.old.pass self.new.pass }
+        ensures met { IsMet note.number note.seen self.new.pass.seen }
+        ensures unchanged { self.new ≡ client_seeing self.old self.new.pass }
+    {
+        self.ground.board.meet(&mut self.pass, note);
     }
 
     /// Counts a request that is made anew.
@@ -230,44 +275,16 @@ fn exchange<S: Service, R: Wait>(
     server: ServerId,
     message: Message<S>,
     receiver: ReplyReceiver<S>,
-) -> Result<Answer<S>, CallRefused<S::Request>>
+) -> Result<ReplyOf<S, S::Request>, RecvError>
     requires { receiver ≡ Some message }
-    ensures answer { IfOk result (λ answer. IsAnswerTo (meaning_of S.initial S.next S.answer S.key_of) message answer) }
-    ensures back { IfErr result (λ refused. HandsBack message.request refused) }
-    ensures fault { IfErr result (λ refused. IsFaultOf message refused.fault) }
+    ensures { IfOk result (Fits (meaning_of S.initial S.next S.answer S.key_of) (Some message)) }
 {
     match network.send(rt, server, message) {
-        Ok(()) => answer_of(receiver.receive(rt)),
-        Err(unsent) => Err(handed_back(unsent.fault, unsent.message.into_envelope())),
-    }
-}
-
-// What a caller makes of the reply; there is none where the message was let go.
-fn answer_of<S: Service>(
-    reply: Result<ReplyOf<S, S::Request>, RecvError>,
-) -> Result<Answer<S>, CallRefused<S::Request>>
-    ensures { result ≡ answer_of reply }
-{
-    match reply {
-        Ok(Reply::Answered(answer)) => Ok(answer),
-        Ok(Reply::Refused(fault, envelope)) => Err(handed_back(fault, envelope)),
-        Err(_) => Err(CallRefused {
-            fault: CallFault::Closed,
-            back: None,
-        }),
-    }
-}
-
-// A call that was not answered, with its request.
-fn handed_back<S: Service>(
-    fault: CallFault,
-    envelope: Envelope<S::Request, Note<S>>,
-) -> CallRefused<S::Request>
-    ensures { result ≡ record { fault = fault; back = Some envelope.request } }
-{
-    CallRefused {
-        fault,
-        back: Some(request_of(envelope)),
+        Ok(()) => receiver.receive(rt),
+        Err(unsent) => Ok(Reply::Refused(
+            unsent.fault,
+            unsent.message.into_envelope(),
+        )),
     }
 }
 

@@ -6,8 +6,10 @@ mod counting;
 mod holding;
 mod starting;
 mod stopping;
+mod telling;
 
 use crate::crew::Crew;
+use crate::ground::Ground;
 use crate::holds::Holds;
 use crate::message::Message;
 use crate::network::Network;
@@ -16,7 +18,7 @@ use sm_control::Control;
 use sm_desk::Desk;
 use sm_publish::Publisher;
 use sm_ranges::layout::Layout;
-use sm_rule::board::Board;
+use sm_rule::pass::Pass;
 use std::marker::Model;
 use std::sync::Arc;
 
@@ -24,11 +26,13 @@ use std::sync::Arc;
 ///
 /// Its calls take it by `&mut`, so that contracts say what each did. Who calls from several threads puts it under a lock.
 pub struct Cluster<S: Service> {
-    board: Arc<Board<S>>,
+    ground: Arc<Ground<S>>,
     network: Arc<Network<Message<S>>>,
     control: Control<S>,
     publisher: Publisher,
     holds: Holds<S>,
+    // A pass of no server, which has seen what the calls have done.
+    teller: Pass<S>,
     crew: Crew,
 }
 
@@ -37,12 +41,15 @@ impl<S: Service> Model for Cluster<S> {
     ghost use Rattle.std.specs.Arc.{arc_value};
     ghost use Rattle.sm_cluster.specs.Clusters.{ClusterValue};
     ghost use Rattle.sm_cluster.specs.Holding.{AreHoldsOn};
+    ghost use Rattle.sm_cluster.specs.Passes.{IsTeller};
 
     ghost Value = { ClusterValue S.Request };
 
-    ghost view = { λ cluster. record { control = cluster.control; map = cluster.publisher; bounds = (arc_value cluster.network).layout; holds = cluster.holds } };
+    ghost view = { λ cluster. record { control = cluster.control; map = cluster.publisher; bounds = (arc_value cluster.ground).layout; holds = cluster.holds; told = cluster.teller.seen } };
 
-    ghost invariant = { λ cluster. (cluster.control.chair.board ≡ arc_value cluster.board) × AreHoldsOn (arc_value cluster.board) cluster.holds };
+    ghost invariant = { λ cluster. (cluster.control.chair.board ≡ (arc_value cluster.ground).board)
+        × AreHoldsOn (arc_value cluster.ground).board cluster.holds
+        × IsTeller (arc_value cluster.ground).board cluster.control.chair.seen cluster.teller };
 }
 
 impl<S: Service> Cluster<S> {
@@ -57,6 +64,6 @@ impl<S: Service> Cluster<S> {
     pub fn layout(&self) -> &Layout
         ensures { result.now ≡ self.now.bounds }
     {
-        self.network.layout()
+        &self.ground.layout
     }
 }

@@ -1,6 +1,8 @@
 ghost use Rattle.std.specs.Prelude.{◌≡◌, ◌<◌, None, IfErr, IfOk};
 ghost use Rattle.sm_ownership.specs.declared.mode.Mode.TheVariants.{Direct};
 ghost use Rattle.sm_rule.specs.Admissions.{PassAdmitted};
+ghost use Rattle.sm_rule.specs.Passes.{PassLooks};
+ghost use Rattle.sm_rule.specs.Views.{Begins};
 ghost use Rattle.sm_cluster.specs.Holding.{HasEnded, IsTurnedAway};
 
 use sm_body::service::Service;
@@ -37,21 +39,31 @@ impl<S: Service> Model for Hold<S> {
 }
 
 impl<S: Service> Hold<S> {
-    /// Admits the pass to the shard for a direct request, or answers why not.
+    /// Admits the pass to the shard for a direct request, or answers why not, and tells another pass what this one then has seen.
     pub(crate) fn begin(
         board: &Board<S>,
         mut pass: Pass<S>,
         k: ShardId,
+        teller: &mut Pass<S>,
     ) -> Result<Hold<S>, AdmitRefusal>
         requires board { pass.board ≡ board.now }
         requires shard { k < board.now.limits.count }
         requires free { pass.held ≡ None }
-        ensures held { IfOk result (λ hold. PassAdmitted pass k Direct hold) }
-        ensures refused { IfErr result (λ refusal. IsTurnedAway pass k refusal) }
+        requires teller { teller.old.board ≡ board.now }
+        ensures held { IfOk result (λ hold. PassAdmitted pass k Direct hold × Begins hold.seen teller.new.seen) }
+        ensures refused { IfErr result (λ refusal. IsTurnedAway pass k refusal teller.new.seen) }
+        ensures looks { PassLooks teller.old teller.new }
     {
         match board.admit(&mut pass, k, Mode::Direct) {
-            Ok(permit) => Ok(Hold { pass, permit }),
-            Err(refusal) => Err(refusal),
+            Ok(permit) => {
+                let note = board.note(&mut pass);
+                board.meet(teller, note);
+                Ok(Hold { pass, permit })
+            }
+            Err(refusal) => {
+                board.meet(teller, pass.into_note());
+                Err(refusal)
+            }
         }
     }
 

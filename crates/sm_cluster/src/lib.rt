@@ -25,6 +25,7 @@ pub mod cluster;
 pub mod counting;
 mod crew;
 pub mod gate;
+mod ground;
 mod hold;
 pub mod hold_fault;
 mod holds;

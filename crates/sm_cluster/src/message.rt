@@ -1,57 +1,61 @@
 //! The requests of calls on their way.
-ghost use Rattle.std.specs.Prelude.{◌≡◌, Some};
+ghost use Rattle.std.specs.Prelude.{◌≡◌, None, Some};
 ghost use Rattle.std.specs.Arc.{arc_value};
 ghost use Rattle.sm_body.specs.Service.{meaning_of};
-ghost use Rattle.sm_server.specs.Serving.{Sent};
-ghost use Rattle.sm_cluster.specs.Replies.{IsOfTheWay, IsOnTheWay};
-ghost use Rattle.sm_cluster.specs.Telling.{Tells};
+ghost use Rattle.sm_rule.specs.Views.{Begins};
+ghost use Rattle.sm_cluster.specs.Replies.{CallValue, IsOfTheWay, IsOnTheWay};
+ghost use Rattle.sm_cluster.specs.Passes.{IsNewPass};
+ghost use Rattle.sm_cluster.specs.Telling.{IsNotedAgain, Tells};
 
 use crate::call_refused::CallFault;
+use crate::ground::Ground;
 use crate::network::Network;
 use crate::reply::{Reply, ReplySender};
 use sm_body::service::Service;
 use sm_counts::tally::Tally;
 use sm_envelope::envelope::Envelope;
-use sm_ranges::layout::Layout;
 use sm_ranges::server_id::ServerId;
 use sm_rule::admit_refusal::AdmitRefusal;
 use sm_rule::board::Board;
 use sm_rule::note::Note;
+use sm_rule::pass::Pass;
 use sm_server::{Answer, Outcome, Refusal, serve};
 use std::marker::Model;
 use std::sync::{Arc, Wait};
 
-/// A request on its way, with its board and the end on which its reply is sent. Contracts see its envelope. By its type the note
-/// is of the board, and the envelope is that of the call to which the reply goes.
+/// A request on its way, with its board and layout, and the end on which its reply is sent. Contracts see the bounds by which it is
+/// served, and its envelope. By its type the note is of the board, and the bounds and the envelope are those of the call to which
+/// the reply goes.
 #[derive(Drop)]
 pub(crate) struct Message<S: Service> {
-    board: Arc<Board<S>>,
+    ground: Arc<Ground<S>>,
     envelope: Envelope<S::Request, Note<S>>,
     sender: ReplySender<S>,
 }
 
 impl<S: Service> Model for Message<S> {
-    ghost Value = { Sent S.Request };
+    ghost Value = { CallValue S.Request };
 
-    ghost view = { λ message. message.envelope };
+    ghost view = { λ message. record { bounds = (arc_value message.ground).layout; sent = message.envelope } };
 
-    ghost invariant = { λ message. (message.envelope.note.board ≡ arc_value message.board)
-        × (sent : Sent S.Request) × (message.sender ≡ Some sent) × IsOnTheWay sent message.envelope };
+    ghost invariant = { λ message. (message.envelope.note.board ≡ (arc_value message.ground).board)
+        × (asked : CallValue S.Request) × (message.sender ≡ Some asked) × (asked.bounds ≡ (arc_value message.ground).layout)
+        × IsOnTheWay asked.sent message.envelope };
 }
 
 impl<S: Service> Message<S> {
     /// The message of a new call.
     pub(crate) fn new(
-        board: Arc<Board<S>>,
+        ground: Arc<Ground<S>>,
         envelope: Envelope<S::Request, Note<S>>,
         sender: ReplySender<S>,
     ) -> Message<S>
-        requires board { envelope.note.board ≡ arc_value board }
-        requires sender { sender ≡ Some envelope }
-        ensures { result ≡ envelope }
+        requires board { envelope.note.board ≡ (arc_value ground).board }
+        requires sender { sender ≡ Some (record { bounds = (arc_value ground).layout; sent = envelope }) }
+        ensures { result ≡ record { bounds = (arc_value ground).layout; sent = envelope } }
     {
         Message {
-            board,
+            ground,
             envelope,
             sender,
         }
@@ -59,14 +63,14 @@ impl<S: Service> Message<S> {
 
     /// The number of the call.
     pub(crate) fn number(&self) -> u64
-        ensures { result ≡ self.now.number }
+        ensures { result ≡ self.now.sent.number }
     {
         self.envelope.number()
     }
 
     /// The envelope; the call is let go.
     pub(crate) fn into_envelope(self) -> Envelope<S::Request, Note<S>>
-        ensures { result ≡ self }
+        ensures { result ≡ self.sent }
     {
         self.envelope
     }
@@ -76,7 +80,7 @@ impl<S: Service> Message<S> {
         requires { IsOfTheWay fault }
     {
         let Message {
-            board: _,
+            ground: _,
             envelope,
             sender,
         } = self;
@@ -94,11 +98,11 @@ impl<S: Service> Message<S> {
         tally: Option<&Tally>,
     ) {
         let Message {
-            board,
+            ground,
             envelope,
             sender,
         } = self;
-        let outcome = serve_anew(&*board, network.layout(), server, envelope);
+        let outcome = serve_anew(&*ground, server, envelope);
         if let Some(tally) = tally {
             tally.count(&outcome);
         }
@@ -107,7 +111,7 @@ impl<S: Service> Message<S> {
             Outcome::Refused(refusal, envelope) => {
                 if is_overtaken(&refusal) {
                     let message = Message {
-                        board,
+                        ground,
                         envelope,
                         sender,
                     };
@@ -118,7 +122,7 @@ impl<S: Service> Message<S> {
             }
             Outcome::Forward(to, envelope) => {
                 let message = Message {
-                    board,
+                    ground,
                     envelope,
                     sender,
                 };
@@ -140,16 +144,55 @@ fn is_overtaken(refusal: &Refusal) -> bool {
     matches!(refusal, Refusal::Admit(AdmitRefusal::Raced { .. }))
 }
 
-// What a server makes of an envelope by a new pass.
+// What a server makes of an envelope by a new pass, which is first told what the envelope's note had seen. A refused envelope comes back
+// with a note of all by which it was refused.
 fn serve_anew<S: Service>(
-    board: &Board<S>,
-    layout: &Layout,
+    ground: &Ground<S>,
     server: ServerId,
     envelope: Envelope<S::Request, Note<S>>,
 ) -> Outcome<Answer<S>, Envelope<S::Request, Note<S>>>
-    requires { envelope.note.board ≡ board.now }
-    ensures { Tells (meaning_of S.initial S.next S.answer S.key_of) envelope result }
+    requires { envelope.note.board ≡ ground.now.board }
+    ensures { Tells (meaning_of S.initial S.next S.answer S.key_of) (record { bounds = ground.now.layout; sent = envelope }) result }
 {
-    let mut pass = board.pass(Some(server));
-    serve(board, layout, &mut pass, envelope)
+    let (mut pass, envelope) = pass_for(ground, server, envelope);
+    match serve(&ground.board, &ground.layout, &mut pass, envelope) {
+        Outcome::Answered(answer) => Outcome::Answered(answer),
+        Outcome::Forward(to, envelope) => Outcome::Forward(to, envelope),
+        Outcome::Refused(refusal, envelope) => {
+            Outcome::Refused(refusal, told_by(&ground.board, pass, envelope))
+        }
+    }
+}
+
+// A new pass of the server, which has seen what the envelope's note had, and the envelope with a note of that.
+fn pass_for<S: Service>(
+    ground: &Ground<S>,
+    server: ServerId,
+    envelope: Envelope<S::Request, Note<S>>,
+) -> (Pass<S>, Envelope<S::Request, Note<S>>)
+    requires { envelope.note.board ≡ ground.now.board }
+    ensures pass { IsNewPass ground.now.board server envelope.note.seen result.0 }
+    ensures envelope { IsNotedAgain envelope result.1 }
+{
+    let (request, note, shell) = envelope.parts();
+    let mut pass = ground.pass_told(server, note);
+    let note = ground.board.note(&mut pass);
+    (pass, shell.whole(request, note))
+}
+
+// The envelope with a note that has also seen what the pass has.
+fn told_by<S: Service>(
+    board: &Board<S>,
+    mut pass: Pass<S>,
+    envelope: Envelope<S::Request, Note<S>>,
+) -> Envelope<S::Request, Note<S>>
+    requires board { pass.board ≡ board.now }
+    requires note { envelope.note.board ≡ board.now }
+    requires free { pass.held ≡ None }
+    ensures envelope { IsNotedAgain envelope result }
+    ensures told { Begins pass.seen result.note.seen }
+{
+    let (request, note, shell) = envelope.parts();
+    board.meet(&mut pass, note);
+    shell.whole(request, pass.into_note())
 }

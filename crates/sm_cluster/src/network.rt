@@ -1,6 +1,5 @@
 //! The ways to the servers' inboxes.
-ghost use Rattle.std.specs.Arc.{arc_value};
-ghost use Rattle.std.specs.Prelude.{◌≡◌, IfErr, IfOk};
+ghost use Rattle.std.specs.Prelude.{◌≡◌, IfErr};
 ghost use Rattle.sm_cluster.specs.Replies.{IsOfTheWay};
 
 use crate::call_refused::CallFault;
@@ -8,36 +7,31 @@ use crate::inbox::{Door, Inbox, Unsent, inbox_of};
 use sm_counts::counters::Counters;
 use sm_counts::counts::ServerCounts;
 use sm_counts::tally::Tally;
-use sm_ranges::layout::Layout;
 use sm_ranges::server_id::ServerId;
 use sm_rows::ServerRow;
 use std::alloc::{AllocError, Global};
 use std::sync::{Arc, Wait};
 
-/// The doors of all servers, how the key space is cut into shards, and what is counted. Clients and workers share it.
+/// The doors of all servers, and what is counted. Clients and workers share it.
 #[derive(Drop)]
 pub(crate) struct Network<M: Drop> {
-    pub(crate) layout: Layout,
     // By rising numbers, each with its door at the same place.
     servers: Vec<ServerId>,
     doors: Vec<Door<M>>,
     pub(crate) counters: Counters,
 }
 
-/// The doors of these servers, all open, and their inboxes, each with room for as many parcels as its server has workers. The rows
-/// stand by rising numbers.
+/// The doors of these servers, all open, and their inboxes, each with room for as many parcels as its server has workers, and counters
+/// for so many shards. The rows stand by rising numbers.
 pub(crate) fn network_of<M: Drop, R: Wait>(
     rt: &R,
     alloc: Global,
-    layout: Layout,
     rows: &[ServerRow],
+    shards: usize,
     workers: u32,
-) -> Result<(Arc<Network<M>>, Vec<Inbox<M>>), AllocError>
-    ensures { IfOk result (λ made. (arc_value made.0).layout ≡ layout) }
-{
-    let counters = Counters::new(alloc, rows.len(), layout.count())?;
+) -> Result<(Arc<Network<M>>, Vec<Inbox<M>>), AllocError> {
+    let counters = Counters::new(alloc, rows.len(), shards)?;
     let mut network = Network {
-        layout,
         servers: Vec::new(alloc),
         doors: Vec::new(alloc),
         counters,
@@ -54,9 +48,7 @@ impl<M: Drop> Network<M> {
         alloc: Global,
         rows: &[ServerRow],
         workers: u32,
-    ) -> Result<Vec<Inbox<M>>, AllocError>
-        ensures { self.new.layout ≡ self.old.layout }
-    {
+    ) -> Result<Vec<Inbox<M>>, AllocError> {
         let mut inboxes = Vec::new(alloc);
         for row in rows {
             let (door, inbox) = inbox_of(rt, alloc, row.id, workers)?;
@@ -65,13 +57,6 @@ impl<M: Drop> Network<M> {
             inboxes.push(inbox)?;
         }
         Ok(inboxes)
-    }
-
-    /// The layout.
-    pub(crate) fn layout(&self) -> &Layout
-        ensures { result.now ≡ self.now.layout }
-    {
-        &self.layout
     }
 
     /// Puts the message into the server's inbox, or gives it back: `Unreachable` where the door is shut, `NoMemory` where memory

@@ -4,8 +4,7 @@ ghost use Rattle.crossbeam_channel.specs.Claims as claims;
 ghost use Rattle.crossbeam_channel.specs.Claims.{IsSeatAt};
 ghost use Rattle.crossbeam_channel.specs.Ends.{receives_on, sends_on};
 ghost use Rattle.sm_body.specs.Service.{meaning_of};
-ghost use Rattle.sm_server.specs.Serving.{Sent};
-ghost use Rattle.sm_cluster.specs.Replies.{Fits, HoldsReplies};
+ghost use Rattle.sm_cluster.specs.Replies.{CallValue, Fits, HoldsReplies};
 
 use crate::LOOKS;
 use crate::call_refused::CallFault;
@@ -13,6 +12,7 @@ use crossbeam_channel::protocol::{Lesson, Outcome, Protocol, Split};
 use crossbeam_channel::{Pass, RecvError, RuledReceiver, RuledSender, TryRecvError, bounded_with};
 use sm_body::service::Service;
 use sm_envelope::envelope::Envelope;
+use sm_ranges::layout::Layout;
 use sm_rule::note::Note;
 use sm_server::Answer;
 use std::alloc::{AllocError, Global};
@@ -29,13 +29,13 @@ pub(crate) enum Reply<A: Drop, E: Drop> {
 
 pub(crate) type ReplyOf<S, Q> = Reply<Answer<S>, Envelope<Q, Note<S>>>;
 
-/// What a pass of a reply's channel knows: the envelope of the call, once it was sent. No value of it is made.
+/// What a pass of a reply's channel knows: the call, once it was sent. No value of it is made.
 pub(crate) struct Asked<Q> {
     request: PhantomData<Q>,
 }
 
 impl<Q> Model for Asked<Q> {
-    ghost Value = { Option (Sent Q) };
+    ghost Value = { Option (CallValue Q) };
 
     ghost view = { λ _. None };
 }
@@ -53,7 +53,7 @@ impl<S: Service> Protocol<ReplyOf<S, S::Request>, Asked<S::Request>> for ReplyRu
 
 /// The call that a channel is made for. Each call picks it.
 pub(crate) trait Asking<Q> {
-    ghost asked: { Option (Sent Q) };
+    ghost asked: { Option (CallValue Q) };
 }
 
 impl<Q> Asking<Q> for Brand {
@@ -95,7 +95,7 @@ impl<S: Service> Lesson<ReplyOf<S, S::Request>, Asked<S::Request>> for ReceivesR
     ghost fact = { λ known replies. ⊤ };
 }
 
-/// The end on which the reply to one call is sent. Contracts see the envelope of the call as it was first sent.
+/// The end on which the reply to one call is sent. Contracts see the call as it was first sent.
 #[derive(Drop)]
 pub(crate) struct ReplySender<S: Service> {
     sender: RuledSender<ReplyOf<S, S::Request>, Asked<S::Request>, ReplyRule<S>>,
@@ -103,7 +103,7 @@ pub(crate) struct ReplySender<S: Service> {
 }
 
 impl<S: Service> Model for ReplySender<S> {
-    ghost Value = { Option (Sent S.Request) };
+    ghost Value = { Option (CallValue S.Request) };
 
     ghost view = { λ end. claims.view end.pass };
 
@@ -118,7 +118,7 @@ pub(crate) struct ReplyReceiver<S: Service> {
 }
 
 impl<S: Service> Model for ReplyReceiver<S> {
-    ghost Value = { Option (Sent S.Request) };
+    ghost Value = { Option (CallValue S.Request) };
 
     ghost view = { λ end. claims.view end.pass };
 
@@ -155,11 +155,12 @@ impl<S: Service> ReplyReceiver<S> {
 // The two ends of a channel whose passes know the call that `J` tells.
 fn channel_as<S: Service, J: Asking<S::Request>>(
     alloc: Global,
+    _layout: &Layout,
     _envelope: &Envelope<S::Request, Note<S>>,
 ) -> Result<(ReplySender<S>, ReplyReceiver<S>), AllocError>
-    requires { J.asked ≡ Some _envelope.now }
-    ensures sender { IfOk result (λ ends. ends.0 ≡ Some _envelope.now) }
-    ensures receiver { IfOk result (λ ends. ends.1 ≡ Some _envelope.now) }
+    requires { J.asked ≡ Some (record { bounds = _layout.now; sent = _envelope.now }) }
+    ensures sender { IfOk result (λ ends. ends.0 ≡ Some (record { bounds = _layout.now; sent = _envelope.now })) }
+    ensures receiver { IfOk result (λ ends. ends.1 ≡ Some (record { bounds = _layout.now; sent = _envelope.now })) }
 {
     let (sender, receiver, mut pass) = bounded_with::<
         ReplyOf<S, S::Request>,
@@ -177,13 +178,14 @@ fn channel_as<S: Service, J: Asking<S::Request>>(
     ))
 }
 
-/// The two ends of a new channel for the reply to the call of this envelope.
+/// The two ends of a new channel for the reply to the call of this envelope, which is served by this layout.
 pub(crate) fn reply_channel<S: Service>(
     alloc: Global,
+    layout: &Layout,
     envelope: &Envelope<S::Request, Note<S>>,
 ) -> Result<(ReplySender<S>, ReplyReceiver<S>), AllocError>
-    ensures sender { IfOk result (λ ends. ends.0 ≡ Some envelope.now) }
-    ensures receiver { IfOk result (λ ends. ends.1 ≡ Some envelope.now) }
+    ensures sender { IfOk result (λ ends. ends.0 ≡ Some (record { bounds = layout.now; sent = envelope.now })) }
+    ensures receiver { IfOk result (λ ends. ends.1 ≡ Some (record { bounds = layout.now; sent = envelope.now })) }
 {
-    channel_as::<S, Brand>(alloc, envelope)
+    channel_as::<S, Brand>(alloc, layout, envelope)
 }

@@ -1,6 +1,7 @@
 -- What the client's calls answer in a session.
 use Rattle.std.proofs.Common.{◌≡◌, ℕ, Bool, true, List, Option, Some, None, Result, Ok, Err, IfErr, IfOk, refl, sym, ap, subst}
-use Rattle.std.specs.Prelude.{◌⊎◌}
+use Rattle.std.specs.Prelude.{◌⊎◌, OnOk}
+use Rattle.std.specs.Option.{option_map}
 use Rattle.std.proofs.lemmas.Result.{IfOk-weaker}
 use Rattle.std.specs.declared.alloc.AllocError.{AllocError}
 use Rattle.sm_cluster.specs.Calls.{ClientValue, FaultAt, FaultByRoute, Gives, client_reading}
@@ -15,14 +16,16 @@ use Rattle.sm_desk.specs.Desk.{is_known}
 use Rattle.sm_model.specs.Calls.{counter_text}
 use Rattle.sm_ownership.specs.Routes.{routes_of}
 use Rattle.sm_ownership.specs.declared.route.Route.{Route}
-use Rattle.sm_publish.specs.Seen.{Extends}
+use Rattle.sm_publish.specs.Seen.{Extends, RouterView}
 use Rattle.sm_ranges.specs.Ranges.{shard_of}
 use Rattle.sm_script.specs.declared.answer.Answer.{Answer}
+use Rattle.sm_script.specs.declared.refused.Refused.{Refused}
 use Rattle.sm_script.specs.declared.answer.Answer.TheVariants.{Made, Refused as IsRefused, Seen, Executed, Planned, Way, Loaded, Error}
 use Rattle.sm_server.specs.Answers.{AnswerValue}
 use Rattle.sm_service.specs.declared.reply.Reply.{Reply}
 use Rattle.sm_service.specs.declared.request.Request.{Request}
-use Rattle.sm_threads.specs.Calls.{AnsweredAt, AnsweredWhere, Routed, WasAnswered, WasRouted, shard_for, with_client}
+use Rattle.sm_threads.specs.Calls.{AnsweredAt, AnsweredWhere, Routed, WasAnswered, WasRouted, with_client}
+use Rattle.sm_threads.specs.Refusals.{call_refused}
 use Rattle.sm_threads.specs.Sessions.{SessionValue}
 
 abbrev pub session_with : ClusterValue Request → ClientValue Request → SessionValue
@@ -31,8 +34,8 @@ session_with cluster client = record { cluster = cluster; client = client }
 pub published_keeps : (fault : Option RouteFault) (before after : ClusterValue Request) (shard : ℕ) (result : Result Route PublishRefusal) → Published fault before after shard result
     → (after.control.chair.board ≡ before.control.chair.board) × (after.bounds ≡ before.bounds)
 published_keeps (Some fault) before after shard result p = (ap (λ (c : ClusterValue Request). c.control.chair.board) p.1, ap (λ (c : ClusterValue Request). c.bounds) p.1)
-published_keeps None before after shard (Ok route) p = (p.0.0.1, ap (λ (c : ClusterValue Request). c.bounds) p.0.2)
-published_keeps None before after shard (Err (Unpublished fault)) p = (p.1.0.1, ap (λ (c : ClusterValue Request). c.bounds) p.1.2)
+published_keeps None before after shard (Ok route) p = (p.0.0.1, ap (λ (c : ClusterValue Request). c.bounds) p.0.2.1)
+published_keeps None before after shard (Err (Unpublished fault)) p = (p.1.0.1, ap (λ (c : ClusterValue Request). c.bounds) p.1.2.1)
 published_keeps None before after shard (Err (Unrouted fault)) p = absurd p
 
 -- a route of the client's router
@@ -44,10 +47,10 @@ routed_by cluster before after asked key route same later found unchanged =
     (later, subst P same found, ap (session_with cluster) unchanged)
 
 -- what a call is answered that may have these faults, where it may have no others
-answered_for : (may also : CallFault → Type 0) (client : ClientValue Request) (request : Request) (answer : Answer) (after : ClientValue Request) → ((fault : CallFault) → may fault → also fault)
+answered_for : (may also : ClientValue Request → CallFault → Type 0) (client : ClientValue Request) (request : Request) (answer : Answer) (after : ClientValue Request) → ((fault : CallFault) → may after fault → also after fault)
     → WasAnswered may client request answer after → WasAnswered also client request answer after
 answered_for may also client request (Executed reply server place) after more was = was
-answered_for may also client request (IsRefused why) after more was = ((was.0.0, more was.0.0 was.0.1, was.0.2), was.1)
+answered_for may also client request (IsRefused why) after more was = (was.0, more was.0 was.1, was.2)
 answered_for may also client request Made after more was = absurd was
 answered_for may also client request (Seen state) after more was = absurd was
 answered_for may also client request (Planned plan) after more was = absurd was
@@ -55,26 +58,37 @@ answered_for may also client request (Way route) after more was = absurd was
 answered_for may also client request (Loaded verdict) after more was = absurd was
 answered_for may also client request (Error fault) after more was = absurd was
 
+none_some : {X : Type 0} (x : X) → None ≡ Some x → ⊥
+none_some x is = absurd cc
+
+same_some : {X : Type 0} (x y : X) → Some x ≡ Some y → x ≡ y
+same_some x y same = search rules
+
+-- the refusal of a call that had such a fault
+by_refusal : (may : ClientValue Request → CallFault → Type 0) (client : ClientValue Request) (request : Request) (after : ClientValue Request) (fault : CallFault) (refusal : Option Refused) (answer : Answer)
+    → call_refused fault ≡ refusal → may after fault → option_map IsRefused refusal ≡ Some answer → WasAnswered may client request answer after
+by_refusal may client request after fault None answer is why same = absurd (none_some answer same)
+by_refusal may client request after fault (Some refused) answer is why same =
+    subst (λ (one : Answer). WasAnswered may client request one after) (same_some (IsRefused refused) answer same) (fault, why, is)
+
 -- what a client learned of its call, by what it was given before
-pub answered_since : (may : CallFault → Type 0) (request : Request) (before mid after : ClientValue Request) (given : Result (AnswerValue Request Reply) (CallRefused Request)) (result : Result Answer AllocError)
-    → mid ≡ before → IfOk given (Gives counter_text before 0 request) → IfErr given (λ refused. may refused.fault)
-    → ((r : Request) → IfOk given (λ answer. Gives counter_text mid 0 r answer → IfOk result (λ answer. WasAnswered (λ fault. ⊥) mid r answer after)))
-    → ((r : Request) → IfErr given (λ refused. IfOk result (λ answer. WasAnswered (λ fault. fault ≡ refused.fault) mid r answer after)))
+pub answered_since : (may : ClientValue Request → CallFault → Type 0) (request : Request) (before mid after : ClientValue Request) (given : Result (AnswerValue Request Reply) (CallRefused Request)) (result : Result Answer AllocError)
+    → OnOk given (mid ≡ before) → IfOk given (Gives counter_text before 0 request) → IfErr given (λ refused. may mid refused.fault)
+    → ((r : Request) → IfOk given (λ answer. Gives counter_text mid 0 r answer → IfOk result (λ answer. WasAnswered (λ client fault. ⊥) mid r answer after)))
+    → IfErr given (λ refused. IfOk result (λ answer. (option_map IsRefused (call_refused refused.fault) ≡ Some answer) × (after ≡ mid)))
     → IfOk result (λ answer. WasAnswered may before request answer after)
 answered_since may request before mid after (Ok answer) result same gives faults learned refused =
     let P : ClientValue Request → Type 0 = λ c. Gives counter_text c 0 request answer in
     let Q : ClientValue Request → Type 0 = λ c. IfOk result (λ told. WasAnswered may c request told after) in
     subst Q same
-    (IfOk-weaker result (λ told. WasAnswered (λ fault. ⊥) mid request told after) (λ told. WasAnswered may mid request told after)
-    (λ (told : Answer) was. answered_for (λ fault. ⊥) may mid request told after (λ (fault : CallFault) none. absurd none) was) (learned request (subst P (sym same) gives)))
+    (IfOk-weaker result (λ told. WasAnswered (λ client fault. ⊥) mid request told after) (λ told. WasAnswered may mid request told after)
+    (λ (told : Answer) was. answered_for (λ client fault. ⊥) may mid request told after (λ (fault : CallFault) none. absurd none) was) (learned request (subst P (sym same) gives)))
 answered_since may request before mid after (Err why) result same gives faults learned refused =
-    let Q : ClientValue Request → Type 0 = λ c. IfOk result (λ told. WasAnswered may c request told after) in
-    subst Q same
-    (IfOk-weaker result (λ told. WasAnswered (λ fault. fault ≡ why.fault) mid request told after) (λ told. WasAnswered may mid request told after)
-    (λ (told : Answer) was. answered_for (λ fault. fault ≡ why.fault) may mid request told after (λ (fault : CallFault) is. subst may (sym is) faults) was) (refused request))
+    IfOk-weaker result (λ told. (option_map IsRefused (call_refused why.fault) ≡ Some told) × (after ≡ mid)) (λ told. WasAnswered may before request told after)
+    (λ (told : Answer) was. by_refusal may before request after why.fault (call_refused why.fault) told refl (subst (λ (client : ClientValue Request). may client why.fault) (sym was.1) faults) was.0) refused
 
-abbrev faults_at : ClientValue Request → Request → CallFault → Type 0
-faults_at client request = FaultAt client.pass (shard_for client request) 0 request
+abbrev pub faults_at : ClientValue Request → Request → ClientValue Request → CallFault → Type 0
+faults_at before request after = FaultAt counter_text before after 0 request
 
 pub answered_at : (before after : SessionValue) (server : ℕ) (request : Request) (result : Result Answer AllocError) → is_known before.cluster.control.desk.books.servers server ≡ true
     → IfOk result (λ answer. WasAnswered (faults_at before.client request) before.client request answer after.client) → after ≡ with_client before after.client
@@ -85,13 +99,17 @@ answered_at before after server request result known answered rest =
 
 pub answered_by_route : (cluster : ClusterValue Request) (request : Request) (before mid after : ClientValue Request) (given : Result (AnswerValue Request Reply) (CallRefused Request))
     (result : Result Answer AllocError)
-    → mid ≡ client_reading before mid.router → Extends mid.router.seen before.router.seen → IfOk given (Gives counter_text before 0 request)
-    → IfErr given (λ refused. FaultByRoute before mid.router (shard_for before request) 0 request refused.fault)
-    → ((r : Request) → IfOk given (λ answer. Gives counter_text mid 0 r answer → IfOk result (λ answer. WasAnswered (λ fault. ⊥) mid r answer after)))
-    → ((r : Request) → IfErr given (λ refused. IfOk result (λ answer. WasAnswered (λ fault. fault ≡ refused.fault) mid r answer after)))
+    → OnOk given (mid ≡ client_reading before mid.router) → Extends mid.router.seen before.router.seen → after.router ≡ mid.router → IfOk given (Gives counter_text before 0 request)
+    → IfErr given (λ refused. FaultByRoute counter_text before mid 0 request refused.fault)
+    → ((r : Request) → IfOk given (λ answer. Gives counter_text mid 0 r answer → IfOk result (λ answer. WasAnswered (λ client fault. ⊥) mid r answer after)))
+    → IfErr given (λ refused. IfOk result (λ answer. (option_map IsRefused (call_refused refused.fault) ≡ Some answer) × (after ≡ mid)))
     → IfOk result (λ answer. WasRouted (session_with cluster before) request answer (session_with cluster after))
-answered_by_route cluster request before mid after given result same later gives faults learned refused =
-    let may : CallFault → Type 0 = FaultByRoute before mid.router (shard_for before request) 0 request in
+answered_by_route cluster request before mid after given result same later router gives faults learned refused =
+    let may : ClientValue Request → CallFault → Type 0 = λ client. FaultByRoute counter_text before client 0 request in
     IfOk-weaker result (λ answer. WasAnswered may (client_reading before mid.router) request answer after)
     (λ answer. WasRouted (session_with cluster before) request answer (session_with cluster after))
-    (λ (answer : Answer) was. (mid.router, later, was, refl)) (answered_since may request (client_reading before mid.router) mid after given result same gives faults learned refused)
+    (λ (answer : Answer) was. (
+      subst (λ (read : RouterView). Extends read.seen before.router.seen) (sym router) later,
+      subst (λ (read : RouterView). WasAnswered may (client_reading before read) request answer after) (sym router) was,
+      refl,
+    )) (answered_since may request (client_reading before mid.router) mid after given result same gives faults learned refused)

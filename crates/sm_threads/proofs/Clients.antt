@@ -12,9 +12,12 @@ use Rattle.sm_cluster.specs.declared.loading.LoadReport.{LoadReport}
 use Rattle.std.proofs.Math.Seq.{get_or-append_seam}
 use Rattle.sm_model.specs.Calls.{counter_text}
 use Rattle.sm_publish.specs.Seen.{RouterView}
+use Rattle.sm_rule.specs.Boards.{BoardValue}
+use Rattle.sm_rule.specs.Views.{Begins}
 use Rattle.sm_service.specs.declared.request.Request.{Request}
 use Rattle.sm_service.specs.declared.request.Request.TheVariants.{Get}
 use Rattle.sm_threads.specs.Loads.{WasCounted, count_in}
+use Rattle.sm_threads.specs.Sessions.{IsWhole}
 
 pub stays_client : (before after : ClusterValue Request) (client : ClientValue Request) → after.control.chair.board ≡ before.control.chair.board → after.bounds ≡ before.bounds
     → IsClientOf before client → IsClientOf after client
@@ -24,6 +27,22 @@ pub stay_clients : (before after : ClusterValue Request) (clients : List (Client
     → All (IsClientOf before) clients → All (IsClientOf after) clients
 stay_clients before after clients board bounds all =
     All-weaker (IsClientOf before) (IsClientOf after) (λ (client : ClientValue Request) is. stays_client before after client board bounds is) clients all
+
+-- a session whose cluster has made a call, and has then told its client
+pub whole_told : (before after : ClusterValue Request) (client told : ClientValue Request) (loaders : List (ClientValue Request)) → after.control.chair.board ≡ before.control.chair.board
+    → after.bounds ≡ before.bounds → told.pass.board ≡ client.pass.board → told.bounds ≡ client.bounds → Begins after.told told.pass.seen
+    → IsWhole (record { cluster = before; client = client }) × All (IsClientOf before) loaders × (length loaders ≡ 17)
+    → IsWhole (record { cluster = after; client = told }) × All (IsClientOf after) loaders × (length loaders ≡ 17)
+whole_told before after client told loaders board bounds same_board same_bounds seen is =
+    let own = stays_client before after client board bounds is.0.0 in (
+      (
+        (same_board ∙ own.0, same_bounds ∙ own.1),
+        ap (λ (one : BoardValue). one.limits.count) board ∙ (is.0.1 ∙ sym (ap length bounds)),
+        seen,
+      ),
+      stay_clients before after loaders board bounds is.1,
+      is.2,
+    )
 
 -- so does a client that has learned what its call gave
 pub learned_client : (cluster : ClusterValue Request) (client given learned : ClientValue Request) → given.pass.board ≡ client.pass.board → given.bounds ≡ client.bounds

@@ -9,7 +9,7 @@ use Rattle.sm_cluster.specs.declared.publish_refusal.PublishRefusal.{PublishRefu
 use Rattle.sm_control.specs.Routes.{route_fault}
 use Rattle.sm_rule.specs.declared.permit.Front.{Front}
 use Rattle.sm_cluster.specs.Calls.{ClientValue, FaultAt, FaultByRoute, Gives, client_reading, client_seeing}
-use Rattle.sm_cluster.specs.Clusters.{ClusterValue, FreeRefused, HasFreed, HasHeld, HoldRefused, cluster_commanded}
+use Rattle.sm_cluster.specs.Clusters.{ClusterValue, FreeRefused, HasFreed, HasHeld, HoldRefused, TellsMore, cluster_commanded}
 use Rattle.sm_cluster.specs.declared.call_refused.CallFault.{CallFault}
 use Rattle.sm_cluster.specs.declared.hold_fault.FreeFault.{FreeFault}
 use Rattle.sm_cluster.specs.declared.hold_fault.HoldFault.{HoldFault}
@@ -23,11 +23,11 @@ use Rattle.sm_ownership.specs.Routes.{routes_of}
 use Rattle.sm_ownership.specs.declared.admit_fault.AdmitFault.TheVariants.{Vacant}
 use Rattle.sm_ownership.specs.declared.route.Route.{Route}
 use Rattle.sm_place.specs.Plans.{assign_plan, drain_plan}
-use Rattle.sm_publish.specs.Seen.{Extends, RouterView}
+use Rattle.sm_publish.specs.Seen.{Extends}
 use Rattle.sm_ranges.specs.Ranges.{shard_of}
 use Rattle.sm_ranges.specs.Stand.{owner_of}
 use Rattle.sm_rule.specs.Passes.{PassLooks, PassValue, record_of}
-use Rattle.sm_rule.specs.Views.{IsMet}
+use Rattle.sm_rule.specs.Views.{Begins, IsMet}
 use Rattle.sm_script.specs.Lines.{call_of_line}
 use Rattle.sm_script.specs.declared.answer.Answer.{Answer}
 use Rattle.sm_script.specs.declared.answer.Answer.TheVariants.{Made, Refused as IsRefused, Seen, Executed, Planned, Way, Loaded, Error}
@@ -76,10 +76,10 @@ pub record WasExecuted (client : ClientValue Request) (request : Request) (reply
   pub met : IsMet answer.note.number answer.note.seen after.pass.seen
   pub others : after ≡ client_seeing client after.pass
 
--- what a request of this client is answered: it was executed, or refused for a fault that its call may have
-abbrev pub WasAnswered : (CallFault → Type 0) → ClientValue Request → Request → Answer → ClientValue Request → Type 0
+-- what a request of this client is answered: it was executed, or refused for a fault that its call may have, which leaves the client
+abbrev pub WasAnswered : (ClientValue Request → CallFault → Type 0) → ClientValue Request → Request → Answer → ClientValue Request → Type 0
 WasAnswered may client request (Executed reply server place) after = WasExecuted client request reply server place after
-WasAnswered may client request (IsRefused why) after = ((fault : CallFault) × may fault × (call_refused fault ≡ Some why)) × (after ≡ client)
+WasAnswered may client request (IsRefused why) after = (fault : CallFault) × may after fault × (call_refused fault ≡ Some why)
 WasAnswered may client request answer after = ⊥
 
 -- the shard of a request's key
@@ -89,7 +89,8 @@ shard_for client request = shard_of client.bounds (key_of_request request)
 -- a request goes to a server that exists, or is refused
 abbrev pub AnsweredWhere : Bool → SessionValue → Request → Answer → SessionValue → Type 0
 AnsweredWhere true before request answer after =
-    WasAnswered (FaultAt before.client.pass (shard_for before.client request) 0 request) before.client request answer after.client × (after ≡ with_client before after.client)
+    WasAnswered (λ client. FaultAt counter_text before.client client 0 request) before.client request answer after.client
+    × (after ≡ with_client before after.client)
 AnsweredWhere false before request answer after = (answer ≡ IsRefused refused.UnknownServer) × (after ≡ before)
 
 -- a request goes to this server
@@ -126,44 +127,54 @@ abbrev pub drain_answer : ClusterValue Request → ℕ → Answer
 drain_answer cluster server =
     if is_known cluster.control.desk.books.servers server then Planned (drain_plan cluster.control.desk.books server) else IsRefused refused.UnknownServer
 
+-- a call leaves the session with this cluster, and its client has then seen all that the cluster tells, and all that its control has
+abbrev pub TellsClient : SessionValue → SessionValue → Type 0
+TellsClient before after =
+    PassLooks before.client.pass after.client.pass × Begins after.cluster.told after.client.pass.seen
+    × Begins after.cluster.control.chair.seen after.client.pass.seen
+    × (after ≡ with_cluster (looking before after.client.pass) after.cluster)
+
 -- a command was made or refused as the cluster's control says
 abbrev pub WasCommanded : SessionValue → Command → Answer → SessionValue → Type 0
 WasCommanded before command answer after =
     (made : Result (Unit {0}) ControlFault)
     × Commanded (desk_fault before.cluster.control.desk command) before.cluster.control after.cluster.control command made
-    × (answer ≡ answer_to command_refused made) × (after ≡ with_cluster before (cluster_commanded before.cluster after.cluster.control))
+    × TellsMore (cluster_commanded before.cluster after.cluster.control) after.cluster
+    × (answer ≡ answer_to command_refused made) × TellsClient before after
 
 -- a hold was made or refused as the cluster says, and its end
 abbrev pub WasHeld : SessionValue → ℕ → ℕ → Answer → SessionValue → Type 0
 WasHeld before shard server answer after =
     (made : Result (Unit {0}) HoldFault)
-    × OnOk made (HasHeld before.cluster shard server after.cluster) × IfErr made (HoldRefused before.cluster shard server)
-    × OnErr made (after.cluster ≡ before.cluster)
-    × (answer ≡ answer_to hold_refused made) × (after ≡ with_cluster before after.cluster)
+    × OnOk made (HasHeld before.cluster shard server after.cluster)
+    × IfErr made (λ fault. HoldRefused before.cluster shard server fault after.cluster)
+    × (answer ≡ answer_to hold_refused made) × TellsClient before after
 
 abbrev pub WasFreed : SessionValue → ℕ → Answer → SessionValue → Type 0
 WasFreed before shard answer after =
     (made : Result (Unit {0}) FreeFault)
     × OnOk made (HasFreed before.cluster shard after.cluster) × IfErr made (FreeRefused before.cluster shard)
     × OnErr made (after.cluster ≡ before.cluster)
-    × (answer ≡ answer_to free_refused made) × (after ≡ with_cluster before after.cluster)
+    × (answer ≡ answer_to free_refused made) × TellsClient before after
 
 -- a checkpoint was made or refused as the cluster says
 abbrev pub WasBased : SessionValue → ℕ → ℕ → Answer → SessionValue → Type 0
 WasBased before shard server answer after =
     let control = before.cluster.control in
     (made : Result Front CheckpointRefusal)
-    × (control.chair.board.limits.count ≤ shard → made ≡ Err base.UnknownShard)
-    × (shard < control.chair.board.limits.count → is_known control.desk.books.servers server ≡ false → made ≡ Err base.UnknownServer)
-    × (shard < control.chair.board.limits.count → is_known control.desk.books.servers server ≡ true → IsBasedBy before.cluster shard server made)
-    × (may_answer checkpoint_refused made ≡ Some answer) × (after ≡ before)
+    × (control.chair.board.limits.count ≤ shard → (made ≡ Err base.UnknownShard) × (after.cluster ≡ before.cluster))
+    × (shard < control.chair.board.limits.count → is_known control.desk.books.servers server ≡ false
+    → (made ≡ Err base.UnknownServer) × (after.cluster ≡ before.cluster))
+    × (shard < control.chair.board.limits.count → is_known control.desk.books.servers server ≡ true
+    → IsBasedBy before.cluster shard server made after.cluster)
+    × (may_answer checkpoint_refused made ≡ Some answer) × TellsClient before after
 
 -- a shard's route was published or refused as the cluster says
 abbrev pub WasPublished : SessionValue → ℕ → Answer → SessionValue → Type 0
 WasPublished before shard answer after =
     (made : Result Route PublishRefusal)
     × Published (route_fault before.cluster.control.desk.books shard) before.cluster after.cluster shard made
-    × (may_answer publish_refused made ≡ Some answer) × (after ≡ with_cluster before after.cluster)
+    × (may_answer publish_refused made ≡ Some answer) × TellsClient before after
 
 -- a request goes to the owner in the record that the client then sees
 abbrev pub WasRequested : SessionValue → Request → Answer → SessionValue → Type 0
@@ -174,8 +185,8 @@ WasRequested before request answer after =
 -- a request goes by the published route
 abbrev pub WasRouted : SessionValue → Request → Answer → SessionValue → Type 0
 WasRouted before request answer after =
-    (router : RouterView) × Extends router.seen before.client.router.seen
-    × WasAnswered (FaultByRoute before.client router (shard_for before.client request) 0 request) (client_reading before.client router) request answer after.client
+    Extends after.client.router.seen before.client.router.seen
+    × WasAnswered (λ client. FaultByRoute counter_text before.client client 0 request) (client_reading before.client after.client.router) request answer after.client
     × (after ≡ with_client before after.client)
 
 -- so many clients have made so many additions each, of which each was acknowledged or refused, and the answer says whether the

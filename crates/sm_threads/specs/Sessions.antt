@@ -4,6 +4,7 @@ use Rattle.sm_cluster.specs.Calls.{ClientValue}
 use Rattle.sm_cluster.specs.Clusters.{ClusterValue, IsClientOf}
 use Rattle.sm_cluster.specs.declared.TheConstants.{MAX_WORKERS}
 use Rattle.sm_model.specs.Calls.{settings_desk}
+use Rattle.sm_rule.specs.Views.{Begins}
 use Rattle.sm_run.specs.declared.begin_fault.BeginFault.{BeginFault}
 use Rattle.sm_run.specs.declared.begin_fault.BeginFault.TheVariants as begin
 use Rattle.sm_service.specs.declared.request.Request.{Request}
@@ -15,10 +16,11 @@ pub record SessionValue : Type 0 where
   pub cluster : ClusterValue Request
   pub client : ClientValue Request
 
--- the client is the cluster's, whose board has a shard for each range
+-- the client is the cluster's, whose board has a shard for each range, and has seen all that the cluster tells
 abbrev pub IsWhole : SessionValue → Type 0
 IsWhole session =
     IsClientOf session.cluster session.client × (session.cluster.control.chair.board.limits.count ≡ length session.cluster.bounds)
+    × Begins session.cluster.told session.client.pass.seen
 
 -- the session that settings begin: its cluster has the desk, the ranges and the limits that they ask for, and not too many workers, and
 -- nothing has happened in it

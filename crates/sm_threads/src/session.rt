@@ -158,7 +158,7 @@ impl<R: Threads + Wait + Sync> Responder for ThreadSession<R> {
 fn session_of<R>(
     rt: R,
     alloc: Global,
-    cluster: Cluster<TextBody>,
+    mut cluster: Cluster<TextBody>,
     clients: Vec<Client<TextBody>>,
 ) -> ThreadSession<R>
     requires clients { length clients.items ≡ CLIENTS }
@@ -169,7 +169,8 @@ fn session_of<R>(
         → result.client.router ≡ router }
 {
     let mut loaders = clients;
-    let client = loaders.pop().unwrap();
+    let mut client = loaders.pop().unwrap();
+    cluster.tell(&mut client);
     ThreadSession {
         rt,
         alloc,

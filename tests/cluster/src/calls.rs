@@ -51,7 +51,8 @@ pub(crate) fn refusal_at<R: Wait + Abort>(
     client: &mut Client<Holding>,
     server: ServerId,
 ) -> Option<CallFault>
-    ensures { client.new ≡ client.old }
+    ensures board { client.new.pass.board ≡ client.old.pass.board }
+    ensures bounds { client.new.bounds ≡ client.old.bounds }
 {
     fault_of(client.call_at(rt, alloc, server, 7, inc_of(rt, alloc, b"a")))
 }

@@ -2,7 +2,7 @@
 use crate::calls::{is_not_executor, refusal_at, start};
 use crate::running::{Running, ask, idle, inc_of, kept_of, shard};
 use sm_cluster::{CallFault, FreeFault, HoldFault};
-use sm_ownership::AdmitFault;
+use sm_ownership::{AdmitFault, Record};
 use sm_ranges::{ServerId, Stand};
 use sm_rule::AdmitRefusal;
 use sm_server::Refusal;
@@ -46,6 +46,36 @@ fn holds_and_frees(rt: HostRuntime) -> Result<(), Fail> {
     let rows = running.stop(&rt, alloc);
     assert!(rt; rows.len() == 2);
     Ok(())
+}
+
+// A client that was told sees a command, a hold and its end, and one that was refused sees the record by which it was.
+#[test]
+fn told_clients_look(rt: HostRuntime) -> Result<(), Fail> {
+    let (alloc, one) = (rt.alloc(), ServerId::of(1));
+    let mut running = start(&rt, alloc, 100)?;
+    running.assign_both(&rt);
+    running.tell();
+    assert!(rt; running.second.look(shard(0)) == idle(Stand::Serving(one), 1));
+    assert!(rt; running.hold(shard(0), one).is_ok());
+    running.tell();
+    assert!(rt; running.second.look(shard(0)) == held(one));
+    assert!(rt; is_admitted(refusal_at(&rt, alloc, &mut running.first, one)));
+    assert!(rt; running.first.look(shard(0)) == held(one));
+    assert!(rt; running.free(shard(0)).is_ok());
+    running.tell();
+    assert!(rt; running.second.look(shard(0)) == idle(Stand::Serving(one), 3));
+    let rows = running.stop(&rt, alloc);
+    assert!(rt; rows.len() == 2);
+    Ok(())
+}
+
+// The record of a shard that its owner holds.
+fn held(owner: ServerId) -> Record {
+    Record {
+        stand: Stand::Serving(owner),
+        admitted: true,
+        generation: 2,
+    }
 }
 
 // The stop frees what is held: the record is idle, and the body is there.

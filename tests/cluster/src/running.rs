@@ -195,6 +195,11 @@ impl Running {
         }
     }
 
+    /// Tells the second client what the cluster's calls have done.
+    pub(crate) fn tell(&mut self) {
+        self.cluster.tell(&mut self.second);
+    }
+
     /// Stops it with both clients.
     pub(crate) fn stop<R: Threads + Wait + Abort>(
         self,

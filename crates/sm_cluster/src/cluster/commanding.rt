@@ -4,10 +4,12 @@ ghost use Rattle.sm_control.specs.Controls.{Commanded};
 ghost use Rattle.sm_control.specs.Routes.{route_fault};
 ghost use Rattle.sm_desk.specs.Desk.{desk_fault, is_known};
 ghost use Rattle.sm_place.specs.Plans.{KeepsRoom, assign_plan, drain_plan, servers_but, shards_to_move};
-ghost use Rattle.sm_cluster.specs.Clusters.{cluster_commanded};
+ghost use Rattle.sm_rule.specs.Views.{Begins};
+ghost use Rattle.sm_cluster.specs.Clusters.{TellsMore, cluster_commanded};
 ghost use Rattle.sm_cluster.specs.Publications.{Published};
 
 use super::Cluster;
+use super::telling::report;
 use crate::publish_refusal::PublishRefusal;
 use sm_body::service::Service;
 use sm_control::{ControlFault, DrainFault};
@@ -21,14 +23,17 @@ use std::sync::Wait;
 
 impl<S: Service> Cluster<S> {
     /// Makes the command, or answers the first fault that applies. A server's door shuts where it failed or was stopped, and opens
-    /// where it is back.
+    /// where it is back. The cluster then tells all that the control has seen.
     pub fn command(&mut self, command: Command) -> Result<(), ControlFault>
         ensures answer { Commanded (desk_fault self.old.control.desk command) self.old.control self.new.control command result }
         ensures board { self.new.control.chair.board ≡ self.old.control.chair.board }
-        ensures unchanged { self.new ≡ cluster_commanded self.old self.new.control }
+        ensures told { Begins self.new.control.chair.seen self.new.told }
+        ensures unchanged { TellsMore (cluster_commanded self.old self.new.control) self.new }
     {
         let door = door_after(&command);
-        match self.control.command(&*self.board, command) {
+        let made = self.control.command(&self.ground.board, command);
+        report(&self.ground.board, &mut self.control, &mut self.teller);
+        match made {
             Ok(()) => {
                 self.network.set_door(door);
                 self.network.counters.count_command(&command);
@@ -39,15 +44,17 @@ impl<S: Service> Cluster<S> {
     }
 
     /// Publishes the shard's owner and its generation, and gives that route; or answers why there is none, or why it isn't published.
-    /// It may wait for clients that are reading.
+    /// It may wait for clients that are reading. The cluster then tells all that the control has seen.
     pub fn publish<R: Wait>(&mut self, rt: &R, k: ShardId) -> Result<Route, PublishRefusal>
-        ensures { Published (route_fault self.old.control.desk.books k) self.old self.new k result }
+        ensures published { Published (route_fault self.old.control.desk.books k) self.old self.new k result }
+        ensures told { Begins self.new.control.chair.seen self.new.told }
     {
         let Route {
             shard,
             server,
             generation,
-        } = self.control.route(&*self.board, k)?;
+        } = self.control.route(&self.ground.board, k)?;
+        report(&self.ground.board, &mut self.control, &mut self.teller);
         let published = Route {
             shard,
             server,

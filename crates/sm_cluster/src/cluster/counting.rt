@@ -17,7 +17,7 @@ impl<S: Service> Cluster<S> {
         // The books are sound, so they have at most 4,096 shards.
         self.control.soundness();
         let mut shards = Vec::new(alloc);
-        for number in 0..self.board.count() {
+        for number in 0..self.ground.board.count() {
             shards.push(self.shard_counts(shard_id(number)))?;
         }
         Ok(Counts {
@@ -31,8 +31,8 @@ impl<S: Service> Cluster<S> {
     fn shard_counts(&self, k: ShardId) -> ShardCounts
         requires { k < self.now.control.chair.board.limits.count }
     {
-        let mut pass = self.board.pass(None);
-        let generation = self.board.look(&mut pass, k).generation;
+        let mut pass = self.ground.board.pass(None);
+        let generation = self.ground.board.look(&mut pass, k).generation;
         let changes = self.network.counters.changes(k);
         ShardCounts {
             shard: k,

@@ -11,22 +11,22 @@ use sm_ranges::shard_id::ShardId;
 
 impl<S: Service> Cluster<S> {
     /// Has the server admitted to the shard for a direct request that never comes, until the shard is freed or the cluster
-    /// stopped; or answers the first fault that applies. It takes no memory.
+    /// stopped; or answers the first fault that applies. The admission is by a new pass, which has seen all that the cluster told; the
+    /// cluster then tells what that pass has seen. It takes no memory.
     pub fn hold(&mut self, k: ShardId, a: ServerId) -> Result<(), HoldFault>
         ensures held { OnOk result (HasHeld self.old k a self.new) }
-        ensures refused { IfErr result (λ fault. HoldRefused self.old k a fault) }
-        ensures unchanged { OnErr result (self.new ≡ self.old) }
+        ensures refused { IfErr result (λ fault. HoldRefused self.old k a fault self.new) }
     {
-        if k.index() >= self.board.count() as usize {
+        if k.index() >= self.ground.board.count() as usize {
             return Err(HoldFault::UnknownShard);
         }
         if !self.control.desk().knows(a) {
             return Err(HoldFault::UnknownServer);
         }
         let pass = self.pass_of(a);
-        match Hold::begin(&*self.board, pass, k) {
+        match Hold::begin(&self.ground.board, pass, k, &mut self.teller) {
             Ok(hold) => {
-                self.holds.put(&*self.board, k, hold);
+                self.holds.put(&self.ground.board, k, hold);
                 Ok(())
             }
             Err(refusal) => Err(HoldFault::Admit(refusal)),
@@ -34,18 +34,19 @@ impl<S: Service> Cluster<S> {
     }
 
     /// Ends the admission of a held shard with nothing, or answers the first fault that applies. A shard that is admitted for a
-    /// request isn't held.
+    /// request isn't held. The cluster then tells of the end.
     pub fn free(&mut self, k: ShardId) -> Result<(), FreeFault>
         ensures freed { OnOk result (HasFreed self.old k self.new) }
         ensures refused { IfErr result (λ fault. FreeRefused self.old k fault) }
         ensures unchanged { OnErr result (self.new ≡ self.old) }
     {
-        if k.index() >= self.board.count() as usize {
+        if k.index() >= self.ground.board.count() as usize {
             return Err(FreeFault::UnknownShard);
         }
-        match self.holds.take(&*self.board, k) {
+        match self.holds.take(&self.ground.board, k) {
             Some(hold) => {
-                hold.end(&*self.board);
+                let note = hold.end(&self.ground.board);
+                self.ground.board.meet(&mut self.teller, note);
                 Ok(())
             }
             None => Err(FreeFault::NotHeld),

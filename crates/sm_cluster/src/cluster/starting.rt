@@ -7,10 +7,12 @@ ghost use Rattle.sm_cluster.specs.Clusters.{IsClientOf};
 ghost use Rattle.sm_cluster.specs.Holding.{AreHoldsOn};
 
 use super::Cluster;
+use super::telling::report;
 use crate::MAX_WORKERS;
 use crate::client::Client;
 use crate::crew::Crew;
 use crate::gate::Gate;
+use crate::ground::Ground;
 use crate::holds::Holds;
 use crate::inbox::Inbox;
 use crate::message::Message;
@@ -21,6 +23,7 @@ use sm_body::service::Service;
 use sm_control::Control;
 use sm_desk::Desk;
 use sm_publish::{Publisher, Router};
+use sm_ranges::layout::Layout;
 use sm_rule::board::Board;
 use std::alloc::{AllocError, Global};
 use std::sync::{Arc, Wait};
@@ -29,7 +32,7 @@ use std::thread::Threads;
 // What a cluster is made of before its threads are started.
 #[derive(Drop)]
 struct Parts<S: Service> {
-    board: Arc<Board<S>>,
+    ground: Arc<Ground<S>>,
     network: Arc<Network<Message<S>>>,
     control: Control<S>,
     inboxes: Vec<Inbox<Message<S>>>,
@@ -114,32 +117,33 @@ fn parts_of<S: Service, R: Wait>(
     ensures count { IfOk result (λ parts. parts.control.chair.board.limits.count ≡ length bodies.items) }
     ensures ceiling { IfOk result (λ parts. parts.control.chair.board.limits.ceiling ≡ setup.ceiling) }
     ensures limits { IfOk result (λ parts. parts.control.chair.board.limits.bodies ≡ map S.limit bodies.items) }
-    ensures board { IfOk result (λ parts. parts.control.chair.board ≡ arc_value parts.board) }
-    ensures bounds { IfOk result (λ parts. (arc_value parts.network).layout ≡ setup.layout) }
+    ensures board { IfOk result (λ parts. parts.control.chair.board ≡ (arc_value parts.ground).board) }
+    ensures bounds { IfOk result (λ parts. (arc_value parts.ground).layout ≡ setup.layout) }
 {
     let Setup {
         layout,
         desk,
         ceiling,
     } = setup;
-    let (board, control) = board_of(alloc, bodies, desk, ceiling)?;
+    let (ground, control) = ground_of(alloc, layout, bodies, desk, ceiling)?;
     let rows = control.desk().books().rows();
-    let (network, inboxes) = network_of(rt, alloc, layout, rows, workers)?;
+    let (network, inboxes) = network_of(rt, alloc, rows, ground.layout.count(), workers)?;
     Ok(Parts {
-        board,
+        ground,
         network,
         control,
         inboxes,
     })
 }
 
-// A board of these bodies, with its control.
-fn board_of<S: Service>(
+// A board of these bodies with this layout, and its control.
+fn ground_of<S: Service>(
     alloc: Global,
+    layout: Layout,
     bodies: Vec<S>,
     desk: Desk,
     ceiling: u64,
-) -> Result<(Arc<Board<S>>, Control<S>), StartFault>
+) -> Result<(Arc<Ground<S>>, Control<S>), StartFault>
     requires sizes { make_fault (length bodies.items) ceiling ≡ None }
     requires shards { length desk.books.shards ≡ length bodies.items }
     requires vacant { All (λ shard. shard.stand ≡ Vacant) desk.books.shards }
@@ -152,13 +156,14 @@ fn board_of<S: Service>(
     ensures count { IfOk result (λ made. made.1.chair.board.limits.count ≡ length bodies.items) }
     ensures ceiling { IfOk result (λ made. made.1.chair.board.limits.ceiling ≡ ceiling) }
     ensures limits { IfOk result (λ made. made.1.chair.board.limits.bodies ≡ map S.limit bodies.items) }
-    ensures board { IfOk result (λ made. made.1.chair.board ≡ arc_value made.0) }
+    ensures board { IfOk result (λ made. made.1.chair.board ≡ (arc_value made.0).board) }
+    ensures bounds { IfOk result (λ made. (arc_value made.0).layout ≡ layout) }
 {
     let Ok((board, chair)) = Board::make(alloc, bodies, ceiling) else {
         return Err(StartFault::NoMemory);
     };
-    match Arc::new(alloc, board) {
-        Ok(board) => Ok((board, Control::new(chair, desk))),
+    match Arc::new(alloc, Ground { board, layout }) {
+        Ok(ground) => Ok((ground, Control::new(chair, desk))),
         Err(_) => Err(StartFault::NoMemory),
     }
 }
@@ -179,11 +184,11 @@ fn with_clients<
 where
     S::Request: 'static,
     S::Reply: 'static,
-    requires board { parts.control.chair.board ≡ arc_value parts.board }
+    requires board { parts.control.chair.board ≡ (arc_value parts.ground).board }
     requires clients { (0 < clients) × (clients < 2 ^ 32) }
     ensures fault { IfErr result (λ fault. fault ≢ StartFault.TooManyWorkers) }
     ensures control { IfOk result (λ made. made.0.control ≡ parts.control) }
-    ensures bounds { IfOk result (λ made. made.0.bounds ≡ (arc_value parts.network).layout) }
+    ensures bounds { IfOk result (λ made. made.0.bounds ≡ (arc_value parts.ground).layout) }
     ensures holds { IfOk result (λ made. made.0.holds ≡ replicate parts.control.chair.board.limits.count None) }
     ensures map { IfOk result (λ made. made.0.map.map ≡ record { count = parts.control.chair.board.limits.count; published = [] }) }
     ensures routers { IfOk result (λ made.
@@ -191,9 +196,9 @@ where
     ensures clients { IfOk result (λ made. length made.1.items ≡ clients) }
     ensures theirs { IfOk result (λ made. All (IsClientOf made.0) made.1.items) }
 {
-    let shards = parts.board.count() as usize;
+    let shards = parts.ground.board.count() as usize;
     let (publisher, routers) = Publisher::new(rt, alloc, shards, clients)?;
-    match clients_of(alloc, &parts.board, &parts.network, routers) {
+    match clients_of(alloc, &parts.ground, &parts.network, routers) {
         Ok(clients) => match manned(rt, alloc, parts, publisher, workers, gate) {
             Ok(cluster) => Ok((cluster, clients)),
             Err(fault) => Err(fault),
@@ -208,20 +213,20 @@ where
 // A client for each of the routers.
 fn clients_of<S: Service>(
     alloc: Global,
-    board: &Arc<Board<S>>,
+    ground: &Arc<Ground<S>>,
     network: &Arc<Network<Message<S>>>,
     routers: Vec<Router>,
 ) -> Result<Vec<Client<S>>, AllocError>
     ensures count { IfOk result (λ clients. length clients.items ≡ length routers.items) }
     ensures routers { IfOk result (λ clients. map (λ client. client.router) clients.items ≡ routers.items) }
-    ensures boards { IfOk result (λ clients. All (λ client. client.pass.board ≡ arc_value board.now) clients.items) }
-    ensures bounds { IfOk result (λ clients. All (λ client. client.bounds ≡ (arc_value network.now).layout) clients.items) }
+    ensures boards { IfOk result (λ clients. All (λ client. client.pass.board ≡ (arc_value ground.now).board) clients.items) }
+    ensures bounds { IfOk result (λ clients. All (λ client. client.bounds ≡ (arc_value ground.now).layout) clients.items) }
 {
     let mut clients = Vec::new(alloc);
     for router in routers {
-        let board = Arc::try_clone(board)?;
+        let ground = Arc::try_clone(ground)?;
         let network = Arc::try_clone(network)?;
-        clients.push(Client::new(board, network, router))?;
+        clients.push(Client::new(ground, network, router))?;
     }
     Ok(clients)
 }
@@ -242,17 +247,17 @@ fn manned<
 where
     S::Request: 'static,
     S::Reply: 'static,
-    requires { parts.control.chair.board ≡ arc_value parts.board }
+    requires { parts.control.chair.board ≡ (arc_value parts.ground).board }
     ensures fault { IfErr result (λ fault. fault ≢ StartFault.TooManyWorkers) }
     ensures control { IfOk result (λ cluster. cluster.control ≡ parts.control) }
     ensures map { IfOk result (λ cluster. cluster.map ≡ publisher) }
-    ensures bounds { IfOk result (λ cluster. cluster.bounds ≡ (arc_value parts.network).layout) }
+    ensures bounds { IfOk result (λ cluster. cluster.bounds ≡ (arc_value parts.ground).layout) }
     ensures holds { IfOk result (λ cluster. cluster.holds ≡ replicate parts.control.chair.board.limits.count None) }
 {
     let mut crew = Crew::new(alloc);
     let inboxes = parts.inboxes.as_slice();
     let started = crew.start(rt, alloc, &parts.network, gate, inboxes, workers);
-    match room_once(started, alloc, &*parts.board) {
+    match room_once(started, alloc, &parts.ground.board) {
         Ok(holds) => Ok(cluster_of(parts, publisher, holds, crew)),
         Err(fault) => {
             crew.stop(rt, &*parts.network);
@@ -278,29 +283,32 @@ fn room_once<S: Service>(
     Ok(holds)
 }
 
-// The cluster of these parts, with its map, its holds and its crew.
+// The cluster of these parts, with its map, its holds and its crew. It tells what the control has seen.
 fn cluster_of<S: Service>(
     parts: Parts<S>,
     publisher: Publisher,
     holds: Holds<S>,
     crew: Crew,
 ) -> Cluster<S>
-    requires board { parts.control.chair.board ≡ arc_value parts.board }
-    requires holds { AreHoldsOn (arc_value parts.board) holds }
-    ensures { result ≡ record { control = parts.control; map = publisher; bounds = (arc_value parts.network).layout; holds = holds } }
+    requires board { parts.control.chair.board ≡ (arc_value parts.ground).board }
+    requires holds { AreHoldsOn (arc_value parts.ground).board holds }
+    ensures { result ≡ record { control = parts.control; map = publisher; bounds = (arc_value parts.ground).layout; holds = holds; told = result.told } }
 {
     let Parts {
-        board,
+        ground,
         network,
-        control,
+        mut control,
         inboxes: _,
     } = parts;
+    let mut teller = ground.board.pass(None);
+    report(&ground.board, &mut control, &mut teller);
     Cluster {
-        board,
+        ground,
         network,
         control,
         publisher,
         holds,
+        teller,
         crew,
     }
 }

@@ -8,6 +8,7 @@ ghost use Rattle.sm_cluster.specs.Clusters.{IsClientOf, WasStopped};
 
 use super::Cluster;
 use crate::client::Client;
+use crate::ground::Ground;
 use crate::stop_fault::StopFault;
 use sm_body::service::Service;
 use sm_control::Control;
@@ -19,8 +20,8 @@ use std::thread::Threads;
 
 impl<S: Service> Cluster<S> {
     /// Shuts all doors, frees what is held, stops and joins the workers, and closes the board: each shard's record, and the body of
-    /// each idle one, after one legal history that extends what the control had seen by entries of passes, extends what each of
-    /// these clients had seen, and has the end of each hold.
+    /// each idle one, after one legal history that extends what the control had seen by entries of passes, extends what the cluster
+    /// told and what each of these clients had seen, and has the end of each hold.
     pub fn stop<R: Threads + Wait>(
         self,
         rt: &R,
@@ -30,49 +31,55 @@ impl<S: Service> Cluster<S> {
         ensures stopped { IfOk result (λ rows. WasStopped (Keeps S.initial S.next S.base S.before S.requests) S.limit self clients.items rows.items) }
     {
         let Cluster {
-            board,
+            ground,
             network,
             control,
             publisher,
             holds,
+            teller,
             crew,
         } = self;
         network.shut();
-        let mut closer = told(&*board, clients);
-        holds.end(&*board, &mut closer);
+        let mut closer = told(&ground.board, teller, clients);
+        holds.end(&ground.board, &mut closer);
         crew.stop(rt, &*network);
         drop(network);
         publisher.end(rt);
-        closed(board, control, closer)
+        closed(ground, control, closer)
     }
 }
 
 // What the board leaves, unless a client still has it.
 fn closed<S: Service>(
-    board: Arc<Board<S>>,
+    ground: Arc<Ground<S>>,
     control: Control<S>,
     closer: Pass<S>,
 ) -> Result<Vec<(Record, Option<S>)>, StopFault>
-    requires board { control.chair.board ≡ arc_value board }
-    requires pass { closer.board ≡ arc_value board }
+    requires board { control.chair.board ≡ (arc_value ground).board }
+    requires pass { closer.board ≡ (arc_value ground).board }
     requires free { closer.held ≡ None }
     ensures { IfOk result (λ rows. WasClosed (Keeps S.initial S.next S.base S.before S.requests) S.limit control.chair closer rows.items) }
 {
     let (chair, _) = control.into_parts();
-    match Arc::try_unwrap(board) {
-        Ok(board) => Ok(board.close(chair, closer)),
+    match Arc::try_unwrap(ground) {
+        Ok(ground) => {
+            let Ground { board, layout: _ } = ground;
+            Ok(board.close(chair, closer))
+        }
         Err(_) => Err(StopFault::ClientOut),
     }
 }
 
-// A new pass that has seen what each of the clients has.
-fn told<S: Service>(board: &Board<S>, clients: Vec<Client<S>>) -> Pass<S>
-    requires { All (λ client. client.pass.board ≡ board.now) clients.items }
+// The teller, once it has seen what each of the clients has.
+fn told<S: Service>(board: &Board<S>, teller: Pass<S>, clients: Vec<Client<S>>) -> Pass<S>
+    requires board { teller.board ≡ board.now }
+    requires clients { All (λ client. client.pass.board ≡ board.now) clients.items }
     ensures board { result.board ≡ board.now }
-    ensures free { result.held ≡ None }
+    ensures free { result.held ≡ teller.held }
+    ensures told { Begins teller.seen result.seen }
     ensures seen { All (λ client. Begins client.pass.seen result.seen) clients.items }
 {
-    let mut closer = board.pass(None);
+    let mut closer = teller;
     for client in clients {
         board.meet(&mut closer, client.into_pass().into_note());
     }

@@ -22,21 +22,27 @@ impl<R> ThreadSession<R> {
     pub(super) fn command(&mut self, command: Command) -> Answer
         ensures { WasCommanded self.old command result self.new }
     {
-        command_answer(self.cluster.command(command))
+        let made = self.cluster.command(command);
+        self.cluster.tell(&mut self.client);
+        command_answer(made)
     }
 
     /// Has the server admitted to the shard without a request.
     pub(super) fn hold(&mut self, shard: ShardId, server: ServerId) -> Answer
         ensures { WasHeld self.old shard server result self.new }
     {
-        hold_answer(self.cluster.hold(shard, server))
+        let made = self.cluster.hold(shard, server);
+        self.cluster.tell(&mut self.client);
+        hold_answer(made)
     }
 
     /// Ends such an admission.
     pub(super) fn free(&mut self, shard: ShardId) -> Answer
         ensures { WasFreed self.old shard result self.new }
     {
-        free_answer(self.cluster.free(shard))
+        let made = self.cluster.free(shard);
+        self.cluster.tell(&mut self.client);
+        free_answer(made)
     }
 
     /// Makes the shard's present state its base; an error is want of memory.
@@ -47,7 +53,9 @@ impl<R> ThreadSession<R> {
     ) -> Result<Answer, AllocError>
         ensures { IfOk result (λ answer. WasBased self.old shard server answer self.new) }
     {
-        match self.cluster.checkpoint(shard, server) {
+        let made = self.cluster.checkpoint(shard, server);
+        self.cluster.tell(&mut self.client);
+        match made {
             Ok(_front) => Ok(Answer::Made),
             Err(refusal) => checkpoint_refused(refusal),
         }
@@ -89,7 +97,8 @@ impl<R> ThreadSession<R> {
         }
         match self.cluster.plan_drain(self.alloc, server) {
             Ok(plan) => Ok(Answer::Planned(plan)),
-            Err(DrainFault::UnknownServer | DrainFault::NoMemory) => Err(AllocError),
+            Err(DrainFault::NoMemory) => Err(AllocError),
+            Err(DrainFault::UnknownServer) => unreachable!(),
         }
     }
 }
@@ -99,7 +108,9 @@ impl<R: Wait> ThreadSession<R> {
     pub(super) fn publish(&mut self, shard: ShardId) -> Result<Answer, AllocError>
         ensures { IfOk result (λ answer. WasPublished self.old shard answer self.new) }
     {
-        match self.cluster.publish(&self.rt, shard) {
+        let made = self.cluster.publish(&self.rt, shard);
+        self.cluster.tell(&mut self.client);
+        match made {
             Ok(_route) => Ok(Answer::Made),
             Err(refusal) => publish_refused(refusal),
         }

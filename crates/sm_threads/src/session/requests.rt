@@ -1,13 +1,17 @@
 //! The requests of a script.
-ghost use Rattle.std.specs.Prelude.{◌≡◌, ◌+◌, ◌*◌, ◌<◌, ◌≤◌, ◌^◌, IfErr, IfOk, IfSome, length, slice_index_or};
+ghost use Rattle.std.specs.Prelude.{◌≡◌, ◌+◌, ◌*◌, ◌<◌, ◌≤◌, ◌^◌, IfErr, IfOk, IfSome, Some, length, slice_index_or};
 ghost use Rattle.sm_cluster.specs.Calls.{ClientValue, FaultAt, Gives};
 ghost use Rattle.sm_cluster.specs.Loads.{AreClientsSince, WasTold};
 ghost use Rattle.sm_model.specs.Calls.{counter_text};
 ghost use Rattle.sm_ranges.specs.Stand.{owner_of};
+ghost use Rattle.std.specs.Option.{option_map};
 ghost use Rattle.sm_rule.specs.Passes.{PassLooks, record_of};
+ghost use Rattle.sm_rule.specs.Views.{Begins};
+ghost use Rattle.sm_script.specs.declared.answer.Answer.TheVariants.{Refused as IsRefused};
 ghost use Rattle.sm_service.specs.declared.request.Request.TheVariants.{Get};
-ghost use Rattle.sm_threads.specs.Calls.{AnsweredAt, WasAnswered, WasLoaded, WasRequested, WasRouted, looking, shard_for, with_client};
+ghost use Rattle.sm_threads.specs.Calls.{AnsweredAt, WasAnswered, WasLoaded, WasRequested, WasRouted, looking, with_client};
 ghost use Rattle.sm_threads.specs.Loads.{IsVerdictOn, count_in};
+ghost use Rattle.sm_threads.specs.Refusals.{call_refused};
 
 use super::ThreadSession;
 use crate::body::TextBody;
@@ -66,8 +70,8 @@ impl<R: Wait> ThreadSession<R> {
 
     /// Sends the request to a server that exists; an error is want of memory.
     fn send(&mut self, server: ServerId, request: Request) -> Result<Answer, AllocError>
-        ensures answered { IfOk result (λ answer. WasAnswered (FaultAt self.old.client.pass
-            (shard_for self.old.client request) 0 request) self.old.client request answer self.new.client) }
+        ensures answered { IfOk result (λ answer. WasAnswered (λ client. FaultAt counter_text self.old.client client 0 request)
+            self.old.client request answer self.new.client) }
         ensures unchanged { self.new ≡ with_client self.old self.new.client }
     {
         let given = self
@@ -132,10 +136,12 @@ fn learned(
     requires { IfOk given (λ answer. answer.note.board ≡ client.old.pass.board) }
     ensures board { client.new.pass.board ≡ client.old.pass.board }
     ensures bounds { client.new.bounds ≡ client.old.bounds }
+    ensures router { client.new.router ≡ client.old.router }
+    ensures seen { Begins client.old.pass.seen client.new.pass.seen }
     ensures answered { (request : Request) → IfOk given (λ answer. Gives counter_text client.old 0 request answer
-        → IfOk result (λ answer. WasAnswered (λ _. ⊥) client.old request answer client.new)) }
-    ensures refused { (request : Request) → IfErr given (λ refused.
-        IfOk result (λ answer. WasAnswered (λ fault. fault ≡ refused.fault) client.old request answer client.new)) }
+        → IfOk result (λ answer. WasAnswered (λ _ _. ⊥) client.old request answer client.new)) }
+    ensures refused { IfErr given (λ refused. IfOk result (λ answer.
+        (option_map IsRefused (call_refused refused.fault) ≡ Some answer) × (client.new ≡ client.old))) }
 {
     match given {
         Ok(answer) => {

@@ -1,37 +1,45 @@
-use Rattle.std.proofs.Common.{Err}
+use Rattle.std.proofs.Common.{◌∙◌, Err, subst}
+use Rattle.std.specs.Arc.{arc_value}
 use Rattle.std.proofs.lemmas.Result.{err_from_is_err_and}
+use Rattle.sm_rule.specs.Passes.{PassValue}
+use Rattle.sm_rule.specs.Views.{Begins}
+use Rattle.sm_rule.specs.lemmas.Passing.{looks_begins, met_begins}
 use Rattle.sm_cluster.specs.declared.checkpoint_refusal.CheckpointRefusal.TheVariants.{Checkpoint}
 use Rattle.sm_cluster.specs.Basing.{IsBasedBy}
+use Rattle.sm_cluster.specs.Clusters.{ClusterValue}
+use Rattle.sm_cluster.proofs.Telling.{tells_more}
 use Rattle.sm_cluster.proofs.cluster.Cluster.checkpoint.Goals as goal
 
--- src/cluster/basing.rt:34:12
-pub returns-in_err-checkpoint-clause-known : goal.returns-in_err-checkpoint-clause-known
-returns-in_err-checkpoint-clause-known g c within known =
+pub returns-in_err-made-clause-known : goal.returns-in_err-made-clause-known
+returns-in_err-made-clause-known g c within known =
     let fault = err_from_is_err_and c.from_residual.result c.from_residual.ensures.1 in
-    let by = c.pass_of-pass.ensures in
-    let based : IsBasedBy c.args.self.now c.args.k c.args.a (Err (Checkpoint c.in_err-checkpoint.field-0.0)) =
+    let inside = c.self-2.inside in
+    let told = c.meet.new.pass.seen in
+    let later : ClusterValue g.row.S-Request.Denot = record { control = inside.control; map = inside.publisher; bounds = (arc_value inside.ground).layout; holds = inside.holds; told = told } in
+    let based : IsBasedBy c.args.self.now c.args.k c.args.a (Err (Checkpoint c.in_err-made.field-0.0)) later =
     record {
       before = c.pass_of-pass.result;
-      after = c.checkpoint.new.pass;
-      board = by.board;
-      server_is = by.server;
-      seen = by.seen;
-      new = by.new;
-      made = c.in_err-checkpoint.ensures.refused;
+      after = c.checkpoint-made.new.pass;
+      new = c.pass_of-pass.ensures.new;
+      made = c.in_err-made.ensures.refused;
+      told =
+          subst (λ (pass : PassValue g.row.S-Request.Denot). Begins pass.seen told) c.into_note.ensures
+          (met_begins c.into_note.result.number c.into_note.result.seen told c.meet.ensures.met);
+      others = tells_more _ c.args.self.now told (c.self-2.view_is ∙ c.pass_of-pass.ensures.unchanged) (looks_begins inside.teller c.meet.new.pass c.meet.ensures.looks);
     } in
     rw (fault.1, fault.2) based
 
--- src/cluster/basing.rt:19:5
 pub returns-clause-known : goal.returns-clause-known
 returns-clause-known g c within known =
-    let by = c.pass_of-pass.ensures in
-    let is = c.in_ok-checkpoint.ensures in
+    let is = c.in_ok-made.ensures in
+    let told = c.meet.new.pass.seen in
     record {
       before = c.pass_of-pass.result;
-      after = c.checkpoint.new.pass;
-      board = by.board;
-      server_is = by.server;
-      seen = by.seen;
-      new = by.new;
+      after = c.checkpoint-made.new.pass;
+      new = c.pass_of-pass.ensures.new;
       made = (is.made, is.kept, λ i. record { shard = is.shard i; generation = is.generation i });
+      told =
+          subst (λ (pass : PassValue g.row.S-Request.Denot). Begins pass.seen told) c.into_note.ensures
+          (met_begins c.into_note.result.number c.into_note.result.seen told c.meet.ensures.met);
+      others = tells_more _ c.args.self.now told (c.self-2.view_is ∙ c.pass_of-pass.ensures.unchanged) (looks_begins c.self-2.inside.teller c.meet.new.pass c.meet.ensures.looks);
     }

@@ -1,4 +1,4 @@
-use Rattle.std.proofs.Common.{◌≡◌, ◌∙◌, ap, length, rules, subst, sym}
+use Rattle.std.proofs.Common.{◌≡◌, ◌∙◌, ap, length, refl, rules, subst, sym}
 use Rattle.std.specs.Prelude.{All}
 use Rattle.std.proofs.lemmas.List.Elements.{All-cons, All-tail}
 use Rattle.sm_rule.specs.Passes.{PassValue}
@@ -13,9 +13,10 @@ pub loop-client-init : goal.loop-client-init
 loop-client-init g c =
     let same = c.into_iter-client-iterator.ensures.into_iter_gives.0 in
     record {
-      board = c.pass-closer.ensures.board;
-      held = c.pass-closer.ensures.held;
-      left = subst (All (λ (client : ClientValue g.row.S-Request.Denot). client.pass.board ≡ c.args.board.now)) (sym same) c.requires;
+      board = c.requires.board;
+      held = refl;
+      told = begins_same c.args.teller.seen;
+      left = subst (All (λ (client : ClientValue g.row.S-Request.Denot). client.pass.board ≡ c.args.board.now)) (sym same) c.requires.clients;
       seen = λ history begins all. subst (All (λ (client : ClientValue g.row.S-Request.Denot). Begins client.pass.seen history)) same all;
     }
 
@@ -34,6 +35,7 @@ loop-client-preserved g c =
     record {
       board = ap (λ (pass : PassValue g.row.S-Request.Denot). pass.board) looks.1 ∙ was.board;
       held = ap (λ (pass : PassValue g.row.S-Request.Denot). pass.held) looks.1 ∙ was.held;
+      told = begins_begins c.args.teller.seen closer.seen after.seen was.told (looks_begins closer after looks);
       left =
           All-tail (λ (one : ClientValue g.row.S-Request.Denot). one.pass.board ≡ c.args.board.now) client rest
           (subst (All (λ (one : ClientValue g.row.S-Request.Denot). one.pass.board ≡ c.args.board.now)) taken was.left);

@@ -1,0 +1,44 @@
+//! What a cluster tells.
+ghost use Rattle.std.specs.Prelude.{◌≡◌};
+ghost use Rattle.sm_rule.specs.Passes.{PassLooks};
+ghost use Rattle.sm_rule.specs.Views.{Begins};
+ghost use Rattle.sm_cluster.specs.Calls.{client_seeing};
+
+use super::Cluster;
+use crate::client::Client;
+use sm_body::service::Service;
+use sm_control::Control;
+use sm_rule::board::Board;
+use sm_rule::pass::Pass;
+
+impl<S: Service> Cluster<S> {
+    /// Tells a client of the same board what the cluster's calls have done: it has then seen all that the control has, and by what each
+    /// hold, each checkpoint and each end of a hold was made or refused.
+    pub fn tell(&mut self, client: &mut Client<S>)
+        requires { client.old.pass.board ≡ self.old.control.chair.board }
+        ensures looks { PassLooks client.old.pass client.new.pass }
+        ensures told { Begins self.old.told client.new.pass.seen }
+        ensures control { Begins self.old.control.chair.seen client.new.pass.seen }
+        ensures client { client.new ≡ client_seeing client.old client.new.pass }
+        ensures unchanged { self.new ≡ self.old }
+    {
+        let note = self.ground.board.note(&mut self.teller);
+        client.hear(note);
+    }
+}
+
+/// Tells the teller all that the control has seen.
+pub(super) fn report<S: Service>(
+    board: &Board<S>,
+    control: &mut Control<S>,
+    teller: &mut Pass<S>,
+)
+    requires control { control.old.chair.board ≡ board.now }
+    requires teller { teller.old.board ≡ board.now }
+    ensures unchanged { control.new ≡ control.old }
+    ensures looks { PassLooks teller.old teller.new }
+    ensures told { Begins control.old.chair.seen teller.new.seen }
+{
+    let note = control.note(board);
+    board.meet(teller, note);
+}
