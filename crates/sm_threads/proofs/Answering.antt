@@ -25,8 +25,8 @@ use Rattle.sm_service.specs.declared.request.Request.{Request}
 use Rattle.sm_threads.specs.Calls.{AnsweredAt, AnsweredWhere, Routed, WasAnswered, WasRouted, shard_for, with_client}
 use Rattle.sm_threads.specs.Sessions.{SessionValue}
 
-abbrev pub session_with : ClusterValue Request → ClientValue Request → SessionValue
-session_with cluster client = record { cluster = cluster; client = client }
+abbrev pub session_with : ClusterValue Request → List (ClientValue Request) → ClientValue Request → SessionValue
+session_with cluster loaders client = record { cluster = cluster; client = client; loaders = loaders }
 
 pub published_keeps : (fault : Option RouteFault) (before after : ClusterValue Request) (shard : ℕ) (result : Result Route PublishRefusal) → Published fault before after shard result
     → (after.control.chair.board ≡ before.control.chair.board) × (after.bounds ≡ before.bounds)
@@ -36,12 +36,12 @@ published_keeps None before after shard (Err (Unpublished fault)) p = (p.1.0.1, 
 published_keeps None before after shard (Err (Unrouted fault)) p = absurd p
 
 -- a route of the client's router
-pub routed_by : (cluster : ClusterValue Request) (before after : ClientValue Request) (asked key : List ℕ) (route : Option Route) → asked ≡ key → Extends after.router.seen before.router.seen
+pub routed_by : (cluster : ClusterValue Request) (loaders : List (ClientValue Request)) (before after : ClientValue Request) (asked key : List ℕ) (route : Option Route) → asked ≡ key → Extends after.router.seen before.router.seen
     → (route ≡ routes_of after.router.seen (shard_of before.bounds asked)) ⊎ ((route ≡ None) × (after.router.seen ≡ before.router.seen)) → after ≡ client_reading before after.router
-    → Routed (session_with cluster before) key (Way route) (session_with cluster after)
-routed_by cluster before after asked key route same later found unchanged =
+    → Routed (session_with cluster loaders before) key (Way route) (session_with cluster loaders after)
+routed_by cluster loaders before after asked key route same later found unchanged =
     let P : List ℕ → Type 0 = λ k. (route ≡ routes_of after.router.seen (shard_of before.bounds k)) ⊎ ((route ≡ None) × (after.router.seen ≡ before.router.seen)) in
-    (later, subst P same found, ap (session_with cluster) unchanged)
+    (later, subst P same found, ap (session_with cluster loaders) unchanged)
 
 -- what a call is answered that may have these faults, where it may have no others
 answered_for : (may also : CallFault → Type 0) (client : ClientValue Request) (request : Request) (answer : Answer) (after : ClientValue Request) → ((fault : CallFault) → may fault → also fault)
@@ -83,15 +83,15 @@ answered_at before after server request result known answered rest =
     IfOk-weaker result (λ answer. WasAnswered (faults_at before.client request) before.client request answer after.client) (λ answer. AnsweredAt before server request answer after)
     (λ (answer : Answer) was. subst (λ (b : Bool). AnsweredWhere b before request answer after) (sym known) (was, rest)) answered
 
-pub answered_by_route : (cluster : ClusterValue Request) (request : Request) (before mid after : ClientValue Request) (given : Result (AnswerValue Request Reply) (CallRefused Request))
+pub answered_by_route : (cluster : ClusterValue Request) (loaders : List (ClientValue Request)) (request : Request) (before mid after : ClientValue Request) (given : Result (AnswerValue Request Reply) (CallRefused Request))
     (result : Result Answer AllocError)
     → mid ≡ client_reading before mid.router → Extends mid.router.seen before.router.seen → IfOk given (Gives counter_text before 0 request)
     → IfErr given (λ refused. FaultByRoute before mid.router (shard_for before request) 0 request refused.fault)
     → ((r : Request) → IfOk given (λ answer. Gives counter_text mid 0 r answer → IfOk result (λ answer. WasAnswered (λ fault. ⊥) mid r answer after)))
     → ((r : Request) → IfErr given (λ refused. IfOk result (λ answer. WasAnswered (λ fault. fault ≡ refused.fault) mid r answer after)))
-    → IfOk result (λ answer. WasRouted (session_with cluster before) request answer (session_with cluster after))
-answered_by_route cluster request before mid after given result same later gives faults learned refused =
+    → IfOk result (λ answer. WasRouted (session_with cluster loaders before) request answer (session_with cluster loaders after))
+answered_by_route cluster loaders request before mid after given result same later gives faults learned refused =
     let may : CallFault → Type 0 = FaultByRoute before mid.router (shard_for before request) 0 request in
     IfOk-weaker result (λ answer. WasAnswered may (client_reading before mid.router) request answer after)
-    (λ answer. WasRouted (session_with cluster before) request answer (session_with cluster after))
+    (λ answer. WasRouted (session_with cluster loaders before) request answer (session_with cluster loaders after))
     (λ (answer : Answer) was. (mid.router, later, was, refl)) (answered_since may request (client_reading before mid.router) mid after given result same gives faults learned refused)

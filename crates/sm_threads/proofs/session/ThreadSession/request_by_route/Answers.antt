@@ -18,6 +18,6 @@ invariant_of-self g c =
 
 pub returns : goal.returns
 returns g c =
-    let after = session_with c.self.inside.cluster c.learned.new.client in
+    let after = session_with c.self.inside.cluster c.self.inside.loaders.items c.learned.new.client in
     subst (λ (s : SessionValue). IfOk c.learned.result (λ answer. WasRouted s c.args.request answer after)) c.self.view_is
-    (answered_by_route c.self.inside.cluster c.args.request c.self.inside.client c.call-given.new.self c.learned.new.client c.call-given.result c.learned.result c.call-given.ensures.unchanged c.call-given.ensures.later c.call-given.ensures.answer c.call-given.ensures.fault c.learned.ensures.answered c.learned.ensures.refused)
+    (answered_by_route c.self.inside.cluster c.self.inside.loaders.items c.args.request c.self.inside.client c.call-given.new.self c.learned.new.client c.call-given.result c.learned.result c.call-given.ensures.unchanged c.call-given.ensures.later c.call-given.ensures.answer c.call-given.ensures.fault c.learned.ensures.answered c.learned.ensures.refused)
