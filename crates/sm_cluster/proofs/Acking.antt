@@ -1,6 +1,7 @@
 -- What clients learn, one call after another and one client beside another.
-use Rattle.std.proofs.Common.{◌≡◌, ℕ, List, [], ◌++◌, refl, sym, ap, ◌∙◌, subst, append_assoc}
-use Rattle.std.specs.Prelude.{ℤ, IfErr, OnOk, Option, Result, Ok, Err}
+use Rattle.std.proofs.Common.{◌≡◌, ◌+◌, ℕ, zero, suc, Bool, true, false, List, [], ◌++◌, add-one, arith, refl, sym, ap, ◌∙◌, subst, append_assoc}
+use Rattle.std.specs.Prelude.{ℤ, IfErr, MatchBool, OnOk, Option, Some, None, Result, Ok, Err}
+use Rattle.std.specs.Option.{is_some}
 use Rattle.std.proofs.lemmas.List.{append-nil}
 use Rattle.sm_body.specs.Service.{Service}
 use Rattle.sm_ranges.specs.Ranges.{shard_of}
@@ -13,8 +14,8 @@ use Rattle.sm_server.specs.lemmas.Beginnings.{none_begins}
 use Rattle.sm_cluster.specs.declared.call_refused.CallFault.{CallFault}
 use Rattle.sm_cluster.specs.declared.call_refused.CallFault.TheVariants.{NoRoute, Unreachable, Refused, NoMemory, Closed}
 use Rattle.sm_cluster.specs.declared.call_refused.CallRefused.{CallRefused}
-use Rattle.sm_cluster.specs.Calls.{ClientValue, FaultAt, Gives, client_reading}
-use Rattle.sm_cluster.specs.Loads.{HasLearned, HasLearnedReply, IsClientSince, WasTold}
+use Rattle.sm_cluster.specs.Calls.{ClientValue, FaultAt, Gives, client_reading, handed_back}
+use Rattle.sm_cluster.specs.Loads.{HasLearned, HasLearnedCount, HasLearnedCounts, HasLearnedReply, IsClientSince}
 use Rattle.sm_cluster.proofs.Travelling.{begins_same}
 
 pub since_same : {Q : Type 0} (client : ClientValue Q) → IsClientSince client client
@@ -59,7 +60,7 @@ since_read {Q} before after is read = record {
   read = read;
 }
 
-module _ {Q R : Type 0} (service : Service Q R) (count : R → Option ℤ) (request : Q) where
+module _ {Q R : Type 0} (service : Service Q R) (request : Q) where
   -- what was learned stays so
   pub learned_later : (a b c : ClientValue Q) (answer : AnswerValue Q R) → IsClientSince b c → HasLearned service request a b answer → HasLearned service request a c answer
   learned_later a b c answer since was = record {
@@ -88,8 +89,47 @@ module _ {Q R : Type 0} (service : Service Q R) (count : R → Option ℤ) (requ
   pub reply_before : (a b c : ClientValue Q) (reply : R) → IsClientSince a b → HasLearnedReply service request b c reply → HasLearnedReply service request a c reply
   reply_before a b c reply since was = (was.0, learned_before a b c was.0 since was.1, was.2)
 
-  pub told_later : (a b c : ClientValue Q) (told : ℤ) → IsClientSince b c → WasTold service count request a b told → WasTold service count request a c told
-  told_later a b c told since was = (was.0, reply_later a b c was.0 since was.1, was.2)
+module _ {Q R : Type 0} (service : Service Q R) (count : R → Option ℤ) (request : Q) where
+  -- an answer that tells a count, where the client has seen more since
+  counted_later : (a b c : ClientValue Q) → IsClientSince b c → HasLearnedCount service count request a b → HasLearnedCount service count request a c
+  counted_later a b c since was = record {
+    reply = was.reply;
+    told = was.told;
+    learned = reply_later service request a b c was.reply since was.learned;
+    tells = was.tells;
+    since = since_since a b c was.since since;
+  }
 
-  pub told_before : (a b c : ClientValue Q) (told : ℤ) → IsClientSince a b → WasTold service count request b c told → WasTold service count request a c told
-  told_before a b c told since was = (was.0, reply_before a b c was.0 since was.1, was.2)
+  pub counts_later : (a b c : ClientValue Q) (n : ℕ) → IsClientSince b c → HasLearnedCounts service count request a n b → HasLearnedCounts service count request a n c
+  counts_later a b c zero since was = since_since a b c was since
+  counts_later a b c (suc n) since was = (was.0, was.1, counted_later was.0 b c since was.2)
+
+  -- who has learned counts has seen no less
+  pub counts_since : (a b : ClientValue Q) (n : ℕ) → HasLearnedCounts service count request a n b → IsClientSince a b
+  counts_since a b zero was = was
+  counts_since a b (suc n) was = since_since a was.0 b (counts_since a was.0 n was.1) was.2.since
+
+  -- one more addition, which was answered by a count or not
+  pub one_more : (a b c : ClientValue Q) (acked refused number acked' refused' : ℕ) (is_acked : Bool)
+      → MatchBool is_acked (HasLearnedCount service count request b c) (IsClientSince b c)
+      → MatchBool is_acked ((acked' ≡ acked + 1) × (refused' ≡ refused)) ((acked' ≡ acked) × (refused' ≡ refused + 1))
+      → acked + refused ≡ number → HasLearnedCounts service count request a acked b
+      → (acked' + refused' ≡ number + 1) × HasLearnedCounts service count request a acked' c
+  one_more a b c acked refused number acked' refused' true did now all was =
+      let next : acked' ≡ suc acked = now.0 ∙ add-one acked in
+      (omega (arith, now, all), subst (λ (n : ℕ). HasLearnedCounts service count request a n c) (sym next) (b, was, did))
+  one_more a b c acked refused number acked' refused' false did now all was =
+      (omega (arith, now, all), subst (λ (n : ℕ). HasLearnedCounts service count request a n c) (sym now.0) (counts_later a b c acked did was))
+
+-- what follows of a count that is told, and of none
+pub told_or_not : (is_told : Bool) (count : Option ℤ) (A B : Type 0) → is_told ≡ is_some count → ((told : ℤ) → count ≡ Some told → A) → B → MatchBool is_told A B
+told_or_not is_told (Some told) A B is some none = subst (λ (b : Bool). MatchBool b A B) (sym is) (some told refl)
+told_or_not is_told None A B is some none = subst (λ (b : Bool). MatchBool b A B) (sym is) none
+
+-- the request that came back is the one that was made
+pub handed_same : {Q : Type 0} (fault : CallFault) (request back : Q) → Some back ≡ handed_back fault request → back ≡ request
+handed_same NoRoute request back same = cc
+handed_same Unreachable request back same = cc
+handed_same (Refused refusal) request back same = cc
+handed_same NoMemory request back same = cc
+handed_same Closed request back same = absurd (cc)

@@ -1,4 +1,5 @@
 pub mod Acking
+pub mod Adding
 pub mod Calling
 pub mod Holding
 pub mod Placing

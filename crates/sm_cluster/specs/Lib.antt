@@ -3,6 +3,7 @@ pub mod Calls
 pub mod Clusters
 pub mod Exchanging
 pub mod Holding
+pub mod IncCounts
 pub mod Loads
 pub mod Passes
 pub mod Publications

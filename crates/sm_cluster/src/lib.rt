@@ -30,6 +30,7 @@ mod hold;
 pub mod hold_fault;
 mod holds;
 mod inbox;
+mod inc_counts;
 pub mod laws;
 pub mod loading;
 mod message;

@@ -1,20 +1,19 @@
 //! A load: many clients call at once.
-ghost use Rattle.std.specs.Prelude.{◌≡◌, ◌+◌, ◌-◌, ◌*◌, ◌<◌, ◌^◌, IfOk, IfSome, length, slice_index_or};
+ghost use Rattle.std.specs.Prelude.{◌≡◌, ◌+◌, ◌-◌, ◌*◌, ◌<◌, ◌^◌, ◌⊎◌, IfErr, IfOk, IfSome, MatchBool, None, length};
 ghost use Rattle.sm_body.specs.Service.{meaning_of};
-ghost use Rattle.sm_cluster.specs.Calls.{ClientValue};
-ghost use Rattle.sm_cluster.specs.Loads.{AreClientsSince, HasLearnedReply, IsClientSince, WasTold};
+ghost use Rattle.sm_cluster.specs.Calls.{HandsBack};
+ghost use Rattle.sm_cluster.specs.Loads.{AreClientsSince, HasAdded, HasLearnedCount, HasLearnedReply, HaveAdded, HaveLoaded, IsClientSince, WasTold, WasToldTwice};
 
 use crate::call_refused::{CallFault, CallRefused};
 use crate::client::Client;
 use crate::counting::Counting;
+use crate::inc_counts::{IncCounts, count_all};
 use sm_body::service::Service;
 use sm_ownership::admit_fault::AdmitFault;
 use sm_rule::admit_refusal::AdmitRefusal;
 use sm_server::Refusal;
 use std::alloc::Global;
 use std::sync::Wait;
-use std::sync::atomic::{AtomicU64, Ordering};
-use std::thread;
 use std::thread::Threads;
 
 // How many threads a load starts at most.
@@ -38,7 +37,7 @@ pub struct LoadReport {
 
 /// The first client asks for the count, each of the others makes so many incs, in a thread of its own where one can be had, and
 /// the first asks again. An inc that finds its shard admitted for another request is made anew, at most 1,000 times. Each client
-/// learns what it is answered.
+/// learns what it is answered, and counts which of its incs were answered by a count and which were not.
 pub fn load<S: Service, C: Counting<S> + Sync, R: Threads + Wait + Sync>(
     rt: &R,
     alloc: Global,
@@ -48,10 +47,8 @@ pub fn load<S: Service, C: Counting<S> + Sync, R: Threads + Wait + Sync>(
 ) -> LoadReport
     requires clients { (1 < length clients.old) × (length clients.old < 2 ^ 32) }
     ensures total { result.acked + result.refused ≡ (length clients.old - 1) * each }
-    ensures before { (d : ClientValue S.Request) → IfSome result.before (WasTold (meaning_of S.initial S.next S.answer S.key_of)
-        (C.tells counting.now) (C.asks counting.now) (slice_index_or clients.old 0 d) (slice_index_or clients.new 0 d)) }
-    ensures after { (d : ClientValue S.Request) → IfSome result.after (WasTold (meaning_of S.initial S.next S.answer S.key_of)
-        (C.tells counting.now) (C.asks counting.now) (slice_index_or clients.old 0 d) (slice_index_or clients.new 0 d)) }
+    ensures loaded { HaveLoaded (meaning_of S.initial S.next S.answer S.key_of) (C.tells counting.now)
+        (C.asks counting.now) (C.adds counting.now) each clients.old result clients.new }
     ensures clients { AreClientsSince clients.old clients.new }
 {
     let Some((first, others)) = clients.split_first_mut() else {
@@ -71,61 +68,63 @@ fn load_by<S: Service, C: Counting<S> + Sync, R: Threads + Wait + Sync>(
 ) -> LoadReport
     requires others { length others.old < 2 ^ 32 }
     ensures total { result.acked + result.refused ≡ length others.old * each }
-    ensures before { IfSome result.before (WasTold (meaning_of S.initial S.next S.answer S.key_of)
-        (C.tells counting.now) (C.asks counting.now) first.old first.new) }
-    ensures after { IfSome result.after (WasTold (meaning_of S.initial S.next S.answer S.key_of)
-        (C.tells counting.now) (C.asks counting.now) first.old first.new) }
+    ensures told { WasToldTwice (meaning_of S.initial S.next S.answer S.key_of) (C.tells counting.now)
+        (C.asks counting.now) first.old result.before result.after first.new }
+    ensures added { HaveAdded (meaning_of S.initial S.next S.answer S.key_of) (C.tells counting.now)
+        (C.adds counting.now) each others.old result.acked result.refused others.new }
     ensures first { IsClientSince first.old first.new }
     ensures others { AreClientsSince others.old others.new }
 {
-    let total = others.len() as u64 * u64::from(each);
     let before = count(rt, alloc, counting, 0, first);
-    let acked = inc_all(rt, alloc, counting, each, others).min(total);
+    let counts = inc_all(rt, alloc, counting, each, others);
     let after = count(rt, alloc, counting, 1, first);
     LoadReport {
-        acked,
-        refused: total - acked,
+        acked: counts.acked,
+        refused: counts.refused,
         before,
         after,
     }
 }
 
-// Has each client make so many incs, and counts those that were answered by a count.
+// Has each client make so many incs, and adds up what came of them.
 fn inc_all<S: Service, C: Counting<S> + Sync, R: Threads + Wait + Sync>(
     rt: &R,
     alloc: Global,
     counting: &C,
     each: u32,
     clients: &mut [Client<S>],
-) -> u64
-    ensures { AreClientsSince clients.old clients.new }
+) -> IncCounts
+    requires { length clients.old < 2 ^ 32 }
+    ensures { HaveAdded (meaning_of S.initial S.next S.answer S.key_of) (C.tells counting.now)
+        (C.adds counting.now) each clients.old result.acked result.refused clients.new }
 {
-    let acked = AtomicU64::new(0);
-    let shared = &acked;
-    let run = |_at: usize, client: &mut Client<S>|
-        ensures { IsClientSince client.entry.now client.exit.now }
-    { inc_each(rt, alloc, counting, each, client, shared) };
-    thread::for_each_mut(rt, clients, MOST_THREADS, &run);
-    acked.load(Ordering::SeqCst)
+    let run = |client: &mut Client<S>| -> IncCounts
+        ensures { HasAdded (meaning_of S.initial S.next S.answer S.key_of) (C.tells counting.entry.now)
+            (C.adds counting.entry.now) each client.entry.now result.acked result.refused client.exit.now }
+    { inc_each(rt, alloc, counting, each, client) };
+    count_all(rt, &run, each, MOST_THREADS, clients)
 }
 
-// Makes so many incs, and adds those that were answered by a count.
-#[tactic(auto, using(crate::proofs::Acking::since_same, crate::proofs::Acking::since_since))]
+// Makes so many incs, and counts those that were answered by a count, and the others.
 fn inc_each<S: Service, C: Counting<S>, R: Wait>(
     rt: &R,
     alloc: Global,
     counting: &C,
     each: u32,
     client: &mut Client<S>,
-    acked: &AtomicU64,
-)
-    ensures { IsClientSince client.old client.new }
+) -> IncCounts
+    ensures { HasAdded (meaning_of S.initial S.next S.answer S.key_of) (C.tells counting.now)
+        (C.adds counting.now) each client.old result.acked result.refused client.new }
 {
+    let mut counts = IncCounts {
+        acked: 0,
+        refused: 0,
+    };
     for number in 0..each {
-        if inc(rt, alloc, counting, u64::from(number), client) {
-            acked.fetch_add(1, Ordering::SeqCst);
-        }
+        let is_acked = inc(rt, alloc, counting, u64::from(number), client);
+        counts = counts.with(is_acked);
     }
+    counts
 }
 
 // Makes an inc, and says whether it was answered by a count.
@@ -137,7 +136,10 @@ fn inc<S: Service, C: Counting<S>, R: Wait>(
     number: u64,
     client: &mut Client<S>,
 ) -> bool
-    ensures { IsClientSince client.old client.new }
+    ensures { MatchBool result
+        (HasLearnedCount (meaning_of S.initial S.next S.answer S.key_of) (C.tells counting.now) (C.adds counting.now)
+        client.old client.new)
+        (IsClientSince client.old client.new) }
 {
     let Ok(request) = counting.inc() else {
         return false;
@@ -179,7 +181,8 @@ fn ask<S: Service, R: Wait>(
     mut request: S::Request,
     client: &mut Client<S>,
 ) -> Option<S::Reply>
-    ensures { IsClientSince client.old client.new }
+    ensures learned { IfSome result (HasLearnedReply (meaning_of S.initial S.next S.answer S.key_of) request client.old client.new) }
+    ensures since { IsClientSince client.old client.new }
 {
     for retry in 0..=MOST_RETRIES {
         if retry > 0 {
@@ -205,6 +208,7 @@ fn learn<S: Service, R: Wait>(
     client: &mut Client<S>,
 ) -> Result<S::Reply, CallRefused<S::Request>>
     ensures learned { IfOk result (HasLearnedReply (meaning_of S.initial S.next S.answer S.key_of) request client.old client.new) }
+    ensures back { IfErr result (HandsBack request) }
     ensures since { IsClientSince client.old client.new }
 {
     match client.call(rt, alloc, number, request) {
@@ -214,7 +218,9 @@ fn learn<S: Service, R: Wait>(
 }
 
 // The request of a call that is made anew: its shard was admitted for another one.
-fn made_anew<Q: Drop>(refused: CallRefused<Q>) -> Option<Q> {
+fn made_anew<Q: Drop>(refused: CallRefused<Q>) -> Option<Q>
+    ensures { (result ≡ refused.back) ⊎ (result ≡ None) }
+{
     match refused.fault {
         CallFault::Refused(Refusal::Admit(AdmitRefusal::Refused(AdmitFault::Admitted, _))) => {
             refused.back

@@ -28,8 +28,8 @@ use Rattle.sm_threads.specs.Calls.{AnsweredAt, AnsweredWhere, Routed, WasAnswere
 use Rattle.sm_threads.specs.Refusals.{call_refused}
 use Rattle.sm_threads.specs.Sessions.{SessionValue}
 
-abbrev pub session_with : ClusterValue Request → ClientValue Request → SessionValue
-session_with cluster client = record { cluster = cluster; client = client }
+abbrev pub session_with : ClusterValue Request → List (ClientValue Request) → ClientValue Request → SessionValue
+session_with cluster loaders client = record { cluster = cluster; client = client; loaders = loaders }
 
 pub published_keeps : (fault : Option RouteFault) (before after : ClusterValue Request) (shard : ℕ) (result : Result Route PublishRefusal) → Published fault before after shard result
     → (after.control.chair.board ≡ before.control.chair.board) × (after.bounds ≡ before.bounds)
@@ -39,12 +39,12 @@ published_keeps None before after shard (Err (Unpublished fault)) p = (p.1.0.1, 
 published_keeps None before after shard (Err (Unrouted fault)) p = absurd p
 
 -- a route of the client's router
-pub routed_by : (cluster : ClusterValue Request) (before after : ClientValue Request) (asked key : List ℕ) (route : Option Route) → asked ≡ key → Extends after.router.seen before.router.seen
+pub routed_by : (cluster : ClusterValue Request) (loaders : List (ClientValue Request)) (before after : ClientValue Request) (asked key : List ℕ) (route : Option Route) → asked ≡ key → Extends after.router.seen before.router.seen
     → (route ≡ routes_of after.router.seen (shard_of before.bounds asked)) ⊎ ((route ≡ None) × (after.router.seen ≡ before.router.seen)) → after ≡ client_reading before after.router
-    → Routed (session_with cluster before) key (Way route) (session_with cluster after)
-routed_by cluster before after asked key route same later found unchanged =
+    → Routed (session_with cluster loaders before) key (Way route) (session_with cluster loaders after)
+routed_by cluster loaders before after asked key route same later found unchanged =
     let P : List ℕ → Type 0 = λ k. (route ≡ routes_of after.router.seen (shard_of before.bounds k)) ⊎ ((route ≡ None) × (after.router.seen ≡ before.router.seen)) in
-    (later, subst P same found, ap (session_with cluster) unchanged)
+    (later, subst P same found, ap (session_with cluster loaders) unchanged)
 
 -- what a call is answered that may have these faults, where it may have no others
 answered_for : (may also : ClientValue Request → CallFault → Type 0) (client : ClientValue Request) (request : Request) (answer : Answer) (after : ClientValue Request) → ((fault : CallFault) → may after fault → also after fault)
@@ -97,17 +97,17 @@ answered_at before after server request result known answered rest =
     IfOk-weaker result (λ answer. WasAnswered (faults_at before.client request) before.client request answer after.client) (λ answer. AnsweredAt before server request answer after)
     (λ (answer : Answer) was. subst (λ (b : Bool). AnsweredWhere b before request answer after) (sym known) (was, rest)) answered
 
-pub answered_by_route : (cluster : ClusterValue Request) (request : Request) (before mid after : ClientValue Request) (given : Result (AnswerValue Request Reply) (CallRefused Request))
+pub answered_by_route : (cluster : ClusterValue Request) (loaders : List (ClientValue Request)) (request : Request) (before mid after : ClientValue Request) (given : Result (AnswerValue Request Reply) (CallRefused Request))
     (result : Result Answer AllocError)
     → OnOk given (mid ≡ client_reading before mid.router) → Extends mid.router.seen before.router.seen → after.router ≡ mid.router → IfOk given (Gives counter_text before 0 request)
     → IfErr given (λ refused. FaultByRoute counter_text before mid 0 request refused.fault)
     → ((r : Request) → IfOk given (λ answer. Gives counter_text mid 0 r answer → IfOk result (λ answer. WasAnswered (λ client fault. ⊥) mid r answer after)))
     → IfErr given (λ refused. IfOk result (λ answer. (option_map IsRefused (call_refused refused.fault) ≡ Some answer) × (after ≡ mid)))
-    → IfOk result (λ answer. WasRouted (session_with cluster before) request answer (session_with cluster after))
-answered_by_route cluster request before mid after given result same later router gives faults learned refused =
+    → IfOk result (λ answer. WasRouted (session_with cluster loaders before) request answer (session_with cluster loaders after))
+answered_by_route cluster loaders request before mid after given result same later router gives faults learned refused =
     let may : ClientValue Request → CallFault → Type 0 = λ client. FaultByRoute counter_text before client 0 request in
     IfOk-weaker result (λ answer. WasAnswered may (client_reading before mid.router) request answer after)
-    (λ answer. WasRouted (session_with cluster before) request answer (session_with cluster after))
+    (λ answer. WasRouted (session_with cluster loaders before) request answer (session_with cluster loaders after))
     (λ (answer : Answer) was. (
       subst (λ (read : RouterView). Extends read.seen before.router.seen) (sym router) later,
       subst (λ (read : RouterView). WasAnswered may (client_reading before read) request answer after) (sym router) was,

@@ -12,11 +12,11 @@ use Rattle.sm_place.specs.declared.shard.Shard.{Shard}
 use Rattle.sm_ranges.specs.declared.stand.Stand.TheVariants.{Vacant}
 use Rattle.sm_rows.specs.declared.shard_row.ShardRow.{ShardRow}
 use Rattle.sm_publish.specs.Publishing.{MapView}
-use Rattle.sm_publish.specs.Seen.{RouterView}
 use Rattle.sm_service.specs.Service.{TextLog}
 use Rattle.sm_settings.specs.SettingsLine.{SettingsValues}
 use Rattle.sm_service.specs.declared.request.Request.{Request}
-use Rattle.sm_threads.specs.Sessions.{IsBegun, SessionValue}
+use Rattle.sm_threads.specs.Sessions.{IsBegun, IsNewClientOf, SessionValue}
+use Rattle.sm_threads.specs.declared.session.TheConstants.{LOADERS}
 
 -- all shards of a new desk are vacant
 vacant_rows : (rows : List ShardRow) → All (λ (shard : Shard). shard.stand ≡ Vacant) (map vacant_shard rows)
@@ -46,17 +46,15 @@ few_workers settings desk workers desk_is same few =
 abbrev new_map : ℕ → MapView
 new_map count = record { count = count; published = [] }
 
-abbrev new_router : ClusterValue Request → RouterView
-new_router cluster = record { table = cluster.map.table; seen = [] }
-
 -- the session of a cluster that was started from the settings' parts
 pub is_begun : (settings : SettingsValues) (session : SessionValue) (cluster : ClusterValue Request) (desk : DeskView) (bodies : List TextLog) (count : ℕ)
     → count ≡ length settings.bounds → desk ≡ settings_desk settings → bodies ≡ replicate count (record { base = []; before = 0; requests = []; limit = settings.kept })
     → session.cluster ≡ cluster → cluster.control.desk ≡ desk → cluster.control.chair.seen ≡ [] → cluster.control.chair.board.limits.ceiling ≡ settings.ceiling
     → cluster.control.chair.board.limits.bodies ≡ map (λ (body : TextLog). body.limit) bodies → cluster.bounds ≡ settings.bounds → cluster.holds ≡ replicate (length bodies) None
-    → cluster.map.map ≡ new_map (length bodies) → session.client.router ≡ new_router cluster
+    → cluster.map.map ≡ new_map (length bodies) → cluster.control.chair.board.limits.count ≡ length bodies
+    → IsNewClientOf cluster session.client → All (IsNewClientOf cluster) session.loaders → length session.loaders ≡ LOADERS
     → length settings.servers * settings.workers ≤ MAX_WORKERS → IsBegun settings session
-is_begun settings session cluster desk bodies count counted desk_is bodies_are same desk_in seen ceiling limits bounds holds map_is router workers =
+is_begun settings session cluster desk bodies count counted desk_is bodies_are same desk_in seen ceiling limits bounds holds map_is shards client loaders enough workers =
     let body : TextLog = record { base = []; before = 0; requests = []; limit = settings.kept } in
     let many : length bodies ≡ length settings.bounds = ap length bodies_are ∙ (length-replicate count body ∙ counted) in
     let kept : map (λ (each : TextLog). each.limit) bodies ≡ replicate (length settings.bounds) settings.kept =
@@ -70,5 +68,8 @@ is_begun settings session cluster desk bodies count counted desk_is bodies_are s
       holds = ap (λ (c : ClusterValue Request). c.holds) same ∙ (holds ∙ ap (λ (n : ℕ). replicate n None) many);
       map = ap (λ (c : ClusterValue Request). c.map.map) same ∙ (map_is ∙ ap new_map many);
       workers = workers;
-      unread = router ∙ ap new_router (sym same);
+      shards = ap (λ (c : ClusterValue Request). c.control.chair.board.limits.count) same ∙ (shards ∙ many);
+      client = subst (λ (c : ClusterValue Request). IsNewClientOf c session.client) (sym same) client;
+      loaders = subst (λ (c : ClusterValue Request). All (IsNewClientOf c) session.loaders) (sym same) loaders;
+      enough = enough;
     }

@@ -1,23 +1,24 @@
 -- Clients stay a cluster's own where its board and its ranges stay.
-use Rattle.std.proofs.Common.{inl, inr, ◌≡◌, ◌<◌, ◌≤◌, ℕ, List, [], ◌∷◌, ◌++◌, All, Option, Some, IfSome, length, map, replicate, refl, sym, ap, ◌∙◌, subst, arith, length-append, ◌+◌, ◌-◌}
+use Rattle.std.proofs.Common.{inl, inr, ◌≡◌, ◌<◌, ◌≤◌, ℕ, List, [], ◌∷◌, ◌++◌, All, Option, Some, IfSome, length, map, replicate, take, drop, pos, refl, sym, ap, ◌∙◌, subst, arith, length-append, ◌+◌, ◌-◌}
 use Rattle.std.specs.Prelude.{slice_index_or, ◌⊎◌}
 use Rattle.std.specs.Option.{option_to_list}
 use Rattle.std.proofs.lemmas.Bool.{cases_lt}
-use Rattle.std.proofs.lemmas.List.{append-nil, get_or_append_left, get_or-append_right, map-append}
+use Rattle.std.proofs.lemmas.List.{append-nil, get_or_append_left, get_or-append_right, length-map}
+use Rattle.std.proofs.Math.ListN.{get_or-map}
 use Rattle.std.proofs.lemmas.List.Elements.{All-pop, All-replicate, All-weaker}
 use Rattle.sm_cluster.specs.Calls.{ClientValue}
 use Rattle.sm_cluster.specs.Clusters.{ClusterValue, IsClientOf}
-use Rattle.sm_cluster.specs.Loads.{AreClientsSince, IsClientSince, WasTold}
+use Rattle.sm_cluster.specs.Loads.{AreClientsSince, HaveLoaded, IsClientSince}
 use Rattle.sm_cluster.specs.declared.loading.LoadReport.{LoadReport}
-use Rattle.std.proofs.Math.Seq.{get_or-append_seam}
+use Rattle.std.proofs.Math.Seq.{take-append_seam, drop-append_seam}
 use Rattle.sm_model.specs.Calls.{counter_text}
 use Rattle.sm_publish.specs.Seen.{RouterView}
 use Rattle.sm_rule.specs.Boards.{BoardValue}
 use Rattle.sm_rule.specs.Views.{Begins}
 use Rattle.sm_service.specs.declared.request.Request.{Request}
-use Rattle.sm_service.specs.declared.request.Request.TheVariants.{Get}
-use Rattle.sm_threads.specs.Loads.{WasCounted, count_in}
-use Rattle.sm_threads.specs.Sessions.{IsWhole}
+use Rattle.sm_service.specs.declared.request.Request.TheVariants.{Get, Inc}
+use Rattle.sm_threads.specs.Loads.{IsLoadOf, count_in}
+use Rattle.sm_threads.specs.Sessions.{IsNewClientOf, IsWhole}
 
 pub stays_client : (before after : ClusterValue Request) (client : ClientValue Request) → after.control.chair.board ≡ before.control.chair.board → after.bounds ≡ before.bounds
     → IsClientOf before client → IsClientOf after client
@@ -31,8 +32,8 @@ stay_clients before after clients board bounds all =
 -- a session whose cluster has made a call, and has then told its client
 pub whole_told : (before after : ClusterValue Request) (client told : ClientValue Request) (loaders : List (ClientValue Request)) → after.control.chair.board ≡ before.control.chair.board
     → after.bounds ≡ before.bounds → told.pass.board ≡ client.pass.board → told.bounds ≡ client.bounds → Begins after.told told.pass.seen
-    → IsWhole (record { cluster = before; client = client }) × All (IsClientOf before) loaders × (length loaders ≡ 17)
-    → IsWhole (record { cluster = after; client = told }) × All (IsClientOf after) loaders × (length loaders ≡ 17)
+    → IsWhole (record { cluster = before; client = client; loaders = loaders }) × All (IsClientOf before) loaders × (length loaders ≡ 17)
+    → IsWhole (record { cluster = after; client = told; loaders = loaders }) × All (IsClientOf after) loaders × (length loaders ≡ 17)
 whole_told before after client told loaders board bounds same_board same_bounds seen is =
     let own = stays_client before after client board bounds is.0.0 in (
       (
@@ -70,48 +71,48 @@ since_front before after back since =
     (length-append after back ∙ ap (λ n. n + length back) since.0 ∙ sym (length-append before back), λ at d within. front_at before after back since at d (cases_lt at (length before)))
 
 -- the last of the clients that are begun with, and the others
-pub popped_of : (cluster : ClusterValue Request) (clients rest : List (ClientValue Request)) (popped : Option (ClientValue Request)) (client : ClientValue Request)
-    → clients ≡ rest ++ option_to_list popped → popped ≡ Some client → All (IsClientOf cluster) clients → length clients ≡ 18
-    → IsClientOf cluster client × All (IsClientOf cluster) rest × (length rest ≡ 17)
-popped_of cluster clients rest popped client items is all many =
-    let both = All-pop (IsClientOf cluster) clients rest popped items all in
+pub popped_of : (P : ClientValue Request → Type 0) (clients rest : List (ClientValue Request)) (popped : Option (ClientValue Request)) (client : ClientValue Request)
+    → clients ≡ rest ++ option_to_list popped → popped ≡ Some client → All P clients → length clients ≡ 18 → P client × All P rest × (length rest ≡ 17)
+popped_of P clients rest popped client items is all many =
+    let both = All-pop P clients rest popped items all in
     let joined : clients ≡ rest ++ client ∷ [] = subst (λ (o : Option (ClientValue Request)). clients ≡ rest ++ option_to_list o) is items in
     let counted : length clients ≡ length (rest ++ client ∷ []) = ap length joined in (
-      subst (λ (o : Option (ClientValue Request)). IfSome o (IsClientOf cluster)) is both.1,
+      subst (λ (o : Option (ClientValue Request)). IfSome o P) is both.1,
       both.0,
       omega (arith, counted, length-append rest (client ∷ []), many),
     )
 
--- the first of the clients that are in front of others
-pub first_stays : (P : ClientValue Request → ClientValue Request → Type 0) (all front new back : List (ClientValue Request)) (d : ClientValue Request)
-    → all ≡ front ++ back → 0 < length front → length new ≡ length front → P (slice_index_or front 0 d) (slice_index_or new 0 d) → P (slice_index_or all 0 d) (slice_index_or (new ++ back) 0 d)
-first_stays P all front new back d split some many is =
-    let old : slice_index_or all 0 d ≡ slice_index_or front 0 d = ap (λ (list : List (ClientValue Request)). slice_index_or list 0 d) split ∙ get_or_append_left front back d 0 some in
-    let now : slice_index_or (new ++ back) 0 d ≡ slice_index_or new 0 d = get_or_append_left new back d 0 (omega (arith, many, some)) in
-    subst (λ (b : ClientValue Request). P b (slice_index_or (new ++ back) 0 d)) (sym old) (subst (λ (a : ClientValue Request). P (slice_index_or front 0 d) a) (sym now) is)
-
--- the first of a cluster's clients was told the counts
-pub counted_by_first : (cluster : ClusterValue Request) (key : List ℕ) (report : LoadReport) (before after : List (ClientValue Request)) (d : ClientValue Request)
-    → 0 < length before → All (IsClientOf cluster) before → AreClientsSince before after
-    → IfSome report.before (WasTold counter_text count_in (Get key) (slice_index_or before 0 d) (slice_index_or after 0 d))
-    → IfSome report.after (WasTold counter_text count_in (Get key) (slice_index_or before 0 d) (slice_index_or after 0 d)) → WasCounted cluster key report
-counted_by_first cluster key report before after d some all since first last = record {
-  asker = slice_index_or before 0 d;
-  later = slice_index_or after 0 d;
-  theirs = all 0 d some;
-  since = since.1 0 d some;
-  before = first;
-  after = last;
-}
-
--- where all have the same router, the last has it
-pub last_router : (clients rest : List (ClientValue Request)) (popped : Option (ClientValue Request)) (client : ClientValue Request) (n : ℕ) (router : RouterView)
-    → clients ≡ rest ++ option_to_list popped → popped ≡ Some client → map (λ (each : ClientValue Request). each.router) clients ≡ replicate n router → client.router ≡ router
-last_router clients rest popped client n router items is same =
+-- where all have a new router, all are new
+pub new_clients : (cluster : ClusterValue Request) (clients : List (ClientValue Request)) (n : ℕ)
+    → map (λ (each : ClientValue Request). each.router) clients ≡ replicate n (record { table = cluster.map.table; seen = [] })
+    → All (IsClientOf cluster) clients → All (IsNewClientOf cluster) clients
+new_clients cluster clients n same theirs = λ at d within.
+    let router : RouterView = record { table = cluster.map.table; seen = [] } in
     let f : ClientValue Request → RouterView = λ each. each.router in
-    let joined : clients ≡ rest ++ client ∷ [] = subst (λ (o : Option (ClientValue Request)). clients ≡ rest ++ option_to_list o) is items in
-    let whole : map f rest ++ f client ∷ [] ≡ replicate n router = sym (map-append f rest (client ∷ [])) ∙ (ap (map f) (sym joined) ∙ same) in
     let IsIt : RouterView → Type 0 = λ r. r ≡ router in
-    let each : All IsIt (map f rest ++ f client ∷ []) = subst (λ (list : List RouterView). All IsIt list) (sym whole) (All-replicate IsIt n router refl) in
-    let place : length (map f rest) < length (map f rest ++ f client ∷ []) = omega (arith, length-append (map f rest) (f client ∷ [])) in
-    sym (get_or-append_seam (map f rest) (f client) [] (f client)) ∙ each (length (map f rest)) (f client) place
+    let each : All IsIt (map f clients) = subst (λ (list : List RouterView). All IsIt list) (sym same) (All-replicate IsIt n router refl) in
+    let place : at < length (map f clients) = omega (arith, length-map clients f, within) in
+    (theirs at d within, sym (get_or-map f clients at d) ∙ each at (f d) place)
+
+-- the front of a list, and what is behind it
+pub front_of : (n : ℕ) (all front back : List (ClientValue Request)) → all ≡ front ++ back → length front ≡ n → take n all ≡ front
+front_of n all front back split many =
+    ap (λ (k : ℕ). take k all) (sym many) ∙ (ap (take (length front)) split ∙ take-append_seam front back)
+
+pub back_of : (n : ℕ) (all front back : List (ClientValue Request)) → all ≡ front ++ back → length front ≡ n → drop n all ≡ back
+back_of n all front back split many =
+    ap (λ (k : ℕ). drop k all) (sym many) ∙ (ap (drop (length front)) split ∙ drop-append_seam front back)
+
+-- a load by the clients in front is one of all
+pub load_of_front : (key : List ℕ) (count each : ℕ) (all front back front' : List (ClientValue Request)) (report : LoadReport)
+    → all ≡ front ++ back → length front ≡ count + 1 → AreClientsSince front front'
+    → HaveLoaded counter_text count_in (Get key) (Inc key (pos 1)) each front report front' → IsLoadOf key count each all report (front' ++ back)
+load_of_front key count each all front back front' report split many since did =
+    let many' : length front' ≡ count + 1 = since.0 ∙ many in
+    let Did : List (ClientValue Request) → List (ClientValue Request) → Type 0 = λ before after. HaveLoaded counter_text count_in (Get key) (Inc key (pos 1)) each before report after in
+    record {
+      loaded = subst (λ (before : List (ClientValue Request)). Did before (take (count + 1) (front' ++ back))) (sym (front_of (count + 1) all front back split many))
+      (subst (λ (after : List (ClientValue Request)). Did front after) (sym (front_of (count + 1) (front' ++ back) front' back refl many')) did);
+      rest = back_of (count + 1) (front' ++ back) front' back refl many' ∙ sym (back_of (count + 1) all front back split many);
+      since = subst (λ (before : List (ClientValue Request)). AreClientsSince before (front' ++ back)) (sym split) (since_front front front' back since);
+    }

@@ -43,18 +43,18 @@ freed_keeps before after shard (Err fault) freed same = same_keeps before after 
 -- a cluster made a call, which kept board and bounds, and then told the client
 module _ (before middle after : ClusterValue Request) (client told : ClientValue Request) (same : after ≡ middle) (looks : PassLooks client.pass told.pass) (is : told ≡ client_seeing client told.pass)
     (seen : Begins middle.told told.pass.seen) where
-  pub told_whole : (loaders : List (ClientValue Request)) → Keeps before middle → IsWhole (session_with before client) × All (IsClientOf before) loaders × (length loaders ≡ 17)
-      → IsWhole (session_with after told) × All (IsClientOf after) loaders × (length loaders ≡ 17)
+  pub told_whole : (loaders : List (ClientValue Request)) → Keeps before middle → IsWhole (session_with before loaders client) × All (IsClientOf before) loaders × (length loaders ≡ 17)
+      → IsWhole (session_with after loaders told) × All (IsClientOf after) loaders × (length loaders ≡ 17)
   told_whole loaders keeps whole =
-      subst (λ (c : ClusterValue Request). IsWhole (session_with c told) × All (IsClientOf c) loaders × (length loaders ≡ 17)) (sym same)
+      subst (λ (c : ClusterValue Request). IsWhole (session_with c loaders told) × All (IsClientOf c) loaders × (length loaders ≡ 17)) (sym same)
       (whole_told before middle client told loaders keeps.0 keeps.1 (ap (λ (pass : PassValue Request). pass.board) looks.1) (ap (λ (c : ClientValue Request). c.bounds) is) seen whole)
 
-  pub told_client : Begins middle.control.chair.seen told.pass.seen → TellsClient (session_with before client) (session_with middle told)
-  told_client control = (looks, seen, control, ap (λ (c : ClientValue Request). session_with middle c) is)
+  pub told_client : (loaders : List (ClientValue Request)) → Begins middle.control.chair.seen told.pass.seen → TellsClient (session_with before loaders client) (session_with middle loaders told)
+  told_client loaders control = (looks, seen, control, ap (λ (c : ClientValue Request). session_with middle loaders c) is)
 
 -- the client has looked
 pub whole_looks : (cluster : ClusterValue Request) (client after : ClientValue Request) (loaders : List (ClientValue Request)) → PassLooks client.pass after.pass → after ≡ client_seeing client after.pass
-    → IsWhole (session_with cluster client) × All (IsClientOf cluster) loaders × (length loaders ≡ 17) → IsWhole (session_with cluster after) × All (IsClientOf cluster) loaders × (length loaders ≡ 17)
+    → IsWhole (session_with cluster loaders client) × All (IsClientOf cluster) loaders × (length loaders ≡ 17) → IsWhole (session_with cluster loaders after) × All (IsClientOf cluster) loaders × (length loaders ≡ 17)
 whole_looks cluster client after loaders looks is whole = (
   (
     (ap (λ (pass : PassValue Request). pass.board) looks.1 ∙ whole.0.0.0, ap (λ (c : ClientValue Request). c.bounds) is ∙ whole.0.0.1),
@@ -67,6 +67,6 @@ whole_looks cluster client after loaders looks is whole = (
 
 -- the client has read a route
 pub whole_reads : (cluster : ClusterValue Request) (client after : ClientValue Request) (loaders : List (ClientValue Request)) → after ≡ client_reading client after.router
-    → IsWhole (session_with cluster client) × All (IsClientOf cluster) loaders × (length loaders ≡ 17) → IsWhole (session_with cluster after) × All (IsClientOf cluster) loaders × (length loaders ≡ 17)
+    → IsWhole (session_with cluster loaders client) × All (IsClientOf cluster) loaders × (length loaders ≡ 17) → IsWhole (session_with cluster loaders after) × All (IsClientOf cluster) loaders × (length loaders ≡ 17)
 whole_reads cluster client after loaders is whole =
-    subst (λ (c : ClientValue Request). IsWhole (session_with cluster c) × All (IsClientOf cluster) loaders × (length loaders ≡ 17)) (sym is) whole
+    subst (λ (c : ClientValue Request). IsWhole (session_with cluster loaders c) × All (IsClientOf cluster) loaders × (length loaders ≡ 17)) (sym is) whole

@@ -41,17 +41,20 @@ use Rattle.sm_server.specs.Answers.{AnswerValue}
 use Rattle.sm_service.specs.Service.{key_of_request}
 use Rattle.sm_service.specs.declared.reply.Reply.{Reply}
 use Rattle.sm_service.specs.declared.request.Request.{Request}
-use Rattle.sm_threads.specs.Loads.{IsVerdictOn, WasCounted}
+use Rattle.sm_threads.specs.Loads.{IsLoadOf, IsVerdictOn}
 use Rattle.sm_cluster.specs.declared.loading.LoadReport.{LoadReport}
 use Rattle.sm_threads.specs.Refusals.{call_refused, checkpoint_refused, command_refused, free_refused, hold_refused, publish_refused}
 use Rattle.sm_threads.specs.Sessions.{SessionValue}
 
--- the session with this cluster, and with this client
+-- the session with this cluster, with this client, and with these clients for loads
 abbrev pub with_cluster : SessionValue → ClusterValue Request → SessionValue
 with_cluster session cluster = record session { cluster = cluster }
 
 abbrev pub with_client : SessionValue → ClientValue Request → SessionValue
 with_client session client = record session { client = client }
+
+abbrev pub with_loaders : SessionValue → List (ClientValue Request) → SessionValue
+with_loaders session loaders = record session { loaders = loaders }
 
 -- the answer to a call that is made or refused
 abbrev pub answer_to : {T F : Type 0} → (F → Refused) → Result T F → Answer
@@ -189,12 +192,12 @@ WasRouted before request answer after =
     × WasAnswered (λ client. FaultByRoute counter_text before.client client 0 request) (client_reading before.client after.client.router) request answer after.client
     × (after ≡ with_client before after.client)
 
--- so many clients have made so many additions each, of which each was acknowledged or refused, and the answer says whether the
--- key's count grew by those that were acknowledged. The script's own client has seen no more
+-- so many of the session's clients made so many additions each, of which each was acknowledged or refused, and the answer says whether
+-- the counts that another one was told differ by those that were acknowledged. Nothing else in the session has changed
 abbrev pub WasLoaded : SessionValue → List ℕ → ℕ → ℕ → Answer → SessionValue → Type 0
 WasLoaded before key clients each (Loaded verdict) after =
-    (report : LoadReport) × (report.acked + report.refused ≡ clients * each) × WasCounted before.cluster key report × IsVerdictOn report verdict
-    × (after ≡ before)
+    (report : LoadReport) × (report.acked + report.refused ≡ clients * each) × IsLoadOf key clients each before.loaders report after.loaders
+    × IsVerdictOn report verdict × (after ≡ with_loaders before after.loaders)
 WasLoaded before key clients each answer after = ⊥
 
 -- what may be answered to a call

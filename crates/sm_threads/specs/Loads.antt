@@ -1,8 +1,7 @@
 -- What a load says of the counts that it found.
-use Rattle.std.specs.Prelude.{◌≡◌, ◌≢◌, ℕ, ℤ, pos, ◌+ℤ◌, ◌⊎◌, IfSome, List, Option, Some, None}
+use Rattle.std.specs.Prelude.{◌≡◌, ◌≢◌, ◌+◌, ℕ, ℤ, pos, ◌+ℤ◌, ◌⊎◌, List, Option, Some, None, take, drop}
 use Rattle.sm_cluster.specs.Calls.{ClientValue}
-use Rattle.sm_cluster.specs.Clusters.{ClusterValue, IsClientOf}
-use Rattle.sm_cluster.specs.Loads.{IsClientSince, WasTold}
+use Rattle.sm_cluster.specs.Loads.{AreClientsSince, HaveLoaded}
 use Rattle.sm_cluster.specs.declared.loading.LoadReport.{LoadReport}
 use Rattle.sm_model.specs.Calls.{counter_text}
 use Rattle.sm_script.specs.declared.load_verdict.LoadVerdict.{LoadVerdict}
@@ -10,22 +9,18 @@ use Rattle.sm_script.specs.declared.load_verdict.LoadVerdict.TheVariants.{Agrees
 use Rattle.sm_service.specs.declared.reply.Reply.{Reply}
 use Rattle.sm_service.specs.declared.reply.Reply.TheVariants.{Count}
 use Rattle.sm_service.specs.declared.request.Request.{Request}
-use Rattle.sm_service.specs.declared.request.Request.TheVariants.{Get}
+use Rattle.sm_service.specs.declared.request.Request.TheVariants.{Get, Inc}
 
 -- the count that a reply tells, if it tells one
 abbrev pub count_in : Reply → Option ℤ
 count_in (Count count) = Some count
 count_in reply = None
 
--- a client of the cluster was told the key's count before and after the additions, each time by an answer that it has learned since, or
--- not at all
-pub record WasCounted (cluster : ClusterValue Request) (key : List ℕ) (report : LoadReport) : Type 0 where
-  pub asker : ClientValue Request
-  pub later : ClientValue Request
-  pub theirs : IsClientOf cluster asker
-  pub since : IsClientSince asker later
-  pub before : IfSome report.before (WasTold counter_text count_in (Get key) asker later)
-  pub after : IfSome report.after (WasTold counter_text count_in (Get key) asker later)
+-- the first of these clients was told the key's count twice, and so many others added one to it, so many times each; the rest made no call
+pub record IsLoadOf (key : List ℕ) (clients each : ℕ) (before : List (ClientValue Request)) (report : LoadReport) (after : List (ClientValue Request)) : Type 0 where
+  pub loaded : HaveLoaded counter_text count_in (Get key) (Inc key (pos 1)) each (take (clients + 1) before) report (take (clients + 1) after)
+  pub rest : drop (clients + 1) after ≡ drop (clients + 1) before
+  pub since : AreClientsSince before after
 
 -- what the report's counts say: the count grew by what was acknowledged; it wasn't told; or it was, and grew otherwise
 abbrev pub IsVerdictOn : LoadReport → LoadVerdict → Type 0

@@ -1,5 +1,5 @@
 -- A session on a cluster as contracts see it, and with what it begins.
-use Rattle.std.specs.Prelude.{◌≡◌, ◌*◌, ◌<◌, ◌≤◌, ⊤, None, [], length, replicate}
+use Rattle.std.specs.Prelude.{◌≡◌, ◌*◌, ◌<◌, ◌≤◌, ⊤, All, List, None, [], length, replicate}
 use Rattle.sm_cluster.specs.Calls.{ClientValue}
 use Rattle.sm_cluster.specs.Clusters.{ClusterValue, IsClientOf}
 use Rattle.sm_cluster.specs.declared.TheConstants.{MAX_WORKERS}
@@ -10,11 +10,13 @@ use Rattle.sm_run.specs.declared.begin_fault.BeginFault.TheVariants as begin
 use Rattle.sm_service.specs.declared.request.Request.{Request}
 use Rattle.sm_settings.specs.SettingsLine.{SettingsValues}
 use Rattle.sm_settings.specs.declared.settings_fault.SettingsFault.TheVariants.{TooManyWorkers}
+use Rattle.sm_threads.specs.declared.session.TheConstants.{LOADERS}
 
--- its cluster, and the client that makes the script's requests
+-- its cluster, the client that makes the script's requests, and the clients that make loads
 pub record SessionValue : Type 0 where
   pub cluster : ClusterValue Request
   pub client : ClientValue Request
+  pub loaders : List (ClientValue Request)
 
 -- the client is the cluster's, whose board has a shard for each range, and has seen all that the cluster tells
 abbrev pub IsWhole : SessionValue → Type 0
@@ -22,8 +24,12 @@ IsWhole session =
     IsClientOf session.cluster session.client × (session.cluster.control.chair.board.limits.count ≡ length session.cluster.bounds)
     × Begins session.cluster.told session.client.pass.seen
 
--- the session that settings begin: its cluster has the desk, the ranges and the limits that they ask for, and not too many workers, and
--- nothing has happened in it
+-- a client of the cluster that has read no route: of its board, with its bounds, and with a router of its map
+abbrev pub IsNewClientOf : ClusterValue Request → ClientValue Request → Type 0
+IsNewClientOf cluster client = IsClientOf cluster client × (client.router ≡ record { table = cluster.map.table; seen = [] })
+
+-- the session that settings begin: its cluster has the desk, the ranges and the limits that they ask for, and not too many workers, its
+-- clients are new, and nothing has happened in it
 pub record IsBegun (settings : SettingsValues) (session : SessionValue) : Type 0 where
   pub desk : session.cluster.control.desk ≡ settings_desk settings
   pub seen : session.cluster.control.chair.seen ≡ []
@@ -33,7 +39,10 @@ pub record IsBegun (settings : SettingsValues) (session : SessionValue) : Type 0
   pub holds : session.cluster.holds ≡ replicate (length settings.bounds) None
   pub map : session.cluster.map.map ≡ record { count = length settings.bounds; published = [] }
   pub workers : length settings.servers * settings.workers ≤ MAX_WORKERS
-  pub unread : session.client.router ≡ record { table = session.cluster.map.table; seen = [] }
+  pub shards : session.cluster.control.chair.board.limits.count ≡ length settings.bounds
+  pub client : IsNewClientOf session.cluster session.client
+  pub loaders : All (IsNewClientOf session.cluster) session.loaders
+  pub enough : length session.loaders ≡ LOADERS
 
 -- why no session is begun: too many workers, or want of memory or of a thread, which no clause can tell
 abbrev pub MayRefuse : SettingsValues → BeginFault → Type 0

@@ -1,13 +1,11 @@
 mod calls;
 mod requests;
 
-ghost use Rattle.std.specs.Prelude.{◌≡◌, All, IfErr, IfOk, length, map, replicate};
-ghost use Rattle.sm_publish.specs.Seen.{RouterView};
-ghost use Rattle.sm_cluster.specs.Clusters.{IsClientOf};
+ghost use Rattle.std.specs.Prelude.{◌≡◌, All, IfErr, IfOk, length};
 ghost use Rattle.sm_settings.specs.SettingsLine.{values_of};
 ghost use Rattle.sm_settings.specs.SettingsRules.{KeepsRules};
 ghost use Rattle.sm_threads.specs.Calls.{Answers};
-ghost use Rattle.sm_threads.specs.Sessions.{IsBegun, MayRefuse};
+ghost use Rattle.sm_threads.specs.Sessions.{IsBegun, IsNewClientOf, MayRefuse};
 
 use crate::body::{TextBody, empty_bodies};
 use crate::counts_listener::CountsListener;
@@ -23,12 +21,14 @@ use std::marker::Model;
 use std::sync::Wait;
 use std::thread::Threads;
 
-/// How many clients a cluster has: the one that makes the script's requests, and for a load one that reads the count and at most
-/// 16 that add to it.
-const CLIENTS: usize = 18;
+/// How many clients take part in a load at most: one that reads the count, and 16 that add to it.
+pub(crate) const LOADERS: usize = 17;
 
-/// A cluster of the sample service on which a script runs, one command at a time. It has to be stopped. Contracts see its cluster
-/// and the client that makes the script's requests.
+/// How many clients a cluster has: those of a load, and the one that makes the script's requests.
+const CLIENTS: usize = LOADERS + 1;
+
+/// A cluster of the sample service on which a script runs, one command at a time. It has to be stopped. Contracts see its cluster,
+/// the client that makes the script's requests, and those that make loads.
 pub(crate) struct ThreadSession<R> {
     rt: R,
     alloc: Global,
@@ -41,13 +41,16 @@ impl<R> Model for ThreadSession<R> {
     ghost use Rattle.std.specs.Prelude.{◌≡◌, All, length};
     ghost use Rattle.sm_cluster.specs.Clusters.{IsClientOf};
     ghost use Rattle.sm_threads.specs.Sessions.{IsWhole, SessionValue};
+    ghost use Rattle.sm_threads.specs.declared.session.TheConstants.{LOADERS};
 
     ghost Value = { SessionValue };
 
-    ghost view = { λ session. record { cluster = session.cluster; client = session.client } };
+    ghost view = { λ session. record {
+        cluster = session.cluster; client = session.client; loaders = session.loaders.items } };
 
-    ghost invariant = { λ session. IsWhole (record { cluster = session.cluster; client = session.client })
-        × All (IsClientOf session.cluster) session.loaders.items × (length session.loaders.items ≡ 17) };
+    ghost invariant = { λ session. IsWhole (record {
+        cluster = session.cluster; client = session.client; loaders = session.loaders.items })
+        × All (IsClientOf session.cluster) session.loaders.items × (length session.loaders.items ≡ LOADERS) };
 }
 
 impl<R: Threads + Wait + Clone + Send + Drop + 'static> ThreadSession<R> {
@@ -162,11 +165,12 @@ fn session_of<R>(
     clients: Vec<Client<TextBody>>,
 ) -> ThreadSession<R>
     requires clients { length clients.items ≡ CLIENTS }
-    requires theirs { All (IsClientOf cluster) clients.items }
+    requires fresh { All (IsNewClientOf cluster) clients.items }
     requires shards { cluster.control.chair.board.limits.count ≡ length cluster.bounds }
     ensures cluster { result.cluster ≡ cluster }
-    ensures router { (router : RouterView) → map (λ client. client.router) clients.items ≡ replicate CLIENTS router
-        → result.client.router ≡ router }
+    ensures client { IsNewClientOf cluster result.client }
+    ensures loaders { All (IsNewClientOf cluster) result.loaders }
+    ensures enough { length result.loaders ≡ LOADERS }
 {
     let mut loaders = clients;
     let mut client = loaders.pop().unwrap();

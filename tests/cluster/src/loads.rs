@@ -67,3 +67,53 @@ fn load_adds_up(rt: HostRuntime) -> Result<(), Fail> {
     assert!(rt; kept_of(&rows, k).map(|kept| kept as u64) == Some(report.acked.wrapping_add(2)));
     Ok(())
 }
+
+// A shard that keeps at most 10 requests is full after the first count and 9 of 20 incs. The others are refused, and so is the last count.
+#[test]
+fn load_counts_what_is_refused(rt: HostRuntime) -> Result<(), Fail> {
+    let (alloc, k) = (rt.alloc(), shard(0));
+    let key = Key::new(alloc, b"a")?;
+    let (setup, bodies) = (setup_of(alloc)?, bodies_of(alloc, 10, None)?);
+    let (mut cluster, mut clients) = Cluster::start(&rt, alloc, setup, bodies, 2, 5, Open)
+        .ok()
+        .expect(&rt, "a cluster");
+    let assigned = Command::Change(k, Change::Assign(ServerId::of(1)));
+    assert!(rt; cluster.command(assigned).is_ok() && cluster.publish(&rt, k).is_ok());
+    let increments = Increments { alloc, key };
+    let report = load(&rt, alloc, clients.as_mut_slice(), &increments, 5);
+    assert!(rt; report.acked == 9 && report.refused == 11);
+    assert!(rt; report.before == Some(0) && report.after.is_none());
+    drop(clients);
+    let rows = cluster
+        .stop(&rt, Vec::new(alloc))
+        .ok()
+        .expect(&rt, "no client is out");
+    assert!(rt; kept_of(&rows, k) == Some(10));
+    Ok(())
+}
+
+// While the shard is held, each inc is made anew, and refused at last. Once it is free, each is answered.
+#[test]
+fn load_of_a_held_shard(rt: HostRuntime) -> Result<(), Fail> {
+    let (alloc, k, one) = (rt.alloc(), shard(0), ServerId::of(1));
+    let key = Key::new(alloc, b"a")?;
+    let (setup, bodies) = (setup_of(alloc)?, bodies_of(alloc, 100, None)?);
+    let (mut cluster, mut clients) = Cluster::start(&rt, alloc, setup, bodies, 1, 3, Open)
+        .ok()
+        .expect(&rt, "a cluster");
+    let assigned = Command::Change(k, Change::Assign(one));
+    assert!(rt; cluster.command(assigned).is_ok() && cluster.publish(&rt, k).is_ok());
+    let increments = Increments { alloc, key };
+    assert!(rt; cluster.hold(k, one).is_ok());
+    let held = load(&rt, alloc, clients.as_mut_slice(), &increments, 1);
+    assert!(rt; held.acked == 0 && held.refused == 2);
+    assert!(rt; held.before.is_none() && held.after.is_none());
+    assert!(rt; cluster.free(k).is_ok());
+    assert!(rt; clients.len() == 3);
+    let free = load(&rt, alloc, clients.as_mut_slice(), &increments, 1);
+    assert!(rt; free.acked == 2 && free.refused == 0);
+    assert!(rt; free.before == Some(0) && free.after == Some(2));
+    drop(clients);
+    assert!(rt; cluster.stop(&rt, Vec::new(alloc)).is_ok());
+    Ok(())
+}

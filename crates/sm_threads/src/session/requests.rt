@@ -1,16 +1,14 @@
 //! The requests of a script.
-ghost use Rattle.std.specs.Prelude.{◌≡◌, ◌+◌, ◌*◌, ◌<◌, ◌≤◌, ◌^◌, IfErr, IfOk, IfSome, Some, length, slice_index_or};
-ghost use Rattle.sm_cluster.specs.Calls.{ClientValue, FaultAt, Gives};
-ghost use Rattle.sm_cluster.specs.Loads.{AreClientsSince, WasTold};
+ghost use Rattle.std.specs.Prelude.{◌≡◌, ◌+◌, ◌*◌, ◌<◌, ◌≤◌, ◌^◌, IfErr, IfOk, Some, length};
+ghost use Rattle.sm_cluster.specs.Calls.{FaultAt, Gives};
 ghost use Rattle.sm_model.specs.Calls.{counter_text};
 ghost use Rattle.sm_ranges.specs.Stand.{owner_of};
 ghost use Rattle.std.specs.Option.{option_map};
 ghost use Rattle.sm_rule.specs.Passes.{PassLooks, record_of};
 ghost use Rattle.sm_rule.specs.Views.{Begins};
 ghost use Rattle.sm_script.specs.declared.answer.Answer.TheVariants.{Refused as IsRefused};
-ghost use Rattle.sm_service.specs.declared.request.Request.TheVariants.{Get};
 ghost use Rattle.sm_threads.specs.Calls.{AnsweredAt, WasAnswered, WasLoaded, WasRequested, WasRouted, looking, with_client};
-ghost use Rattle.sm_threads.specs.Loads.{IsVerdictOn, count_in};
+ghost use Rattle.sm_threads.specs.Loads.{IsLoadOf, IsVerdictOn};
 ghost use Rattle.sm_threads.specs.Refusals.{call_refused};
 
 use super::ThreadSession;
@@ -106,7 +104,8 @@ impl<R: Threads + Wait + Sync> ThreadSession<R> {
     }
 }
 
-/// The first client asks for the key's count, so many others add to it, so many times each, and the first asks again.
+/// The first client asks for the key's count, so many others add to it, so many times each, and the first asks again. The rest of
+/// the clients make no call.
 fn load_by<R: Threads + Wait + Sync>(
     rt: &R,
     alloc: Global,
@@ -117,11 +116,7 @@ fn load_by<R: Threads + Wait + Sync>(
 ) -> LoadReport
     requires count { (1 ≤ count) × (count < length clients.old) × (length clients.old < 2 ^ 32) }
     ensures total { result.acked + result.refused ≡ count * each }
-    ensures before { (d : ClientValue Request) → IfSome result.before
-        (WasTold counter_text count_in (Get key) (slice_index_or clients.old 0 d) (slice_index_or clients.new 0 d)) }
-    ensures after { (d : ClientValue Request) → IfSome result.after
-        (WasTold counter_text count_in (Get key) (slice_index_or clients.old 0 d) (slice_index_or clients.new 0 d)) }
-    ensures clients { AreClientsSince clients.old clients.new }
+    ensures loaded { IsLoadOf key count each clients.old result clients.new }
 {
     let counting = KeyCount { alloc, key };
     let (used, _idle) = clients.split_at_mut(count + 1);

@@ -1,14 +1,13 @@
-use Rattle.std.proofs.Common.{◌≡◌, length, rules, subst}
+use Rattle.std.proofs.Common.{◌≡◌, ℕ, subst}
+use Rattle.sm_body.specs.Service.{meaning_of}
 use Rattle.sm_cluster.specs.Calls.{ClientValue}
-use Rattle.sm_cluster.specs.Loads.{IsClientSince}
+use Rattle.sm_cluster.specs.Loads.{HasAdded}
+use Rattle.sm_cluster.proofs.Adding.{weaker}
 use Rattle.sm_cluster.proofs.loading.inc_all.Goals as goal
 
 pub returns : goal.returns
 returns g c =
-    let long : length c.for_each_mut.new.s ≡ length c.args.clients.now = search rules in (
-      long,
-      λ at d within.
-          let each = (c.for_each_mut.ensures at d within).1 in
-          subst (λ (pair : ClientValue g.row.S-Request.Denot × ClientValue g.row.S-Request.Denot). IsClientSince pair.0 pair.1)
-          (λ i. (each.argument_is i, each.left i)) each.call,
-    )
+    let added = HasAdded (meaning_of g.S.Service.initial g.S.Service.next g.S.Service.answer g.S.Service.key_of) (g.C.Counting.tells c.args.counting.now) (g.C.Counting.adds c.args.counting.now) c.args.each in
+    weaker _ added
+    (λ b n m a did. subst (λ (pair : ClientValue g.row.S-Request.Denot × ClientValue g.row.S-Request.Denot). added pair.0 n m pair.1) (λ i. (did.argument_is i, did.left i)) did.call)
+    c.args.clients.now c.count_all.result.acked c.count_all.result.refused c.count_all.new.items c.count_all.ensures

@@ -21,13 +21,13 @@ returns g c =
     let client = c.self.inside.client in
     let made = c.command-made.ensures in
     let told = c.tell.ensures in
-    let was : WasCommanded (session_with before client) c.args.command c.command_answer.result (session_with middle c.tell.new.client) =
+    let was : WasCommanded (session_with before c.self.inside.loaders.items client) c.args.command c.command_answer.result (session_with middle c.self.inside.loaders.items c.tell.new.client) =
     (
       c.command-made.result,
       made.answer,
       made.unchanged,
       c.command_answer.ensures,
-      told_client before middle c.tell.new.self client c.tell.new.client told.unchanged told.looks told.client told.told told.control,
+      told_client before middle c.tell.new.self client c.tell.new.client told.unchanged told.looks told.client told.told c.self.inside.loaders.items told.control,
     ) in
-    subst (λ (s : SessionValue). WasCommanded s c.args.command c.command_answer.result (session_with c.tell.new.self c.tell.new.client)) c.self.view_is
-    (subst (λ (cluster : ClusterValue Request). WasCommanded (session_with before client) c.args.command c.command_answer.result (session_with cluster c.tell.new.client)) (sym told.unchanged) was)
+    subst (λ (s : SessionValue). WasCommanded s c.args.command c.command_answer.result (session_with c.tell.new.self c.self.inside.loaders.items c.tell.new.client)) c.self.view_is
+    (subst (λ (cluster : ClusterValue Request). WasCommanded (session_with before c.self.inside.loaders.items client) c.args.command c.command_answer.result (session_with cluster c.self.inside.loaders.items c.tell.new.client)) (sym told.unchanged) was)

@@ -21,14 +21,14 @@ returns g c =
     let client = c.self.inside.client in
     let made = c.free-made.ensures in
     let told = c.tell.ensures in
-    let was : WasFreed (session_with before client) c.args.shard c.free_answer.result (session_with middle c.tell.new.client) =
+    let was : WasFreed (session_with before c.self.inside.loaders.items client) c.args.shard c.free_answer.result (session_with middle c.self.inside.loaders.items c.tell.new.client) =
     (
       c.free-made.result,
       made.freed,
       made.refused,
       made.unchanged,
       c.free_answer.ensures,
-      told_client before middle c.tell.new.self client c.tell.new.client told.unchanged told.looks told.client told.told told.control,
+      told_client before middle c.tell.new.self client c.tell.new.client told.unchanged told.looks told.client told.told c.self.inside.loaders.items told.control,
     ) in
-    subst (λ (s : SessionValue). WasFreed s c.args.shard c.free_answer.result (session_with c.tell.new.self c.tell.new.client)) c.self.view_is
-    (subst (λ (cluster : ClusterValue Request). WasFreed (session_with before client) c.args.shard c.free_answer.result (session_with cluster c.tell.new.client)) (sym told.unchanged) was)
+    subst (λ (s : SessionValue). WasFreed s c.args.shard c.free_answer.result (session_with c.tell.new.self c.self.inside.loaders.items c.tell.new.client)) c.self.view_is
+    (subst (λ (cluster : ClusterValue Request). WasFreed (session_with before c.self.inside.loaders.items client) c.args.shard c.free_answer.result (session_with cluster c.self.inside.loaders.items c.tell.new.client)) (sym told.unchanged) was)

@@ -19,7 +19,7 @@ invariant_of-self g c =
 
 pub returns : goal.returns
 returns g c =
-    let after = session_with c.self.inside.cluster c.learned.new.client in
+    let after = session_with c.self.inside.cluster c.self.inside.loaders.items c.learned.new.client in
     subst (λ (s : SessionValue). IfOk c.learned.result (λ answer. WasRouted s c.args.request answer after)) c.self.view_is
-    (answered_by_route c.self.inside.cluster c.args.request c.self.inside.client c.call-given.new.self c.learned.new.client c.call-given.result c.learned.result c.call-given.ensures.answered
+    (answered_by_route c.self.inside.cluster c.self.inside.loaders.items c.args.request c.self.inside.client c.call-given.new.self c.learned.new.client c.call-given.result c.learned.result c.call-given.ensures.answered
     c.call-given.ensures.since.read c.learned.ensures.router c.call-given.ensures.answer c.call-given.ensures.fault c.learned.ensures.answered c.learned.ensures.refused)
