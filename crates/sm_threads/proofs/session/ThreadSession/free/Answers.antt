@@ -21,8 +21,7 @@ returns g c =
     let client = c.self.inside.client in
     let made = c.free-made.ensures in
     let told = c.tell.ensures in
-    let was : WasFreed (session_with before client) c.args.shard c.free_answer.result (session_with middle c.tell.new.client) =
-    (
+    let was : WasFreed (session_with before client) c.args.shard c.free_answer.result (session_with middle c.tell.new.client) = (
       c.free-made.result,
       made.freed,
       made.refused,
