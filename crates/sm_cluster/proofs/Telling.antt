@@ -1,12 +1,10 @@
 -- What a cluster tells, and its teller.
 use Rattle.std.proofs.Common.{◌≡◌, ℕ, List, ap, subst, ◌∙◌}
-use Rattle.std.specs.Prelude.{Result, Ok, Err}
 use Rattle.sm_control.specs.declared.route_fault.RouteFault.{RouteFault}
 use Rattle.sm_control.specs.Controls.{ControlValue}
 use Rattle.sm_control.specs.Routes.{Routed}
 use Rattle.sm_ownership.specs.declared.entry.Entry.{Entry}
-use Rattle.sm_ownership.specs.declared.route.Route.{Route}
-use Rattle.std.specs.Prelude.{Option, Some, None}
+use Rattle.std.specs.Prelude.{Option, Some, None, Err}
 use Rattle.sm_rule.specs.Boards.{BoardValue}
 use Rattle.sm_rule.specs.Passes.{PassLooks, PassValue}
 use Rattle.sm_rule.specs.Views.{Begins, IsMet}

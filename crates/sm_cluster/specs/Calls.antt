@@ -30,8 +30,8 @@ client_seeing client pass = record client { pass = pass }
 abbrev pub client_reading : {Q : Type 0} → ClientValue Q → RouterView → ClientValue Q
 client_reading client router = record client { router = router }
 
--- an answer for a caller: to the request of this number for the shard, in a history that extends all that the caller had seen, by
--- the entries by which the request was executed among others
+-- an answer for a caller: to the request of this number for the shard, in a history that extends all that the caller
+-- had seen, by the entries by which the request was executed among others
 pub record IsAnswerFor {Q R : Type 0} (service : Service Q R) (caller : PassValue Q) (shard number : ℕ) (request : Q) (answer : AnswerValue Q R) : Type 0 where
   pub number_is : answer.number ≡ number
   pub board : answer.note.board ≡ caller.board
@@ -56,8 +56,8 @@ handed_back fault request = Some request
 abbrev pub HandsBack : {Q : Type 0} → Q → CallRefused Q → Type 0
 HandsBack request refused = refused.back ≡ handed_back refused.fault request
 
--- an envelope of a call: with its number, shard and request, and with a note of the caller's board that has seen all that the
--- caller had
+-- an envelope of a call: with its number, shard and request, and with a note of the caller's board that has seen all
+-- that the caller had
 pub record IsEnvelopeOf {Q : Type 0} (caller : PassValue Q) (shard number : ℕ) (request : Q) (envelope : Sent Q) : Type 0 where
   pub number_is : envelope.number ≡ number
   pub shard_is : envelope.shard ≡ shard
@@ -65,8 +65,8 @@ pub record IsEnvelopeOf {Q : Type 0} (caller : PassValue Q) (shard number : ℕ)
   pub board : envelope.note.board ≡ caller.board
   pub seen : Begins caller.seen envelope.note.seen
 
--- a server's step on an envelope of the client's call refused it for this reason: by a new pass of the server, which had seen what the
--- client had. What the pass then has seen, and the note that the step gave back, is told
+-- a server's step on an envelope of the client's call refused it for this reason: by a new pass of the server, which
+-- had seen what the client had. What the pass then has seen, and the note that the step gave back, is told
 pub record WasRefused {Q R : Type 0} (service : Service Q R) (client : ClientValue Q) (number : ℕ) (request : Q) (refusal : Refusal) (told : List (Entry Q)) : Type 0 where
   pub envelope : Sent Q
   pub back : Sent Q
@@ -80,8 +80,8 @@ pub record WasRefused {Q R : Type 0} (service : Service Q R) (client : ClientVal
   pub read : Begins after.seen told
   pub given : Begins back.note.seen told
 
--- why a call at a server isn't answered, and the client that this leaves: it asks for no route; where a server refused it, the client
--- has then seen all by which it was refused; and else nothing has changed
+-- why a call at a server isn't answered, and the client that this leaves: it asks for no route; where a server refused
+-- it, the client has then seen all by which it was refused; and else nothing has changed
 abbrev pub FaultAt : {Q R : Type 0} → Service Q R → ClientValue Q → ClientValue Q → ℕ → Q → CallFault → Type 0
 FaultAt service before after number request NoRoute = ⊥
 FaultAt service before after number request (Refused refusal) =
@@ -93,7 +93,8 @@ FaultAt service before after number request fault = after ≡ before
 abbrev pub ReadsNoRoute : RouterView → RouterView → ℕ → Type 0
 ReadsNoRoute before after shard = (routes_of after.seen shard ≡ None) ⊎ (after.seen ≡ before.seen)
 
--- why a call isn't answered that goes by a route, and the client that this leaves: the router gave none, or it is as at a server
+-- why a call isn't answered that goes by a route, and the client that this leaves: the router gave none, or it is as
+-- at a server
 abbrev pub FaultByRoute : {Q R : Type 0} → Service Q R → ClientValue Q → ClientValue Q → ℕ → Q → CallFault → Type 0
 FaultByRoute service before after number request NoRoute =
     ReadsNoRoute before.router after.router (shard_asked service before request) × (after ≡ client_reading before after.router)

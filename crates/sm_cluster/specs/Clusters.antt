@@ -19,7 +19,8 @@ use Rattle.sm_cluster.specs.Calls.{ClientValue}
 use Rattle.sm_cluster.specs.Holding.{AreEndedIn, IsHold, IsTurnedAway, hold_at}
 use Rattle.sm_cluster.specs.Passes.{IsNewPass}
 
--- a cluster: its control, the published map, the bounds of the shards, the pass by which each shard is held, if any, and the history that it tells, which has what its calls have done
+-- a cluster: its control, the published map, the bounds of the shards, the pass by which each shard is held, if any,
+-- and the history that it tells, which has what its calls have done
 pub record ClusterValue (Q : Type 0) : Type 0 where
   pub control : ControlValue Q
   pub map : PublisherView
@@ -48,14 +49,16 @@ abbrev pub KnowsBoth : {Q : Type 0} → ClusterValue Q → ℕ → ℕ → Type 
 KnowsBoth cluster shard server =
     (shard < cluster.control.chair.board.limits.count) × (is_known cluster.control.desk.books.servers server ≡ true)
 
--- the shard is held by a new pass of the server, which had seen all that the cluster told; the cluster tells of its admission, and nothing else has changed
+-- the shard is held by a new pass of the server, which had seen all that the cluster told; the cluster tells of its
+-- admission, and nothing else has changed
 abbrev pub HasHeld : {Q : Type 0} → ClusterValue Q → ℕ → ℕ → ClusterValue Q → Type 0
 HasHeld {Q} before shard server after =
     KnowsBoth before shard server
     × (pass : PassValue Q) × IsHold before.control.chair.board before.told shard server pass × Begins pass.seen after.told
     × TellsMore (cluster_holding before shard (Some pass)) after
 
--- why a shard isn't held, the first fault that applies, and the cluster that this leaves: a new pass that had seen all that the cluster told is refused by the record that it read, which the cluster then tells
+-- why a shard isn't held, the first fault that applies, and the cluster that this leaves: a new pass that had seen all
+-- that the cluster told is refused by the record that it read, which the cluster then tells
 abbrev pub HoldRefused : {Q : Type 0} → ClusterValue Q → ℕ → ℕ → HoldFault → ClusterValue Q → Type 0
 HoldRefused before shard server hold.UnknownShard after = (before.control.chair.board.limits.count ≤ shard) × (after ≡ before)
 HoldRefused before shard server hold.UnknownServer after =
@@ -65,7 +68,8 @@ HoldRefused {Q} before shard server (hold.Admit refusal) after =
     × (pass : PassValue Q) × IsNewPass before.control.chair.board server before.told pass × IsTurnedAway pass shard refusal after.told
     × TellsMore before after
 
--- the pass that held the shard has ended its admission with nothing, which the cluster tells, and nothing else has changed
+-- the pass that held the shard has ended its admission with nothing, which the cluster tells, and nothing else has
+-- changed
 abbrev pub HasFreed : {Q : Type 0} → ClusterValue Q → ℕ → ClusterValue Q → Type 0
 HasFreed {Q} before shard after =
     (pass : PassValue Q) × (ended : PassValue Q) × (hold_at before.holds shard ≡ Some pass)
@@ -81,8 +85,9 @@ FreeRefused cluster shard free.NotHeld =
 abbrev pub IsClientOf : {Q : Type 0} → ClusterValue Q → ClientValue Q → Type 0
 IsClientOf cluster client = (client.pass.board ≡ cluster.control.chair.board) × (client.bounds ≡ cluster.bounds)
 
--- the rows are those of all shards after one legal history, to which passes alone have added since the chair last looked, which
--- extends what each client that came back had seen, in which each hold was ended, and which extends what the cluster told
+-- the rows are those of all shards after one legal history, to which passes alone have added since the chair last
+-- looked, which extends what each client that came back had seen, in which each hold was ended, and which extends what
+-- the cluster told
 abbrev pub WasStopped : {S Q : Type 0} → (S → ℕ → List Q → Type 0) → (S → ℕ) → ClusterValue Q → List (ClientValue Q) → List (Record × Option S) → Type 0
 WasStopped {S} {Q} keeps limit cluster clients rows =
     let chair = cluster.control.chair in

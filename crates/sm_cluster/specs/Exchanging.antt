@@ -29,7 +29,8 @@ abbrev pub SendsBackOn : {A Q : Type 0} → BoardValue → Reply A (Sent Q) → 
 SendsBackOn board (Answered answer) = Unit {0}
 SendsBackOn board (Refused fault envelope) = envelope.note.board ≡ board
 
--- the client that an envelope leaves which came back for this reason, with this note: it has met the note where a server refused it
+-- the client that an envelope leaves which came back for this reason, with this note: it has met the note where a
+-- server refused it
 abbrev pub IsLeftBy : {Q : Type 0} → ClientValue Q → CallFault → PassValue Q → ClientValue Q → Type 0
 IsLeftBy before (call.Refused refusal) note after =
     PassLooks before.pass after.pass × (after ≡ client_seeing before after.pass) × Begins note.seen after.pass.seen

@@ -25,7 +25,8 @@ pub record AreHoldsOn {Q : Type 0} (board : BoardValue) (holds : List (Option (P
   pub many : length holds ≡ board.limits.count
   pub each : (shard : ℕ) (pass : PassValue Q) → hold_at holds shard ≡ Some pass → (pass.board ≡ board) × HoldsShard pass shard
 
--- the pass has seen more, and isn't admitted for a direct request to the shard by the record that it has then seen, which is told
+-- the pass has seen more, and isn't admitted for a direct request to the shard by the record that it has then seen,
+-- which is told
 abbrev pub IsTurnedAway : {Q : Type 0} → PassValue Q → ℕ → AdmitRefusal → List (Entry Q) → Type 0
 IsTurnedAway {Q} before shard refusal told =
     (after : PassValue Q) × PassLooks before after × RefusedBy before after shard Direct refusal × Begins after.seen told

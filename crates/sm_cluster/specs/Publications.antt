@@ -11,7 +11,8 @@ use Rattle.sm_cluster.specs.declared.publish_refusal.PublishRefusal.{PublishRefu
 use Rattle.sm_cluster.specs.declared.publish_refusal.PublishRefusal.TheVariants.{Publish as Unpublished, Route as Unrouted}
 use Rattle.sm_cluster.specs.Clusters.{ClusterValue, TellsMore, cluster_publishing}
 
--- the chair has looked, and this is the shard's route; the desk stays, and all but the control and the map, and that the cluster tells more
+-- the chair has looked, and this is the shard's route; the desk stays, and all but the control and the map, and that
+-- the cluster tells more
 abbrev pub ReadsRoute : {Q : Type 0} → ClusterValue Q → ClusterValue Q → ℕ → Route → Type 0
 ReadsRoute before after shard route =
     ChairLooks before.control.chair after.control.chair × (after.control.desk ≡ before.control.desk)

@@ -23,8 +23,8 @@ pub record CallValue (Q : Type 0) : Type 0 where
   pub bounds : List (List ℕ)
   pub sent : Sent Q
 
--- an answer to the call whose envelope was first sent so: its history extends what the envelope's note had seen, by the entries by
--- which the request was executed among others
+-- an answer to the call whose envelope was first sent so: its history extends what the envelope's note had seen, by
+-- the entries by which the request was executed among others
 pub record IsAnswerTo {Q R : Type 0} (service : Service Q R) (sent : Sent Q) (answer : AnswerValue Q R) : Type 0 where
   pub number : answer.number ≡ sent.number
   pub board : answer.note.board ≡ sent.note.board
@@ -33,7 +33,8 @@ pub record IsAnswerTo {Q R : Type 0} (service : Service Q R) (sent : Sent Q) (an
   pub mode : Mode
   pub executed : IsAnswer service sent.shard mode sent.request answer
 
--- the envelope of that call on its way: with its number, shard and request, and with a note that has seen what the first one had
+-- the envelope of that call on its way: with its number, shard and request, and with a note that has seen what the
+-- first one had
 pub record IsOnTheWay {Q : Type 0} (sent envelope : Sent Q) : Type 0 where
   pub number : envelope.number ≡ sent.number
   pub shard : envelope.shard ≡ sent.shard
@@ -41,8 +42,9 @@ pub record IsOnTheWay {Q : Type 0} (sent envelope : Sent Q) : Type 0 where
   pub board : envelope.note.board ≡ sent.note.board
   pub told : Begins sent.note.seen envelope.note.seen
 
--- a server's step on the envelope of that call, on its way, refused it for this reason: by a new pass of the server, which had seen what the
--- call's first note had. What the pass then has seen, and the note that the step gave back, is told
+-- a server's step on the envelope of that call, on its way, refused it for this reason: by a new pass of the server,
+-- which had seen what the call's first note had. What the pass then has seen, and the note that the step gave back, is
+-- told
 pub record IsRefusalTo {Q R : Type 0} (service : Service Q R) (asked : CallValue Q) (refusal : Refusal) (told : List (Entry Q)) : Type 0 where
   pub envelope : Sent Q
   pub back : Sent Q
@@ -77,7 +79,8 @@ abbrev pub AllFit : {T : Type 0} → (T → Type 0) → List T → Type 0
 AllFit Fit [] = Unit {0}
 AllFit Fit (reply ∷ replies) = Fit reply × AllFit Fit replies
 
--- the rule of a reply's channel: each pass knows the same call, and each reply fits it; before the call is known there is one pass
+-- the rule of a reply's channel: each pass knows the same call, and each reply fits it; before the call is known there
+-- is one pass
 pub record HoldsReplies {Q R : Type 0} (service : Service Q R) (replies : List (Reply (AnswerValue Q R) (Sent Q))) (views : List (Option (CallValue Q))) : Type 0 where
   pub asked : Option (CallValue Q)
   pub agree : (pass : ℕ) (view : Option (CallValue Q)) → get_elem? views pass ≡ some view → view ≡ asked

@@ -281,10 +281,7 @@ fn exchange<S: Service, R: Wait>(
 {
     match network.send(rt, server, message) {
         Ok(()) => receiver.receive(rt),
-        Err(unsent) => Ok(Reply::Refused(
-            unsent.fault,
-            unsent.message.into_envelope(),
-        )),
+        Err(unsent) => Ok(Reply::Refused(unsent.fault, unsent.message.into_envelope())),
     }
 }
 

@@ -28,11 +28,7 @@ impl<S: Service> Cluster<S> {
 }
 
 /// Tells the teller all that the control has seen.
-pub(super) fn report<S: Service>(
-    board: &Board<S>,
-    control: &mut Control<S>,
-    teller: &mut Pass<S>,
-)
+pub(super) fn report<S: Service>(board: &Board<S>, control: &mut Control<S>, teller: &mut Pass<S>)
     requires control { control.old.chair.board ≡ board.now }
     requires teller { teller.old.board ≡ board.now }
     ensures unchanged { control.new ≡ control.old }

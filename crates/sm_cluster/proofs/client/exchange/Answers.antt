@@ -1,4 +1,4 @@
-use Rattle.std.proofs.Common.{Some, subst, sym}
+use Rattle.std.proofs.Common.{subst}
 use Rattle.std.specs.Prelude.{IfOk, Option}
 use Rattle.sm_body.specs.Service.{meaning_of}
 use Rattle.sm_cluster.specs.Replies.{CallValue, Fits}

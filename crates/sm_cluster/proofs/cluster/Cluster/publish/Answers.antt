@@ -30,8 +30,7 @@ returns-in_err-publish-clause-published g c =
     subst (λ (cluster : ClusterValue g.row.S-Request.Denot). IsMapFault (publish_fault cluster.map.map route) refused) is
     (map_fault (publish_fault inside.publisher.map route) (Err refused) refused refl said.fault said.no_fault) in
     let map : after.map ≡ c.args.self.now.map = said.unchanged ∙ ap (λ (cluster : ClusterValue g.row.S-Request.Denot). cluster.map) is in
-    let frame : TellsMore (cluster_publishing c.args.self.now after.control after.map) after =
-    (
+    let frame : TellsMore (cluster_publishing c.args.self.now after.control after.map) after = (
       subst (λ (cluster : ClusterValue g.row.S-Request.Denot). Begins cluster.told after.told) is (looks_begins inside.teller c.report.new.teller c.report.ensures.looks),
       ap (λ (cluster : ClusterValue g.row.S-Request.Denot). cluster_telling (cluster_publishing cluster after.control after.map) after.told) is,
     ) in

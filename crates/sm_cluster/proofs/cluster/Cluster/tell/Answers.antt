@@ -9,4 +9,3 @@ returns-clause-told g c =
     let later = c.hear.new.self.pass.seen in
     subst (λ (cluster : ClusterValue g.row.S-Request.Denot). Begins cluster.told later) c.self.view_is
     (begins_met c.self.inside.teller.seen c.note-note.result later c.note-note.ensures.seen c.hear.ensures.met)
-
