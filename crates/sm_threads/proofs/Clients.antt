@@ -112,7 +112,7 @@ load_of_front key count each all front back front' report split many since did =
     let Did : List (ClientValue Request) → List (ClientValue Request) → Type 0 = λ before after. HaveLoaded counter_text count_in (Get key) (Inc key (pos 1)) each before report after in
     record {
       loaded = subst (λ (before : List (ClientValue Request)). Did before (take (count + 1) (front' ++ back))) (sym (front_of (count + 1) all front back split many))
-      (subst (λ (after : List (ClientValue Request)). Did front after) (sym (front_of (count + 1) (front' ++ back) front' back refl many')) did);
+          (subst (λ (after : List (ClientValue Request)). Did front after) (sym (front_of (count + 1) (front' ++ back) front' back refl many')) did);
       rest = back_of (count + 1) (front' ++ back) front' back refl many' ∙ sym (back_of (count + 1) all front back split many);
       since = subst (λ (before : List (ClientValue Request)). AreClientsSince before (front' ++ back)) (sym split) (since_front front front' back since);
     }

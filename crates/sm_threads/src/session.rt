@@ -46,10 +46,16 @@ impl<R> Model for ThreadSession<R> {
     ghost Value = { SessionValue };
 
     ghost view = { λ session. record {
-        cluster = session.cluster; client = session.client; loaders = session.loaders.items } };
+      cluster = session.cluster;
+      client = session.client;
+      loaders = session.loaders.items;
+    } };
 
     ghost invariant = { λ session. IsWhole (record {
-        cluster = session.cluster; client = session.client; loaders = session.loaders.items })
+      cluster = session.cluster;
+      client = session.client;
+      loaders = session.loaders.items;
+    })
         × All (IsClientOf session.cluster) session.loaders.items × (length session.loaders.items ≡ LOADERS) };
 }
 
