@@ -1,7 +1,5 @@
 use Rattle.std.proofs.Common.{IfOk, ap, subst}
 use Rattle.sm_rule.specs.lemmas.Passing.{begins_begins}
-use Rattle.sm_cluster.specs.Calls.{ClientValue}
-use Rattle.sm_service.specs.declared.request.Request.{Request}
 use Rattle.sm_threads.specs.Calls.{WasAnswered, with_client}
 use Rattle.sm_threads.specs.Sessions.{SessionValue}
 use Rattle.sm_threads.proofs.Answering.{answered_since, faults_at}
