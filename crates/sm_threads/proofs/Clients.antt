@@ -94,6 +94,10 @@ new_clients cluster clients n same theirs = λ at d within.
     let place : at < length (map f clients) = omega (arith, length-map clients f, within) in
     (theirs at d within, sym (get_or-map f clients at d) ∙ each at (f d) place)
 
+-- all of a list that others stand behind
+pub take_all : (front back : List (ClientValue Request)) (n : ℕ) → n ≡ length front → take n (front ++ back) ≡ front
+take_all front back n is = ap (λ (k : ℕ). take k (front ++ back)) is ∙ take-append_seam front back
+
 -- the front of a list, and what is behind it
 pub front_of : (n : ℕ) (all front back : List (ClientValue Request)) → all ≡ front ++ back → length front ≡ n → take n all ≡ front
 front_of n all front back split many =

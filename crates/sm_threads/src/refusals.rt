@@ -1,14 +1,16 @@
 //! The answers to calls that a cluster refused.
 ghost use Rattle.std.specs.Prelude.{◌≡◌, IfOk, OnErr, None, Some};
 ghost use Rattle.std.specs.Option.{option_map};
-ghost use Rattle.sm_threads.specs.Calls.{answer_to};
+ghost use Rattle.sm_threads.specs.Calls.{answer_to, may_answer};
 ghost use Rattle.sm_threads.specs.Refusals.{admit_refused, begin_fault, call_refused, checkpoint_refused, command_refused, free_refused, hold_refused, publish_refused, request_refused};
 
 use sm_cluster::{CallFault, CheckpointRefusal, FreeFault, HoldFault, PublishRefusal, StartFault};
 use sm_control::{ControlFault, RouteFault};
 use sm_envelope::Refusal as RequestRefusal;
+use sm_ownership::route::Route;
 use sm_publish::PublishFault;
 use sm_rule::admit_refusal::AdmitRefusal;
+use sm_rule::permit::Front;
 use sm_run::BeginFault;
 use sm_script::{Answer, Refused};
 use sm_server::{CheckpointFault, Refusal};
@@ -70,34 +72,42 @@ pub(crate) fn free_answer(made: Result<(), FreeFault>) -> Answer
     }
 }
 
-/// The answer to a checkpoint that was refused; an error is want of memory.
-pub(crate) fn checkpoint_refused(refusal: CheckpointRefusal) -> Result<Answer, AllocError>
-    ensures ok { IfOk result (λ answer. option_map Answer.Refused (checkpoint_refused refusal) ≡ Some answer) }
-    ensures err { OnErr result (checkpoint_refused refusal ≡ None) }
+/// The answer to a checkpoint; an error is want of memory.
+pub(crate) fn checkpoint_answer(
+    made: Result<Front, CheckpointRefusal>,
+) -> Result<Answer, AllocError>
+    ensures ok { IfOk result (λ answer. may_answer checkpoint_refused made ≡ Some answer) }
+    ensures err { OnErr result (may_answer checkpoint_refused made ≡ None) }
 {
-    match refusal {
-        CheckpointRefusal::UnknownShard => Ok(Answer::Refused(Refused::UnknownShard)),
-        CheckpointRefusal::UnknownServer => Ok(Answer::Refused(Refused::UnknownServer)),
-        CheckpointRefusal::Checkpoint(CheckpointFault::Admit(refusal)) => {
+    match made {
+        Ok(_) => Ok(Answer::Made),
+        Err(CheckpointRefusal::UnknownShard) => Ok(Answer::Refused(Refused::UnknownShard)),
+        Err(CheckpointRefusal::UnknownServer) => Ok(Answer::Refused(Refused::UnknownServer)),
+        Err(CheckpointRefusal::Checkpoint(CheckpointFault::Admit(refusal))) => {
             Ok(Answer::Refused(admit_refused(refusal)))
         }
-        CheckpointRefusal::Checkpoint(CheckpointFault::NoMemory) => Err(AllocError),
+        Err(CheckpointRefusal::Checkpoint(CheckpointFault::NoMemory)) => Err(AllocError),
     }
 }
 
-/// The answer to a publication that was refused; an error is want of memory.
-pub(crate) fn publish_refused(refusal: PublishRefusal) -> Result<Answer, AllocError>
-    ensures ok { IfOk result (λ answer. option_map Answer.Refused (publish_refused refusal) ≡ Some answer) }
-    ensures err { OnErr result (publish_refused refusal ≡ None) }
+/// The answer to a publication; an error is want of memory.
+pub(crate) fn publish_answer(made: Result<Route, PublishRefusal>) -> Result<Answer, AllocError>
+    ensures ok { IfOk result (λ answer. may_answer publish_refused made ≡ Some answer) }
+    ensures err { OnErr result (may_answer publish_refused made ≡ None) }
 {
-    match refusal {
-        PublishRefusal::Route(RouteFault::UnknownShard)
-        | PublishRefusal::Publish(PublishFault::UnknownShard) => {
+    match made {
+        Ok(_) => Ok(Answer::Made),
+        Err(PublishRefusal::Route(RouteFault::UnknownShard))
+        | Err(PublishRefusal::Publish(PublishFault::UnknownShard)) => {
             Ok(Answer::Refused(Refused::UnknownShard))
         }
-        PublishRefusal::Route(RouteFault::WrongPhase) => Ok(Answer::Refused(Refused::WrongPhase)),
-        PublishRefusal::Publish(PublishFault::OldRoute) => Ok(Answer::Refused(Refused::OldRoute)),
-        PublishRefusal::Publish(PublishFault::NoMemory) => Err(AllocError),
+        Err(PublishRefusal::Route(RouteFault::WrongPhase)) => {
+            Ok(Answer::Refused(Refused::WrongPhase))
+        }
+        Err(PublishRefusal::Publish(PublishFault::OldRoute)) => {
+            Ok(Answer::Refused(Refused::OldRoute))
+        }
+        Err(PublishRefusal::Publish(PublishFault::NoMemory)) => Err(AllocError),
     }
 }
 

@@ -6,7 +6,7 @@ ghost use Rattle.sm_threads.specs.Calls.{Looked, Routed, WasBased, WasCommanded,
 
 use super::ThreadSession;
 use crate::refusals::{
-    checkpoint_refused, command_answer, free_answer, hold_answer, publish_refused,
+    checkpoint_answer, command_answer, free_answer, hold_answer, publish_answer,
 };
 use sm_control::DrainFault;
 use sm_desk::Command;
@@ -55,10 +55,7 @@ impl<R> ThreadSession<R> {
     {
         let made = self.cluster.checkpoint(shard, server);
         self.cluster.tell(&mut self.client);
-        match made {
-            Ok(_front) => Ok(Answer::Made),
-            Err(refusal) => checkpoint_refused(refusal),
-        }
+        checkpoint_answer(made)
     }
 
     /// The published route of the key's shard.
@@ -110,9 +107,6 @@ impl<R: Wait> ThreadSession<R> {
     {
         let made = self.cluster.publish(&self.rt, shard);
         self.cluster.tell(&mut self.client);
-        match made {
-            Ok(_route) => Ok(Answer::Made),
-            Err(refusal) => publish_refused(refusal),
-        }
+        publish_answer(made)
     }
 }

@@ -4,7 +4,7 @@ use Rattle.sm_rule.specs.lemmas.Passing.{looks_begins}
 use Rattle.sm_threads.proofs.session.requests.learned.Goals as goal
 
 pub returns-in-Ok-clause-seen : goal.returns-in-Ok-clause-seen
-returns-in-Ok-clause-seen g c = looks_begins c.args.client.now.pass c.learn.new.self.pass c.learn.ensures.seen
+returns-in-Ok-clause-seen c = looks_begins c.args.client.now.pass c.learn-told.new.self.pass c.learn-told.ensures.seen
 
 pub returns-in-Err-clause-seen : goal.returns-in-Err-clause-seen
-returns-in-Err-clause-seen g c = ([], sym (append-nil c.args.client.now.pass.seen))
+returns-in-Err-clause-seen c = ([], sym (append-nil c.args.client.now.pass.seen))
