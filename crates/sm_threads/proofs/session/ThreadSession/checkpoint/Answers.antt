@@ -30,8 +30,7 @@ returns g c =
     let after = session_with c.tell.new.self loaders c.tell.new.client in
     let Was : SessionValue → Answer → Type 0 = λ s answer. WasBased s c.args.shard c.args.server answer after in
     let was : (answer : Answer) → Says answer → Was (session_with before loaders client) answer = λ answer says.
-    subst (λ (cluster : ClusterValue Request). WasBased (session_with before loaders client) c.args.shard c.args.server answer (session_with cluster loaders c.tell.new.client)) (sym told.unchanged)
-    (
+    subst (λ (cluster : ClusterValue Request). WasBased (session_with before loaders client) c.args.shard c.args.server answer (session_with cluster loaders c.tell.new.client)) (sym told.unchanged) (
       c.checkpoint-made.result,
       made.unknown_shard,
       made.unknown_server,

@@ -21,8 +21,7 @@ returns g c =
     let client = c.self.inside.client in
     let made = c.command-made.ensures in
     let told = c.tell.ensures in
-    let was : WasCommanded (session_with before c.self.inside.loaders.items client) c.args.command c.command_answer.result (session_with middle c.self.inside.loaders.items c.tell.new.client) =
-    (
+    let was : WasCommanded (session_with before c.self.inside.loaders.items client) c.args.command c.command_answer.result (session_with middle c.self.inside.loaders.items c.tell.new.client) = (
       c.command-made.result,
       made.answer,
       made.unchanged,

@@ -21,8 +21,7 @@ returns g c =
     let client = c.self.inside.client in
     let made = c.free-made.ensures in
     let told = c.tell.ensures in
-    let was : WasFreed (session_with before c.self.inside.loaders.items client) c.args.shard c.free_answer.result (session_with middle c.self.inside.loaders.items c.tell.new.client) =
-    (
+    let was : WasFreed (session_with before c.self.inside.loaders.items client) c.args.shard c.free_answer.result (session_with middle c.self.inside.loaders.items c.tell.new.client) = (
       c.free-made.result,
       made.freed,
       made.refused,

@@ -21,8 +21,7 @@ returns g c =
     let client = c.self.inside.client in
     let made = c.hold-made.ensures in
     let told = c.tell.ensures in
-    let was : WasHeld (session_with before c.self.inside.loaders.items client) c.args.shard c.args.server c.hold_answer.result (session_with middle c.self.inside.loaders.items c.tell.new.client) =
-    (
+    let was : WasHeld (session_with before c.self.inside.loaders.items client) c.args.shard c.args.server c.hold_answer.result (session_with middle c.self.inside.loaders.items c.tell.new.client) = (
       c.hold-made.result,
       made.held,
       made.refused,

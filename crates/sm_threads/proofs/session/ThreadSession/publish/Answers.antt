@@ -29,8 +29,7 @@ returns g c =
     let after = session_with c.tell.new.self loaders c.tell.new.client in
     let Was : SessionValue → Answer → Type 0 = λ s answer. WasPublished s c.args.shard answer after in
     let was : (answer : Answer) → Says answer → Was (session_with before loaders client) answer = λ answer says.
-    subst (λ (cluster : ClusterValue Request). WasPublished (session_with before loaders client) c.args.shard answer (session_with cluster loaders c.tell.new.client)) (sym told.unchanged)
-    (
+    subst (λ (cluster : ClusterValue Request). WasPublished (session_with before loaders client) c.args.shard answer (session_with cluster loaders c.tell.new.client)) (sym told.unchanged) (
       c.publish-made.result,
       c.publish-made.ensures.published,
       says,
