@@ -108,6 +108,7 @@ def main():
             proofs.stop()
             sys.exit(130)
     if given.write_costs and is_well:
-        costs.write(proofs.checks.values(), runner.seconds)
+        parts = {name: it for name, it in runner.seconds.items() if name != proofs.name}
+        costs.write(proofs.checks.values(), parts)
     tell(runner, proofs, began)
     sys.exit(0 if is_well else 1)
