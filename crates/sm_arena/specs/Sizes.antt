@@ -1,7 +1,7 @@
 -- The sizes of chunks: each is twice the one before, from 1,024 to 65,536 bytes.
 use Rattle.std.specs.Prelude.{◌≡◌, ◌*◌, ◌<◌, ◌++◌, ◌⊎◌, ℕ, nat_le, List, None, [], ◌∷◌, filter, find, map, unwrap_or, cond, min, max}
 use Rattle.std.specs.List.{last_or}
-use Rattle.sm_arena.specs.declared.block.Block.{Block}
+use Rattle.sm_arena.specs.declared.owned_chunk.OwnedChunk.{OwnedChunk}
 
 abbrev pub chunk_sizes : List ℕ
 chunk_sizes = 1024 ∷ 2048 ∷ 4096 ∷ 8192 ∷ 16384 ∷ 32768 ∷ 65536 ∷ []
@@ -27,5 +27,5 @@ abbrev pub HasGrown : List ℕ → ℕ → List ℕ → Type 0
 HasGrown old count new = (new ≡ old) ⊎ ((0 < count) × (new ≡ old ++ size_for old count ∷ []))
 
 -- the size of each block
-abbrev pub sizes_in : List Block → List ℕ
+abbrev pub sizes_in : List OwnedChunk → List ℕ
 sizes_in blocks = map (λ block. block.size) blocks

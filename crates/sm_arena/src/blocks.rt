@@ -2,7 +2,7 @@ ghost use Rattle.std.specs.Prelude.{◌≡◌, ◌+◌, ◌<◌, ◌≤◌, ◌^
 ghost use Rattle.sm_arena.specs.Blocks.{chunks_in, bytes_at, next_span, IsWriting, IsWritingPair, IsGrown, IsFilled, HasSpace};
 ghost use Rattle.sm_arena.specs.Sizes.{sizes_in, next_size, size_holding, least_after, HasGrown};
 
-use crate::block::Block;
+use crate::owned_chunk::OwnedChunk;
 use crate::span::Span;
 use std::alloc::{AllocError, Global};
 
@@ -10,7 +10,7 @@ use std::alloc::{AllocError, Global};
 #[derive(Drop)]
 pub(crate) struct Blocks {
     alloc: Global,
-    pub(crate) blocks: Vec<Block>,
+    pub(crate) blocks: Vec<OwnedChunk>,
     // The place of the block that short pieces are written into.
     filling: u32,
     // The least size of the next block.
@@ -234,7 +234,7 @@ impl Blocks {
         ensures err { OnErr result ((chunks_in self.new.blocks.items ≡ chunks_in self.old.blocks.items)
             × (sizes_in self.new.blocks.items ≡ sizes_in self.old.blocks.items)) }
     {
-        let block = Block::new(self.alloc, size)?;
+        let block = OwnedChunk::new(self.alloc, size)?;
         self.blocks.push(block)?;
         self.held += size as u128;
         self.least = next_least(self.least, size);
@@ -243,7 +243,7 @@ impl Blocks {
 }
 
 // The bytes at a span inside the blocks.
-fn piece_in(blocks: &[Block], span: Span) -> &[u8]
+fn piece_in(blocks: &[OwnedChunk], span: Span) -> &[u8]
     requires { length (bytes_at (chunks_in blocks.now) span) ≡ span.length }
     ensures { result.now ≡ bytes_at (chunks_in blocks.now) span }
 {
@@ -255,7 +255,7 @@ fn piece_in(blocks: &[Block], span: Span) -> &[u8]
 }
 
 // Writes the bytes at a span of an earlier block into a block that has room for them.
-fn copy_up(blocks: &mut [Block], span: Span, place: u32)
+fn copy_up(blocks: &mut [OwnedChunk], span: Span, place: u32)
     requires inside { length (bytes_at (chunks_in blocks.old) span) ≡ span.length }
     requires room { HasSpace blocks.old place span.length }
     requires earlier { span.chunk < place }

@@ -14,9 +14,9 @@
 #![tactic(auto)]
 
 pub mod arena;
-mod block;
 mod blocks;
 mod chunk;
+mod owned_chunk;
 pub mod span;
 
 pub use arena::Arena;

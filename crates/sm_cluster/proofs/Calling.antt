@@ -16,10 +16,10 @@ use Rattle.sm_server.specs.Serving.{Sent, Served, is_here}
 use Rattle.sm_cluster.specs.declared.call_refused.CallFault.{CallFault}
 use Rattle.sm_cluster.specs.declared.call_refused.CallFault.TheVariants.{NoRoute, Unreachable, Refused, NoMemory, Closed}
 use Rattle.sm_cluster.specs.declared.call_refused.CallRefused.{CallRefused}
-use Rattle.sm_cluster.specs.declared.reply.Reply.{Reply}
-use Rattle.sm_cluster.specs.declared.reply.Reply.TheVariants as reply
+use Rattle.sm_cluster.specs.declared.reply.CallReply.{CallReply}
+use Rattle.sm_cluster.specs.declared.reply.CallReply.TheVariants as reply
 use Rattle.sm_cluster.specs.Calls.{ClientValue, FaultAt, FaultByRoute, Gives, HandsBack, IsAnswerFor, IsEnvelopeOf, WasRefused, client_reading, handed_back, shard_asked}
-use Rattle.sm_cluster.specs.Exchanging.{IsCallOf, IsLeftAfter, IsLeftBy, SendsBackOn, answer_of}
+use Rattle.sm_cluster.specs.Exchanging.{IsCallOf, IsLeftAfter, IsLeftBy, SendsBackOn, call_outcome}
 use Rattle.sm_cluster.specs.Replies.{CallValue, ComesBackFor, Fits, IsAnswerTo, IsRefusalTo}
 use Rattle.sm_cluster.proofs.Travelling.{new_told}
 
@@ -42,7 +42,7 @@ request_back service asked back NoMemory request is why = ap Some is
 request_back service asked back Closed request is never = absurd never
 
 -- an envelope that comes back has a note of the call's board
-pub sent_back : {Q R E : Type 0} (service : Service Q R) (asked : CallValue Q) (board : BoardValue) (reply : Result (Reply (AnswerValue Q R) (Sent Q)) E) → asked.sent.note.board ≡ board → IfOk reply (Fits service (Some asked)) → IfOk reply (SendsBackOn board)
+pub sent_back : {Q R E : Type 0} (service : Service Q R) (asked : CallValue Q) (board : BoardValue) (reply : Result (CallReply (AnswerValue Q R) (Sent Q)) E) → asked.sent.note.board ≡ board → IfOk reply (Fits service (Some asked)) → IfOk reply (SendsBackOn board)
 sent_back service asked board (Ok (reply.Answered answer)) is fits = tt
 sent_back service asked board (Ok (reply.Refused fault back)) is fits = fits.0.board ∙ is
 sent_back service asked board (Err none) is fits = tt
@@ -85,22 +85,22 @@ module _ {Q R : Type 0} (service : Service Q R) (before : ClientValue Q) (number
   fault_for after Closed back never left = absurd never
 
   module _ {E : Type 0} where
-    pub call_answer : (reply : Result (Reply (AnswerValue Q R) (Sent Q)) E) → IfOk reply (Fits service (Some asked)) → IfOk (answer_of reply) (λ answer. Gives service before number request answer)
+    pub call_answer : (reply : Result (CallReply (AnswerValue Q R) (Sent Q)) E) → IfOk reply (Fits service (Some asked)) → IfOk (call_outcome reply) (λ answer. Gives service before number request answer)
     call_answer (Ok (reply.Answered answer)) fits = answers_for service before.pass (shard_asked service before request) number request asked.sent answer of.sent fits
     call_answer (Ok (reply.Refused fault back)) fits = tt
     call_answer (Err none) fits = tt
 
-    pub call_answered : (reply : Result (Reply (AnswerValue Q R) (Sent Q)) E) (after : ClientValue Q) → IsLeftAfter before reply after → OnOk (answer_of reply) (after ≡ before)
+    pub call_answered : (reply : Result (CallReply (AnswerValue Q R) (Sent Q)) E) (after : ClientValue Q) → IsLeftAfter before reply after → OnOk (call_outcome reply) (after ≡ before)
     call_answered (Ok (reply.Answered answer)) after left = left
     call_answered (Ok (reply.Refused fault back)) after left = tt
     call_answered (Err none) after left = tt
 
-    pub call_back : (reply : Result (Reply (AnswerValue Q R) (Sent Q)) E) → IfOk reply (Fits service (Some asked)) → IfErr (answer_of reply) (λ refused. HandsBack request refused)
+    pub call_back : (reply : Result (CallReply (AnswerValue Q R) (Sent Q)) E) → IfOk reply (Fits service (Some asked)) → IfErr (call_outcome reply) (λ refused. HandsBack request refused)
     call_back (Ok (reply.Answered answer)) fits = tt
     call_back (Ok (reply.Refused fault back)) fits = request_back service asked back fault request (fits.0.request ∙ of.sent.request_is) fits.1
     call_back (Err none) fits = refl
 
-    pub call_fault : (reply : Result (Reply (AnswerValue Q R) (Sent Q)) E) (after : ClientValue Q) → IfOk reply (Fits service (Some asked)) → IsLeftAfter before reply after → IfErr (answer_of reply) (λ refused. FaultAt service before after number request refused.fault)
+    pub call_fault : (reply : Result (CallReply (AnswerValue Q R) (Sent Q)) E) (after : ClientValue Q) → IfOk reply (Fits service (Some asked)) → IsLeftAfter before reply after → IfErr (call_outcome reply) (λ refused. FaultAt service before after number request refused.fault)
     call_fault (Ok (reply.Answered answer)) after fits left = tt
     call_fault (Ok (reply.Refused fault back)) after fits left = fault_for after fault back fits.1 left
     call_fault (Err none) after fits left = left

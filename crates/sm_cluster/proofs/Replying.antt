@@ -9,7 +9,7 @@ use Rattle.atomic_table.proofs.Lists.{at_set}
 use Rattle.sm_body.specs.Service.{Service}
 use Rattle.sm_server.specs.Answers.{AnswerValue}
 use Rattle.sm_server.specs.Serving.{Sent}
-use Rattle.sm_cluster.specs.declared.reply.Reply.{Reply}
+use Rattle.sm_cluster.specs.declared.reply.CallReply.{CallReply}
 use Rattle.sm_cluster.specs.Replies.{AllFit, CallValue, Fits, HoldsReplies}
 
 fit_append : {T : Type 0} (Fit : T → Type 0) (replies : List T) (reply : T) → AllFit Fit replies → Fit reply → AllFit Fit (replies ++ reply ∷ [])
@@ -17,7 +17,7 @@ fit_append Fit [] reply fit last = (last, tt)
 fit_append Fit (one ∷ replies) reply fit last = (fit.0, fit_append Fit replies reply fit.1 last)
 
 module _ {Q R : Type 0} (service : Service Q R) where
-  no_fit : (asked : Option (CallValue Q)) (replies : List (Reply (AnswerValue Q R) (Sent Q))) → AllFit (Fits service None) replies → AllFit (Fits service asked) replies
+  no_fit : (asked : Option (CallValue Q)) (replies : List (CallReply (AnswerValue Q R) (Sent Q))) → AllFit (Fits service None) replies → AllFit (Fits service asked) replies
   no_fit asked [] fit = tt
   no_fit asked (reply ∷ replies) fit = absurd fit.0
 
@@ -28,7 +28,7 @@ module _ {Q R : Type 0} (service : Service Q R) where
       begins_agree zero view at = sym (some-injective None view at)
       begins_agree (suc pass) view at = absurd (some-ne-none view (sym at))
 
-  pub sends : (room pass : ℕ) (known : Option (CallValue Q)) (reply : Reply (AnswerValue Q R) (Sent Q)) → Fits service known reply → Pushes (HoldsReplies service) room pass known reply (λ after. after ≡ known)
+  pub sends : (room pass : ℕ) (known : Option (CallValue Q)) (reply : CallReply (AnswerValue Q R) (Sent Q)) → Fits service known reply → Pushes (HoldsReplies service) room pass known reply (λ after. after ≡ known)
   sends room pass known reply fits replies views short holds at =
       let same : known ≡ holds.asked = holds.agree pass known at in (
         known,

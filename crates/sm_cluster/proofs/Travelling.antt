@@ -16,7 +16,7 @@ use Rattle.sm_server.specs.declared.refusal.Refusal.{Refusal}
 use Rattle.sm_server.specs.Serving.{IsAnswered, IsHandedBack, Sent, Served, is_here}
 use Rattle.sm_cluster.specs.declared.call_refused.CallFault.{CallFault}
 use Rattle.sm_cluster.specs.declared.call_refused.CallFault.TheVariants as call
-use Rattle.sm_cluster.specs.declared.reply.Reply.TheVariants as reply
+use Rattle.sm_cluster.specs.declared.reply.CallReply.TheVariants as reply
 use Rattle.sm_cluster.specs.Passes.{IsNewPass}
 use Rattle.sm_cluster.specs.Replies.{CallValue, ComesBackFor, Fits, IsAnswerTo, IsOfTheWay, IsOnTheWay, IsRefusalTo}
 use Rattle.sm_cluster.specs.Telling.{IsNotedAgain}

@@ -8,8 +8,8 @@ use Rattle.sm_server.specs.Serving.{Sent}
 use Rattle.sm_cluster.specs.declared.call_refused.CallFault.{CallFault}
 use Rattle.sm_cluster.specs.declared.call_refused.CallFault.TheVariants as call
 use Rattle.sm_cluster.specs.declared.call_refused.CallRefused.{CallRefused}
-use Rattle.sm_cluster.specs.declared.reply.Reply.{Reply}
-use Rattle.sm_cluster.specs.declared.reply.Reply.TheVariants.{Answered, Refused}
+use Rattle.sm_cluster.specs.declared.reply.CallReply.{CallReply}
+use Rattle.sm_cluster.specs.declared.reply.CallReply.TheVariants.{Answered, Refused}
 use Rattle.sm_cluster.specs.Calls.{ClientValue, IsEnvelopeOf, client_seeing, shard_asked}
 use Rattle.sm_cluster.specs.Replies.{CallValue}
 
@@ -19,13 +19,13 @@ pub record IsCallOf {Q R : Type 0} (service : Service Q R) (client : ClientValue
   pub sent : IsEnvelopeOf client.pass (shard_asked service client request) number request asked.sent
 
 -- what a caller makes of a reply, or of none
-abbrev pub answer_of : {A Q E : Type 0} → Result (Reply A (Sent Q)) E → Result A (CallRefused Q)
-answer_of (Ok (Answered answer)) = Ok answer
-answer_of (Ok (Refused fault envelope)) = Err (record { fault = fault; back = Some envelope.request })
-answer_of (Err none) = Err (record { fault = call.Closed; back = None })
+abbrev pub call_outcome : {A Q E : Type 0} → Result (CallReply A (Sent Q)) E → Result A (CallRefused Q)
+call_outcome (Ok (Answered answer)) = Ok answer
+call_outcome (Ok (Refused fault envelope)) = Err (record { fault = fault; back = Some envelope.request })
+call_outcome (Err none) = Err (record { fault = call.Closed; back = None })
 
 -- an envelope that a reply sends back has a note of this board
-abbrev pub SendsBackOn : {A Q : Type 0} → BoardValue → Reply A (Sent Q) → Type 0
+abbrev pub SendsBackOn : {A Q : Type 0} → BoardValue → CallReply A (Sent Q) → Type 0
 SendsBackOn board (Answered answer) = Unit {0}
 SendsBackOn board (Refused fault envelope) = envelope.note.board ≡ board
 
@@ -37,6 +37,6 @@ IsLeftBy before (call.Refused refusal) note after =
 IsLeftBy before fault note after = after ≡ before
 
 -- the client that a reply leaves, or none
-abbrev pub IsLeftAfter : {A Q E : Type 0} → ClientValue Q → Result (Reply A (Sent Q)) E → ClientValue Q → Type 0
+abbrev pub IsLeftAfter : {A Q E : Type 0} → ClientValue Q → Result (CallReply A (Sent Q)) E → ClientValue Q → Type 0
 IsLeftAfter before (Ok (Refused fault envelope)) after = IsLeftBy before fault envelope.note after
 IsLeftAfter before reply after = after ≡ before

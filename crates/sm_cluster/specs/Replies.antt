@@ -14,8 +14,8 @@ use Rattle.sm_server.specs.declared.outcome.Outcome.TheVariants as outcome
 use Rattle.sm_server.specs.Serving.{Sent, Served, is_here}
 use Rattle.sm_cluster.specs.declared.call_refused.CallFault.{CallFault}
 use Rattle.sm_cluster.specs.declared.call_refused.CallFault.TheVariants as call
-use Rattle.sm_cluster.specs.declared.reply.Reply.{Reply}
-use Rattle.sm_cluster.specs.declared.reply.Reply.TheVariants.{Answered, Refused}
+use Rattle.sm_cluster.specs.declared.reply.CallReply.{CallReply}
+use Rattle.sm_cluster.specs.declared.reply.CallReply.TheVariants.{Answered, Refused}
 use Rattle.sm_cluster.specs.Passes.{IsNewPass}
 
 -- a call: the bounds of the shards by which it is served, and its envelope
@@ -70,7 +70,7 @@ ComesBackFor service asked (call.Refused refusal) back = IsRefusalTo service ask
 ComesBackFor service asked fault back = IsOfTheWay fault
 
 -- what may be sent as the reply to a call: nothing before it is known
-abbrev pub Fits : {Q R : Type 0} → Service Q R → Option (CallValue Q) → Reply (AnswerValue Q R) (Sent Q) → Type 0
+abbrev pub Fits : {Q R : Type 0} → Service Q R → Option (CallValue Q) → CallReply (AnswerValue Q R) (Sent Q) → Type 0
 Fits service None reply = ⊥
 Fits service (Some asked) (Answered answer) = IsAnswerTo service asked.sent answer
 Fits service (Some asked) (Refused fault envelope) = IsOnTheWay asked.sent envelope × ComesBackFor service asked fault envelope
@@ -81,7 +81,7 @@ AllFit Fit (reply ∷ replies) = Fit reply × AllFit Fit replies
 
 -- the rule of a reply's channel: each pass knows the same call, and each reply fits it; before the call is known there
 -- is one pass
-pub record HoldsReplies {Q R : Type 0} (service : Service Q R) (replies : List (Reply (AnswerValue Q R) (Sent Q))) (views : List (Option (CallValue Q))) : Type 0 where
+pub record HoldsReplies {Q R : Type 0} (service : Service Q R) (replies : List (CallReply (AnswerValue Q R) (Sent Q))) (views : List (Option (CallValue Q))) : Type 0 where
   pub asked : Option (CallValue Q)
   pub agree : (pass : ℕ) (view : Option (CallValue Q)) → get_elem? views pass ≡ some view → view ≡ asked
   pub fit : AllFit (Fits service asked) replies

@@ -7,7 +7,7 @@ ghost use Rattle.sm_ranges.specs.Ranges.{shard_of};
 ghost use Rattle.sm_rule.specs.Passes.{PassLooks, record_of};
 ghost use Rattle.sm_rule.specs.Views.{IsMet};
 ghost use Rattle.sm_cluster.specs.Calls.{FaultAt, FaultByRoute, Gives, HandsBack, client_reading, client_seeing};
-ghost use Rattle.sm_cluster.specs.Exchanging.{IsCallOf, IsLeftAfter, IsLeftBy, SendsBackOn, answer_of};
+ghost use Rattle.sm_cluster.specs.Exchanging.{IsCallOf, IsLeftAfter, IsLeftBy, SendsBackOn, call_outcome};
 ghost use Rattle.sm_cluster.specs.Loads.{IsClientSince};
 ghost use Rattle.sm_cluster.specs.Replies.{Fits};
 
@@ -15,7 +15,7 @@ use crate::call_refused::{CallFault, CallRefused};
 use crate::ground::Ground;
 use crate::message::Message;
 use crate::network::Network;
-use crate::reply::{Reply, ReplyOf, ReplyReceiver, reply_channel};
+use crate::reply::{CallReply, ReplyOf, ReplyReceiver, reply_channel};
 use crate::told::Told;
 use crossbeam_channel::RecvError;
 use sm_body::service::Service;
@@ -160,12 +160,12 @@ impl<S: Service> Client<S> {
         reply: Result<ReplyOf<S, S::Request>, RecvError>,
     ) -> Result<Answer<S>, CallRefused<S::Request>>
         requires { IfOk reply (SendsBackOn self.old.pass.board) }
-        ensures answer { result ≡ answer_of reply }
+        ensures answer { result ≡ call_outcome reply }
         ensures client { IsLeftAfter self.old reply self.new }
     {
         match reply {
-            Ok(Reply::Answered(answer)) => Ok(answer),
-            Ok(Reply::Refused(fault, envelope)) => {
+            Ok(CallReply::Answered(answer)) => Ok(answer),
+            Ok(CallReply::Refused(fault, envelope)) => {
                 let request = self.taken_back(&fault, envelope);
                 Err(CallRefused {
                     fault,
@@ -281,7 +281,7 @@ fn exchange<S: Service, R: Wait>(
 {
     match network.send(rt, server, message) {
         Ok(()) => receiver.receive(rt),
-        Err(unsent) => Ok(Reply::Refused(unsent.fault, unsent.message.into_envelope())),
+        Err(unsent) => Ok(CallReply::Refused(unsent.fault, unsent.message.into_envelope())),
     }
 }
 

@@ -10,7 +10,7 @@ ghost use Rattle.sm_cluster.specs.Telling.{IsNotedAgain, Tells};
 use crate::call_refused::CallFault;
 use crate::ground::Ground;
 use crate::network::Network;
-use crate::reply::{Reply, ReplySender};
+use crate::reply::{CallReply, ReplySender};
 use sm_body::service::Service;
 use sm_counts::tally::Tally;
 use sm_envelope::envelope::Envelope;
@@ -84,7 +84,7 @@ impl<S: Service> Message<S> {
             envelope,
             sender,
         } = self;
-        sender.send(rt, Reply::Refused(fault, envelope));
+        sender.send(rt, CallReply::Refused(fault, envelope));
     }
 
     /// Has the server serve it by a new pass, which its tally counts, and sends the reply, or the message on to the server that it
@@ -107,7 +107,7 @@ impl<S: Service> Message<S> {
             tally.count(&outcome);
         }
         match outcome {
-            Outcome::Answered(answer) => sender.send(rt, Reply::Answered(answer)),
+            Outcome::Answered(answer) => sender.send(rt, CallReply::Answered(answer)),
             Outcome::Refused(refusal, envelope) => {
                 if is_overtaken(&refusal) {
                     let message = Message {
@@ -117,7 +117,10 @@ impl<S: Service> Message<S> {
                     };
                     message.forward(rt, network, server);
                 } else {
-                    sender.send(rt, Reply::Refused(CallFault::Refused(refusal), envelope));
+                    sender.send(
+                        rt,
+                        CallReply::Refused(CallFault::Refused(refusal), envelope),
+                    );
                 }
             }
             Outcome::Forward(to, envelope) => {

@@ -22,12 +22,12 @@ use std::sync::Wait;
 
 /// What a client is told of its call: the answer, or why its envelope comes back.
 #[derive(Drop)]
-pub(crate) enum Reply<A: Drop, E: Drop> {
+pub(crate) enum CallReply<A: Drop, E: Drop> {
     Answered(A),
     Refused(CallFault, E),
 }
 
-pub(crate) type ReplyOf<S, Q> = Reply<Answer<S>, Envelope<Q, Note<S>>>;
+pub(crate) type ReplyOf<S, Q> = CallReply<Answer<S>, Envelope<Q, Note<S>>>;
 
 /// What a pass of a reply's channel knows: the call, once it was sent. No value of it is made.
 pub(crate) struct Asked<Q> {

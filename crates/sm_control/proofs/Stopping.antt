@@ -9,7 +9,7 @@ use Rattle.sm_ranges.specs.Stand.{names_one}
 use Rattle.sm_ownership.specs.declared.entry.Entry.{Entry}
 use Rattle.sm_ownership.specs.declared.entry.Kind.TheVariants.{Admit}
 use Rattle.sm_ownership.specs.declared.mode.Mode.{Mode}
-use Rattle.sm_ownership.specs.History.{IsLegal, admitted}
+use Rattle.sm_ownership.specs.History.{IsLegal, open_admissions}
 use Rattle.sm_ownership.specs.Rules.{executor, executor_of}
 use Rattle.sm_place.specs.declared.shard.Shard.{Shard}
 use Rattle.sm_place.specs.Books.{BooksView, no_shard, shard_at, state_of}
@@ -63,5 +63,5 @@ module _ {Q : Type 0} (ops : ℕ) (books : BooksView) (caps : MeetsCaps ops book
   abbrev IsOfExecutor : ℕ → Entry Q → Type 0
   IsOfExecutor shard entry = (server : ℕ) × (mode : Mode) × (entry.kind ≡ Admit server mode) × (executor (record_in p.board.limits history shard) ≡ Some server)
 
-  pub admissions_led : (shard : ℕ) → All (IsOfExecutor shard) (admitted history shard) → All (AdmitsUnstopped books) (admitted history shard)
+  pub admissions_led : (shard : ℕ) → All (IsOfExecutor shard) (open_admissions history shard) → All (AdmitsUnstopped books) (open_admissions history shard)
   admissions_led shard all = λ at default less. let one = all at default less in (one.0, one.1, one.2, executor_led shard one.0 one.3)

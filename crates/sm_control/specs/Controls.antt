@@ -54,13 +54,13 @@ fault_of (Busy state) = CommandRefused (ChangeRefused (BusyRecord state))
 fault_of (Raced read found) = Overtaken read found
 
 -- what the control answers and is then, where the desk refuses the command
-abbrev pub IsRefused : {Q : Type 0} → CommandFault → ControlValue Q → ControlValue Q → Result (Unit {0}) ControlFault → Type 0
-IsRefused fault before after result = (result ≡ Err (CommandRefused fault)) × (after ≡ before)
+abbrev pub CommandIsRefused : {Q : Type 0} → CommandFault → ControlValue Q → ControlValue Q → Result (Unit {0}) ControlFault → Type 0
+CommandIsRefused fault before after result = (result ≡ Err (CommandRefused fault)) × (after ≡ before)
 
 -- what a change answers whose fault by the desk is this one, or none. Made, the chair has added it, and the desk has it too. Where
 -- the board refuses it, the chair may have seen more, and the desk is as it was
 abbrev pub Changed : {Q : Type 0} → Option CommandFault → ControlValue Q → ControlValue Q → ℕ → Change → Result (Unit {0}) ControlFault → Type 0
-Changed (Some fault) before after shard change result = IsRefused fault before after result
+Changed (Some fault) before after shard change result = CommandIsRefused fault before after result
 Changed None before after shard change (Ok made) =
     ChairAdds before.chair shard change after.chair × (after.desk ≡ commanded before.desk (ChangeOf shard change))
 Changed None before after shard change (Err fault) =
@@ -68,11 +68,11 @@ Changed None before after shard change (Err fault) =
     × ChairLooks before.chair after.chair × NotMade before.chair after.chair shard refusal × (after.desk ≡ before.desk)
 
 -- what a step of a restart answers whose fault by the desk is this one, or none. Made, the chair is as it was
-abbrev pub Stepped : {Q : Type 0} → Option CommandFault → ControlValue Q → ControlValue Q → Command → Result (Unit {0}) ControlFault → Type 0
-Stepped (Some fault) before after step result = IsRefused fault before after result
-Stepped None before after step result = (result ≡ Ok tt) × (after ≡ record { chair = before.chair; desk = commanded before.desk step })
+abbrev pub IsMadeOrRefused : {Q : Type 0} → Option CommandFault → ControlValue Q → ControlValue Q → Command → Result (Unit {0}) ControlFault → Type 0
+IsMadeOrRefused (Some fault) before after step result = CommandIsRefused fault before after result
+IsMadeOrRefused None before after step result = (result ≡ Ok tt) × (after ≡ record { chair = before.chair; desk = commanded before.desk step })
 
 -- what a command answers whose fault by the desk is this one, or none
 abbrev pub Commanded : {Q : Type 0} → Option CommandFault → ControlValue Q → ControlValue Q → Command → Result (Unit {0}) ControlFault → Type 0
 Commanded fault before after (ChangeOf shard change) result = Changed fault before after shard change result
-Commanded fault before after step result = Stepped fault before after step result
+Commanded fault before after step result = IsMadeOrRefused fault before after step result

@@ -1,7 +1,7 @@
 ghost use Rattle.std.specs.Prelude.{◌≡◌, ℕ, All, List, [], Some, false, length};
 ghost use Rattle.sm_ranges.specs.declared.stand.Stand.TheVariants.{Vacant};
 ghost use Rattle.sm_ownership.specs.declared.entry.Entry.{Entry};
-ghost use Rattle.sm_ownership.specs.History.{IsLegal, admitted};
+ghost use Rattle.sm_ownership.specs.History.{IsLegal, open_admissions};
 ghost use Rattle.sm_ownership.specs.Rules.{executor};
 ghost use Rattle.sm_place.specs.Books.{state_of};
 ghost use Rattle.sm_place.specs.Sound.{AreSound};
@@ -89,7 +89,7 @@ impl<S: Service> Control<S> {
             → executor (record_in self.now.chair.board.limits history shard) ≡ Some server
             → is_stopped (state_of self.now.desk.books server) ≡ false }
         ensures admissions { (history : List (Entry S.Request)) (shard : ℕ) → PassesLeadTo self.now.chair history
-            → All (AdmitsUnstopped self.now.desk.books) (admitted history shard) }
+            → All (AdmitsUnstopped self.now.desk.books) (open_admissions history shard) }
     {
         executor_admitted::<S::Request>();
         self.soundness();

@@ -8,15 +8,15 @@ use Rattle.std.proofs.lemmas.List.Edits.{length-insert, length-between, get_or-b
 use Rattle.std.proofs.lemmas.List.Sums.{sum-map, sum_by_more, sum_by-take-le}
 use Rattle.sm_arena.specs.Pieces.{Places}
 use Rattle.sm_map.specs.KeyMap.{Pair}
-use Rattle.sm_map.specs.Entry.{pair_of, pairs_of}
+use Rattle.sm_map.specs.KeyEntry.{pair_of, pairs_of}
 use Rattle.sm_map.specs.Block.{BlockValue}
 use Rattle.std.proofs.lemmas.Bool.Decides.{nat_tests}
 use Rattle.sm_map.specs.Places.{precedes}
 use Rattle.sm_map.specs.Blocks.{entries_in, lengths_in, number_of, HasEntry, IsStop, IsCut}
-use Rattle.sm_map.specs.declared.entry.Entry.{Entry}
+use Rattle.sm_map.specs.declared.key_entry.KeyEntry.{KeyEntry}
 use Rattle.sm_map.specs.declared.place.Place.{Place}
 
-abbrev held : BlockValue → List Entry
+abbrev held : BlockValue → List KeyEntry
 held block = block.entries
 
 abbrev size : BlockValue → ℕ
@@ -61,42 +61,42 @@ next_block blocks b d lt =
     here ∙ ap (λ (n : ℕ). sum (take b (lengths_in blocks)) + n) (length_there blocks b d lt)
 
 -- an edit of one block is one of all entries
-module _ (edit : List Entry → ℕ → List Entry) (right : (xs ys : List Entry) (k : ℕ) → edit (xs ++ ys) (length xs + k) ≡ xs ++ edit ys k) where
-  pub edited : (blocks : List BlockValue) (place : Place) (d block : BlockValue) → place.block < length blocks → block.entries ≡ edit (get_or blocks place.block d).entries place.offset → ((rest : List Entry) → edit ((get_or blocks place.block d).entries ++ rest) place.offset ≡ edit (get_or blocks place.block d).entries place.offset ++ rest) → entries_in (set blocks place.block block) ≡ edit (entries_in blocks) (number_of (lengths_in blocks) place)
+module _ (edit : List KeyEntry → ℕ → List KeyEntry) (right : (xs ys : List KeyEntry) (k : ℕ) → edit (xs ++ ys) (length xs + k) ≡ xs ++ edit ys k) where
+  pub edited : (blocks : List BlockValue) (place : Place) (d block : BlockValue) → place.block < length blocks → block.entries ≡ edit (get_or blocks place.block d).entries place.offset → ((rest : List KeyEntry) → edit ((get_or blocks place.block d).entries ++ rest) place.offset ≡ edit (get_or blocks place.block d).entries place.offset ++ rest) → entries_in (set blocks place.block block) ≡ edit (entries_in blocks) (number_of (lengths_in blocks) place)
   edited blocks place d block lt is left =
       let front = entries_in (take place.block blocks) in
       let part = (get_or blocks place.block d).entries in
       let back = entries_in (drop (suc place.block) blocks) in
       let count : length front + place.offset ≡ number_of (lengths_in blocks) place = omega (arith, before_block blocks place.block) in
       with_block blocks place.block block lt
-      ∙ (ap (λ (l : List Entry). front ++ (l ++ back)) is
-      ∙ (ap (λ (l : List Entry). front ++ l) (sym (left back))
+      ∙ (ap (λ (l : List KeyEntry). front ++ (l ++ back)) is
+      ∙ (ap (λ (l : List KeyEntry). front ++ l) (sym (left back))
       ∙ (sym (right front (part ++ back) place.offset)
       ∙ (λ i. edit (sym (parts blocks place.block d lt) i) (count i)))))
 
-insert_right : (e : Entry) (xs ys : List Entry) (k : ℕ) → insert (xs ++ ys) (length xs + k) e ≡ xs ++ insert ys k e
+insert_right : (e : KeyEntry) (xs ys : List KeyEntry) (k : ℕ) → insert (xs ++ ys) (length xs + k) e ≡ xs ++ insert ys k e
 insert_right e xs ys k =
     let rest : (length xs + k) - length xs ≡ k = omega arith in
     insert-append_right xs ys (length xs) (length xs + k) e refl (omega arith) ∙ ap (λ (n : ℕ). xs ++ insert ys n e) rest
 
-set_right : (e : Entry) (xs ys : List Entry) (k : ℕ) → set (xs ++ ys) (length xs + k) e ≡ xs ++ set ys k e
+set_right : (e : KeyEntry) (xs ys : List KeyEntry) (k : ℕ) → set (xs ++ ys) (length xs + k) e ≡ xs ++ set ys k e
 set_right e xs ys k =
     let rest : (length xs + k) - length xs ≡ k = omega arith in
     set-append_right xs ys (length xs) (length xs + k) e refl (omega arith) ∙ ap (λ (n : ℕ). xs ++ set ys n e) rest
 
-remove_right : (xs ys : List Entry) (k : ℕ) → remove (xs ++ ys) (length xs + k) ≡ xs ++ remove ys k
+remove_right : (xs ys : List KeyEntry) (k : ℕ) → remove (xs ++ ys) (length xs + k) ≡ xs ++ remove ys k
 remove_right xs ys k =
     let rest : (length xs + k) - length xs ≡ k = omega arith in
     remove-append_right xs ys (length xs) (length xs + k) refl (omega arith) ∙ ap (λ (n : ℕ). xs ++ remove ys n) rest
 
 module _ (blocks : List BlockValue) (place : Place) (d block : BlockValue) (lt : place.block < length blocks) where
-  abbrev there : List Entry
+  abbrev there : List KeyEntry
   there = (get_or blocks place.block d).entries
 
-  pub inserted : (e : Entry) → place.offset ≤ length there → block.entries ≡ insert there place.offset e → entries_in (set blocks place.block block) ≡ insert (entries_in blocks) (number_of (lengths_in blocks) place) e
+  pub inserted : (e : KeyEntry) → place.offset ≤ length there → block.entries ≡ insert there place.offset e → entries_in (set blocks place.block block) ≡ insert (entries_in blocks) (number_of (lengths_in blocks) place) e
   inserted e within is = edited (λ xs k. insert xs k e) (insert_right e) blocks place d block lt is (λ rest. insert-append_left there rest place.offset e within)
 
-  pub written : (e : Entry) → place.offset < length there → block.entries ≡ set there place.offset e → entries_in (set blocks place.block block) ≡ set (entries_in blocks) (number_of (lengths_in blocks) place) e
+  pub written : (e : KeyEntry) → place.offset < length there → block.entries ≡ set there place.offset e → entries_in (set blocks place.block block) ≡ set (entries_in blocks) (number_of (lengths_in blocks) place) e
   written e within is = edited (λ xs k. set xs k e) (set_right e) blocks place d block lt is (λ rest. set-append_left there rest place.offset e within)
 
   pub taken : place.offset < length there → block.entries ≡ remove there place.offset → entries_in (set blocks place.block block) ≡ remove (entries_in blocks) (number_of (lengths_in blocks) place)
@@ -109,42 +109,42 @@ module _ (blocks : List BlockValue) (place : Place) (d block : BlockValue) (lt :
   same_lengths same = map-set size blocks place.block block ∙ (ap (λ (n : ℕ). set (lengths_in blocks) place.block n) (same ∙ sym (length_there blocks place.block d lt)) ∙ set-get_or (lengths_in blocks) place.block 0)
 
 -- an entry that is put in where room was made
-pub inserted_in : (old mid new : List BlockValue) (place : Place) (e : Entry) → entries_in new ≡ insert (entries_in mid) (number_of (lengths_in mid) place) e → entries_in mid ≡ entries_in old → lengths_in mid ≡ lengths_in old → entries_in new ≡ insert (entries_in old) (number_of (lengths_in old) place) e
+pub inserted_in : (old mid new : List BlockValue) (place : Place) (e : KeyEntry) → entries_in new ≡ insert (entries_in mid) (number_of (lengths_in mid) place) e → entries_in mid ≡ entries_in old → lengths_in mid ≡ lengths_in old → entries_in new ≡ insert (entries_in old) (number_of (lengths_in old) place) e
 inserted_in old mid new place e is entries lengths = is ∙ (λ i. insert (entries i) (number_of (lengths i) place) e)
 
 -- two blocks in the place of one
 pub halved : (blocks : List BlockValue) (b : ℕ) (lower upper whole : BlockValue) → b < length blocks → lower.entries ++ upper.entries ≡ whole.entries → entries_in (insert (set blocks b lower) (suc b) upper) ≡ entries_in (set blocks b whole)
 halved [] b lower upper whole lt is = absurd (omega arith)
-halved (x ∷ xs) zero lower upper whole lt is = sym (append_assoc lower.entries upper.entries (entries_in xs)) ∙ ap (λ (l : List Entry). l ++ entries_in xs) is
-halved (x ∷ xs) (suc b) lower upper whole lt is = ap (λ (l : List Entry). x.entries ++ l) (halved xs b lower upper whole (omega arith) is)
+halved (x ∷ xs) zero lower upper whole lt is = sym (append_assoc lower.entries upper.entries (entries_in xs)) ∙ ap (λ (l : List KeyEntry). l ++ entries_in xs) is
+halved (x ∷ xs) (suc b) lower upper whole lt is = ap (λ (l : List KeyEntry). x.entries ++ l) (halved xs b lower upper whole (omega arith) is)
 
 -- an empty block goes
 pub dropped : (blocks : List BlockValue) (b : ℕ) (d : BlockValue) → b < length blocks → (get_or blocks b d).entries ≡ [] → entries_in (remove blocks b) ≡ entries_in blocks
 dropped [] b d lt is = absurd (omega arith)
-dropped (x ∷ xs) zero d lt is = ap (λ (l : List Entry). l ++ entries_in xs) (sym is)
-dropped (x ∷ xs) (suc b) d lt is = ap (λ (l : List Entry). x.entries ++ l) (dropped xs b d (omega arith) is)
+dropped (x ∷ xs) zero d lt is = ap (λ (l : List KeyEntry). l ++ entries_in xs) (sym is)
+dropped (x ∷ xs) (suc b) d lt is = ap (λ (l : List KeyEntry). x.entries ++ l) (dropped xs b d (omega arith) is)
 
 -- an entry that is put into a half of a full block
-module _ (xs : List Entry) (at : ℕ) (e : Entry) (lower upper : BlockValue) (full : length xs ≡ 64) where
-  pub lower_insert : at ≤ 32 → (cut : List Entry) → cut ≡ take 32 xs → lower.entries ≡ insert cut at e → upper.entries ≡ drop 32 xs → IsCut (insert xs at e) lower upper
+module _ (xs : List KeyEntry) (at : ℕ) (e : KeyEntry) (lower upper : BlockValue) (full : length xs ≡ 64) where
+  pub lower_insert : at ≤ 32 → (cut : List KeyEntry) → cut ≡ take 32 xs → lower.entries ≡ insert cut at e → upper.entries ≡ drop 32 xs → IsCut (insert xs at e) lower upper
   lower_insert le cut is_cut is_lower is_upper =
       let front : length (take 32 xs) ≡ 32 = omega (arith, length-take 32 xs) in
-      let low : lower.entries ≡ insert (take 32 xs) at e = is_lower ∙ ap (λ (l : List Entry). insert l at e) is_cut in
+      let low : lower.entries ≡ insert (take 32 xs) at e = is_lower ∙ ap (λ (l : List KeyEntry). insert l at e) is_cut in
       let longer = length-insert (take 32 xs) at e (omega arith) in
       record {
-        joined = (λ i. low i ++ is_upper i) ∙ (sym (insert-append_left (take 32 xs) (drop 32 xs) at e (omega arith)) ∙ ap (λ (l : List Entry). insert l at e) (take-append-drop 32 xs));
+        joined = (λ i. low i ++ is_upper i) ∙ (sym (insert-append_left (take 32 xs) (drop 32 xs) at e (omega arith)) ∙ ap (λ (l : List KeyEntry). insert l at e) (take-append-drop 32 xs));
         low = (omega (arith, ap length low, longer), omega (arith, ap length low, longer));
         high = (omega (arith, ap length is_upper, length-drop 32 xs), omega (arith, ap length is_upper, length-drop 32 xs));
       }
 
-  pub upper_insert : 32 < at → at ≤ 64 → (cut : List Entry) → cut ≡ drop 32 xs → lower.entries ≡ take 32 xs → upper.entries ≡ insert cut (at - 32) e → IsCut (insert xs at e) lower upper
+  pub upper_insert : 32 < at → at ≤ 64 → (cut : List KeyEntry) → cut ≡ drop 32 xs → lower.entries ≡ take 32 xs → upper.entries ≡ insert cut (at - 32) e → IsCut (insert xs at e) lower upper
   upper_insert more le cut is_cut is_lower is_upper =
       let front : length (take 32 xs) ≡ 32 = omega (arith, length-take 32 xs) in
-      let high : upper.entries ≡ insert (drop 32 xs) (at - 32) e = is_upper ∙ ap (λ (l : List Entry). insert l (at - 32) e) is_cut in
+      let high : upper.entries ≡ insert (drop 32 xs) (at - 32) e = is_upper ∙ ap (λ (l : List KeyEntry). insert l (at - 32) e) is_cut in
       let back : length (drop 32 xs) ≡ 32 = omega (arith, length-drop 32 xs) in
       let longer = length-insert (drop 32 xs) (at - 32) e (omega arith) in
       record {
-        joined = (λ i. is_lower i ++ high i) ∙ (sym (insert-append_right (take 32 xs) (drop 32 xs) 32 at e front (omega arith)) ∙ ap (λ (l : List Entry). insert l at e) (take-append-drop 32 xs));
+        joined = (λ i. is_lower i ++ high i) ∙ (sym (insert-append_right (take 32 xs) (drop 32 xs) 32 at e front (omega arith)) ∙ ap (λ (l : List KeyEntry). insert l at e) (take-append-drop 32 xs));
         low = (omega (arith, ap length is_lower), omega (arith, ap length is_lower));
         high = (omega (arith, ap length high, longer), omega (arith, ap length high, longer));
       }
@@ -158,7 +158,7 @@ number_inside blocks place has =
     omega (arith, more, most, has.1, all_entries blocks)
 
 -- the entry that stands at a place
-pub entry_there : (blocks : List BlockValue) (place : Place) (d : BlockValue) → HasEntry (lengths_in blocks) place → (e : Entry) → get_or (entries_in blocks) (number_of (lengths_in blocks) place) e ≡ get_or (get_or blocks place.block d).entries place.offset e
+pub entry_there : (blocks : List BlockValue) (place : Place) (d : BlockValue) → HasEntry (lengths_in blocks) place → (e : KeyEntry) → get_or (entries_in blocks) (number_of (lengths_in blocks) place) e ≡ get_or (get_or blocks place.block d).entries place.offset e
 entry_there blocks place d has e =
     let lt : place.block < length blocks = omega (arith, has.0, blocks_counted blocks) in
     let count : length (entries_in (take place.block blocks)) + place.offset ≡ number_of (lengths_in blocks) place = omega (arith, before_block blocks place.block) in
@@ -176,19 +176,19 @@ pub stop_inside : (lengths : List ℕ) (place : Place) → IsStop lengths place 
 stop_inside lengths place (inl has) less = has
 stop_inside lengths place (inr end) less = absurd (omega (arith, ap sum (take_all place.block lengths (omega (arith, end.0))), end.1))
 
-pub entry_read : (blocks : List BlockValue) (place : Place) (block : BlockValue) → HasEntry (lengths_in blocks) place → block ≡ get_or blocks place.block block → (e d : Entry) → e ≡ get_or block.entries place.offset d → e ≡ get_or (entries_in blocks) (number_of (lengths_in blocks) place) d
+pub entry_read : (blocks : List BlockValue) (place : Place) (block : BlockValue) → HasEntry (lengths_in blocks) place → block ≡ get_or blocks place.block block → (e d : KeyEntry) → e ≡ get_or block.entries place.offset d → e ≡ get_or (entries_in blocks) (number_of (lengths_in blocks) place) d
 entry_read blocks place block has read e d is = is ∙ (ap (λ (x : BlockValue). get_or x.entries place.offset d) read ∙ sym (entry_there blocks place block has d))
 
 -- the entries that stand from a place on in its block
-pub entries_read : (blocks : List BlockValue) (place : Place) (high : ℕ) (block : BlockValue) (part : List Entry) → place.block < length (lengths_in blocks) → high ≤ get_or (lengths_in blocks) place.block 0 → block ≡ get_or blocks place.block block → part ≡ between place.offset high block.entries → (k : ℕ) → k < length part → (d : Entry) → get_or part k (get_or (entries_in blocks) (number_of (lengths_in blocks) place + k) d) ≡ get_or (entries_in blocks) (number_of (lengths_in blocks) place + k) d
+pub entries_read : (blocks : List BlockValue) (place : Place) (high : ℕ) (block : BlockValue) (part : List KeyEntry) → place.block < length (lengths_in blocks) → high ≤ get_or (lengths_in blocks) place.block 0 → block ≡ get_or blocks place.block block → part ≡ between place.offset high block.entries → (k : ℕ) → k < length part → (d : KeyEntry) → get_or part k (get_or (entries_in blocks) (number_of (lengths_in blocks) place + k) d) ≡ get_or (entries_in blocks) (number_of (lengths_in blocks) place + k) d
 entries_read blocks place high block part lt le read is k less d =
     let inside : place.block < length blocks = omega (arith, lt, blocks_counted blocks) in
     let long : high ≤ length block.entries = omega (arith, le, length_there blocks place.block block inside, ap (λ (x : BlockValue). length x.entries) read) in
-    let count : length part ≡ high - place.offset = ap (λ (l : List Entry). length l) is ∙ length-between block.entries place.offset high long in
+    let count : length part ≡ high - place.offset = ap (λ (l : List KeyEntry). length l) is ∙ length-between block.entries place.offset high long in
     let there : Place = record { block = place.block; offset = place.offset + k } in
     let has : HasEntry (lengths_in blocks) there = (lt, omega (arith, less, count, le)) in
     let same : number_of (lengths_in blocks) there ≡ number_of (lengths_in blocks) place + k = omega arith in
-    let x : Entry = get_or (entries_in blocks) (number_of (lengths_in blocks) place + k) d in
+    let x : KeyEntry = get_or (entries_in blocks) (number_of (lengths_in blocks) place + k) d in
     let within : number_of (lengths_in blocks) place + k < length (entries_in blocks) = omega (arith, number_inside blocks there has, same) in
     (λ i. get_or (is i) k x)
     ∙ (get_or-between block.entries place.offset high k x (omega (arith, less, count))
@@ -198,7 +198,7 @@ entries_read blocks place high block part lt le read is k less d =
     ∙ get_or_default (entries_in blocks) (number_of (lengths_in blocks) place + k) x d within))))
 
 -- an item of these
-pub item_there : (blocks : List BlockValue) (place : Place) (high : ℕ) (items : List Entry) → place.block < length (lengths_in blocks) → high ≤ get_or (lengths_in blocks) place.block 0 → place.offset + length items ≡ high → ((k : ℕ) → k < length items → (d : Entry) → get_or items k (get_or (entries_in blocks) (number_of (lengths_in blocks) place + k) d) ≡ get_or (entries_in blocks) (number_of (lengths_in blocks) place + k) d) → (k : ℕ) → k < length items → (e : Entry) → (number_of (lengths_in blocks) place + k < length (entries_in blocks)) × ((d : Entry) → get_or items k e ≡ get_or (entries_in blocks) (number_of (lengths_in blocks) place + k) d)
+pub item_there : (blocks : List BlockValue) (place : Place) (high : ℕ) (items : List KeyEntry) → place.block < length (lengths_in blocks) → high ≤ get_or (lengths_in blocks) place.block 0 → place.offset + length items ≡ high → ((k : ℕ) → k < length items → (d : KeyEntry) → get_or items k (get_or (entries_in blocks) (number_of (lengths_in blocks) place + k) d) ≡ get_or (entries_in blocks) (number_of (lengths_in blocks) place + k) d) → (k : ℕ) → k < length items → (e : KeyEntry) → (number_of (lengths_in blocks) place + k < length (entries_in blocks)) × ((d : KeyEntry) → get_or items k e ≡ get_or (entries_in blocks) (number_of (lengths_in blocks) place + k) d)
 item_there blocks place high items lt le count each k less e =
     let there : Place = record { block = place.block; offset = place.offset + k } in
     let has : HasEntry (lengths_in blocks) there = (lt, omega (arith, less, count, le)) in

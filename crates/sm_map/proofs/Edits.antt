@@ -7,31 +7,31 @@ use Rattle.sm_arena.specs.declared.span.Span.{Span}
 use Rattle.sm_arena.specs.Pieces.{Places, piece_of, bytes_of}
 use Rattle.sm_arena.specs.Value.{ArenaValue, forgetting}
 use Rattle.sm_ranges.specs.Keyed.{IsKeyGap}
-use Rattle.sm_map.specs.KeyMap.{Held, Pair, key_of, text_of, size_of}
+use Rattle.sm_map.specs.KeyMap.{Stored, Pair, key_of, text_of, size_of}
 use Rattle.sm_map.specs.KeyMap.{Text as HeldText}
 use Rattle.sm_map.specs.ArenaMap.{MapValue, IsRewrite, IsRemoval, IsAddition}
 use Rattle.sm_map.specs.Stored.{IsTidy, IsStored}
 use Rattle.sm_map.specs.Slot.{held_in, uses_slot, IsForgettable, forgetting_slot}
-use Rattle.sm_map.specs.Entry.{pair_of, pairs_of, uses_entry, uses_all}
+use Rattle.sm_map.specs.KeyEntry.{pair_of, pairs_of, uses_entry, uses_all}
 use Rattle.sm_map.specs.Kept.{IsMap, map_of}
 use Rattle.sm_map.specs.declared.slot.Slot.{Slot}
 use Rattle.sm_map.specs.declared.slot.Slot.TheVariants.{Text}
-use Rattle.sm_map.specs.declared.entry.Entry.{Entry}
+use Rattle.sm_map.specs.declared.key_entry.KeyEntry.{KeyEntry}
 use Rattle.sm_map.proofs.KeyMaps.{set_in_order, remove_in_order, insert_here, holding_in_order}
 use Rattle.sm_map.proofs.Spans.{tidy_stored, keeps_used, dead_stored, may_forget, tidy_forgot, forgets}
 use Rattle.sm_map.proofs.Entries.{same_held, same_key_bytes, same_pairs, pairs-insert, pairs-remove, length-pairs, pair_there, used_there}
 
-module _ (v : ArenaValue) (es : List Entry) (m : IsMap v es) (at : ℕ) (within : at < length es) (e : Entry) (read : HoldsAt (λ (x : Entry). e ≡ x) es at) where
+module _ (v : ArenaValue) (es : List KeyEntry) (m : IsMap v es) (at : ℕ) (within : at < length es) (e : KeyEntry) (read : HoldsAt (λ (x : KeyEntry). e ≡ x) es at) where
   in_pairs : at < length (pairs_of v.placed es)
   in_pairs = omega (arith, length-pairs v.placed es)
 
   -- another slot stands in the entry
   module _ (slot : Slot) (w : ArenaValue) (st : IsStored v (uses_slot slot) w) where
-    abbrev new : Entry
+    abbrev new : KeyEntry
     new = record { key = e.key; slot = slot }
 
     slot_parts : (s : Span) → uses_all (set es at new) s + uses_slot e.slot s ≡ uses_all es s + uses_slot slot s
-    slot_parts s = omega (arith, sum_by-set (λ (x : Entry). uses_entry x s) es at new e within, ap (λ (x : Entry). uses_entry x s) (read e))
+    slot_parts s = omega (arith, sum_by-set (λ (x : KeyEntry). uses_entry x s) es at new e within, ap (λ (x : KeyEntry). uses_entry x s) (read e))
 
     tidy_with : IsTidy w (λ s. uses_all es s + uses_slot slot s)
     tidy_with = tidy_stored v (uses_slot slot) w st (uses_all es) m.tidy
@@ -60,24 +60,24 @@ module _ (v : ArenaValue) (es : List Entry) (m : IsMap v es) (at : ℕ) (within 
       tidy = tidy_forgot w (λ s. uses_all es s + uses_slot slot s) (uses_all (set es at new)) e.slot slot_parts tidy_with;
     }
 
-    pub rewritten : (ls after : List ℕ) (held : Held) → held_in w.placed slot ≡ held → HoldsAt (λ (pair : Pair). IsRewrite (map_of v es ls) at pair held (map_of (forgetting_slot w e.slot) (set es at new) after)) (pairs_of v.placed es) at
+    pub rewritten : (ls after : List ℕ) (held : Stored) → held_in w.placed slot ≡ held → HoldsAt (λ (pair : Pair). IsRewrite (map_of v es ls) at pair held (map_of (forgetting_slot w e.slot) (set es at new) after)) (pairs_of v.placed es) at
     rewritten ls after held is d =
         let f = forgets w e.slot in
         let same : held_in w.placed e.slot ≡ held_in v.placed e.slot = same_held v.placed w.placed e.slot (λ s lt. keeps_there s (omega arith)) in
         let there : (get_or (pairs_of v.placed es) at d).value ≡ held_in v.placed e.slot = ap (λ (pair : Pair). pair.value) (pair_there es at within e read v.placed d) in
         record {
           pairs = rw (← is) (new_pairs d);
-          dead = omega (arith, f.dead, ap (λ (h : Held). length (text_of (Some h))) same, ap (λ (h : Held). length (text_of (Some h))) there, dead_stored v (uses_slot slot) w st (uses_all es) m.tidy);
+          dead = omega (arith, f.dead, ap (λ (h : Stored). length (text_of (Some h))) same, ap (λ (h : Stored). length (text_of (Some h))) there, dead_stored v (uses_slot slot) w st (uses_all es) m.tidy);
         }
 
     pub lengthened : (ls after : List ℕ) (tail : List ℕ) → held_in w.placed slot ≡ HeldText (text_of (Some (held_in v.placed e.slot)) ++ tail) → HoldsAt (λ (pair : Pair). IsRewrite (map_of v es ls) at pair (HeldText (text_of (Some pair.value) ++ tail)) (map_of (forgetting_slot w e.slot) (set es at new) after)) (pairs_of v.placed es) at
     lengthened ls after tail is d =
         let there : held_in v.placed e.slot ≡ (get_or (pairs_of v.placed es) at d).value = sym (ap (λ (pair : Pair). pair.value) (pair_there es at within e read v.placed d)) in
-        rewritten ls after (HeldText (text_of (Some (get_or (pairs_of v.placed es) at d).value) ++ tail)) (is ∙ ap (λ (h : Held). HeldText (text_of (Some h) ++ tail)) there) d
+        rewritten ls after (HeldText (text_of (Some (get_or (pairs_of v.placed es) at d).value) ++ tail)) (is ∙ ap (λ (h : Stored). HeldText (text_of (Some h) ++ tail)) there) d
 
   -- the entry goes
   removed_parts : (s : Span) → (uses_all (remove es at) s + uses_slot e.slot s) + uses_slot (Text e.key) s ≡ uses_all es s
-  removed_parts s = omega (arith, sum_by-remove (λ (x : Entry). uses_entry x s) es at e within, ap (λ (x : Entry). uses_entry x s) (read e))
+  removed_parts s = omega (arith, sum_by-remove (λ (x : KeyEntry). uses_entry x s) es at e within, ap (λ (x : KeyEntry). uses_entry x s) (read e))
 
   tidy_less_key : IsTidy (forgetting v e.key) (λ s. uses_all (remove es at) s + uses_slot e.slot s)
   tidy_less_key = tidy_forgot v (uses_all es) (λ s. uses_all (remove es at) s + uses_slot e.slot s) (Text e.key) removed_parts m.tidy
@@ -110,9 +110,9 @@ module _ (v : ArenaValue) (es : List Entry) (m : IsMap v es) (at : ℕ) (within 
       }
 
 -- an entry comes in
-module _ (v : ArenaValue) (es : List Entry) (m : IsMap v es) (e : Entry) (w : ArenaValue) (st : IsStored v (uses_entry e) w) (pair : Pair) (is : pair_of w.placed e ≡ pair) (at : ℕ) (gap : IsKeyGap key_of (pairs_of v.placed es) pair.key at) where
+module _ (v : ArenaValue) (es : List KeyEntry) (m : IsMap v es) (e : KeyEntry) (w : ArenaValue) (st : IsStored v (uses_entry e) w) (pair : Pair) (is : pair_of w.placed e ≡ pair) (at : ℕ) (gap : IsKeyGap key_of (pairs_of v.placed es) pair.key at) where
   added_parts : (s : Span) → uses_all (insert es at e) s ≡ uses_all es s + uses_entry e s
-  added_parts s = omega (arith, sum_by-insert (λ (x : Entry). uses_entry x s) es at e)
+  added_parts s = omega (arith, sum_by-insert (λ (x : KeyEntry). uses_entry x s) es at e)
 
   more_pairs : pairs_of w.placed (insert es at e) ≡ insert (pairs_of v.placed es) at pair
   more_pairs = pairs-insert w.placed es at e ∙ (λ i. insert (same_pairs v.placed w.placed es (keeps_used v (uses_entry e) w st (uses_all es) m.tidy) i) at (is i))
@@ -132,10 +132,10 @@ module _ (v : ArenaValue) (es : List Entry) (m : IsMap v es) (e : Entry) (w : Ar
   added ls after = record { pairs = more_pairs; dead = dead_stored v (uses_entry e) w st (uses_all es) m.tidy }
 
 -- the same of a map that is known by equations
-pub kept_by : (v w : ArenaValue) (es fs : List Entry) → w ≡ v → fs ≡ es → IsMap v es → IsMap w fs
-kept_by v w es fs arena entries m = subst (λ (x : ArenaValue). IsMap x fs) (sym arena) (subst (λ (x : List Entry). IsMap v x) (sym entries) m)
+pub kept_by : (v w : ArenaValue) (es fs : List KeyEntry) → w ≡ v → fs ≡ es → IsMap v es → IsMap w fs
+kept_by v w es fs arena entries m = subst (λ (x : ArenaValue). IsMap x fs) (sym arena) (subst (λ (x : List KeyEntry). IsMap v x) (sym entries) m)
 
-pub same_map : (v w : ArenaValue) (es fs : List Entry) (ls : List ℕ) → w ≡ v → fs ≡ es → map_of v es ls ≡ map_of w fs ls
+pub same_map : (v w : ArenaValue) (es fs : List KeyEntry) (ls : List ℕ) → w ≡ v → fs ≡ es → map_of v es ls ≡ map_of w fs ls
 same_map v w es fs ls arena entries = λ i. map_of (sym arena i) (sym entries i) ls
 
 pub through : (P : MapValue → MapValue → Type 0) (old seen new end : MapValue) → old ≡ seen → new ≡ end → P old new → P seen end

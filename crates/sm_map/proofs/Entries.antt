@@ -18,12 +18,12 @@ use Rattle.sm_map.specs.ArenaMap.{MapValue}
 use Rattle.sm_map.specs.Stored.{IsStored}
 use Rattle.sm_map.specs.Val.{held_of, row_of}
 use Rattle.sm_map.specs.Slot.{held_in, uses_piece, uses_slot, IsReadable}
-use Rattle.sm_map.specs.Entry.{pair_of, pairs_of, uses_entry, uses_all, HasKeys}
+use Rattle.sm_map.specs.KeyEntry.{pair_of, pairs_of, uses_entry, uses_all, HasKeys}
 use Rattle.sm_map.specs.Kept.{IsMap, map_of}
 use Rattle.sm_map.specs.declared.val.Val.{Val}
 use Rattle.sm_map.specs.declared.slot.Slot.{Slot}
 use Rattle.sm_map.specs.declared.slot.Slot.TheVariants.{Text, Count}
-use Rattle.sm_map.specs.declared.entry.Entry.{Entry}
+use Rattle.sm_map.specs.declared.key_entry.KeyEntry.{KeyEntry}
 use Rattle.sm_map.specs.Block.{BlockValue}
 use Rattle.sm_map.specs.Blocks.{entries_in, lengths_in}
 use Rattle.sm_map.proofs.Blocks.{all_entries}
@@ -33,53 +33,53 @@ pub same_held : (old new : Places) (slot : Slot) → ((s : Span) → 0 < uses_sl
 same_held old new (Text span) keeps = ap (λ (o : Option (List ℕ)). HeldText (unwrap_or o [])) (keeps span (omega (arith, uses_itself span)))
 same_held old new (Count count) keeps = refl
 
-pub same_key_bytes : (old new : Places) (e : Entry) → ((s : Span) → 0 < uses_entry e s → piece_of new s ≡ piece_of old s) → bytes_of new e.key ≡ bytes_of old e.key
+pub same_key_bytes : (old new : Places) (e : KeyEntry) → ((s : Span) → 0 < uses_entry e s → piece_of new s ≡ piece_of old s) → bytes_of new e.key ≡ bytes_of old e.key
 same_key_bytes old new e keeps = ap (λ (o : Option (List ℕ)). unwrap_or o []) (keeps e.key (omega (arith, uses_itself e.key)))
 
-same_pair : (old new : Places) (e : Entry) → ((s : Span) → 0 < uses_entry e s → piece_of new s ≡ piece_of old s) → pair_of new e ≡ pair_of old e
+same_pair : (old new : Places) (e : KeyEntry) → ((s : Span) → 0 < uses_entry e s → piece_of new s ≡ piece_of old s) → pair_of new e ≡ pair_of old e
 same_pair old new e keeps =
     let key : bytes_of new e.key ≡ bytes_of old e.key = same_key_bytes old new e keeps in
     let value : held_in new e.slot ≡ held_in old e.slot = same_held old new e.slot (λ s lt. keeps s (omega arith)) in
     λ i. record { key = key i; value = value i }
 
 -- the pairs stay where each span in use reads the same
-pub same_pairs : (old new : Places) (es : List Entry) → ((s : Span) → 0 < uses_all es s → piece_of new s ≡ piece_of old s) → pairs_of new es ≡ pairs_of old es
+pub same_pairs : (old new : Places) (es : List KeyEntry) → ((s : Span) → 0 < uses_all es s → piece_of new s ≡ piece_of old s) → pairs_of new es ≡ pairs_of old es
 same_pairs old new [] keeps = refl
 same_pairs old new (e ∷ es) keeps =
-    let here : pair_of new e ≡ pair_of old e = same_pair old new e (λ s lt. keeps s (omega (arith, sum_by-cons (λ (x : Entry). uses_entry x s) e es))) in
-    let there : pairs_of new es ≡ pairs_of old es = same_pairs old new es (λ s lt. keeps s (omega (arith, sum_by-cons (λ (x : Entry). uses_entry x s) e es))) in
+    let here : pair_of new e ≡ pair_of old e = same_pair old new e (λ s lt. keeps s (omega (arith, sum_by-cons (λ (x : KeyEntry). uses_entry x s) e es))) in
+    let there : pairs_of new es ≡ pairs_of old es = same_pairs old new es (λ s lt. keeps s (omega (arith, sum_by-cons (λ (x : KeyEntry). uses_entry x s) e es))) in
     λ i. here i ∷ there i
 
-pub pairs-insert : (placed : Places) (es : List Entry) (at : ℕ) (e : Entry) → pairs_of placed (insert es at e) ≡ insert (pairs_of placed es) at (pair_of placed e)
+pub pairs-insert : (placed : Places) (es : List KeyEntry) (at : ℕ) (e : KeyEntry) → pairs_of placed (insert es at e) ≡ insert (pairs_of placed es) at (pair_of placed e)
 pairs-insert placed es at e = simp (map-append, take-map, drop-map)
 
-pub pairs-remove : (placed : Places) (es : List Entry) (at : ℕ) → pairs_of placed (remove es at) ≡ remove (pairs_of placed es) at
+pub pairs-remove : (placed : Places) (es : List KeyEntry) (at : ℕ) → pairs_of placed (remove es at) ≡ remove (pairs_of placed es) at
 pairs-remove placed es at = simp (map-append, take-map, drop-map)
 
-pub length-pairs : (placed : Places) (es : List Entry) → length (pairs_of placed es) ≡ length es
+pub length-pairs : (placed : Places) (es : List KeyEntry) → length (pairs_of placed es) ≡ length es
 length-pairs placed es = length-map es (pair_of placed)
 
 -- a place of a pair is one of an entry
-pub in_entries : (v : ArenaValue) (es : List Entry) (ls : List ℕ) (seen : MapValue) → map_of v es ls ≡ seen → (at : ℕ) → at < length seen.pairs → at < length es
+pub in_entries : (v : ArenaValue) (es : List KeyEntry) (ls : List ℕ) (seen : MapValue) → map_of v es ls ≡ seen → (at : ℕ) → at < length seen.pairs → at < length es
 in_entries v es ls seen is at lt = omega (arith, length-pairs v.placed es, ap (λ (map : MapValue). length map.pairs) is)
 
 -- and the other way round
-pub in_seen : (v : ArenaValue) (es : List Entry) (ls : List ℕ) (seen : MapValue) → map_of v es ls ≡ seen → (at : ℕ) → at < length es → at < length seen.pairs
+pub in_seen : (v : ArenaValue) (es : List KeyEntry) (ls : List ℕ) (seen : MapValue) → map_of v es ls ≡ seen → (at : ℕ) → at < length es → at < length seen.pairs
 in_seen v es ls seen is at lt = omega (arith, length-pairs v.placed es, ap (λ (map : MapValue). length map.pairs) is)
 
-pub seen_in_order : (v : ArenaValue) (es : List Entry) (ls : List ℕ) (seen : MapValue) → map_of v es ls ≡ seen → IsMap v es → IsKeyMap seen.pairs
+pub seen_in_order : (v : ArenaValue) (es : List KeyEntry) (ls : List ℕ) (seen : MapValue) → map_of v es ls ≡ seen → IsMap v es → IsKeyMap seen.pairs
 seen_in_order v es ls seen is m = rw (← is) m.rising
 
 pub map_sum : (v : ArenaValue) (blocks : List BlockValue) → sum (lengths_in blocks) ≡ length (pairs_of v.placed (entries_in blocks))
 map_sum v blocks = all_entries blocks ∙ sym (length-pairs v.placed (entries_in blocks))
 
 -- an entry that stands at a place
-module _ (es : List Entry) (at : ℕ) (within : at < length es) (e : Entry) (read : HoldsAt (λ (x : Entry). e ≡ x) es at) where
+module _ (es : List KeyEntry) (at : ℕ) (within : at < length es) (e : KeyEntry) (read : HoldsAt (λ (x : KeyEntry). e ≡ x) es at) where
   pub pair_there : (placed : Places) (d : Pair) → get_or (pairs_of placed es) at d ≡ pair_of placed e
   pair_there placed d = get_or-map (pair_of placed) es at e d within ∙ ap (pair_of placed) (sym (read e))
 
   pub used_there : (s : Span) → uses_entry e s ≤ uses_all es s
-  used_there s = omega (arith, get_or-le-sum_by (λ (x : Entry). uses_entry x s) es at e within, ap (λ (x : Entry). uses_entry x s) (read e))
+  used_there s = omega (arith, get_or-le-sum_by (λ (x : KeyEntry). uses_entry x s) es at e within, ap (λ (x : KeyEntry). uses_entry x s) (read e))
 
   module _ (v : ArenaValue) (m : IsMap v es) where
     pub key_placed : IsPlaced v.placed e.key
@@ -92,11 +92,11 @@ module _ (es : List Entry) (at : ℕ) (within : at < length es) (e : Entry) (rea
   row_there placed row key value d = (λ i. record { key = key i; value = value i }) ∙ sym (pair_there placed d)
 
 -- the keys of a map are placed
-pub keys_placed : (v : ArenaValue) (es : List Entry) → IsMap v es → HasKeys v.placed es
-keys_placed v es m k d within = key_placed es k within (get_or es k d) (λ (x : Entry). get_or_default es k d x within) v m
+pub keys_placed : (v : ArenaValue) (es : List KeyEntry) → IsMap v es → HasKeys v.placed es
+keys_placed v es m k d within = key_placed es k within (get_or es k d) (λ (x : KeyEntry). get_or_default es k d x within) v m
 
 -- what a comparison with the key of an entry that was read tells
-module _ (placed : Places) (es : List Entry) (key : List ℕ) (rising : IsKeyMap (pairs_of placed es)) (at : ℕ) (within : at < length es) (e : Entry) (bytes : List ℕ) (is : bytes ≡ bytes_of placed (get_or es at e).key) where
+module _ (placed : Places) (es : List KeyEntry) (key : List ℕ) (rising : IsKeyMap (pairs_of placed es)) (at : ℕ) (within : at < length es) (e : KeyEntry) (bytes : List ℕ) (is : bytes ≡ bytes_of placed (get_or es at e).key) where
   in_pairs : at < length (pairs_of placed es)
   in_pairs = omega (arith, length-pairs placed es)
 

@@ -9,15 +9,15 @@ use Rattle.std.proofs.lemmas.List.Edits.{insert_end, length-insert, length-remov
 use Rattle.std.proofs.lemmas.List.Elements.{All-set, All-take, All-drop, All-append, All-cons}
 use Rattle.std.proofs.lemmas.List.Sums.{sum_by-le}
 use Rattle.sm_map.specs.Block.{BlockValue}
-use Rattle.sm_map.specs.Blocks.{entries_in, lengths_in, number_of, HasEntry, IsGap, IsStop, IsFilled, IsCut}
+use Rattle.sm_map.specs.Blocks.{entries_in, lengths_in, number_of, HasEntry, IsGap, IsStop, IsSized, IsCut}
 use Rattle.sm_map.specs.Index.{IndexValue, IsIndex, IsReady}
-use Rattle.sm_map.specs.declared.entry.Entry.{Entry}
+use Rattle.sm_map.specs.declared.key_entry.KeyEntry.{KeyEntry}
 use Rattle.sm_map.specs.declared.place.Place.{Place}
 use Rattle.sm_map.specs.declared.room.Room.{Room}
 use Rattle.sm_map.proofs.Blocks.{inserted, written, taken, unchanged, same_lengths, halved, dropped, number_inside, past_number, blocks_counted, length_there, before_block, parts}
 
 -- a number of entries is far from overflow
-pub entries_bounded : (blocks : List BlockValue) → All IsFilled blocks → length (entries_in blocks) ≤ length blocks * 64
+pub entries_bounded : (blocks : List BlockValue) → All IsSized blocks → length (entries_in blocks) ≤ length blocks * 64
 entries_bounded blocks filled = omega (arith, length-flat_map (λ (b : BlockValue). b.entries) blocks, sum_by-le (λ (b : BlockValue). length b.entries) 64 blocks (λ k d lt. (filled k d lt).1))
 
 pub stop_first : (blocks : List BlockValue) (len : ℕ) → IsIndex blocks len → IsStop (lengths_in blocks) (record { block = 0; offset = 0 })
@@ -50,8 +50,8 @@ module _ (blocks : List BlockValue) (len : ℕ) (kept : IsIndex blocks len) (pla
   size : length old.entries ≡ length (get_or blocks place.block old).entries
   size = ap (λ (x : BlockValue). length x.entries) read
 
-  filled : IsFilled old
-  filled = subst (λ (x : BlockValue). IsFilled x) (sym read) (kept.filled place.block old lt)
+  filled : IsSized old
+  filled = subst (λ (x : BlockValue). IsSized x) (sym read) (kept.filled place.block old lt)
 
   pub has_in : HasEntry (lengths_in blocks) place → place.offset < length old.entries
   has_in has = omega (arith, has.1, length_there blocks place.block old lt, size)
@@ -66,12 +66,12 @@ module _ (blocks : List BlockValue) (len : ℕ) (kept : IsIndex blocks len) (pla
 
     pub still_kept : IsIndex (set blocks place.block new) len
     still_kept = record {
-      filled = All-set IsFilled blocks place.block new (omega (arith, ap length is, filled.0), omega (arith, ap length is, filled.1)) kept.filled;
+      filled = All-set IsSized blocks place.block new (omega (arith, ap length is, filled.0), omega (arith, ap length is, filled.1)) kept.filled;
       counted = kept.counted ∙ sym (ap length same_entries);
     }
 
   -- an entry is written over
-  module _ (e : Entry) (within : place.offset < length old.entries) (is : new.entries ≡ set old.entries place.offset e) where
+  module _ (e : KeyEntry) (within : place.offset < length old.entries) (is : new.entries ≡ set old.entries place.offset e) where
     pub set_entries : entries_in (set blocks place.block new) ≡ set (entries_in blocks) (number_of (lengths_in blocks) place) e
     set_entries = written blocks place old new lt e (omega (arith, within, size)) (is ∙ ap (λ (x : BlockValue). set x.entries place.offset e) read)
 
@@ -80,7 +80,7 @@ module _ (blocks : List BlockValue) (len : ℕ) (kept : IsIndex blocks len) (pla
 
     pub set_kept : IsIndex (set blocks place.block new) len
     set_kept = record {
-      filled = All-set IsFilled blocks place.block new (omega (arith, long, filled.0), omega (arith, long, filled.1)) kept.filled;
+      filled = All-set IsSized blocks place.block new (omega (arith, long, filled.0), omega (arith, long, filled.1)) kept.filled;
       counted = kept.counted ∙ sym (ap length set_entries ∙ length-set (entries_in blocks) (number_of (lengths_in blocks) place) e);
     }
 
@@ -88,7 +88,7 @@ module _ (blocks : List BlockValue) (len : ℕ) (kept : IsIndex blocks len) (pla
   gap_within le = omega (arith, ap length (parts blocks place.block old lt), length-append (entries_in (take place.block blocks)) ((get_or blocks place.block old).entries ++ entries_in (drop (suc place.block) blocks)), length-append (get_or blocks place.block old).entries (entries_in (drop (suc place.block) blocks)), before_block blocks place.block, size)
 
   -- an entry comes into the block
-  module _ (e : Entry) (within : place.offset ≤ length old.entries) where
+  module _ (e : KeyEntry) (within : place.offset ≤ length old.entries) where
     module _ (short : length old.entries < 64) (is : new.entries ≡ insert old.entries place.offset e) where
       pub insert_entries : entries_in (set blocks place.block new) ≡ insert (entries_in blocks) (number_of (lengths_in blocks) place) e
       insert_entries = inserted blocks place old new lt e (omega (arith, within, size)) (is ∙ ap (λ (x : BlockValue). insert x.entries place.offset e) read)
@@ -98,7 +98,7 @@ module _ (blocks : List BlockValue) (len : ℕ) (kept : IsIndex blocks len) (pla
 
       pub insert_kept : IsIndex (set blocks place.block new) (len + 1)
       insert_kept = record {
-        filled = All-set IsFilled blocks place.block new (omega (arith, longer), omega (arith, longer, short)) kept.filled;
+        filled = All-set IsSized blocks place.block new (omega (arith, longer), omega (arith, longer, short)) kept.filled;
         counted = omega (arith, kept.counted, ap length insert_entries, length-insert (entries_in blocks) (number_of (lengths_in blocks) place) e (gap_within within));
       }
 
@@ -113,9 +113,9 @@ module _ (blocks : List BlockValue) (len : ℕ) (kept : IsIndex blocks len) (pla
 
       pub half_kept : IsIndex (insert (set blocks place.block new) (place.block + 1) upper) (len + 1)
       half_kept =
-          let one = All-set IsFilled blocks place.block new cut.low kept.filled in
+          let one = All-set IsSized blocks place.block new cut.low kept.filled in
           record {
-            filled = All-append IsFilled (take (place.block + 1) (set blocks place.block new)) _ (All-take IsFilled (place.block + 1) (set blocks place.block new) one) (All-cons IsFilled upper (drop (place.block + 1) (set blocks place.block new)) cut.high (All-drop IsFilled (place.block + 1) (set blocks place.block new) one));
+            filled = All-append IsSized (take (place.block + 1) (set blocks place.block new)) _ (All-take IsSized (place.block + 1) (set blocks place.block new) one) (All-cons IsSized upper (drop (place.block + 1) (set blocks place.block new)) cut.high (All-drop IsSized (place.block + 1) (set blocks place.block new) one));
             counted = omega (arith, kept.counted, ap length half_entries, length-insert (entries_in blocks) (number_of (lengths_in blocks) place) e (gap_within within));
           }
 
@@ -128,7 +128,7 @@ module _ (blocks : List BlockValue) (len : ℕ) (kept : IsIndex blocks len) (pla
     has = (omega (arith, blocks_counted blocks), omega (arith, length_there blocks place.block old lt, size))
 
     shorter : length new.entries + 1 ≡ length old.entries
-    shorter = ap (λ (l : List Entry). length l + 1) is ∙ length-remove old.entries place.offset within
+    shorter = ap (λ (l : List KeyEntry). length l + 1) is ∙ length-remove old.entries place.offset within
 
     fewer : length (remove (entries_in blocks) (number_of (lengths_in blocks) place)) + 1 ≡ len
     fewer = omega (arith, kept.counted, length-remove (entries_in blocks) (number_of (lengths_in blocks) place) (number_inside blocks place has))
@@ -138,7 +138,7 @@ module _ (blocks : List BlockValue) (len : ℕ) (kept : IsIndex blocks len) (pla
 
     pub remove_kept : (length new.entries ≡ 0 → ⊥) → IsIndex (set blocks place.block new) (len - 1)
     remove_kept some = record {
-      filled = All-set IsFilled blocks place.block new (omega arith, omega (arith, shorter, filled.1)) kept.filled;
+      filled = All-set IsSized blocks place.block new (omega arith, omega (arith, shorter, filled.1)) kept.filled;
       counted = omega (arith, fewer, ap length remove_entries);
     }
 
@@ -151,14 +151,14 @@ module _ (blocks : List BlockValue) (len : ℕ) (kept : IsIndex blocks len) (pla
 
       pub gone_kept : IsIndex (remove (set blocks place.block new) place.block) (len - 1)
       gone_kept = record {
-        filled = All-append IsFilled (take place.block (set blocks place.block new)) (drop (suc place.block) (set blocks place.block new))
-            (subst (λ (l : List BlockValue). All IsFilled l) (sym (take-set blocks place.block new)) (All-take IsFilled place.block blocks kept.filled))
-            (subst (λ (l : List BlockValue). All IsFilled l) (sym (drop-set-lt (suc place.block) blocks place.block new (omega arith))) (All-drop IsFilled (suc place.block) blocks kept.filled));
+        filled = All-append IsSized (take place.block (set blocks place.block new)) (drop (suc place.block) (set blocks place.block new))
+            (subst (λ (l : List BlockValue). All IsSized l) (sym (take-set blocks place.block new)) (All-take IsSized place.block blocks kept.filled))
+            (subst (λ (l : List BlockValue). All IsSized l) (sym (drop-set-lt (suc place.block) blocks place.block new (omega arith))) (All-drop IsSized (suc place.block) blocks kept.filled));
         counted = omega (arith, fewer, ap length gone_entries);
       }
 
 -- a block with one entry comes behind the others
-module _ (blocks : List BlockValue) (len : ℕ) (kept : IsIndex blocks len) (place : Place) (last : BlockValue) (e : Entry) (past : place.block ≡ length blocks) (first : place.offset ≡ 0) (one : last.entries ≡ e ∷ []) where
+module _ (blocks : List BlockValue) (len : ℕ) (kept : IsIndex blocks len) (place : Place) (last : BlockValue) (e : KeyEntry) (past : place.block ≡ length blocks) (first : place.offset ≡ 0) (one : last.entries ≡ e ∷ []) where
   number : number_of (lengths_in blocks) place ≡ length (entries_in blocks)
   number = past_number blocks place past first
 
@@ -166,12 +166,12 @@ module _ (blocks : List BlockValue) (len : ℕ) (kept : IsIndex blocks len) (pla
   behind_entries =
       ap entries_in (ap (λ (n : ℕ). insert blocks n last) past ∙ insert_end blocks last)
       ∙ (flat_map-append (λ (b : BlockValue). b.entries) blocks (last ∷ [])
-      ∙ (ap (λ (l : List Entry). entries_in blocks ++ (l ++ [])) one
+      ∙ (ap (λ (l : List KeyEntry). entries_in blocks ++ (l ++ [])) one
       ∙ sym (ap (λ (n : ℕ). insert (entries_in blocks) n e) number ∙ insert_end (entries_in blocks) e)))
 
   pub behind_kept : IsIndex (insert blocks place.block last) (len + 1)
   behind_kept = record {
-    filled = All-append IsFilled (take place.block blocks) _ (All-take IsFilled place.block blocks kept.filled) (All-cons IsFilled last (drop place.block blocks) (omega (arith, ap length one), omega (arith, ap length one)) (All-drop IsFilled place.block blocks kept.filled));
+    filled = All-append IsSized (take place.block blocks) _ (All-take IsSized place.block blocks kept.filled) (All-cons IsSized last (drop place.block blocks) (omega (arith, ap length one), omega (arith, ap length one)) (All-drop IsSized place.block blocks kept.filled));
     counted = omega (arith, kept.counted, ap length behind_entries, length-insert (entries_in blocks) (number_of (lengths_in blocks) place) e (omega (arith, number)));
   }
 

@@ -7,10 +7,10 @@ use Rattle.sm_arena.specs.Pieces.{Places, IsPlaced, bytes_of}
 use Rattle.sm_ranges.specs.KeyOrder.{key_cmp}
 use Rattle.sm_ranges.specs.Keyed.{IsKeyPlace, IsKeyGap}
 use Rattle.sm_map.specs.KeyMap.{Pair, key_of, IsKeyMap}
-use Rattle.sm_map.specs.Entry.{pairs_of, HasKeys}
+use Rattle.sm_map.specs.KeyEntry.{pairs_of, HasKeys}
 use Rattle.sm_map.specs.Block.{BlockValue}
 use Rattle.sm_map.specs.Blocks.{entries_in, lengths_in, number_of, IsBlockGap}
-use Rattle.sm_map.specs.declared.entry.Entry.{Entry}
+use Rattle.sm_map.specs.declared.key_entry.KeyEntry.{KeyEntry}
 use Rattle.sm_map.specs.declared.place.Place.{Place}
 use Rattle.sm_map.proofs.Entries.{length-pairs, read_less, read_equal, read_greater}
 use Rattle.sm_map.proofs.Parts.{part_rises, place_in_part, gap_in_part}
@@ -23,7 +23,7 @@ none_after placed blocks key k d more within =
     absurd (omega (arith, all, all_entries blocks, length-pairs placed (entries_in blocks)))
 
 -- the first entry of a block
-module _ (placed : Places) (blocks : List BlockValue) (key : List ℕ) (rising : IsKeyMap (pairs_of placed (entries_in blocks))) (b : ℕ) (lt : b < length blocks) (block : BlockValue) (read : block ≡ get_or blocks b block) (some : 0 < length block.entries) (e : Entry) (first : HoldsAt (λ (x : Entry). e ≡ x) block.entries 0) (bytes : List ℕ) (is : bytes ≡ bytes_of placed e.key) where
+module _ (placed : Places) (blocks : List BlockValue) (key : List ℕ) (rising : IsKeyMap (pairs_of placed (entries_in blocks))) (b : ℕ) (lt : b < length blocks) (block : BlockValue) (read : block ≡ get_or blocks b block) (some : 0 < length block.entries) (e : KeyEntry) (first : HoldsAt (λ (x : KeyEntry). e ≡ x) block.entries 0) (bytes : List ℕ) (is : bytes ≡ bytes_of placed e.key) where
   abbrev start : ℕ
   start = sum (take b (lengths_in blocks))
 
@@ -46,7 +46,7 @@ module _ (placed : Places) (blocks : List BlockValue) (key : List ℕ) (rising :
   within = omega (arith, number_inside blocks at has)
 
   spelled : bytes ≡ bytes_of placed (get_or (entries_in blocks) start e).key
-  spelled = is ∙ ap (λ (x : Entry). bytes_of placed x.key) (sym here)
+  spelled = is ∙ ap (λ (x : KeyEntry). bytes_of placed x.key) (sym here)
 
   pub first_less : Less ≡ key_cmp bytes key → AllWithin (λ (pair : Pair). key_cmp pair.key key ≡ Less) (pairs_of placed (entries_in blocks)) 0 (start + 1)
   first_less = read_less placed (entries_in blocks) key rising start within e bytes spelled
@@ -55,7 +55,7 @@ module _ (placed : Places) (blocks : List BlockValue) (key : List ℕ) (rising :
   first_greater = read_greater placed (entries_in blocks) key rising start within e bytes spelled
 
   pub first_placed : HasKeys placed (entries_in blocks) → IsPlaced placed e.key
-  first_placed keys = subst (λ (x : Entry). IsPlaced placed x.key) here (keys start e within)
+  first_placed keys = subst (λ (x : KeyEntry). IsPlaced placed x.key) here (keys start e within)
 
   pub first_equal : Equal ≡ key_cmp bytes key → IsKeyPlace key_of (pairs_of placed (entries_in blocks)) key (number_of (lengths_in blocks) (record { block = b; offset = 0 }))
   first_equal h = subst (λ (n : ℕ). IsKeyPlace key_of (pairs_of placed (entries_in blocks)) key n) (sym no_more) (read_equal placed (entries_in blocks) key rising start within e bytes spelled h)
@@ -81,7 +81,7 @@ module _ (placed : Places) (blocks : List BlockValue) (b : ℕ) (lt : b < length
   block_keys keys k d less =
       let has : (b < length (lengths_in blocks)) × (k < get_or (lengths_in blocks) b 0) = (omega (arith, blocks_counted blocks), omega (arith, length_there blocks b block lt, ap (λ (x : BlockValue). length x.entries) read)) in
       let place : Place = record { block = b; offset = k } in
-      subst (λ (x : Entry). IsPlaced placed x.key) (entry_there blocks place block has d ∙ ap (λ (x : BlockValue). get_or x.entries k d) (sym read)) (keys (number_of (lengths_in blocks) place) d (number_inside blocks place has))
+      subst (λ (x : KeyEntry). IsPlaced placed x.key) (entry_there blocks place block has d ∙ ap (λ (x : BlockValue). get_or x.entries k d) (sym read)) (keys (number_of (lengths_in blocks) place) d (number_inside blocks place has))
 
   size : length (get_or blocks b block).entries ≡ length part
   size = ap (λ (x : BlockValue). length x.entries) (sym read) ∙ sym (length-pairs placed block.entries)

@@ -6,25 +6,25 @@ use Rattle.sm_ranges.specs.KeyOrder.{key_cmp}
 use Rattle.sm_map.specs.KeyMap.{Pair}
 use Rattle.sm_map.specs.Block.{BlockValue}
 use Rattle.sm_map.specs.declared.block.TheConstants.{MOST_ENTRIES}
-use Rattle.sm_map.specs.declared.entry.Entry.{Entry}
+use Rattle.sm_map.specs.declared.key_entry.KeyEntry.{KeyEntry}
 use Rattle.sm_map.specs.declared.place.Place.{Place}
 
 -- the entries of all blocks
-abbrev pub entries_in : List BlockValue → List Entry
+abbrev pub entries_in : List BlockValue → List KeyEntry
 entries_in blocks = flat_map (λ block. block.entries) blocks
 
 -- how many each block has
 abbrev pub lengths_in : List BlockValue → List ℕ
 lengths_in blocks = map (λ block. length block.entries) blocks
 
-abbrev pub IsFilled : BlockValue → Type 0
-IsFilled block = (0 < length block.entries) × (length block.entries ≤ MOST_ENTRIES)
+abbrev pub IsSized : BlockValue → Type 0
+IsSized block = (0 < length block.entries) × (length block.entries ≤ MOST_ENTRIES)
 
 -- both blocks are filled, and hold the entries one after the other
-pub record IsCut (entries : List Entry) (lower upper : BlockValue) : Type 0 where
+pub record IsCut (entries : List KeyEntry) (lower upper : BlockValue) : Type 0 where
   pub joined : lower.entries ++ upper.entries ≡ entries
-  pub low : IsFilled lower
-  pub high : IsFilled upper
+  pub low : IsSized lower
+  pub high : IsSized upper
 
 -- how many entries stand before a place in blocks of these lengths
 abbrev pub number_of : List ℕ → Place → ℕ

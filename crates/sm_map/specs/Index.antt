@@ -2,7 +2,7 @@
 use Rattle.std.specs.Prelude.{◌≡◌, ◌<◌, ◌≤◌, ℕ, List, [], All, length}
 use Rattle.std.specs.List.{HoldsAt}
 use Rattle.sm_map.specs.Block.{BlockValue}
-use Rattle.sm_map.specs.Blocks.{entries_in, IsFilled}
+use Rattle.sm_map.specs.Blocks.{entries_in, IsSized}
 use Rattle.sm_map.specs.declared.block.TheConstants.{MOST_ENTRIES}
 use Rattle.sm_map.specs.declared.place.Place.{Place}
 use Rattle.sm_map.specs.declared.room.Room.{Room}
@@ -15,7 +15,7 @@ pub record IndexValue : Type 0 where
 
 -- no block is empty or too long, and len is the number of entries
 pub record IsIndex (blocks : List BlockValue) (len : ℕ) : Type 0 where
-  pub filled : All IsFilled blocks
+  pub filled : All IsSized blocks
   pub counted : len ≡ length (entries_in blocks)
 
 -- the room takes in one more entry at the place

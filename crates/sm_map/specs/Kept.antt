@@ -4,16 +4,16 @@ use Rattle.sm_arena.specs.Value.{ArenaValue, live_of, dead_of}
 use Rattle.sm_map.specs.KeyMap.{IsKeyMap}
 use Rattle.sm_map.specs.ArenaMap.{MapValue}
 use Rattle.sm_map.specs.Stored.{IsTidy}
-use Rattle.sm_map.specs.Entry.{pairs_of, uses_all}
+use Rattle.sm_map.specs.KeyEntry.{pairs_of, uses_all}
 use Rattle.sm_map.specs.Blocks.{entries_in, lengths_in}
-use Rattle.sm_map.specs.declared.entry.Entry.{Entry}
+use Rattle.sm_map.specs.declared.key_entry.KeyEntry.{KeyEntry}
 use Rattle.sm_map.specs.declared.arena_map.ArenaMap.TheInside.{Inside}
 
 -- the map that these entries are in an arena, in blocks of these lengths
-abbrev pub map_of : ArenaValue → List Entry → List ℕ → MapValue
+abbrev pub map_of : ArenaValue → List KeyEntry → List ℕ → MapValue
 map_of v entries lengths = record { pairs = pairs_of v.placed entries; bytes = live_of v; dead = dead_of v; blocks = lengths }
 
-pub record IsMap (v : ArenaValue) (entries : List Entry) : Type 0 where
+pub record IsMap (v : ArenaValue) (entries : List KeyEntry) : Type 0 where
   pub rising : IsKeyMap (pairs_of v.placed entries)
   pub tidy : IsTidy v (uses_all entries)
 

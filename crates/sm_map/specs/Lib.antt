@@ -3,7 +3,7 @@ pub mod ArenaMap
 pub mod Stored
 pub mod Val
 pub mod Slot
-pub mod Entry
+pub mod KeyEntry
 pub mod Block
 pub mod Places
 pub mod Blocks

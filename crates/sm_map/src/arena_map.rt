@@ -12,8 +12,8 @@ ghost use Rattle.sm_map.specs.Position.{IsPositionIn};
 ghost use Rattle.sm_map.specs.Val.{held_of, row_of};
 
 use crate::block::MOST_ENTRIES;
-use crate::entry::Entry;
 use crate::index::Index;
+use crate::key_entry::KeyEntry;
 use crate::place::Place;
 use crate::position::Position;
 use crate::slot::Slot;
@@ -347,9 +347,9 @@ impl ArenaMap {
         ensures ok { OnOk result (HoldsAt (λ pair. IsRewrite self.old (number_of self.old.blocks place) pair (held_of value.entry) self.new) self.old.pairs (number_of self.old.blocks place)) }
         ensures err { OnErr result (self.new ≡ self.old) }
     {
-        let Entry { key, slot: before } = self.index.entry(place);
+        let KeyEntry { key, slot: before } = self.index.entry(place);
         let slot = Slot::place(&mut self.arena, value)?;
-        self.index.set(place, Entry { key, slot });
+        self.index.set(place, KeyEntry { key, slot });
         before.forget(&mut self.arena);
         Ok(())
     }
@@ -361,9 +361,9 @@ impl ArenaMap {
         ensures ok { OnOk result (HoldsAt (λ pair. IsRewrite self.old (number_of self.old.blocks place) pair (HeldText (text_of (Some pair.value) ++ tail.now)) self.new) self.old.pairs (number_of self.old.blocks place)) }
         ensures err { OnErr result (self.new ≡ self.old) }
     {
-        let Entry { key, slot: before } = self.index.entry(place);
+        let KeyEntry { key, slot: before } = self.index.entry(place);
         let slot = before.concat(&mut self.arena, tail)?;
-        self.index.set(place, Entry { key, slot });
+        self.index.set(place, KeyEntry { key, slot });
         before.forget(&mut self.arena);
         Ok(())
     }
@@ -376,7 +376,7 @@ impl ArenaMap {
         ensures err { OnErr result (self.new ≡ self.old) }
     {
         let room = self.index.reserve(place)?;
-        let entry = Entry::place(&mut self.arena, key, value)?;
+        let entry = KeyEntry::place(&mut self.arena, key, value)?;
         self.index.insert(place, entry, room);
         Ok(())
     }
@@ -386,7 +386,7 @@ impl ArenaMap {
         requires { HasEntry self.old.blocks place }
         ensures { HoldsAt (λ pair. IsRemoval self.old (number_of self.old.blocks place) pair self.new) self.old.pairs (number_of self.old.blocks place) }
     {
-        let Entry { key, slot } = self.index.remove(place);
+        let KeyEntry { key, slot } = self.index.remove(place);
         self.arena.forget(key);
         slot.forget(&mut self.arena);
     }

@@ -2,10 +2,10 @@ ghost use Rattle.std.specs.Prelude.{◌≡◌, ◌<◌, ◌≤◌, ◌+◌, ◌-
 ghost use Rattle.std.specs.List.{HoldsAt, between, insert, remove};
 ghost use Rattle.sm_map.specs.KeyMap.{key_of, IsKeyMap};
 ghost use Rattle.sm_ranges.specs.Keyed.{IsKeyPlace, IsKeyGap};
-ghost use Rattle.sm_map.specs.Entry.{pairs_of, HasKeys};
+ghost use Rattle.sm_map.specs.KeyEntry.{pairs_of, HasKeys};
 ghost use Rattle.sm_map.specs.Blocks.{IsCut};
 
-use crate::entry::Entry;
+use crate::key_entry::KeyEntry;
 use sm_arena::arena::Arena;
 use sm_ranges::order::compare;
 use std::alloc::{AllocError, Global};
@@ -21,7 +21,7 @@ const HALF_ENTRIES: usize = 32;
 // Entries in the order of their keys, which lie in an arena. A full block has 64.
 #[derive(Drop)]
 pub(crate) struct Block {
-    entries: Vec<Entry>,
+    entries: Vec<KeyEntry>,
 }
 
 impl Model for Block {
@@ -60,7 +60,7 @@ impl Block {
         search(&self.entries, arena, key)
     }
 
-    pub(crate) fn entry(&self, at: usize) -> Entry
+    pub(crate) fn entry(&self, at: usize) -> KeyEntry
         requires { at < length self.now.entries }
         ensures { HoldsAt (λ entry. result ≡ entry) self.now.entries at }
     {
@@ -68,7 +68,7 @@ impl Block {
     }
 
     // The entries from one place up to another.
-    pub(crate) fn entries(&self, low: usize, high: usize) -> &[Entry]
+    pub(crate) fn entries(&self, low: usize, high: usize) -> &[KeyEntry]
         requires { (low ≤ high) × (high ≤ length self.now.entries) }
         ensures { result.now ≡ between low high self.now.entries }
     {
@@ -76,7 +76,7 @@ impl Block {
     }
 
     // Writes over an entry.
-    pub(crate) fn set(&mut self, at: usize, entry: Entry)
+    pub(crate) fn set(&mut self, at: usize, entry: KeyEntry)
         requires { at < length self.old.entries }
         ensures { self.new.entries ≡ slice_set self.old.entries at entry }
     {
@@ -91,7 +91,7 @@ impl Block {
         self.entries.reserve(1)
     }
 
-    pub(crate) fn insert(&mut self, at: usize, entry: Entry)
+    pub(crate) fn insert(&mut self, at: usize, entry: KeyEntry)
         requires place { at ≤ length self.old.entries }
         requires room { 0 < self.old.room }
         ensures { self.new.entries ≡ insert self.old.entries at entry }
@@ -101,7 +101,7 @@ impl Block {
     }
 
     // Puts an entry into a full block, whose upper half goes to a block without entries.
-    pub(crate) fn insert_in_half(&mut self, at: usize, entry: Entry, upper: Block) -> Block
+    pub(crate) fn insert_in_half(&mut self, at: usize, entry: KeyEntry, upper: Block) -> Block
         requires place { at ≤ length self.old.entries }
         requires full { length self.old.entries ≡ MOST_ENTRIES }
         requires empty { upper.entries ≡ [] }
@@ -135,7 +135,7 @@ impl Block {
         upper
     }
 
-    pub(crate) fn remove(&mut self, at: usize) -> Entry
+    pub(crate) fn remove(&mut self, at: usize) -> KeyEntry
         requires { at < length self.old.entries }
         ensures removed { HoldsAt (λ entry. result ≡ entry) self.old.entries at }
         ensures entries { self.new.entries ≡ remove self.old.entries at }
@@ -145,7 +145,7 @@ impl Block {
 }
 
 // The place of the entry with the key, or the place where one would go: each step halves the entries between low and high.
-fn search(entries: &[Entry], arena: &Arena, key: &[u8]) -> Result<usize, usize>
+fn search(entries: &[KeyEntry], arena: &Arena, key: &[u8]) -> Result<usize, usize>
     requires keys { HasKeys arena.now.placed entries.now }
     requires rising { IsKeyMap (pairs_of arena.now.placed entries.now) }
     ensures found { IfOk result (IsKeyPlace key_of (pairs_of arena.now.placed entries.now) key.now) }

@@ -3,12 +3,12 @@ ghost use Rattle.std.specs.Vec.{vec_len, vec_capacity};
 ghost use Rattle.std.specs.List.{HoldsAt, insert, remove};
 ghost use Rattle.sm_ranges.specs.Keyed.{IsKeyPlace, IsKeyGap};
 ghost use Rattle.sm_map.specs.KeyMap.{key_of, IsKeyMap};
-ghost use Rattle.sm_map.specs.Entry.{pairs_of, HasKeys};
-ghost use Rattle.sm_map.specs.Blocks.{entries_in, lengths_in, number_of, HasEntry, IsGap, IsStop, IsFilled, IsBlockGap};
+ghost use Rattle.sm_map.specs.KeyEntry.{pairs_of, HasKeys};
+ghost use Rattle.sm_map.specs.Blocks.{entries_in, lengths_in, number_of, HasEntry, IsGap, IsStop, IsSized, IsBlockGap};
 ghost use Rattle.sm_map.specs.Index.{IsReady};
 
 use crate::block::{Block, MOST_ENTRIES};
-use crate::entry::Entry;
+use crate::key_entry::KeyEntry;
 use crate::place::Place;
 use crate::room::Room;
 use sm_arena::arena::Arena;
@@ -103,7 +103,7 @@ impl Index {
         }
     }
 
-    pub(crate) fn entry(&self, place: Place) -> Entry
+    pub(crate) fn entry(&self, place: Place) -> KeyEntry
         requires { HasEntry (lengths_in self.now.blocks) place }
         ensures { HoldsAt (λ entry. result ≡ entry) (entries_in self.now.blocks) (number_of (lengths_in self.now.blocks) place) }
     {
@@ -111,7 +111,7 @@ impl Index {
     }
 
     // The entries from a place up to another one of its block.
-    pub(crate) fn entries(&self, place: Place, high: usize) -> &[Entry]
+    pub(crate) fn entries(&self, place: Place, high: usize) -> &[KeyEntry]
         requires block { place.block < length (lengths_in self.now.blocks) }
         requires order { (place.offset ≤ high) × (high ≤ slice_index (lengths_in self.now.blocks) place.block) }
         ensures count { place.offset + length result.now ≡ high }
@@ -181,7 +181,7 @@ impl Index {
     }
 
     // Writes over an entry.
-    pub(crate) fn set(&mut self, place: Place, entry: Entry)
+    pub(crate) fn set(&mut self, place: Place, entry: KeyEntry)
         requires { HasEntry (lengths_in self.old.blocks) place }
         ensures { entries_in self.new.blocks ≡ slice_set (entries_in self.old.blocks) (number_of (lengths_in self.old.blocks) place) entry }
     {
@@ -209,7 +209,7 @@ impl Index {
     }
 
     // Puts an entry into the room that was made for it at the place.
-    pub(crate) fn insert(&mut self, place: Place, entry: Entry, room: Room)
+    pub(crate) fn insert(&mut self, place: Place, entry: KeyEntry, room: Room)
         requires { IsReady self.old place room }
         ensures { entries_in self.new.blocks ≡ insert (entries_in self.old.blocks) (number_of (lengths_in self.old.blocks) place) entry }
     {
@@ -229,7 +229,7 @@ impl Index {
     }
 
     // Removes an entry, and its block where it was the only one there.
-    pub(crate) fn remove(&mut self, place: Place) -> Entry
+    pub(crate) fn remove(&mut self, place: Place) -> KeyEntry
         requires { HasEntry (lengths_in self.old.blocks) place }
         ensures removed { HoldsAt (λ entry. result ≡ entry) (entries_in self.old.blocks) (number_of (lengths_in self.old.blocks) place) }
         ensures entries { entries_in self.new.blocks ≡ remove (entries_in self.old.blocks) (number_of (lengths_in self.old.blocks) place) }
@@ -255,7 +255,7 @@ fn add(blocks: &mut Vec<Block>, at: usize, block: Block)
 
 // The block whose first entry has the key, or how many have a first entry below it.
 fn search(blocks: &[Block], arena: &Arena, key: &[u8]) -> Result<usize, usize>
-    requires filled { All IsFilled blocks.now }
+    requires filled { All IsSized blocks.now }
     requires keys { HasKeys arena.now.placed (entries_in blocks.now) }
     requires rising { IsKeyMap (pairs_of arena.now.placed (entries_in blocks.now)) }
     ensures within { IfOk result (λ block. block < length blocks.now) }

@@ -12,8 +12,8 @@
 
 pub mod arena_map;
 mod block;
-mod entry;
 mod index;
+mod key_entry;
 mod place;
 pub mod position;
 mod room;

@@ -2,7 +2,7 @@
 use Rattle.std.proofs.Common.{◌≡◌, true, ap, sym, ◌∙◌, subst, refl, Ok, Err, Result, Some, is_some, IfOk}
 use Rattle.std.specs.declared.alloc.AllocError.{AllocError}
 use Rattle.sm_envelope.specs.declared.refusal.Refusal.TheVariants as refusal
-use Rattle.sm_script.specs.declared.answer.Answer.{Answer}
+use Rattle.sm_script.specs.declared.line_answer.LineAnswer.{LineAnswer}
 use Rattle.sm_script.specs.declared.call.Call.{Call}
 use Rattle.sm_service.specs.declared.reply.Reply.{Reply}
 use Rattle.sm_service.specs.declared.request.Request.{Request}
@@ -55,7 +55,7 @@ pub idle_after : (before after : WorldView Request) (call : Call) (ended : Resul
 idle_after before after call ended idle ends = (ends idle.0 idle.1).0
 
 -- the answer to a call that ended as it should
-pub gives_answer : (before after : WorldView Request) (call : Call) (ended : Result (WorldAnswer Reply) WorldFault) (result : Result Answer AllocError)
+pub gives_answer : (before after : WorldView Request) (call : Call) (ended : Result (WorldAnswer Reply) WorldFault) (result : Result LineAnswer AllocError)
     → IfOk result (λ answer. answer_of ended ≡ Some answer) → ends_in_step call ≡ true → Ends before call ended after → IfOk result (λ answer. GivesAnswer before call answer after)
 gives_answer before after call ended (Ok answer) is steps ends =
     λ w at. let end = (ends w at).1 (plain_of_answer ended (ap is_some is)) in (answered-steps w call steps ∙ (sym (ap answer_of end.answered) ∙ is), end.stands)

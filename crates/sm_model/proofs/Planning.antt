@@ -8,8 +8,8 @@ use Rattle.sm_ownership.specs.declared.route.Route.{Route}
 use Rattle.sm_ownership.specs.Routes.{routes_of}
 use Rattle.sm_ranges.specs.Ranges.{shard_of}
 use Rattle.sm_place.specs.Plans.{PlanView, assign_plan, drain_plan}
-use Rattle.sm_script.specs.declared.answer.Answer.{Answer}
-use Rattle.sm_script.specs.declared.answer.Answer.TheVariants.{Planned, Refused as IsRefused}
+use Rattle.sm_script.specs.declared.line_answer.LineAnswer.{LineAnswer}
+use Rattle.sm_script.specs.declared.line_answer.LineAnswer.TheVariants.{Planned, Refused as IsRefused}
 use Rattle.sm_script.specs.declared.call.Call.{Call}
 use Rattle.sm_script.specs.declared.call.Call.TheVariants as call
 use Rattle.sm_script.specs.declared.refused.Refused.TheVariants as refused
@@ -82,7 +82,7 @@ route_is view w request shard route stands within is read =
     )
 
 -- what a client's request comes to by a route
-abbrev GivesBy : WorldState Request → Request → Answer → WorldView Request → Option Route → Type 0
+abbrev GivesBy : WorldState Request → Request → LineAnswer → WorldView Request → Option Route → Type 0
 GivesBy w request answer after route =
     let went = requested_by w request (shard_for w request) route in
     (option_or (unless_route route) (answer_of went.0) ≡ Some answer) × IsAt after went.1
@@ -96,7 +96,7 @@ gives_no_route read before same request shard route within is found none = λ w 
     subst (GivesBy w request (IsRefused refused.NoRoute) before) (sym (route_is read w request shard route stands within is found ∙ none)) (refl, at)
 
 -- there is one: the request goes to its server
-pub gives_by_route : (read before after : WorldView Request) → read ≡ before → (request : Request) (shard : ℕ) (found : Option Route) (route : Route) (result : Result Answer AllocError)
+pub gives_by_route : (read before after : WorldView Request) → read ≡ before → (request : Request) (shard : ℕ) (found : Option Route) (route : Route) (result : Result LineAnswer AllocError)
     → shard < length read.bounds → shard ≡ shard_of read.bounds (key_of_request request) → found ≡ slice_index_or read.routes shard None → found ≡ Some route
     → IfOk result (λ answer. GivesAnswer before (call.RequestAt route.server request) answer after) → IfOk result (λ answer. GivesAnswer before (call.RequestByRoute request) answer after)
 gives_by_route read before after same request shard found route (Ok answer) within is there some gives = λ w at.

@@ -13,8 +13,8 @@ use Rattle.sm_ownership.specs.declared.route.Route.{Route}
 use Rattle.sm_ownership.specs.Routes.{routes_of}
 use Rattle.sm_ranges.specs.Ranges.{shard_of}
 use Rattle.sm_ranges.specs.Stand.{owner_of}
-use Rattle.sm_script.specs.declared.answer.Answer.{Answer}
-use Rattle.sm_script.specs.declared.answer.Answer.TheVariants.{Made as IsMade, Refused as IsRefused, Seen as IsSeen, Executed, Planned, Way as IsWay, Error as IsError}
+use Rattle.sm_script.specs.declared.line_answer.LineAnswer.{LineAnswer}
+use Rattle.sm_script.specs.declared.line_answer.LineAnswer.TheVariants.{Made as IsMade, Refused as IsRefused, Seen as IsSeen, Executed, Planned, Way as IsWay, Error as IsError}
 use Rattle.sm_script.specs.declared.fault.LineFault.TheVariants.{NotHere}
 use Rattle.sm_script.specs.declared.call.Call.{Call}
 use Rattle.sm_script.specs.declared.call.Call.TheVariants as call
@@ -52,12 +52,12 @@ settings_frame settings = record {
 }
 
 -- the answer to a request that was refused; want of memory has none, as it ends the run
-abbrev pub refused_answer : Refusal → Option Answer
+abbrev pub refused_answer : Refusal → Option LineAnswer
 refused_answer refusal.NoMemory = None
 refused_answer why = Some (IsRefused (refused.Request why))
 
 -- the answer to a call that ended in this step; the last step of a call has one, but for want of memory
-abbrev pub answer_of : Result (WorldAnswer Reply) WorldFault → Option Answer
+abbrev pub answer_of : Result (WorldAnswer Reply) WorldFault → Option LineAnswer
 answer_of (Ok Made) = Some IsMade
 answer_of (Ok (Seen state)) = Some (IsSeen state)
 answer_of (Ok (Way route)) = Some (IsWay route)
@@ -133,7 +133,7 @@ ends_in_step (call.Load key clients each) = false
 ends_in_step asked = true
 
 -- the plan for the server's shards, where the server exists
-abbrev pub drained : WorldState Request → ℕ → Answer
+abbrev pub drained : WorldState Request → ℕ → LineAnswer
 drained w server = if is_there w server then Planned (drain_plan w.desk.books server) else IsRefused refused.UnknownServer
 
 -- the last published route of a request's shard
@@ -141,13 +141,13 @@ abbrev pub route_for : WorldState Request → Request → Option Route
 route_for w request = routes_of w.publications (shard_for w request)
 
 -- a client's request is refused where there is no route
-abbrev pub unless_route : Option Route → Option Answer
+abbrev pub unless_route : Option Route → Option LineAnswer
 unless_route None = Some (IsRefused refused.NoRoute)
 unless_route (Some route) = None
 
 -- the answer to a call that makes no step here: a plan by the books of the world, that a client has no route, or that clients at the
 -- same time don't run here
-abbrev pub answer_without_steps : WorldState Request → Call → Option Answer
+abbrev pub answer_without_steps : WorldState Request → Call → Option LineAnswer
 answer_without_steps w call.Place = Some (Planned (assign_plan w.desk.books))
 answer_without_steps w (call.Drain server) = Some (drained w server)
 answer_without_steps w (call.RequestByRoute request) = unless_route (route_for w request)
@@ -169,7 +169,7 @@ called w (call.RequestByRoute request) = requested_by w request (shard_for w req
 called w asked = (Ok Made, w)
 
 -- the answer to a call: that of a call that makes no step, or that to its last step
-abbrev pub answered : WorldState Request → Call → Option Answer
+abbrev pub answered : WorldState Request → Call → Option LineAnswer
 answered w asked = option_or (answer_without_steps w asked) (answer_of (called w asked).0)
 
 -- the world after these calls, one after another

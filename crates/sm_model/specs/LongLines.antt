@@ -2,7 +2,7 @@
 use Rattle.std.specs.Prelude.{ℕ, ◌≡◌, ◌<◌, Option, Some, None, Result, Ok, Err, List, [], ◌++◌, length}
 use Rattle.sm_model.specs.Script.{answer_line}
 use Rattle.sm_script.specs.Lines.{call_of_line}
-use Rattle.sm_script.specs.declared.answer.Answer.TheVariants.{Error}
+use Rattle.sm_script.specs.declared.line_answer.LineAnswer.TheVariants.{Error}
 use Rattle.sm_script.specs.declared.call.Call.{Call}
 use Rattle.sm_script.specs.declared.fault.LineFault.{LineFault}
 use Rattle.sm_script.specs.declared.line.TheConstants.{MAX_LINE}

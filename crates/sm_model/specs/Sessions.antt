@@ -4,7 +4,7 @@ use Rattle.sm_envelope.specs.declared.envelope.TheConstants.{MOST_HOPS}
 use Rattle.sm_model.specs.Calls.{Stepped, after_hops, answer_of, answered, called, settings_frame, stepped}
 use Rattle.sm_model.specs.Script.{responded}
 use Rattle.sm_script.specs.Lines.{call_of_line}
-use Rattle.sm_script.specs.declared.answer.Answer.{Answer}
+use Rattle.sm_script.specs.declared.line_answer.LineAnswer.{LineAnswer}
 use Rattle.sm_script.specs.declared.call.Call.{Call}
 use Rattle.sm_service.specs.declared.reply.Reply.{Reply}
 use Rattle.sm_service.specs.declared.request.Request.{Request}
@@ -31,13 +31,13 @@ IsNew settings view = IsAt view (empty_world (settings_frame settings))
 -- ---- a line
 
 -- at every world the call has this answer, and leaves the world that it should
-abbrev pub GivesAnswer : WorldView Request → Call → Answer → WorldView Request → Type 0
+abbrev pub GivesAnswer : WorldView Request → Call → LineAnswer → WorldView Request → Type 0
 GivesAnswer before call answer after =
     (w : WorldState Request) → IsAt before w → (answered w call ≡ Some answer) × IsAt after (called w call).1
 
 -- at every world the line has this response
-abbrev pub Responds : WorldView Request → List ℕ → List ℕ → WorldView Request → Type 0
-Responds before line text after =
+abbrev pub RespondsAsWorld : WorldView Request → List ℕ → List ℕ → WorldView Request → Type 0
+RespondsAsWorld before line text after =
     (w : WorldState Request) → IsAt before w → (text ≡ (responded w (call_of_line line)).0) × IsAt after (responded w (call_of_line line)).1
 
 -- ---- the steps of a call

@@ -9,7 +9,7 @@ ghost use Rattle.sm_model.specs.Script.{answer_line};
 
 use sm_desk::Desk;
 use sm_place::{Books, BooksFault};
-use sm_script::{Answer, long_line_fault};
+use sm_script::{LineAnswer, long_line_fault};
 use sm_service::counter_text::CounterText;
 use sm_settings::settings::Settings;
 use sm_tasks::Tasks;
@@ -65,7 +65,7 @@ pub fn empty_bodies(
 }
 
 /// Appends the answer and a line feed.
-pub fn write_line(answer: &Answer, out: &mut Vec<u8>) -> Result<(), AllocError>
+pub fn write_line(answer: &LineAnswer, out: &mut Vec<u8>) -> Result<(), AllocError>
     ensures { OnOk result (out.new.items ≡ out.old.items ++ answer_line answer.now) }
 {
     answer.write_to(out)?;
@@ -84,6 +84,6 @@ pub fn write_long_line(start: &[u8], out: &mut Vec<u8>) -> Result<(), AllocError
     }
     match long_line_fault(start) {
         None => Ok(()),
-        Some(fault) => write_line(&Answer::Error(fault), out),
+        Some(fault) => write_line(&LineAnswer::Error(fault), out),
     }
 }

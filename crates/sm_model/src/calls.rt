@@ -13,7 +13,7 @@ use sm_envelope::{MOST_HOPS, Refusal};
 use sm_ownership::admit_fault::AdmitFault;
 use sm_ranges::server_id::ServerId;
 use sm_ranges::shard_id::ShardId;
-use sm_script::{Answer, Call, Refused};
+use sm_script::{Call, LineAnswer, Refused};
 use sm_service::counter_text::CounterText;
 use sm_service::reply::Reply;
 use sm_service::request::Request;
@@ -144,7 +144,9 @@ fn is_forwarded(answer: &Result<WorldAnswer<Reply>, WorldFault>) -> bool
 }
 
 /// The answer to a call that ended in this step; an error is want of memory.
-pub(crate) fn answer_of(ended: Result<WorldAnswer<Reply>, WorldFault>) -> Result<Answer, AllocError>
+pub(crate) fn answer_of(
+    ended: Result<WorldAnswer<Reply>, WorldFault>,
+) -> Result<LineAnswer, AllocError>
     requires { HasAnswer ended }
     ensures ok { IfOk result (λ answer. answer_of ended ≡ Some answer) }
     ensures err { OnErr result (mark_of ended ≢ Plain) }
@@ -156,22 +158,22 @@ pub(crate) fn answer_of(ended: Result<WorldAnswer<Reply>, WorldFault>) -> Result
 }
 
 /// The answer to a call whose last step was made; an error is want of memory.
-fn answer_of_made(made: WorldAnswer<Reply>) -> Result<Answer, AllocError>
+fn answer_of_made(made: WorldAnswer<Reply>) -> Result<LineAnswer, AllocError>
     requires { HasAnswer (Ok made) }
     ensures ok { IfOk result (λ answer. answer_of (Ok made) ≡ Some answer) }
     ensures err { OnErr result (mark_of (Ok made) ≢ Plain) }
 {
     match made {
-        WorldAnswer::Made => Ok(Answer::Made),
-        WorldAnswer::Seen(record) => Ok(Answer::Seen(record)),
-        WorldAnswer::Way(route) => Ok(Answer::Way(route)),
+        WorldAnswer::Made => Ok(LineAnswer::Made),
+        WorldAnswer::Seen(record) => Ok(LineAnswer::Seen(record)),
+        WorldAnswer::Way(route) => Ok(LineAnswer::Way(route)),
         WorldAnswer::Refused(refusal) => answer_of_refusal(refusal),
         WorldAnswer::Replied {
             number: _,
             server,
             reply,
             place,
-        } => Ok(Answer::Executed {
+        } => Ok(LineAnswer::Executed {
             reply,
             server,
             place,
@@ -181,33 +183,33 @@ fn answer_of_made(made: WorldAnswer<Reply>) -> Result<Answer, AllocError>
 }
 
 /// The answer to a request that was refused; an error is want of memory.
-fn answer_of_refusal(refusal: Refusal) -> Result<Answer, AllocError>
+fn answer_of_refusal(refusal: Refusal) -> Result<LineAnswer, AllocError>
     ensures ok { IfOk result (λ answer. refused_answer refusal ≡ Some answer) }
     ensures err { OnErr result (refusal ≡ Refusal.NoMemory) }
 {
     match refusal {
         Refusal::NoMemory => Err(AllocError),
         Refusal::Admit(_) | Refusal::TooManyHops | Refusal::Unreachable | Refusal::KeptFull => Ok(
-            Answer::Refused(Refused::Request(refusal)),
+            LineAnswer::Refused(Refused::Request(refusal)),
         ),
     }
 }
 
 /// The answer to a call whose last step was refused; an error is want of memory.
-fn answer_of_fault(fault: WorldFault) -> Result<Answer, AllocError>
+fn answer_of_fault(fault: WorldFault) -> Result<LineAnswer, AllocError>
     requires { HasAnswer (Err fault) }
     ensures ok { IfOk result (λ answer. answer_of (Err fault) ≡ Some answer) }
     ensures err { OnErr result (mark_of {R = AnyReply} (Err fault) ≢ Plain) }
 {
     match fault {
-        WorldFault::Command(fault) => Ok(Answer::Refused(Refused::Command(fault))),
-        WorldFault::Admit(fault) => Ok(Answer::Refused(Refused::Admit(fault))),
-        WorldFault::UnknownShard => Ok(Answer::Refused(Refused::UnknownShard)),
-        WorldFault::UnknownServer => Ok(Answer::Refused(Refused::UnknownServer)),
-        WorldFault::Unreachable => Ok(Answer::Refused(Refused::Unreachable)),
-        WorldFault::NotHeld => Ok(Answer::Refused(Refused::NotHeld)),
-        WorldFault::OldRoute => Ok(Answer::Refused(Refused::OldRoute)),
-        WorldFault::WrongPhase => Ok(Answer::Refused(Refused::WrongPhase)),
+        WorldFault::Command(fault) => Ok(LineAnswer::Refused(Refused::Command(fault))),
+        WorldFault::Admit(fault) => Ok(LineAnswer::Refused(Refused::Admit(fault))),
+        WorldFault::UnknownShard => Ok(LineAnswer::Refused(Refused::UnknownShard)),
+        WorldFault::UnknownServer => Ok(LineAnswer::Refused(Refused::UnknownServer)),
+        WorldFault::Unreachable => Ok(LineAnswer::Refused(Refused::Unreachable)),
+        WorldFault::NotHeld => Ok(LineAnswer::Refused(Refused::NotHeld)),
+        WorldFault::OldRoute => Ok(LineAnswer::Refused(Refused::OldRoute)),
+        WorldFault::WrongPhase => Ok(LineAnswer::Refused(Refused::WrongPhase)),
         WorldFault::NoMemory => Err(AllocError),
         WorldFault::NoEnvelope => unreachable!(),
     }

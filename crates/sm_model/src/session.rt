@@ -10,7 +10,7 @@ use crate::beginning::{desk_of, empty_bodies, write_line, write_long_line};
 use crate::calls::{answer_of, carry_out};
 use sm_lines::Responder;
 use sm_ranges::server_id::ServerId;
-use sm_script::{Answer, Call, LineFault, ParseFault, Refused, parse};
+use sm_script::{Call, LineAnswer, LineFault, ParseFault, Refused, parse};
 use sm_service::counter_text::CounterText;
 use sm_service::request::Request;
 use sm_settings::settings::Settings;
@@ -56,20 +56,20 @@ impl ModelSession {
     }
 
     /// Runs the call; an error is want of memory.
-    fn run(&mut self, call: Call) -> Result<Answer, AllocError>
+    fn run(&mut self, call: Call) -> Result<LineAnswer, AllocError>
         ensures { IfOk result (λ answer. GivesAnswer self.old call answer self.new) }
     {
         match call {
             Call::Place => self.place(),
             Call::Drain(server) => self.drain(server),
             Call::RequestByRoute(request) => self.make_by_route(request),
-            Call::Load { .. } => Ok(Answer::Error(LineFault::NotHere)),
+            Call::Load { .. } => Ok(LineAnswer::Error(LineFault::NotHere)),
             _ => self.make(call),
         }
     }
 
     /// Makes the steps of the call; an error is want of memory.
-    fn make(&mut self, call: Call) -> Result<Answer, AllocError>
+    fn make(&mut self, call: Call) -> Result<LineAnswer, AllocError>
         requires { ends_in_step call ≡ true }
         ensures { IfOk result (λ answer. GivesAnswer self.old call answer self.new) }
     {
@@ -77,35 +77,35 @@ impl ModelSession {
     }
 
     /// Makes the request of the server of its shard's published route, where there is one; an error is want of memory.
-    fn make_by_route(&mut self, request: Request) -> Result<Answer, AllocError>
+    fn make_by_route(&mut self, request: Request) -> Result<LineAnswer, AllocError>
         ensures { IfOk result (λ answer. GivesAnswer self.old (call.RequestByRoute request) answer self.new) }
     {
         let shard = self.world.shard_of(&request);
         match self.world.route(shard) {
             Some(route) => self.make(Call::RequestAt(route.server, request)),
-            None => Ok(Answer::Refused(Refused::NoRoute)),
+            None => Ok(LineAnswer::Refused(Refused::NoRoute)),
         }
     }
 
     /// A plan for the shards without an owner; an error is want of memory.
-    fn place(&self) -> Result<Answer, AllocError>
+    fn place(&self) -> Result<LineAnswer, AllocError>
         ensures { IfOk result (λ answer. GivesAnswer self.now call.Place answer self.now) }
     {
         match self.world.desk().books().plan_assign(self.alloc) {
-            Ok(plan) => Ok(Answer::Planned(plan)),
+            Ok(plan) => Ok(LineAnswer::Planned(plan)),
             Err(fault) => Err(fault),
         }
     }
 
     /// A plan for the shards that the server serves; an error is want of memory.
-    fn drain(&self, server: ServerId) -> Result<Answer, AllocError>
+    fn drain(&self, server: ServerId) -> Result<LineAnswer, AllocError>
         ensures { IfOk result (λ answer. GivesAnswer self.now (call.Drain server) answer self.now) }
     {
         if !self.world.desk().knows(server) {
-            return Ok(Answer::Refused(Refused::UnknownServer));
+            return Ok(LineAnswer::Refused(Refused::UnknownServer));
         }
         match self.world.desk().books().plan_drain(self.alloc, server) {
-            Ok(plan) => Ok(Answer::Planned(plan)),
+            Ok(plan) => Ok(LineAnswer::Planned(plan)),
             Err(fault) => Err(fault),
         }
     }
@@ -113,9 +113,9 @@ impl ModelSession {
 
 impl Responder for ModelSession {
     ghost use Rattle.sm_model.specs.LongLines.{RespondsLong};
-    ghost use Rattle.sm_model.specs.Sessions.{Responds};
+    ghost use Rattle.sm_model.specs.Sessions.{RespondsAsWorld};
 
-    ghost gives = { Responds };
+    ghost gives = { RespondsAsWorld };
 
     ghost gives_long = { λ _ start text. RespondsLong start text };
 
@@ -126,7 +126,7 @@ impl Responder for ModelSession {
                 let answer = self.run(call)?;
                 write_line(&answer, out)
             }
-            Err(ParseFault::Line(fault)) => write_line(&Answer::Error(fault), out),
+            Err(ParseFault::Line(fault)) => write_line(&LineAnswer::Error(fault), out),
             Err(ParseFault::NoMemory) => Err(AllocError),
         }
     }

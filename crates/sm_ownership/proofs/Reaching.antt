@@ -12,7 +12,7 @@ use Rattle.sm_ownership.specs.declared.entry.Kind.TheVariants.{Change as Changed
 use Rattle.sm_ownership.specs.declared.record.Record.{Record}
 use Rattle.sm_ownership.specs.lemmas.Growth.{record_at-empty, record_at-latest, record_at-latest_other}
 use Rattle.sm_ownership.specs.History.{IsLegal, IsLegalLatest, after_kind, record_at, table_of, table_of_latest}
-use Rattle.sm_ownership.specs.Reach.{IsApart, IsForwarded, IsReached, IsServed, AcceptsForwarded}
+use Rattle.sm_ownership.specs.Reach.{IsApart, ForwardsTo, IsReached, IsServed, AcceptsForwarded}
 use Rattle.sm_ownership.specs.Rules.{stand_after}
 
 unless_owner : (owner next : ℕ) (same : Bool) → (next == owner) ≡ same → IsApart (unwrap_or (if same then None else Some (Prepared owner next)) (Serving owner))
@@ -65,7 +65,7 @@ itself : (server : ℕ) → (server == server) ≡ true
 itself server = eq-eqb server server refl
 
 -- the owner forwards to the next server
-forwarding : (owner next : ℕ) → owner ≢ next → IsForwarded (Forwarding owner next) owner next
+forwarding : (owner next : ℕ) → owner ≢ next → ForwardsTo (Forwarding owner next) owner next
 forwarding owner next apart = record {
   forwards = rw (itself owner) refl;
   executes = refl;
@@ -78,7 +78,7 @@ forwarding owner next apart = record {
 }
 
 -- the previous owner forwards to the owner
-taken : (owner previous : ℕ) → owner ≢ previous → IsForwarded (Taken owner previous) previous owner
+taken : (owner previous : ℕ) → owner ≢ previous → ForwardsTo (Taken owner previous) previous owner
 taken owner previous apart = record {
   forwards = rw (itself previous) refl;
   executes = refl;

@@ -12,7 +12,7 @@ use Rattle.sm_ownership.specs.declared.entry.Kind.TheVariants.{Change as Changed
 use Rattle.sm_ownership.specs.declared.mode.Mode.{Mode}
 use Rattle.sm_ownership.specs.declared.record.Record.{Record}
 use Rattle.sm_ownership.specs.Rules.{executor, executor_of, accepts, accepts_at, is_forwarded_by}
-use Rattle.sm_ownership.specs.History.{record_at, after_kind, acts_as, latest_of, is_admit, is_admission_of, fits, kind_fits, table_of, table_of_latest, IsLegal, IsLegalLatest, without_ended, admitted, admitted_latest}
+use Rattle.sm_ownership.specs.History.{record_at, after_kind, acts_as, latest_of, is_admit, is_admission_of, fits, kind_fits, table_of, table_of_latest, IsLegal, IsLegalLatest, without_ended, open_admissions, open_admissions_latest}
 use Rattle.sm_ownership.specs.lemmas.Growth.{record_at-empty, record_at-latest, record_at-latest_other}
 
 -- the entry admits the executor of the record
@@ -82,31 +82,31 @@ module _ {Q : Type 0} where
   of_executor earlier shard state (entry ∷ other ∷ rest) single = absurd single
 
 module _ {Q : Type 0} (count ceiling : ℕ) where
-  single_own : (entry : Entry Q) (earlier : List (Entry Q)) (shard : ℕ) → fits ceiling earlier (table_of_latest count ceiling earlier) entry ≡ true → ((k : ℕ) → IsSingle earlier k (record_at (table_of_latest count ceiling earlier) k) (admitted_latest earlier k)) → shard ≡ entry.shard → IsSingle (entry ∷ earlier) shard (record_at (table_of_latest count ceiling (entry ∷ earlier)) shard) (admitted_latest (entry ∷ earlier) shard)
+  single_own : (entry : Entry Q) (earlier : List (Entry Q)) (shard : ℕ) → fits ceiling earlier (table_of_latest count ceiling earlier) entry ≡ true → ((k : ℕ) → IsSingle earlier k (record_at (table_of_latest count ceiling earlier) k) (open_admissions_latest earlier k)) → shard ≡ entry.shard → IsSingle (entry ∷ earlier) shard (record_at (table_of_latest count ceiling (entry ∷ earlier)) shard) (open_admissions_latest (entry ∷ earlier) shard)
   single_own entry earlier shard fit before same =
-      let own = own_shard ceiling entry earlier (record_at (table_of_latest count ceiling earlier) entry.shard) (admitted_latest earlier entry.shard) entry.kind refl (and_parts _ _ fit).1 (before entry.shard) in
+      let own = own_shard ceiling entry earlier (record_at (table_of_latest count ceiling earlier) entry.shard) (open_admissions_latest earlier entry.shard) entry.kind refl (and_parts _ _ fit).1 (before entry.shard) in
       let its : (entry.shard == entry.shard) ≡ true = eq-eqb entry.shard entry.shard refl in
-      let here : IsSingle (entry ∷ earlier) entry.shard (record_at (table_of_latest count ceiling (entry ∷ earlier)) entry.shard) (admitted_latest (entry ∷ earlier) entry.shard) =
-      rw its (subst (λ state. IsSingle (entry ∷ earlier) entry.shard state (without_ended entry entry.kind (admitted_latest earlier entry.shard))) (sym (record_at-latest count ceiling entry earlier fit)) own) in
-      subst (λ k. IsSingle (entry ∷ earlier) k (record_at (table_of_latest count ceiling (entry ∷ earlier)) k) (admitted_latest (entry ∷ earlier) k)) (sym same) here
+      let here : IsSingle (entry ∷ earlier) entry.shard (record_at (table_of_latest count ceiling (entry ∷ earlier)) entry.shard) (open_admissions_latest (entry ∷ earlier) entry.shard) =
+      rw its (subst (λ state. IsSingle (entry ∷ earlier) entry.shard state (without_ended entry entry.kind (open_admissions_latest earlier entry.shard))) (sym (record_at-latest count ceiling entry earlier fit)) own) in
+      subst (λ k. IsSingle (entry ∷ earlier) k (record_at (table_of_latest count ceiling (entry ∷ earlier)) k) (open_admissions_latest (entry ∷ earlier) k)) (sym same) here
 
-  single_other : (entry : Entry Q) (earlier : List (Entry Q)) (shard : ℕ) → fits ceiling earlier (table_of_latest count ceiling earlier) entry ≡ true → ((k : ℕ) → IsSingle earlier k (record_at (table_of_latest count ceiling earlier) k) (admitted_latest earlier k)) → shard ≢ entry.shard → IsSingle (entry ∷ earlier) shard (record_at (table_of_latest count ceiling (entry ∷ earlier)) shard) (admitted_latest (entry ∷ earlier) shard)
+  single_other : (entry : Entry Q) (earlier : List (Entry Q)) (shard : ℕ) → fits ceiling earlier (table_of_latest count ceiling earlier) entry ≡ true → ((k : ℕ) → IsSingle earlier k (record_at (table_of_latest count ceiling earlier) k) (open_admissions_latest earlier k)) → shard ≢ entry.shard → IsSingle (entry ∷ earlier) shard (record_at (table_of_latest count ceiling (entry ∷ earlier)) shard) (open_admissions_latest (entry ∷ earlier) shard)
   single_other entry earlier shard fit before apart =
       let differs : (entry.shard == shard) ≡ false = grind (arith, nat_tests) in
-      rw differs (subst (λ state. IsSingle (entry ∷ earlier) shard state (admitted_latest earlier shard)) (sym (record_at-latest_other count ceiling entry earlier shard apart fit)) (other_shard entry earlier shard (record_at (table_of_latest count ceiling earlier) shard) (admitted_latest earlier shard) differs (before shard)))
+      rw differs (subst (λ state. IsSingle (entry ∷ earlier) shard state (open_admissions_latest earlier shard)) (sym (record_at-latest_other count ceiling entry earlier shard apart fit)) (other_shard entry earlier shard (record_at (table_of_latest count ceiling earlier) shard) (open_admissions_latest earlier shard) differs (before shard)))
 
-  single : (earlier : List (Entry Q)) → IsLegalLatest count ceiling earlier → (shard : ℕ) → IsSingle earlier shard (record_at (table_of_latest count ceiling earlier) shard) (admitted_latest earlier shard)
+  single : (earlier : List (Entry Q)) → IsLegalLatest count ceiling earlier → (shard : ℕ) → IsSingle earlier shard (record_at (table_of_latest count ceiling earlier) shard) (open_admissions_latest earlier shard)
   single [] legal shard = ap (λ state. state.admitted) (record_at-empty count shard)
   single (entry ∷ earlier) legal shard =
       ⊎_elim (single_own entry earlier shard legal.0 (single earlier legal.1)) (single_other entry earlier shard legal.0 (single earlier legal.1)) (cases_eq shard entry.shard)
 
   -- one admission of a shard stands where its record is admitted, and else none
-  pub one_admission : (history : List (Entry Q)) (shard : ℕ) → IsLegal count ceiling history → length (admitted history shard) ≡ (if (record_at (table_of count ceiling history) shard).admitted then 1 else 0)
-  one_admission history shard legal = one_where_admitted (reverse history) shard (record_at (table_of count ceiling history) shard) (admitted history shard) (single (reverse history) legal shard)
+  pub one_admission : (history : List (Entry Q)) (shard : ℕ) → IsLegal count ceiling history → length (open_admissions history shard) ≡ (if (record_at (table_of count ceiling history) shard).admitted then 1 else 0)
+  one_admission history shard legal = one_where_admitted (reverse history) shard (record_at (table_of count ceiling history) shard) (open_admissions history shard) (single (reverse history) legal shard)
 
-  pub at_most_one : (history : List (Entry Q)) (shard : ℕ) → IsLegal count ceiling history → length (admitted history shard) ≤ 1
-  at_most_one history shard legal = one_or_none (length (admitted history shard)) (record_at (table_of count ceiling history) shard).admitted (one_admission history shard legal)
+  pub at_most_one : (history : List (Entry Q)) (shard : ℕ) → IsLegal count ceiling history → length (open_admissions history shard) ≤ 1
+  at_most_one history shard legal = one_or_none (length (open_admissions history shard)) (record_at (table_of count ceiling history) shard).admitted (one_admission history shard legal)
 
   -- and it is the executor's
-  pub admitted_executor : (history : List (Entry Q)) (shard : ℕ) → IsLegal count ceiling history → All (IsOfExecutor (record_at (table_of count ceiling history) shard)) (admitted history shard)
-  admitted_executor history shard legal = of_executor (reverse history) shard (record_at (table_of count ceiling history) shard) (admitted history shard) (single (reverse history) legal shard)
+  pub admitted_executor : (history : List (Entry Q)) (shard : ℕ) → IsLegal count ceiling history → All (IsOfExecutor (record_at (table_of count ceiling history) shard)) (open_admissions history shard)
+  admitted_executor history shard legal = of_executor (reverse history) shard (record_at (table_of count ceiling history) shard) (open_admissions history shard) (single (reverse history) legal shard)

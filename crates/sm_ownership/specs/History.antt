@@ -121,14 +121,14 @@ without_ended entry (Changed change) standing = standing
 without_ended entry (Admit server mode) standing = entry ∷ standing
 without_ended entry (Done ending) standing = filter (λ admission. not (admission.actor == entry.actor)) standing
 
-abbrev pub admitted_latest : {Q : Type 0} → List (Entry Q) → ℕ → List (Entry Q)
-admitted_latest [] shard = []
-admitted_latest (entry ∷ earlier) shard =
-    if entry.shard == shard then without_ended entry entry.kind (admitted_latest earlier shard) else admitted_latest earlier shard
+abbrev pub open_admissions_latest : {Q : Type 0} → List (Entry Q) → ℕ → List (Entry Q)
+open_admissions_latest [] shard = []
+open_admissions_latest (entry ∷ earlier) shard =
+    if entry.shard == shard then without_ended entry entry.kind (open_admissions_latest earlier shard) else open_admissions_latest earlier shard
 
 -- the admissions of the shard that stand: those that no later end by the same actor has ended
-abbrev pub admitted : {Q : Type 0} → List (Entry Q) → ℕ → List (Entry Q)
-admitted history shard = admitted_latest (reverse history) shard
+abbrev pub open_admissions : {Q : Type 0} → List (Entry Q) → ℕ → List (Entry Q)
+open_admissions history shard = open_admissions_latest (reverse history) shard
 
 -- how an entry of this kind ends an admission: with nothing, where it ends none
 abbrev pub ending_of : {Q : Type 0} → Kind Q → Ending Q

@@ -29,7 +29,7 @@ AcceptsForwarded stand from to = IsTrue (accepts_at stand to (Forwarded from))
 
 -- the server forwards to the executor, which takes it and forwards nothing, and takes it also at the stands that the
 -- migration comes to when the shard is added there, and when it is dropped here
-pub record IsForwarded (stand : Stand) (server executor : ℕ) : Type 0 where
+pub record ForwardsTo (stand : Stand) (server executor : ℕ) : Type 0 where
   pub forwards : forward_at stand server ≡ Some executor
   pub executes : executor_of stand ≡ Some executor
   pub takes : AcceptsForwarded stand server executor
@@ -40,4 +40,4 @@ pub record IsForwarded (stand : Stand) (server executor : ℕ) : Type 0 where
 
 -- the server executes what comes to it directly, or forwards it to the executor
 abbrev pub IsServed : Stand → ℕ → Type 0
-IsServed stand server = IsTrue (accepts_at stand server Direct) ⊎ ((executor : ℕ) × IsForwarded stand server executor)
+IsServed stand server = IsTrue (accepts_at stand server Direct) ⊎ ((executor : ℕ) × ForwardsTo stand server executor)

@@ -9,7 +9,7 @@ ghost use Rattle.sm_ownership.specs.declared.entry.Entry.{Entry};
 ghost use Rattle.sm_ownership.specs.declared.entry.Kind.TheVariants.{Change as Changed, Admit, Done};
 ghost use Rattle.sm_ownership.specs.declared.mode.Mode.{Mode};
 ghost use Rattle.sm_ownership.specs.declared.record.Record.{Record};
-ghost use Rattle.sm_ownership.specs.History.{IsLegal, acts_as, admit_fits, admitted, all_of, change_fits, ending_of, first_of, is_admission_of, kept, kept_after, latest_of, record_at, table_of};
+ghost use Rattle.sm_ownership.specs.History.{IsLegal, acts_as, admit_fits, open_admissions, all_of, change_fits, ending_of, first_of, is_admission_of, kept, kept_after, latest_of, record_at, table_of};
 ghost use Rattle.sm_ownership.specs.Reach.{IsApart, IsReached, IsServed};
 ghost use Rattle.sm_ownership.specs.Rules.{accepts, admit_fault, executor, phase_fault};
 ghost use Rattle.sm_ownership.specs.Tables.{apply_fault, record_fault, table_admitted, table_changed, table_done, table_view};
@@ -74,11 +74,11 @@ pub fn legal_prefix<Q>()
 pub fn one_admission<Q>()
     ensures at_most_one { (count ceiling : ℕ) (history later : List (Entry Q)) (shard : ℕ)
         → IsLegal count ceiling (history ++ later)
-        → length (admitted history shard) ≤ 1 }
+        → length (open_admissions history shard) ≤ 1 }
     ensures where_admitted { (count ceiling : ℕ) (history later : List (Entry Q)) (shard : ℕ)
         → IsLegal count ceiling (history ++ later)
         → let state = record_at (table_of count ceiling history) shard in
-        length (admitted history shard) ≡ (if state.admitted then 1 else 0) }
+        length (open_admissions history shard) ≡ (if state.admitted then 1 else 0) }
 {}
 
 /// At each point of a legal history the admission of a shard that stands is one of the shard's executor.
@@ -88,7 +88,7 @@ pub fn executor_admitted<Q>()
         → let state = record_at (table_of count ceiling history) shard in
         let IsOfExecutor : Entry Q → Type 0 = λ entry.
         (server : ℕ) × (mode : Mode) × (entry.kind ≡ Admit server mode) × (executor state ≡ Some server) in
-        All IsOfExecutor (admitted history shard) }
+        All IsOfExecutor (open_admissions history shard) }
 {}
 
 /// In a legal history the generation of a shard's record is the number of the shard's entries.

@@ -26,13 +26,13 @@ pub place_of-le : (servers : List ServerRow) (a : ℕ) → place_of servers a �
 place_of-le servers a = prefix_len-le-length (λ row. not (eqb row.id a)) servers
 
 -- the table after so many rows: it has the places below their count
-pub record IsFilled (servers : List ServerRow) (m : ℕ) (places : List ℕ) (count : ℕ) : Type 0 where
+pub record IsPlacedUpTo (servers : List ServerRow) (m : ℕ) (places : List ℕ) (count : ℕ) : Type 0 where
   pub len : length places ≡ m
   pub at : (a : ℕ) → a < m → get_or places a 0 ≡ cond (ltb (place_of servers a) count) (place_of servers a) (length servers)
 
 -- before the first row no server has a place
-pub IsFilled-new : (servers : List ServerRow) (m n : ℕ) → n ≡ length servers → IsFilled servers m (replicate m n) 0
-IsFilled-new servers m n e = record {
+pub IsPlacedUpTo-new : (servers : List ServerRow) (m n : ℕ) → n ≡ length servers → IsPlacedUpTo servers m (replicate m n) 0
+IsPlacedUpTo-new servers m n e = record {
   len = length-replicate m n;
   at = λ a h. get_or-replicate m a n 0 h ∙ e
       ∙ sym (ap (λ b. cond b (place_of servers a) (length servers)) (le-ltb (place_of servers a) 0 (omega arith)));
@@ -63,10 +63,10 @@ place_of-row servers i rise h =
     ]
 
 -- the next row has its place written
-pub IsFilled-next : (servers : List ServerRow) (m : ℕ) (places : List ℕ) (i a : ℕ) → IsStrictlyIncreasing (map (λ row. row.id) servers) → i < length servers
+pub IsPlacedUpTo-next : (servers : List ServerRow) (m : ℕ) (places : List ℕ) (i a : ℕ) → IsStrictlyIncreasing (map (λ row. row.id) servers) → i < length servers
     → a ≡ (get_or servers i no_server).id → a < m
-    → IsFilled servers m places i → IsFilled servers m (set places a i) (i + 1)
-IsFilled-next servers m places i a rise h e small filled = record {
+    → IsPlacedUpTo servers m places i → IsPlacedUpTo servers m (set places a i) (i + 1)
+IsPlacedUpTo-next servers m places i a rise h e small filled = record {
   len = length-set places a i ∙ filled.len;
   at = λ b hb. elim (eqb_tells b a) [
     | inl p ↦
@@ -95,7 +95,7 @@ IsFilled-next servers m places i a rise h e small filled = record {
 
 -- after the last row each server has its place
 pub HasPlaces-filled : (servers : List ServerRow) (places : List ℕ) (n : ℕ) → n ≡ length servers
-    → IsFilled servers (MAX_SERVER + 1) places n → HasPlaces servers places
+    → IsPlacedUpTo servers (MAX_SERVER + 1) places n → HasPlaces servers places
 HasPlaces-filled servers places n e filled = record {
   len = filled.len;
   at = λ a h. filled.at a (omega (arith, h)) ∙ ap (λ v. cond (ltb (place_of servers a) v) (place_of servers a) (length servers)) e

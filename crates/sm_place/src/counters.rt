@@ -36,7 +36,7 @@ pub(crate) fn lower(loads: &mut [u32], first: Option<usize>, second: Option<usiz
 }
 
 /// Counts one more at both places, once where they are the same.
-pub(crate) fn count_in(counts: &mut [u16], first: Option<usize>, second: Option<usize>)
+pub(crate) fn raise_each(counts: &mut [u16], first: Option<usize>, second: Option<usize>)
     requires first { AreInside (length counts.old) first }
     requires second { AreInside (length counts.old) second }
     requires fits { (i : ℕ) → is_hit first second i ≡ true → slice_index counts.old i + 1 < 2 ^ 16 }
@@ -53,7 +53,7 @@ pub(crate) fn count_in(counts: &mut [u16], first: Option<usize>, second: Option<
 }
 
 /// Counts one less at both places, once where they are the same.
-pub(crate) fn count_out(counts: &mut [u16], first: Option<usize>, second: Option<usize>)
+pub(crate) fn lower_each(counts: &mut [u16], first: Option<usize>, second: Option<usize>)
     requires first { AreInside (length counts.old) first }
     requires second { AreInside (length counts.old) second }
     requires fits { (i : ℕ) → is_hit first second i ≡ true → 1 ≤ slice_index counts.old i }

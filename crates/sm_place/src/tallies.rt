@@ -5,7 +5,7 @@ ghost use Rattle.sm_place.specs.Room.{count_in, load_by, load_on, names_domain};
 ghost use Rattle.sm_place.specs.Counters.{HasCells, HasCounts, HasLoads};
 ghost use Rattle.sm_place.specs.Ranks.{AreRanked};
 
-use crate::counters::{count_in, count_out, lower, raise};
+use crate::counters::{lower, lower_each, raise, raise_each};
 use crate::ranks::Ranks;
 use crate::roster::Roster;
 use crate::shard::{Shard, shard_at};
@@ -118,7 +118,7 @@ pub(crate) fn move_count(
     let shard = shard_at(shards, at);
     let group = shard.row.group;
     let (owner, other) = roster.cells_of(ranks, group, &shard.stand);
-    count_out(counts, owner, other);
+    lower_each(counts, owner, other);
     let (owner, other) = roster.cells_of(ranks, group, stand);
-    count_in(counts, owner, other);
+    raise_each(counts, owner, other);
 }

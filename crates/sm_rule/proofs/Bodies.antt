@@ -7,7 +7,7 @@ use Rattle.std.proofs.Math.Seq.{drop-length}
 use Rattle.sm_ownership.specs.declared.entry.Ending.{Ending}
 use Rattle.sm_ownership.specs.declared.entry.Ending.TheVariants.{Nothing, Request, Checkpoint}
 use Rattle.sm_rule.specs.declared.limits.Limits.{Limits}
-use Rattle.sm_rule.specs.declared.view.Held.{Held}
+use Rattle.sm_rule.specs.declared.view.HeldShard.{HeldShard}
 use Rattle.sm_rule.specs.Bodies.{Keeps, all_after, ending_between, first_after}
 use Rattle.sm_rule.specs.Passes.{IsHeldOf}
 use Rattle.sm_rule.specs.Views.{EndsWith, all_held, first_held, list_held}
@@ -17,13 +17,13 @@ pub rests_at : {S Q : Type 0} (rests : S → ℕ → List Q → Type 0) (body : 
 rests_at rests body first later all longer firsts alls is = subst (λ (pair : ℕ × List _). rests body pair.0 pair.1) (λ i. (firsts i, alls i)) is
 
 -- what it rests on at the end of the admission
-pub rests_after : {S Q : Type 0} (rests : S → ℕ → List Q → Type 0) (held : Option (Held Q)) (body : S) (ending : Ending Q) → EndsWith rests held body ending → rests body (first_after (first_held held) (all_held held) ending) (all_after (all_held held) ending)
+pub rests_after : {S Q : Type 0} (rests : S → ℕ → List Q → Type 0) (held : Option (HeldShard Q)) (body : S) (ending : Ending Q) → EndsWith rests held body ending → rests body (first_after (first_held held) (all_held held) ending) (all_after (all_held held) ending)
 rests_after rests held body Nothing is = is
 rests_after rests held body (Request request) is = is
 rests_after rests held body Checkpoint is = is.1
 
 -- what a pass holds is in bounds
-pub held_bounds : {Q : Type 0} (limits : Limits) (held : Option (Held Q)) → IfSome held (IsHeldOf limits) → (first_held held ≤ length (all_held held)) × (length (all_held held) ≤ limits.ceiling)
+pub held_bounds : {Q : Type 0} (limits : Limits) (held : Option (HeldShard Q)) → IfSome held (IsHeldOf limits) → (first_held held ≤ length (all_held held)) × (length (all_held held) ≤ limits.ceiling)
 held_bounds limits None is = (omega arith, omega arith)
 held_bounds limits (Some held) is = (is.1, is.2)
 
@@ -46,7 +46,7 @@ module _ {S State Q : Type 0} (initial : State) (next : State → Q → State) (
   keeps = Keeps initial next base before requests
 
   -- of all that may have become of a body its list tells which
-  pub ending_is : (held : Option (Held Q)) (body : S) (ending : Ending Q) → first_held held ≤ length (all_held held) → EndsWith keeps held body ending → ending_between (list_held held) (requests body) ≡ ending
+  pub ending_is : (held : Option (HeldShard Q)) (body : S) (ending : Ending Q) → first_held held ≤ length (all_held held) → EndsWith keeps held body ending → ending_between (list_held held) (requests body) ≡ ending
   ending_is held body Nothing within is = ap (ending_between (list_held held)) is.2 ∙ between_same (list_held held)
   ending_is held body (Request request) within is =
       ap (ending_between (list_held held)) (is.2 ∙ drop-append-le (first_held held) (all_held held) (request ∷ []) within) ∙ between_more (list_held held) request

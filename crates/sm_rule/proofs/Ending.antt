@@ -21,7 +21,7 @@ use Rattle.sm_rule.specs.Changes.{chair_value}
 use Rattle.sm_rule.specs.Closing.{AreLeft, AreTaken, AreWords, IsTaken, WasClosed}
 use Rattle.sm_rule.specs.Passes.{PassValue}
 use Rattle.sm_rule.specs.Views.{IsMet, Looks}
-use Rattle.sm_rule.specs.Rule.{Fits, Holds, Rule, table_in}
+use Rattle.sm_rule.specs.Rule.{IsTrueView, Holds, Rule, table_in}
 use Rattle.sm_rule.proofs.Keeping.{at_last, in_order, legal_all, length-table, others_all, sees, word_at}
 
 -- a word of a list, and its place
@@ -97,7 +97,7 @@ module _ {S Q : Type 0} (rests : S → ℕ → List Q → Type 0) (limit : S →
       )
 
   module _ (live : view.stage ≡ Acting) (chair : view.number ≡ 0) where
-    abbrev fit : Fits limits id view history
+    abbrev fit : IsTrueView limits id view history
     fit = holds.fit id view last.1.1 live
 
     -- what the control's seat had seen, and what came later, is the whole

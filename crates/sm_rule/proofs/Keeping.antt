@@ -30,16 +30,16 @@ use Rattle.sm_word.specs.Known.{AreKnown, KnownKind}
 use Rattle.sm_word.specs.Word.{IsWellFormed, word_of}
 use Rattle.sm_word.specs.lemmas.Words.{word_once}
 use Rattle.sm_rule.specs.declared.limits.Limits.{Limits}
-use Rattle.sm_rule.specs.declared.view.Held.{Held}
+use Rattle.sm_rule.specs.declared.view.HeldShard.{HeldShard}
 use Rattle.sm_rule.specs.declared.view.Stage.{Stage}
 use Rattle.sm_rule.specs.declared.view.Stage.TheVariants.{Acting, Cut, Joined}
-use Rattle.sm_rule.specs.declared.view.Told.{Told}
+use Rattle.sm_rule.specs.declared.view.Heard.{Heard}
 use Rattle.sm_rule.specs.declared.view.View.{View}
 use Rattle.sm_rule.specs.Admissions.{HoldsPermit, PermitValue}
 use Rattle.sm_rule.specs.Boards.{limit_at}
 use Rattle.sm_rule.specs.Bodies.{all_after, first_after}
 use Rattle.sm_rule.specs.Passes.{IsHeldOf, PassValue, pass_value, slots_of}
-use Rattle.sm_rule.specs.Rule.{AreHome, AreTold, Fits, Holds, HoldsShard, IsCut, Rule, IsTold, table_in}
+use Rattle.sm_rule.specs.Rule.{AreHome, AreHeard, IsTrueView, Holds, IsHolding, IsCut, Rule, IsHeard, table_in}
 use Rattle.sm_rule.specs.Steps.{Entered, Exchanged, IsFree, IsWordOf, Loaded, MayAdd, Stored, TakesBody, is_end}
 use Rattle.sm_rule.specs.Views.{Adds, EndsWith, Looks, adding, all_held, entry_of, first_held, held_after, left_behind, newcomer, record_in, seeing}
 use Rattle.sm_rule.proofs.Bodies.{held_bounds, rests_after, rests_at}
@@ -72,27 +72,27 @@ apart_joined views by id view joined at live same =
     live (ap (λ (one : View _). one.stage) (some-injective view left_behind (sym at ∙ (ap (get_elem? views) (sym same) ∙ joined))))
 
 -- what seats were told, once another that isn't joined has another view, and was told the same
-pub told_set : {Q : Type 0} (views : List (View Q)) (id : ℕ) (before after : View Q) (history : List (Entry Q)) → get_elem? views id ≡ some before → (before.stage ≡ Joined → ⊥) → ((told : Told Q) → after.told ≡ Some told → before.told ≡ Some told) → AreTold views history → AreTold (slice_set views id after) history
+pub told_set : {Q : Type 0} (views : List (View Q)) (id : ℕ) (before after : View Q) (history : List (Entry Q)) → get_elem? views id ≡ some before → (before.stage ≡ Joined → ⊥) → ((heard : Heard Q) → after.heard ≡ Some heard → before.heard ≡ Some heard) → AreHeard views history → AreHeard (slice_set views id after) history
 told_set {Q} views id before after history at live same are =
-    let stays : (told : Told Q) → IsTold views told history → IsTold (slice_set views id after) told history = λ told is. record {
+    let stays : (heard : Heard Q) → IsHeard views heard history → IsHeard (slice_set views id after) heard history = λ heard is. record {
       later = is.later;
       seen = is.seen;
       others = is.others;
-      joined = set_else views id told.by after (apart_joined views told.by id before is.joined at live) ∙ is.joined;
+      joined = set_else views id heard.by after (apart_joined views heard.by id before is.joined at live) ∙ is.joined;
     } in
-    λ n view there told is. views_set (λ m one. (it : Told Q) → one.told ≡ Some it → IsTold (slice_set views id after) it history) views id after
+    λ n view there heard is. views_set (λ m one. (it : Heard Q) → one.heard ≡ Some it → IsHeard (slice_set views id after) it history) views id after
     (λ m one apart found it its. stays it (are m one found it its))
     (λ it its. stays it (are id before at it (same it its)))
-    n view there told is
+    n view there heard is
 
 -- and once there is an entry of a seat that isn't joined
-pub told_added : {Q : Type 0} (views : List (View Q)) (entry : Entry Q) (view : View Q) (history : List (Entry Q)) → get_elem? views entry.actor ≡ some view → (view.stage ≡ Joined → ⊥) → AreTold views history → AreTold views (entry ∷ history)
-told_added views entry view history at live are n one there told is =
-    let before = are n one there told is in
+pub told_added : {Q : Type 0} (views : List (View Q)) (entry : Entry Q) (view : View Q) (history : List (Entry Q)) → get_elem? views entry.actor ≡ some view → (view.stage ≡ Joined → ⊥) → AreHeard views history → AreHeard views (entry ∷ history)
+told_added views entry view history at live are n one there heard is =
+    let before = are n one there heard is in
     record {
       later = entry ∷ before.later;
       seen = ap (λ entries. entry ∷ entries) before.seen;
-      others = All-cons (λ it. it.actor ≢ told.by) entry before.later (λ same. apart_joined views told.by entry.actor view before.joined at live (sym same)) before.others;
+      others = All-cons (λ it. it.actor ≢ heard.by) entry before.later (λ same. apart_joined views heard.by entry.actor view before.joined at live (sym same)) before.others;
       joined = before.joined;
     }
 
@@ -117,13 +117,13 @@ views_pushed P views mine others here n view at =
     (λ (last : (n ≡ length views) × (mine ≡ view)). subst (λ (pair : ℕ × View _). P pair.0 pair.1) (λ i. (sym last.0 i, last.1 i)) here)
     (at_last views mine view n at)
 
-pub told_pushed : {Q : Type 0} (views : List (View Q)) (mine : View Q) (history : List (Entry Q)) → mine.told ≡ None → AreTold views history → AreTold (views ++ mine ∷ []) history
+pub told_pushed : {Q : Type 0} (views : List (View Q)) (mine : View Q) (history : List (Entry Q)) → mine.heard ≡ None → AreHeard views history → AreHeard (views ++ mine ∷ []) history
 told_pushed {Q} views mine history untold are =
-    views_pushed (λ n view. (told : Told Q) → view.told ≡ Some told → IsTold (views ++ mine ∷ []) told history) views mine
-    (λ n view there told is.
-    let before = are n view there told is in
-    record { later = before.later; seen = before.seen; others = before.others; joined = at_longer views (mine ∷ []) told.by left_behind before.joined })
-    (λ told is. absurd (none_some told (sym untold ∙ is)))
+    views_pushed (λ n view. (heard : Heard Q) → view.heard ≡ Some heard → IsHeard (views ++ mine ∷ []) heard history) views mine
+    (λ n view there heard is.
+    let before = are n view there heard is in
+    record { later = before.later; seen = before.seen; others = before.others; joined = at_longer views (mine ∷ []) heard.by left_behind before.joined })
+    (λ heard is. absurd (none_some heard (sym untold ∙ is)))
 
 -- what was seen, and what came later, in order
 pub in_order : {Q : Type 0} (later seen history : List (Entry Q)) → later ++ reverse seen ≡ history → reverse history ≡ seen ++ reverse later
@@ -138,8 +138,8 @@ pub word_at : (words : List ℕ) (table : List Record) (shard : ℕ) → words �
 word_at words table shard are = ap (λ all. slice_index all shard) are ∙ get_or-map word_of table shard vacant
 
 -- a view that has seen all
-module _ {Q : Type 0} (limits : Limits) (id : ℕ) (view : View Q) (history : List (Entry Q)) (fit : Fits limits id view history) where
-  fits_all : Fits limits id (seeing view (reverse history)) history
+module _ {Q : Type 0} (limits : Limits) (id : ℕ) (view : View Q) (history : List (Entry Q)) (fit : IsTrueView limits id view history) where
+  fits_all : IsTrueView limits id (seeing view (reverse history)) history
   fits_all = record {
     limits_are = fit.limits_are;
     number_is = fit.number_is;
@@ -184,9 +184,9 @@ look_keeps rests limit limits id word words homes views history view holds at li
       words_are = set-get_or words word 0 ∙ holds.words_are;
       slots = holds.slots;
       home = holds.home;
-      fit = views_set (λ n one. one.stage ≡ Acting → Fits limits n one history) views id (seeing view (reverse history)) (λ n one apart there. holds.fit n one there) (λ _. fits_all limits id view history (holds.fit id view at live));
+      fit = views_set (λ n one. one.stage ≡ Acting → IsTrueView limits n one history) views id (seeing view (reverse history)) (λ n one apart there. holds.fit n one there) (λ _. fits_all limits id view history (holds.fit id view at live));
       cut = views_set (λ n one. one.stage ≡ Cut → IsCut limits n one history) views id (seeing view (reverse history)) (λ n one apart there. holds.cut n one there) (λ is. absurd (acting_uncut view.stage live is));
-      told = told_set views id view (seeing view (reverse history)) history at (acting_unjoined view.stage live) (λ told is. is) holds.told;
+      heard = told_set views id view (seeing view (reverse history)) history at (acting_unjoined view.stage live) (λ heard is. is) holds.heard;
       unused = λ n past. holds.unused n (subst (λ many. many ≤ n) long past);
       chaired = subst (λ many. 0 < many) (sym long) holds.chaired;
     }
@@ -226,7 +226,7 @@ module _ {Q : Type 0} (limits : Limits) (entry : Entry Q) (history : List (Entry
   record_adds = record_at-latest limits.count limits.ceiling entry history fit
 
 -- what a seat holds stays held while others add entries
-held_stays : {Q : Type 0} (limits : Limits) (number : ℕ) (held : Held Q) (entry : Entry Q) (history : List (Entry Q)) → IsLegalLatest limits.count limits.ceiling (entry ∷ history) → held.shard ≢ entry.shard → HoldsShard limits number held history → HoldsShard limits number held (entry ∷ history)
+held_stays : {Q : Type 0} (limits : Limits) (number : ℕ) (held : HeldShard Q) (entry : Entry Q) (history : List (Entry Q)) → IsLegalLatest limits.count limits.ceiling (entry ∷ history) → held.shard ≢ entry.shard → IsHolding limits number held history → IsHolding limits number held (entry ∷ history)
 held_stays limits number held entry history legal apart is =
     let same : record_at (table_in limits (entry ∷ history)) held.shard ≡ record_at (table_in limits history) held.shard =
     ⊎_elim
@@ -243,7 +243,7 @@ held_stays limits number held entry history legal apart is =
     }
 
 -- another's view after an entry
-fits_other : {Q : Type 0} (limits : Limits) (number : ℕ) (view : View Q) (entry : Entry Q) (history : List (Entry Q)) → IsLegalLatest limits.count limits.ceiling (entry ∷ history) → number ≢ entry.actor → Fits limits number view history → Fits limits number view (entry ∷ history)
+fits_other : {Q : Type 0} (limits : Limits) (number : ℕ) (view : View Q) (entry : Entry Q) (history : List (Entry Q)) → IsLegalLatest limits.count limits.ceiling (entry ∷ history) → number ≢ entry.actor → IsTrueView limits number view history → IsTrueView limits number view (entry ∷ history)
 fits_other limits number view entry history legal apart fit = record {
   limits_are = fit.limits_are;
   number_is = fit.number_is;
@@ -272,11 +272,11 @@ pub same_some : {X : Type 0} (x y : X) → Some x ≡ Some y → x ≡ y
 same_some x y is = cc
 
 -- what is held of a shard after these entries, the latest first, which are this history
-abbrev held_now : {Q : Type 0} → Limits → ℕ → List (Entry Q) → List (Entry Q) → Held Q
+abbrev held_now : {Q : Type 0} → Limits → ℕ → List (Entry Q) → List (Entry Q) → HeldShard Q
 held_now limits shard entries history = record { shard = shard; state = record_at (table_in limits entries) shard; first = first_of history shard; all = all_of history shard }
 
 admits_here : {Q : Type 0} (limits : Limits) (number shard server : ℕ) (mode : Mode) (history : List (Entry Q)) → fits limits.ceiling history (table_in limits history) (entry_of number shard (Admit server mode)) ≡ true → shard < limits.count
-    → HoldsShard limits number (held_now limits shard (entry_of number shard (Admit server mode) ∷ history) (reverse (entry_of number shard (Admit server mode) ∷ history))) (entry_of number shard (Admit server mode) ∷ history)
+    → IsHolding limits number (held_now limits shard (entry_of number shard (Admit server mode) ∷ history) (reverse (entry_of number shard (Admit server mode) ∷ history))) (entry_of number shard (Admit server mode) ∷ history)
 admits_here limits number shard server mode history fit known =
     let here : (shard == shard) ≡ true = eq-eqb shard shard refl in
     let mine : (number == number) ≡ true = eq-eqb number number refl in
@@ -290,7 +290,7 @@ admits_here limits number shard server mode history fit known =
     }
 
 -- the view of the one who adds an entry
-module _ {Q : Type 0} (limits : Limits) (number shard : ℕ) (view : View Q) (history : List (Entry Q)) (before : Fits limits number view history) (known : shard < limits.count) where
+module _ {Q : Type 0} (limits : Limits) (number shard : ℕ) (view : View Q) (history : List (Entry Q)) (before : IsTrueView limits number view history) (known : shard < limits.count) where
   abbrev longer : Kind Q → List (Entry Q)
   longer kind = entry_of number shard kind ∷ history
 
@@ -301,7 +301,7 @@ module _ {Q : Type 0} (limits : Limits) (number shard : ℕ) (view : View Q) (hi
   held_is : (kind : Kind Q) → held_after view.limits shard kind (reverse (longer kind)) view.held ≡ held_after limits shard kind (reverse (longer kind)) view.held
   held_is kind = ap (λ (its : Limits). held_after its shard kind (reverse (longer kind)) view.held) before.limits_are
 
-  holds_own : (kind : Kind Q) → IsFree view kind → IsLegalLatest limits.count limits.ceiling (longer kind) → (held : Held Q) → held_after limits shard kind (reverse (longer kind)) view.held ≡ Some held → HoldsShard limits number held (longer kind)
+  holds_own : (kind : Kind Q) → IsFree view kind → IsLegalLatest limits.count limits.ceiling (longer kind) → (held : HeldShard Q) → held_after limits shard kind (reverse (longer kind)) view.held ≡ Some held → IsHolding limits number held (longer kind)
   holds_own (Changed change) free legal held is = absurd (none_some held (sym free ∙ is))
   holds_own (Admit server mode) free legal held is =
       let kind : Kind Q = Admit server mode in
@@ -309,10 +309,10 @@ module _ {Q : Type 0} (limits : Limits) (number shard : ℕ) (view : View Q) (hi
       let here = admits_here limits number shard server mode history legal.0 known in
       let same : held_now limits shard (longer kind) (reverse (longer kind)) ≡ held =
       ap (λ entries. held_now limits shard entries (reverse (longer kind))) (sym turned) ∙ same_some (held_now limits shard (reverse (reverse (longer kind))) (reverse (longer kind))) held is in
-      subst (λ its. HoldsShard limits number its (longer kind)) same here
+      subst (λ its. IsHolding limits number its (longer kind)) same here
   holds_own (Done ending) free legal held is = absurd (cc)
 
-  fits_own : (kind : Kind Q) → IsFree view kind → ((server : ℕ) → view.server ≡ Some server → admits_only server kind ≡ true) → IsLegalLatest limits.count limits.ceiling (longer kind) → Fits limits number (mine kind) (longer kind)
+  fits_own : (kind : Kind Q) → IsFree view kind → ((server : ℕ) → view.server ≡ Some server → admits_only server kind ≡ true) → IsLegalLatest limits.count limits.ceiling (longer kind) → IsTrueView limits number (mine kind) (longer kind)
   fits_own kind free only legal = record {
     limits_are = before.limits_are;
     number_is = before.number_is;
@@ -435,9 +435,9 @@ adds_keep rests limit limits id word new words homes later views history view ki
       words_are = words_add limits entry history fit words new holds.words_are is;
       slots = many;
       home = home;
-      fit = views_set (λ n one. one.stage ≡ Acting → Fits limits n one (entry ∷ history)) views id mine (λ n one apart there alive. fits_other limits n one entry history legal apart (holds.fit n one there alive)) (λ _. fits_own limits id word view history (holds.fit id view at live) within kind free only legal);
+      fit = views_set (λ n one. one.stage ≡ Acting → IsTrueView limits n one (entry ∷ history)) views id mine (λ n one apart there alive. fits_other limits n one entry history legal apart (holds.fit n one there alive)) (λ _. fits_own limits id word view history (holds.fit id view at live) within kind free only legal);
       cut = views_set (λ n one. one.stage ≡ Cut → IsCut limits n one (entry ∷ history)) views id mine (λ n one apart there off. cut_added limits n one entry history apart (holds.cut n one there off)) (λ is. absurd (acting_uncut view.stage live is));
-      told = told_set views id view mine (entry ∷ history) at (acting_unjoined view.stage live) (λ told is. is) (told_added views entry view history at (acting_unjoined view.stage live) holds.told);
+      heard = told_set views id view mine (entry ∷ history) at (acting_unjoined view.stage live) (λ heard is. is) (told_added views entry view history at (acting_unjoined view.stage live) holds.heard);
       unused = λ n past.
           let before : length views ≤ n = subst (λ many. many ≤ n) long past in
           All-cons (λ one. one.actor ≢ n) entry history (λ is. at_end n id views view at before (sym is)) (holds.unused n before);
@@ -445,9 +445,9 @@ adds_keep rests limit limits id word new words homes later views history view ki
     }
 
 -- a seat's fit, as its own view says it
-fit_by_view : {Q : Type 0} (limits : Limits) (id : ℕ) (view : View Q) (history : List (Entry Q)) → Fits limits id view history → Fits view.limits view.number view history
+fit_by_view : {Q : Type 0} (limits : Limits) (id : ℕ) (view : View Q) (history : List (Entry Q)) → IsTrueView limits id view history → IsTrueView view.limits view.number view history
 fit_by_view limits id view history fit =
-    subst (λ (pair : Limits × ℕ). Fits pair.0 pair.1 view history) (λ i. (sym fit.limits_are i, sym fit.number_is i)) fit
+    subst (λ (pair : Limits × ℕ). IsTrueView pair.0 pair.1 view history) (λ i. (sym fit.limits_are i, sym fit.number_is i)) fit
 
 -- an entry of a shard of the board fits where its kind does
 fits_kind : {Q : Type 0} (limits : Limits) (id word : ℕ) (history : List (Entry Q)) (kind : Kind Q) → word < limits.count → kind_fits limits.ceiling history (record_at (table_in limits history) word) id word kind ≡ true → fits limits.ceiling history (table_in limits history) (entry_of id word kind) ≡ true
@@ -505,7 +505,7 @@ module _ {S Q : Type 0} (rests : S → ℕ → List Q → Type 0) (limit : S →
     abbrev entry : Entry Q
     entry = entry_of id word kind
 
-    fit : Fits limits id me.0 history
+    fit : IsTrueView limits id me.0 history
     fit = holds.fit id me.0 at live
 
     found_here : slice_index table.words word ≡ word_of here
@@ -577,7 +577,7 @@ exchange_allowed rests limit limits slots id shard word old new me read kind at 
     exchanges rests limit limits slots id word old new me read kind low (subst (λ k. k < limits.count) (sym at) within) live formed packed written (subst (λ k. MayAdd me.0 k read kind) (sym at) may)
 
 -- the store of the one who holds the shard, whose body has come back to the slot that it carries
-pub stores : {S Q : Type 0} (rests : S → ℕ → List Q → Type 0) (limit : S → ℕ) (limits : Limits) (slots id word new : ℕ) (view : View Q) (body : S) (held : Held Q) (ending : Ending Q)
+pub stores : {S Q : Type 0} (rests : S → ℕ → List Q → Type 0) (limit : S → ℕ) (limits : Limits) (slots id word new : ℕ) (view : View Q) (body : S) (held : HeldShard Q) (ending : Ending Q)
     → limits.ceiling < 2 ^ 36 → view.stage ≡ Acting → view.held ≡ Some held → held.shard ≡ word → new ≡ word_of (after_done held.state) → rests body (first_after held.first held.all ending) (all_after held.all ending) → limit body ≡ limit_at limits word
     → Allows (Rule rests limit limits) slots id (view, (word, Some body) ∷ []) word (λ _. new) (λ _. Stored (Done ending) (step {S = Option S} slots word new 0 none) (view, (word, Some body) ∷ []) new)
 stores {S} {Q} rests limit limits slots id word new view body held ending low live holding shard written gains same_limit table rule size at small =
@@ -626,7 +626,7 @@ enters {S} {Q} rests limit limits slots word server first same table rule size s
     let nobody : NoneBy n history = holds.unused n (le_refl n) in
     let mine : View Q = newcomer limits n server (reverse history) in
     let long = length-append table.views (mine ∷ []) in
-    let fit : Fits limits n mine history = record {
+    let fit : IsTrueView limits n mine history = record {
       limits_are = refl;
       number_is = refl;
       later = [];
@@ -646,9 +646,9 @@ enters {S} {Q} rests limit limits slots word server first same table rule size s
           words_are = holds.words_are;
           slots = holds.slots;
           home = holds.home;
-          fit = views_pushed (λ m one. one.stage ≡ Acting → Fits limits m one history) table.views mine holds.fit (λ _. fit);
+          fit = views_pushed (λ m one. one.stage ≡ Acting → IsTrueView limits m one history) table.views mine holds.fit (λ _. fit);
           cut = views_pushed (λ m one. one.stage ≡ Cut → IsCut limits m one history) table.views mine holds.cut (λ is. absurd (acting_uncut Acting refl is));
-          told = told_pushed table.views mine history refl holds.told;
+          heard = told_pushed table.views mine history refl holds.heard;
           unused = λ m past. holds.unused m (omega arith);
           chaired = omega arith;
         },
@@ -687,7 +687,7 @@ begins {S} {Q} rests limit limits words bodies slots are many sizes put empty = 
         (body.0, ap (λ (all : List (Option S)). get_elem? (map some all) shard) put ∙ body.1, all_at (λ one. rests one 0 []) bodies shard body.0 empty body.2, body.3 ∙ ap (λ all. slice_index_or all shard 0) (sym sizes));
     fit = λ n view at live. first n view at;
     cut = λ n view at is. absurd (acting_uncut view.stage (ap (λ (one : View Q). one.stage) (only n view at)) is);
-    told = λ n view at told is. absurd (none_some told (sym (ap (λ (one : View Q). one.told) (only n view at)) ∙ is));
+    heard = λ n view at heard is. absurd (none_some heard (sym (ap (λ (one : View Q). one.heard) (only n view at)) ∙ is));
     unused = λ n past. All-nil (λ one. one.actor ≢ n);
     chaired = omega arith;
   },
@@ -697,8 +697,8 @@ begins {S} {Q} rests limit limits words bodies slots are many sizes put empty = 
     only zero view at = sym (some-injective _ _ at)
     only (suc n) view at = absurd (some-ne-none view (sym at))
 
-    first : (n : ℕ) (view : View Q) → get_elem? (newcomer limits 0 None [] ∷ []) n ≡ some view → Fits limits n view []
-    first zero view at = subst (λ (one : View Q). Fits limits 0 one []) (some-injective _ _ at) (record {
+    first : (n : ℕ) (view : View Q) → get_elem? (newcomer limits 0 None [] ∷ []) n ≡ some view → IsTrueView limits n view []
+    first zero view at = subst (λ (one : View Q). IsTrueView limits 0 one []) (some-injective _ _ at) (record {
       limits_are = refl;
       number_is = refl;
       later = [];
@@ -714,14 +714,14 @@ pub carries_body : {S Q : Type 0} (me : Me (Option S) (View Q)) (view : View Q) 
 carries_body {S} {Q} me view carried at shard body out slots = out ∙ ap (λ (all : List (ℕ × Option S)). (view, (at, Some body) ∷ rest all)) slots
 
 -- the store that spends a permit
-held_some : {Q : Type 0} (held : Option (Held Q)) (shard : ℕ) (state : Record) → option_map {U = ℕ × Record} (λ (one : Held Q). (one.shard, one.state)) held ≡ Some (shard, state) → (one : Held Q) × (held ≡ Some one) × (one.shard ≡ shard) × (one.state ≡ state)
+held_some : {Q : Type 0} (held : Option (HeldShard Q)) (shard : ℕ) (state : Record) → option_map {U = ℕ × Record} (λ (one : HeldShard Q). (one.shard, one.state)) held ≡ Some (shard, state) → (one : HeldShard Q) × (held ≡ Some one) × (one.shard ≡ shard) × (one.state ≡ state)
 held_some None shard state is = absurd (none_some (shard, state) is)
 held_some (Some one) shard state is =
     let same = same_some (one.shard, one.state) (shard, state) is in
     (one, refl, ap (λ (it : ℕ × Record). it.0) same, ap (λ (it : ℕ × Record). it.1) same)
 
 module _ {S Q : Type 0} (id : TableId) (view : View Q) (pass : PassValue Q) (permit : PermitValue S) (of_pass : pass_value id view ≡ pass) (holds : HoldsPermit pass permit) where
-  held_view : (one : Held Q) × (view.held ≡ Some one) × (one.shard ≡ permit.shard) × (one.state ≡ permit.state)
+  held_view : (one : HeldShard Q) × (view.held ≡ Some one) × (one.shard ≡ permit.shard) × (one.state ≡ permit.state)
   held_view =
       let is = held_some pass.held permit.shard permit.state holds.1 in
       (is.0, ap (λ (it : PassValue Q). it.held) of_pass ∙ is.1, is.2, is.3)
@@ -729,7 +729,7 @@ module _ {S Q : Type 0} (id : TableId) (view : View Q) (pass : PassValue Q) (per
   pub held_within : IfSome view.held (IsHeldOf view.limits) → permit.shard < view.limits.count
   held_within within =
       let is = held_view in
-      let at : IsHeldOf view.limits is.0 = subst (λ (held : Option (Held Q)). IfSome held (IsHeldOf view.limits)) is.1 within in
+      let at : IsHeldOf view.limits is.0 = subst (λ (held : Option (HeldShard Q)). IfSome held (IsHeldOf view.limits)) is.1 within in
       subst (λ shard. shard < view.limits.count) is.2 at.0
 
   same_held : view.held ≡ pass.held
@@ -737,7 +737,7 @@ module _ {S Q : Type 0} (id : TableId) (view : View Q) (pass : PassValue Q) (per
 
   pub bounds : IfSome view.held (IsHeldOf view.limits) → (first_held pass.held ≤ length (all_held pass.held)) × (length (all_held pass.held) ≤ view.limits.ceiling)
   bounds within =
-      held_bounds view.limits pass.held (subst (λ (held : Option (Held Q)). IfSome held (IsHeldOf view.limits)) same_held within)
+      held_bounds view.limits pass.held (subst (λ (held : Option (HeldShard Q)). IfSome held (IsHeldOf view.limits)) same_held within)
 
   -- the slot that the pass carries is that of the permit's shard, and empty
   pub slot_held : slots_of {S = S} view.held ≡ (permit.shard, None) ∷ []
@@ -758,6 +758,6 @@ module _ {S Q : Type 0} (id : TableId) (view : View Q) (pass : PassValue Q) (per
       → Allows (Rule rests limit limits) slots seat me word (λ _. new) (λ _. Stored (Done ending) (step {S = Option S} slots word new 0 none) me new)
   store_allowed rests limit limits slots seat word new body me ending carries low live shard written gains same_limit =
       let is = held_view in
-      let ends : EndsWith rests (Some is.0) body ending = subst (λ (held : Option (Held Q)). EndsWith rests held body ending) (sym same_held ∙ is.1) gains in
+      let ends : EndsWith rests (Some is.0) body ending = subst (λ (held : Option (HeldShard Q)). EndsWith rests held body ending) (sym same_held ∙ is.1) gains in
       let allowed = stores rests limit limits slots seat word new view body is.0 ending low live is.1 (is.2 ∙ shard) (written ∙ ap (λ (state : Record). word_of (after_done state)) (sym is.3)) (rests_after rests (Some is.0) body ending ends) same_limit in
       subst (λ (my : Me (Option S) (View Q)). Allows (Rule rests limit limits) slots seat my word (λ _. new) (λ _. Stored (Done ending) (step {S = Option S} slots word new 0 none) my new)) (sym carries) allowed

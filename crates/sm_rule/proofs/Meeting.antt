@@ -12,9 +12,9 @@ use Rattle.sm_ownership.specs.History.{NoneBy}
 use Rattle.sm_ownership.specs.lemmas.Lasting.{NoneBy-reverse}
 use Rattle.sm_rule.specs.declared.limits.Limits.{Limits}
 use Rattle.sm_rule.specs.declared.view.Stage.TheVariants.{Acting, Cut, Joined}
-use Rattle.sm_rule.specs.declared.view.Told.{Told}
+use Rattle.sm_rule.specs.declared.view.Heard.{Heard}
 use Rattle.sm_rule.specs.declared.view.View.{View}
-use Rattle.sm_rule.specs.Rule.{AreTold, Fits, Holds, IsCut, Rule, IsTold}
+use Rattle.sm_rule.specs.Rule.{AreHeard, IsTrueView, Holds, IsCut, Rule, IsHeard}
 use Rattle.sm_rule.specs.Steps.{Met}
 use Rattle.sm_rule.specs.Views.{informed, left_behind, seeing}
 use Rattle.sm_rule.proofs.Keeping.{acting_uncut, in_order, look_keeps, looks_all, same_some, views_set}
@@ -45,13 +45,13 @@ module _ {S Q : Type 0} (rests : S → ℕ → List Q → Type 0) (limit : S →
   found : get_elem? first other ≡ some one
   found = set_else views id other both apart ∙ there
 
-  fits_both : Fits limits id both history
+  fits_both : IsTrueView limits id both history
   fits_both =
       let fit = holds.fit id view at live in
       record { limits_are = fit.limits_are; number_is = fit.number_is; later = fit.later; seen = fit.seen; others = fit.others; server = fit.server; held = fit.held }
 
   -- what the seat is told of the other
-  tells : IsTold last (record { by = one.number; seen = one.seen }) history
+  tells : IsHeard last (record { by = one.number; seen = one.seen }) history
   tells =
       let fit = holds.fit other one there alive in
       record {
@@ -61,24 +61,24 @@ module _ {S Q : Type 0} (rests : S → ℕ → List Q → Type 0) (limit : S →
         joined = ap (get_elem? last) fit.number_is ∙ set_here first other left_behind (below_end first other one found);
       }
 
-  told_last : (told : Told Q) → IsTold views told history → IsTold last told history
-  told_last told is =
-      let apart_from : (n : ℕ) (its : View Q) → get_elem? views n ≡ some its → its.stage ≡ Acting → told.by ≢ n = λ n its found_it acts same.
+  told_last : (heard : Heard Q) → IsHeard views heard history → IsHeard last heard history
+  told_last heard is =
+      let apart_from : (n : ℕ) (its : View Q) → get_elem? views n ≡ some its → its.stage ≡ Acting → heard.by ≢ n = λ n its found_it acts same.
       joined_unacting (sym (ap (λ (it : View Q). it.stage) (some-injective its left_behind (sym found_it ∙ (ap (get_elem? views) (sym same) ∙ is.joined)))) ∙ acts) in
       record {
         later = is.later;
         seen = is.seen;
         others = is.others;
-        joined = set_else first other told.by left_behind (apart_from other one there alive) ∙ (set_else views id told.by both (apart_from id view at live) ∙ is.joined);
+        joined = set_else first other heard.by left_behind (apart_from other one there alive) ∙ (set_else views id heard.by both (apart_from id view at live) ∙ is.joined);
       }
 
-  told_both : AreTold last history
-  told_both = views_set (λ n it. (told : Told Q) → it.told ≡ Some told → IsTold last told history) first other left_behind
-      (λ n it away at_first. views_set (λ m its. (told : Told Q) → its.told ≡ Some told → IsTold last told history) views id both
-      (λ m its off at_views told is. told_last told (holds.told m its at_views told is))
-      (λ told is. subst (λ its. IsTold last its history) (same_some _ told is) tells)
+  told_both : AreHeard last history
+  told_both = views_set (λ n it. (heard : Heard Q) → it.heard ≡ Some heard → IsHeard last heard history) first other left_behind
+      (λ n it away at_first. views_set (λ m its. (heard : Heard Q) → its.heard ≡ Some heard → IsHeard last heard history) views id both
+      (λ m its off at_views heard is. told_last heard (holds.heard m its at_views heard is))
+      (λ heard is. subst (λ its. IsHeard last its history) (same_some _ heard is) tells)
       n it at_first)
-      (λ told is. absurd (cc))
+      (λ heard is. absurd (cc))
 
   joined : Holds rests limit limits words homes last history
   joined =
@@ -89,13 +89,13 @@ module _ {S Q : Type 0} (rests : S → ℕ → List Q → Type 0) (limit : S →
         words_are = holds.words_are;
         slots = holds.slots;
         home = holds.home;
-        fit = views_set (λ n it. it.stage ≡ Acting → Fits limits n it history) first other left_behind
-            (λ n it away at_first. views_set (λ m its. its.stage ≡ Acting → Fits limits m its history) views id both (λ m its off at_views. holds.fit m its at_views) (λ _. fits_both) n it at_first)
+        fit = views_set (λ n it. it.stage ≡ Acting → IsTrueView limits n it history) first other left_behind
+            (λ n it away at_first. views_set (λ m its. its.stage ≡ Acting → IsTrueView limits m its history) views id both (λ m its off at_views. holds.fit m its at_views) (λ _. fits_both) n it at_first)
             (λ is. absurd (joined_unacting is));
         cut = views_set (λ n it. it.stage ≡ Cut → IsCut limits n it history) first other left_behind
             (λ n it away at_first. views_set (λ m its. its.stage ≡ Cut → IsCut limits m its history) views id both (λ m its off at_views. holds.cut m its at_views) (λ is. absurd (acting_uncut view.stage live is)) n it at_first)
             (λ is. absurd (joined_uncut is));
-        told = told_both;
+        heard = told_both;
         unused = λ n past. holds.unused n (subst (λ many. many ≤ n) long past);
         chaired = subst (λ many. 0 < many) (sym long) holds.chaired;
       }
@@ -117,9 +117,9 @@ meets rests limit limits slots id word me live table rule size at small =
       (history, look_keeps rests limit limits id word table.words table.homes table.views history me.0 holds at live),
       (
         looks_all limits id me.0 history fit holds.legal,
-        (λ told is.
-            let tells = holds.told id me.0 at told is in
-            (reverse tells.later, in_order tells.later told.seen history tells.seen, NoneBy-reverse told.by tells.later tells.others)),
+        (λ heard is.
+            let tells = holds.heard id me.0 at heard is in
+            (reverse tells.later, in_order tells.later heard.seen history tells.seen, NoneBy-reverse heard.by tells.later tells.others)),
         refl,
       ),
     )

@@ -11,7 +11,7 @@ use Rattle.sm_ownership.specs.lemmas.Lasting.{NoneBy-reverse, acts_as-none}
 use Rattle.sm_rule.specs.declared.limits.Limits.{Limits}
 use Rattle.sm_rule.specs.declared.view.Stage.TheVariants.{Acting, Cut, Joined}
 use Rattle.sm_rule.specs.declared.view.View.{View}
-use Rattle.sm_rule.specs.Rule.{Fits, Holds, IsCut, Rule}
+use Rattle.sm_rule.specs.Rule.{IsTrueView, Holds, IsCut, Rule}
 use Rattle.sm_rule.specs.Steps.{Enrolled}
 use Rattle.sm_rule.specs.Views.{cut_off, newcomer}
 use Rattle.sm_rule.proofs.Keeping.{acting_uncut, at_end, in_order, told_pushed, told_set, views_pushed, views_set}
@@ -41,9 +41,9 @@ splits {S} {Q} rests limit limits id view live table rule at =
       words_are = holds.words_are;
       slots = holds.slots;
       home = holds.home;
-      fit = views_pushed (λ m one. one.stage ≡ Acting → Fits limits m one history) table.views mine holds.fit (λ is. absurd (acting_uncut Cut is refl));
+      fit = views_pushed (λ m one. one.stage ≡ Acting → IsTrueView limits m one history) table.views mine holds.fit (λ is. absurd (acting_uncut Cut is refl));
       cut = views_pushed (λ m one. one.stage ≡ Cut → IsCut limits m one history) table.views mine holds.cut (λ _. off);
-      told = told_pushed table.views mine history refl holds.told;
+      heard = told_pushed table.views mine history refl holds.heard;
       unused = λ m past. holds.unused m (omega arith);
       chaired = omega arith;
     } in
@@ -65,7 +65,7 @@ enrolls {S} {Q} rests limit limits slots id word me off table rule size at small
     let is = holds.cut id view at off in
     let mine : View Q = newcomer limits id view.server (reverse history) in
     let long = length-set table.views id mine in
-    let fit : Fits limits id mine history = record {
+    let fit : IsTrueView limits id mine history = record {
       limits_are = refl;
       number_is = refl;
       later = [];
@@ -80,9 +80,9 @@ enrolls {S} {Q} rests limit limits slots id word me off table rule size at small
       words_are = set-get_or table.words word 0 ∙ holds.words_are;
       slots = holds.slots;
       home = holds.home;
-      fit = views_set (λ n one. one.stage ≡ Acting → Fits limits n one history) table.views id mine (λ n one apart there. holds.fit n one there) (λ _. fit);
+      fit = views_set (λ n one. one.stage ≡ Acting → IsTrueView limits n one history) table.views id mine (λ n one apart there. holds.fit n one there) (λ _. fit);
       cut = views_set (λ n one. one.stage ≡ Cut → IsCut limits n one history) table.views id mine (λ n one apart there. holds.cut n one there) (λ its. absurd (acting_uncut Acting refl its));
-      told = told_set table.views id view mine history at (cut_unjoined view off) (λ told its. absurd (cc)) holds.told;
+      heard = told_set table.views id view mine history at (cut_unjoined view off) (λ heard its. absurd (cc)) holds.heard;
       unused = λ n past. holds.unused n (subst (λ many. many ≤ n) long past);
       chaired = subst (λ many. 0 < many) (sym long) holds.chaired;
     } in

@@ -5,7 +5,7 @@ use Rattle.sm_ownership.specs.declared.entry.Entry.{Entry}
 use Rattle.sm_ownership.specs.declared.entry.Kind.{Kind}
 use Rattle.sm_ownership.specs.declared.record.Record.{Record}
 use Rattle.sm_rule.specs.declared.limits.Limits.{Limits}
-use Rattle.sm_rule.specs.declared.view.Held.{Held}
+use Rattle.sm_rule.specs.declared.view.HeldShard.{HeldShard}
 use Rattle.sm_rule.specs.declared.view.Stage.TheVariants.{Acting}
 use Rattle.sm_rule.specs.declared.view.View.{View}
 use Rattle.sm_rule.specs.Boards.{BoardValue}
@@ -17,7 +17,7 @@ pub record PassValue (Q : Type 0) : Type 0 where
   pub board : BoardValue
   pub number : ℕ
   pub server : Option ℕ
-  pub held : Option (Held Q)
+  pub held : Option (HeldShard Q)
   pub seen : List (Entry Q)
 
 -- the pass of a seat with this view
@@ -26,12 +26,12 @@ pass_value id view =
     record { board = record { id = id; limits = view.limits }; number = view.number; server = view.server; held = view.held; seen = view.seen }
 
 -- the slots that a pass has: that of the shard that it holds, whose body is out with the permit
-abbrev pub slots_of : {S Q : Type 0} → Option (Held Q) → List (ℕ × Option S)
+abbrev pub slots_of : {S Q : Type 0} → Option (HeldShard Q) → List (ℕ × Option S)
 slots_of None = []
 slots_of (Some held) = (held.shard, None) ∷ []
 
 -- what a pass on a board with these limits may hold: one of its shards, which has had no more requests than entries
-abbrev pub IsHeldOf : {Q : Type 0} → Limits → Held Q → Type 0
+abbrev pub IsHeldOf : {Q : Type 0} → Limits → HeldShard Q → Type 0
 IsHeldOf limits held = (held.shard < limits.count) × (held.first ≤ length held.all) × (length held.all ≤ limits.ceiling)
 
 -- the view of a pass with this server

@@ -11,9 +11,9 @@ use Rattle.sm_word.specs.Known.{AreKnown}
 use Rattle.sm_word.specs.Word.{word_of}
 use Rattle.sm_rule.specs.Boards.{limit_at}
 use Rattle.sm_rule.specs.declared.limits.Limits.{Limits}
-use Rattle.sm_rule.specs.declared.view.Held.{Held}
+use Rattle.sm_rule.specs.declared.view.HeldShard.{HeldShard}
 use Rattle.sm_rule.specs.declared.view.Stage.TheVariants.{Acting, Cut}
-use Rattle.sm_rule.specs.declared.view.Told.{Told}
+use Rattle.sm_rule.specs.declared.view.Heard.{Heard}
 use Rattle.sm_rule.specs.declared.view.View.{View}
 use Rattle.sm_rule.specs.Views.{left_behind}
 
@@ -24,7 +24,7 @@ abbrev pub table_in : {Q : Type 0} → Limits → List (Entry Q) → List Record
 table_in limits history = table_of_latest limits.count limits.ceiling history
 
 -- a seat holds a shard: it is admitted, by this seat's number, and since then nothing happened to it
-pub record HoldsShard {Q : Type 0} (limits : Limits) (number : ℕ) (held : Held Q) (history : List (Entry Q)) : Type 0 where
+pub record IsHolding {Q : Type 0} (limits : Limits) (number : ℕ) (held : HeldShard Q) (history : List (Entry Q)) : Type 0 where
   pub known : held.shard < limits.count
   pub state : record_at (table_in limits history) held.shard ≡ held.state
   pub admitted : held.state.admitted ≡ true
@@ -33,14 +33,14 @@ pub record HoldsShard {Q : Type 0} (limits : Limits) (number : ℕ) (held : Held
   pub all : all_of (reverse history) held.shard ≡ held.all
 
 -- what a seat knows is so: the history begins with what it has seen, and has no more entries of its number
-pub record Fits {Q : Type 0} (limits : Limits) (number : ℕ) (view : View Q) (history : List (Entry Q)) : Type 0 where
+pub record IsTrueView {Q : Type 0} (limits : Limits) (number : ℕ) (view : View Q) (history : List (Entry Q)) : Type 0 where
   pub limits_are : view.limits ≡ limits
   pub number_is : view.number ≡ number
   pub later : List (Entry Q)
   pub seen : later ++ reverse view.seen ≡ history
   pub others : NoneBy number later
   pub server : (server : ℕ) → view.server ≡ Some server → acts_as history number server ≡ true
-  pub held : (held : Held Q) → view.held ≡ Some held → HoldsShard limits number held history
+  pub held : (held : HeldShard Q) → view.held ≡ Some held → IsHolding limits number held history
 
 -- a seat that was cut from another has seen a front of the history, which has no entry of the number that it is to have
 pub record IsCut {Q : Type 0} (limits : Limits) (number : ℕ) (view : View Q) (history : List (Entry Q)) : Type 0 where
@@ -52,15 +52,15 @@ pub record IsCut {Q : Type 0} (limits : Limits) (number : ℕ) (view : View Q) (
   pub unused : NoneBy number history
 
 -- a seat that was taken in had seen a front of the history, which has no more entries of its number
-pub record IsTold {Q : Type 0} (views : List (View Q)) (told : Told Q) (history : List (Entry Q)) : Type 0 where
+pub record IsHeard {Q : Type 0} (views : List (View Q)) (heard : Heard Q) (history : List (Entry Q)) : Type 0 where
   pub later : List (Entry Q)
-  pub seen : later ++ reverse told.seen ≡ history
-  pub others : NoneBy told.by later
-  pub joined : get_elem? views told.by ≡ some left_behind
+  pub seen : later ++ reverse heard.seen ≡ history
+  pub others : NoneBy heard.by later
+  pub joined : get_elem? views heard.by ≡ some left_behind
 
 -- all that seats were told is so
-abbrev pub AreTold : {Q : Type 0} → List (View Q) → List (Entry Q) → Type 0
-AreTold views history = (number : ℕ) (view : View _) → get_elem? views number ≡ some view → (told : Told _) → view.told ≡ Some told → IsTold views told history
+abbrev pub AreHeard : {Q : Type 0} → List (View Q) → List (Entry Q) → Type 0
+AreHeard views history = (number : ℕ) (view : View _) → get_elem? views number ≡ some view → (heard : Heard _) → view.heard ≡ Some heard → IsHeard views heard history
 
 -- the bodies of the idle shards are at home: each rests on all requests that the history has for its shard, and has the shard's limit
 abbrev pub AreHome : {S Q : Type 0} → (S → ℕ → List Q → Type 0) → (S → ℕ) → Limits → List (math.Option (Option S)) → List (Entry Q) → Type 0
@@ -77,9 +77,9 @@ pub record Holds {S Q : Type 0} (keeps : S → ℕ → List Q → Type 0) (limit
   pub words_are : words ≡ map word_of (table_in limits history)
   pub slots : length homes ≡ limits.count
   pub home : AreHome keeps limit limits homes history
-  pub fit : (number : ℕ) (view : View Q) → get_elem? views number ≡ some view → view.stage ≡ Acting → Fits limits number view history
+  pub fit : (number : ℕ) (view : View Q) → get_elem? views number ≡ some view → view.stage ≡ Acting → IsTrueView limits number view history
   pub cut : (number : ℕ) (view : View Q) → get_elem? views number ≡ some view → view.stage ≡ Cut → IsCut limits number view history
-  pub told : AreTold views history
+  pub heard : AreHeard views history
   pub unused : (number : ℕ) → length views ≤ number → NoneBy number history
   pub chaired : 0 < length views
 

@@ -8,11 +8,11 @@ use Rattle.sm_ownership.specs.declared.record.Record.{Record}
 use Rattle.sm_ownership.specs.History.{IsLegal, admits_only, all_of, ending_of, first_of, kind_fits, NoneBy}
 use Rattle.sm_word.specs.Known.{KnownKind}
 use Rattle.sm_word.specs.Word.{IsWellFormed, word_of}
-use Rattle.sm_rule.specs.declared.view.Told.{Told}
+use Rattle.sm_rule.specs.declared.view.Heard.{Heard}
 use Rattle.sm_rule.specs.declared.view.View.{View}
 use Rattle.sm_rule.specs.Boards.{limit_at}
 use Rattle.sm_rule.specs.Bodies.{all_after, first_after}
-use Rattle.sm_rule.specs.Rule.{Fits}
+use Rattle.sm_rule.specs.Rule.{IsTrueView}
 use Rattle.sm_rule.specs.Views.{Adds, Begins, IsMet, Looks, all_held, first_held, newcomer, record_in}
 
 -- the word is that of the shard's record in all that the view has seen
@@ -51,7 +51,7 @@ Enrolled step before found after = IsHalf before.0 after.0 × (after.1 ≡ befor
 abbrev pub Met : {S Q : Type 0} → Step S → Me S (View Q) → ℕ → Me S (View Q) → Type 0
 Met step before found after =
     Looks before.0 after.0
-    × ((told : Told _) → before.0.told ≡ Some told → IsMet told.by told.seen after.0.seen)
+    × ((heard : Heard _) → before.0.heard ≡ Some heard → IsMet heard.by heard.seen after.0.seen)
     × (after.1 ≡ before.1)
 
 -- an admission takes the shard's slot, with a body of its limit that rests on all requests of the shard; a change takes none
@@ -92,4 +92,4 @@ pub record MayAdd {Q : Type 0} (view : View Q) (shard : ℕ) (state : Record) (k
   pub begins : is_end kind ≡ false
   pub free : IsFree view kind
   pub own_server : (server : ℕ) → view.server ≡ Some server → admits_only server kind ≡ true
-  pub follows : (history : List (Entry Q)) → Fits view.limits view.number view history → kind_fits view.limits.ceiling history state view.number shard kind ≡ true
+  pub follows : (history : List (Entry Q)) → IsTrueView view.limits view.number view history → kind_fits view.limits.ceiling history state view.number shard kind ≡ true

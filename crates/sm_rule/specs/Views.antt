@@ -8,7 +8,7 @@ use Rattle.sm_ownership.specs.declared.entry.Kind.TheVariants.{Change as Changed
 use Rattle.sm_ownership.specs.declared.record.Record.{Record}
 use Rattle.sm_ownership.specs.History.{IsLegal, all_of, first_of, record_at, table_of, NoneBy}
 use Rattle.sm_rule.specs.declared.limits.Limits.{Limits}
-use Rattle.sm_rule.specs.declared.view.Held.{Held}
+use Rattle.sm_rule.specs.declared.view.HeldShard.{HeldShard}
 use Rattle.sm_rule.specs.declared.view.Stage.TheVariants.{Acting, Cut, Joined}
 use Rattle.sm_rule.specs.declared.view.View.{View}
 
@@ -33,29 +33,29 @@ Grows limits number before after added =
     (others : List (Entry _)) × (after ≡ (before ++ others) ++ added) × NoneBy number others × IsLegal limits.count limits.ceiling after
 
 -- what is held after an entry of one's own, the last of a history: an admission holds its shard, and its end nothing
-abbrev pub held_after : {Q : Type 0} → Limits → ℕ → Kind Q → List (Entry Q) → Option (Held Q) → Option (Held Q)
+abbrev pub held_after : {Q : Type 0} → Limits → ℕ → Kind Q → List (Entry Q) → Option (HeldShard Q) → Option (HeldShard Q)
 held_after limits shard (Changed change) history held = held
 held_after limits shard (Admit server mode) history held =
     Some (record { shard = shard; state = record_in limits history shard; first = first_of history shard; all = all_of history shard })
 held_after limits shard (Done ending) history held = None
 
 -- all requests of the shard that is held, at the admission
-abbrev pub all_held : {Q : Type 0} → Option (Held Q) → List Q
+abbrev pub all_held : {Q : Type 0} → Option (HeldShard Q) → List Q
 all_held None = []
 all_held (Some held) = held.all
 
 -- how many of them came before the base of its body
-abbrev pub first_held : {Q : Type 0} → Option (Held Q) → ℕ
+abbrev pub first_held : {Q : Type 0} → Option (HeldShard Q) → ℕ
 first_held None = 0
 first_held (Some held) = held.first
 
 -- those that its body kept
-abbrev pub list_held : {Q : Type 0} → Option (Held Q) → List Q
+abbrev pub list_held : {Q : Type 0} → Option (HeldShard Q) → List Q
 list_held held = drop (first_held held) (all_held held)
 
 -- what has become of the body since the admission: it rests on the same requests, on one more, or is the checkpoint of what it
 -- kept, where it kept anything
-abbrev pub EndsWith : {S Q : Type 0} → (S → ℕ → List Q → Type 0) → Option (Held Q) → S → Ending Q → Type 0
+abbrev pub EndsWith : {S Q : Type 0} → (S → ℕ → List Q → Type 0) → Option (HeldShard Q) → S → Ending Q → Type 0
 EndsWith keeps held body Nothing = keeps body (first_held held) (all_held held)
 EndsWith keeps held body (Request request) = keeps body (first_held held) (all_held held ++ request ∷ [])
 EndsWith keeps held body Checkpoint = (first_held held < length (all_held held)) × keeps body (length (all_held held)) (all_held held)
@@ -63,7 +63,7 @@ EndsWith keeps held body Checkpoint = (first_held held < length (all_held held))
 -- the view of a new seat
 abbrev pub newcomer : {Q : Type 0} → Limits → ℕ → Option ℕ → List (Entry Q) → View Q
 newcomer limits number server history =
-    record { limits = limits; number = number; server = server; held = None; seen = history; stage = Acting; told = None }
+    record { limits = limits; number = number; server = server; held = None; seen = history; stage = Acting; heard = None }
 
 -- the history that a view has seen is a legal one
 abbrev pub HasSeenLegal : {Q : Type 0} → View Q → Type 0
@@ -71,14 +71,14 @@ HasSeenLegal view = IsLegal view.limits.count view.limits.ceiling view.seen
 
 -- the view of a seat that is cut from another, until its first load gives it a number
 abbrev pub cut_off : {Q : Type 0} → View Q → View Q
-cut_off view = record view { stage = Cut; held = None; told = None }
+cut_off view = record view { stage = Cut; held = None; heard = None }
 
 -- a view that takes in another, and what is left of the other
 abbrev pub informed : {Q : Type 0} → View Q → View Q → View Q
-informed view other = record view { told = Some (record { by = other.number; seen = other.seen }) }
+informed view other = record view { heard = Some (record { by = other.number; seen = other.seen }) }
 
 abbrev pub left_behind : {Q : Type 0} → View Q
-left_behind = record { limits = record { count = 0; ceiling = 0; bodies = [] }; number = 0; server = None; held = None; seen = []; stage = Joined; told = None }
+left_behind = record { limits = record { count = 0; ceiling = 0; bodies = [] }; number = 0; server = None; held = None; seen = []; stage = Joined; heard = None }
 
 -- a view that has seen this history
 abbrev pub seeing : {Q : Type 0} → View Q → List (Entry Q) → View Q

@@ -12,12 +12,12 @@ pub struct View<Q> {
     pub number: u64,
     /// The one server that it is admitted as.
     pub server: Option<ServerId>,
-    pub held: Option<Held<Q>>,
+    pub held: Option<HeldShard<Q>>,
     /// The history as far as it has looked.
     pub seen: LinkedList<Entry<Q>>,
     pub stage: Stage,
     /// The seat that it has taken in last.
-    pub told: Option<Told<Q>>,
+    pub heard: Option<Heard<Q>>,
 }
 
 /// Whether a seat acts.
@@ -30,7 +30,7 @@ pub enum Stage {
 }
 
 /// The shard that a seat is admitted to, its record since then, all its requests, and how many came before its body's base.
-pub struct Held<Q> {
+pub struct HeldShard<Q> {
     pub shard: ShardId,
     pub state: Record,
     pub first: u64,
@@ -38,7 +38,7 @@ pub struct Held<Q> {
 }
 
 /// What a seat that was taken in had seen, and its number.
-pub struct Told<Q> {
+pub struct Heard<Q> {
     pub by: u64,
     pub seen: LinkedList<Entry<Q>>,
 }

@@ -6,7 +6,7 @@ use Rattle.sm_lines.specs.Watching.{KeepsReading}
 use Rattle.sm_lines.specs.declared.answer_fault.AnswerFault.{AnswerFault}
 use Rattle.sm_lines.specs.declared.answer_fault.AnswerFault.TheVariants as answer
 use Rattle.sm_lines.specs.declared.watch.Watched.{Watched}
-use Rattle.sm_run.specs.Faults.{ending_of}
+use Rattle.sm_run.specs.Faults.{status_of}
 use Rattle.sm_run.specs.Watching.{KeepsWatch}
 use Rattle.sm_run.specs.declared.run_fault.RunFault.TheVariants.{Read, Write}
 
@@ -17,13 +17,13 @@ calls_trans was (Some x) None new a b c first then = absurd first
 calls_trans was (Some x) (Some y) None a b c first then = absurd then
 calls_trans was (Some x) (Some y) (Some z) a b c first then = omega arith
 
-of_read : {T : Type 0} (answered : Result T AnswerFault) → ending_of answered ≡ Err Read → answered ≡ Err answer.Read
+of_read : {T : Type 0} (answered : Result T AnswerFault) → status_of answered ≡ Err Read → answered ≡ Err answer.Read
 of_read (Ok all) is = absurd (let no : false ≡ true = cc in false≢true no)
 of_read (Err answer.Read) is = refl
 of_read (Err answer.Write) is = absurd (let no : false ≡ true = cc in false≢true no)
 of_read (Err answer.NoMemory) is = absurd (let no : false ≡ true = cc in false≢true no)
 
-of_write : {T : Type 0} (answered : Result T AnswerFault) → ending_of answered ≡ Err Write → answered ≡ Err answer.Write
+of_write : {T : Type 0} (answered : Result T AnswerFault) → status_of answered ≡ Err Write → answered ≡ Err answer.Write
 of_write (Ok all) is = absurd (let no : false ≡ true = cc in false≢true no)
 of_write (Err answer.Read) is = absurd (let no : false ≡ true = cc in false≢true no)
 of_write (Err answer.Write) is = refl
@@ -39,11 +39,11 @@ pub watched_session : {T R W : Type 0} (remaining : R → Option (List ℕ)) (an
     → (HeldGiven none reader.calls → HeldGiven first between.calls)
     → KeepsReading remaining answered first last between left
     → (answered ≡ Err answer.Write → wrote.failed ≡ true) → (answered ≢ Err answer.Write → wrote.failed ≡ writer.failed)
-    → KeepsWatch remaining (ending_of answered) reader left writer wrote
+    → KeepsWatch remaining (status_of answered) reader left writer wrote
 watched_session {T} remaining answered none first last reader between left writer wrote held unended unfailed calls same_end not_past_end given k write_failed write_unfailed = record {
   write_failed = λ is. write_failed (of_write answered is);
-  reader_unfailed = λ other. k.unfailed (λ is. other (ap ending_of is)) ∙ unfailed;
-  writer_unfailed = λ other. write_unfailed (λ is. other (ap ending_of is));
+  reader_unfailed = λ other. k.unfailed (λ is. other (ap status_of is)) ∙ unfailed;
+  writer_unfailed = λ other. write_unfailed (λ is. other (ap status_of is));
   calls =
       let P : Bool → Type 0 = λ was. CallsFit was first.ended (remaining reader.inner) (remaining between.inner) reader.calls between.calls in
       calls_trans first.ended (remaining reader.inner) (remaining between.inner) (remaining left.inner) reader.calls between.calls left.calls (subst P unended calls) k.calls;

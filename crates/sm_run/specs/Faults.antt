@@ -14,6 +14,6 @@ run_fault_of answer.Write = Write
 run_fault_of answer.NoMemory = NoMemory
 
 -- the run ended where its lines were all answered, or for the same reason
-abbrev pub ending_of : {T : Type 0} → Result T AnswerFault → Result Status RunFault
-ending_of (Ok all) = Ok Ran
-ending_of (Err fault) = Err (run_fault_of fault)
+abbrev pub status_of : {T : Type 0} → Result T AnswerFault → Result Status RunFault
+status_of (Ok all) = Ok Ran
+status_of (Err fault) = Err (run_fault_of fault)

@@ -5,7 +5,7 @@ ghost use Rattle.sm_lines.specs.Reading.{unread, EndStands};
 ghost use Rattle.sm_lines.specs.Sending.{WroteFront};
 ghost use Rattle.sm_lines.specs.Watching.{KeepsReading};
 ghost use Rattle.sm_settings.specs.declared.settings_fault.SettingsFault.{SettingsFault as AnyFault};
-ghost use Rattle.sm_run.specs.Faults.{ending_of};
+ghost use Rattle.sm_run.specs.Faults.{status_of};
 ghost use Rattle.sm_run.specs.Openings.{RefusedScript, Unbegun, settings_line};
 ghost use Rattle.sm_run.specs.Runs.{RanScript, StoppedEarly, WritesFor};
 ghost use Rattle.sm_run.specs.Watching.{KeepsWatch};
@@ -91,7 +91,7 @@ fn run_session<R: Read, W: Write, E: Engine>(
 
 /// How a run ended whose lines were answered so.
 fn ending(answered: Result<(), AnswerFault>) -> Result<Status, RunFault>
-    ensures { result ≡ ending_of answered }
+    ensures { result ≡ status_of answered }
 {
     match answered {
         Ok(()) => Ok(Status::Ran),

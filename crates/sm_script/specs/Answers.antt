@@ -21,8 +21,8 @@ use Rattle.sm_ownership.specs.declared.route.Route.{Route}
 use Rattle.sm_ranges.specs.Stand.{other_of, owner_of}
 use Rattle.sm_ranges.specs.declared.stand.Stand.{Stand}
 use Rattle.sm_ranges.specs.declared.stand.Stand.TheVariants.{Vacant, Serving, Prepared, Forwarding, Taken, Paused}
-use Rattle.sm_script.specs.declared.answer.Answer.{Answer}
-use Rattle.sm_script.specs.declared.answer.Answer.TheVariants.{Made, Refused as IsRefused, Seen, Executed, Planned, Loaded, Way, Error}
+use Rattle.sm_script.specs.declared.line_answer.LineAnswer.{LineAnswer}
+use Rattle.sm_script.specs.declared.line_answer.LineAnswer.TheVariants.{Made, Refused as IsRefused, Seen, Executed, Planned, Loaded, Way, Error}
 use Rattle.sm_script.specs.declared.fault.LineFault.{LineFault}
 use Rattle.sm_script.specs.declared.fault.LineFault.TheVariants.{LineTooLong, UnknownWord, BadLine, BadNumber, BadKey, NotHere}
 use Rattle.sm_script.specs.declared.load_verdict.LoadVerdict.{LoadVerdict}
@@ -124,8 +124,8 @@ stand_name (Taken owner previous) = codes "Taken"
 stand_name (Paused owner) = codes "Paused"
 
 -- the number of a server, or 0 where there is none
-abbrev pub number_of : Option ℕ → ℕ
-number_of server = unwrap_or server 0
+abbrev pub server_number : Option ℕ → ℕ
+server_number server = unwrap_or server 0
 
 -- whether a server is admitted
 abbrev pub admission_name : Bool → List ℕ
@@ -135,7 +135,7 @@ admission_name admitted = if admitted then codes "admitted" else codes "idle"
 abbrev pub record_text : Record → List ℕ
 record_text state =
     join_with_byte 32 (
-    stand_name state.stand ∷ decimal (number_of (owner_of state.stand)) ∷ decimal (number_of (other_of state.stand)) ∷
+    stand_name state.stand ∷ decimal (server_number (owner_of state.stand)) ∷ decimal (server_number (other_of state.stand)) ∷
     admission_name state.admitted ∷ decimal state.generation ∷ []
     )
 
@@ -201,7 +201,7 @@ load_verdict_name Unknown = codes "unknown"
 load_verdict_name Differs = codes "wrong"
 
 -- the answer to a line
-abbrev pub answer_text : Answer → List ℕ
+abbrev pub answer_text : LineAnswer → List ℕ
 answer_text Made = codes "ok"
 answer_text (IsRefused why) = codes "refused " ++ numbered (refused_name why) (refused_number why)
 answer_text (Planned plan) = plan_text plan

@@ -4,17 +4,17 @@
 //! let fault = parse(alloc, b"assign 0").err();
 //! assert_eq!(rt; fault, Some(ParseFault::Line(LineFault::BadLine)));
 //! let mut out = Vec::new(alloc);
-//! Answer::Error(LineFault::BadLine).write_to(&mut out)?;
+//! LineAnswer::Error(LineFault::BadLine).write_to(&mut out)?;
 //! assert_eq!(rt; out.as_slice(), b"error BadLine".as_slice());
 //! ```
 #![tactic(auto)]
 
-pub mod answer;
 mod append;
 mod argument;
 pub mod call;
 pub mod fault;
 pub mod line;
+pub mod line_answer;
 pub mod load_clients;
 pub mod load_verdict;
 mod number;
@@ -28,10 +28,10 @@ mod shape;
 mod word;
 mod words;
 
-pub use answer::Answer;
 pub use call::Call;
 pub use fault::{LineFault, ParseFault};
 pub use line::{MAX_LINE, long_line_fault, parse};
+pub use line_answer::LineAnswer;
 pub use load_clients::LoadClients;
 pub use load_verdict::LoadVerdict;
 pub use refused::Refused;

@@ -23,7 +23,7 @@ fn stand_name(stand: &Stand) -> &'static str
 }
 
 // The number of a server, or 0 where there is none.
-fn number_of(server: Option<ServerId>) -> u16
+fn server_number(server: Option<ServerId>) -> u16
     ensures { result ≡ unwrap_or server 0 }
 {
     match server {
@@ -52,9 +52,9 @@ pub(crate) fn append_record(out: &mut Vec<u8>, seen: &Record) -> Result<(), Allo
         &[
             stand_name(&seen.stand).as_bytes(),
             b" ",
-            owner.format(number_of(seen.stand.owner())).as_bytes(),
+            owner.format(server_number(seen.stand.owner())).as_bytes(),
             b" ",
-            other.format(number_of(seen.stand.other())).as_bytes(),
+            other.format(server_number(seen.stand.other())).as_bytes(),
             b" ",
             admission_name(seen.admitted).as_bytes(),
             b" ",

@@ -4,6 +4,6 @@ use Rattle.sm_map.specs.KeyMap.{Text as HeldText, Count as HeldCount}
 use Rattle.sm_service.specs.declared.held.Held.{Held}
 use Rattle.sm_service.specs.declared.held.Held.TheVariants.{Text, Count}
 
-abbrev pub held_in : Held → MapHeld
-held_in (Text text) = HeldText text
-held_in (Count count) = HeldCount count
+abbrev pub stored_as : Held → MapHeld
+stored_as (Text text) = HeldText text
+stored_as (Count count) = HeldCount count

@@ -1,6 +1,6 @@
 ghost use Rattle.std.specs.Prelude.{◌≡◌, IfOk};
 ghost use Rattle.sm_map.specs.Val.{held_of};
-ghost use Rattle.sm_service.specs.Pairs.{held_in};
+ghost use Rattle.sm_service.specs.Pairs.{stored_as};
 
 use crate::bytes::Bytes;
 use sm_map::val::Val;
@@ -16,7 +16,7 @@ pub(crate) enum Held {
 impl Held {
     // A copy of the value.
     pub(crate) fn new(alloc: Global, value: Val<'_>) -> Result<Held, AllocError>
-        ensures { IfOk result (λ held. held_in held ≡ held_of value.entry) }
+        ensures { IfOk result (λ held. stored_as held ≡ held_of value.entry) }
     {
         match value {
             Val::Text(text) => Ok(Held::Text(Bytes::new(alloc, text)?)),
@@ -26,7 +26,7 @@ impl Held {
 
     // The value.
     pub(crate) fn as_val(&self) -> Val<'_>
-        ensures { held_of result ≡ held_in self.now }
+        ensures { held_of result ≡ stored_as self.now }
     {
         match self {
             Held::Text(text) => Val::Text(text.as_bytes()),

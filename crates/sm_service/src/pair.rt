@@ -16,11 +16,11 @@ pub struct Pair {
 
 impl Model for Pair {
     ghost use Rattle.sm_map.specs.KeyMap.{Pair as MapPair};
-    ghost use Rattle.sm_service.specs.Pairs.{held_in};
+    ghost use Rattle.sm_service.specs.Pairs.{stored_as};
 
     ghost Value = { MapPair };
 
-    ghost view = { λ pair. record { key = pair.key; value = held_in pair.held } };
+    ghost view = { λ pair. record { key = pair.key; value = stored_as pair.held } };
 }
 
 impl Pair {

@@ -22,17 +22,17 @@ use Rattle.sm_body.specs.Service.{Service}
 use Rattle.sm_table.specs.World.{WorldState, Mark, Plain, Unmade, Unserved, Outcome, count_of, controlled, is_there, reached, arrived, without_flight, delivered, with_room, worked, served, held, after_hold, based, after_checkpoint, let_go, freed, published, next, world_after}
 
 -- the later world has the frame of the earlier one, its history and then these entries, and its publications and then these routes
-pub record Extends {Q : Type 0} (w later : WorldState Q) : Type 0 where
+pub record GrowsInto {Q : Type 0} (w later : WorldState Q) : Type 0 where
   pub frame : later.frame ≡ w.frame
   pub added : List (Entry Q)
   pub history : later.history ≡ w.history ++ added
   pub more : List Route
   pub publications : later.publications ≡ w.publications ++ more
 
-extends_itself : {Q : Type 0} (w : WorldState Q) → Extends w w
+extends_itself : {Q : Type 0} (w : WorldState Q) → GrowsInto w w
 extends_itself w = record { frame = refl; added = []; history = sym (append-nil w.history); more = []; publications = sym (append-nil w.publications) }
 
-extends_further : {Q : Type 0} (w middle later : WorldState Q) → Extends w middle → Extends middle later → Extends w later
+extends_further : {Q : Type 0} (w middle later : WorldState Q) → GrowsInto w middle → GrowsInto middle later → GrowsInto w later
 extends_further w middle later first second = record {
   frame = second.frame ∙ first.frame;
   added = first.added ++ second.added;
@@ -43,10 +43,10 @@ extends_further w middle later first second = record {
 
 module _ {Q : Type 0} (R : Type 0) (w : WorldState Q) where
   abbrev LeavesExtended : Outcome Q R → Type 0
-  LeavesExtended outcome = Extends w outcome.1
+  LeavesExtended outcome = GrowsInto w outcome.1
 
   -- the desk knows more
-  extends_desk : (desk : DeskView) → Extends w (record w { desk = desk })
+  extends_desk : (desk : DeskView) → GrowsInto w (record w { desk = desk })
   extends_desk desk = record { frame = refl; added = []; history = sym (append-nil w.history); more = []; publications = sym (append-nil w.publications) }
 
   extends_controlled : (command : Command) (fault : Option CommandFault) → LeavesExtended (controlled w command fault)
@@ -59,7 +59,7 @@ module _ {Q : Type 0} (R : Type 0) (w : WorldState Q) where
   extends_controlled command (Some fault) = extends_itself w
 
   -- other envelopes are in flight
-  extends_flights : (in_flight : List (Flight Q)) → Extends w (record w { in_flight = in_flight })
+  extends_flights : (in_flight : List (Flight Q)) → GrowsInto w (record w { in_flight = in_flight })
   extends_flights in_flight = record { frame = refl; added = []; history = sym (append-nil w.history); more = []; publications = sym (append-nil w.publications) }
 
   extends_reached : (place to : ℕ) (envelope : EnvelopeView Q (Unit {0})) (fault : Option AdmitFault) → LeavesExtended (reached (without_flight w place) to envelope fault)
@@ -121,7 +121,7 @@ module _ {Q : Type 0} (R : Type 0) (w : WorldState Q) where
       (λ _. extends_itself w)
       (λ _. record { frame = refl; added = []; history = sym (append-nil w.history); more = route ∷ []; publications = refl })
 
-pub extends_next : {Q R : Type 0} (service : Service Q R) (w : WorldState Q) (mark : Mark) (step : Step Q) → Extends w (next service w mark step)
+pub extends_next : {Q R : Type 0} (service : Service Q R) (w : WorldState Q) (mark : Mark) (step : Step Q) → GrowsInto w (next service w mark step)
 extends_next service w Unmade step = extends_itself w
 extends_next {R = R} service w mark (Control command) = extends_controlled R w command _
 extends_next {R = R} service w mark (Look shard) = cond_both (nat_lt shard (count_of w)) _ _ (LeavesExtended R w) (λ _. extends_itself w) (λ _. extends_itself w)
@@ -137,7 +137,7 @@ extends_next {R = R} service w mark (Checkpoint shard server) = extends_checkpoi
 extends_next {R = R} service w mark (Publish shard) = cond_both (nat_lt shard (count_of w)) _ _ (LeavesExtended R w) (λ _. extends_published R w _) (λ _. extends_itself w)
 extends_next service w mark (RouteOf key) = extends_itself w
 
-pub extends_after : {Q R : Type 0} (service : Service Q R) (w : WorldState Q) (steps : List (Mark × Step Q)) → Extends w (world_after service w steps)
+pub extends_after : {Q R : Type 0} (service : Service Q R) (w : WorldState Q) (steps : List (Mark × Step Q)) → GrowsInto w (world_after service w steps)
 extends_after service w [] = extends_itself w
 extends_after service w (step ∷ steps) =
     extends_further w (next service w step.0 step.1) (world_after service w (step ∷ steps)) (extends_next service w step.0 step.1) (extends_after service (next service w step.0 step.1) steps)

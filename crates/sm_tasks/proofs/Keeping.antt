@@ -16,7 +16,7 @@ use Rattle.sm_place.specs.lemmas.Changed.{state_of-set}
 use Rattle.sm_place.specs.lemmas.Named.{names_one-found, names_one-named}
 use Rattle.sm_tasks.specs.Approvals.{approvable, leaving_count, names_down, stoppable, would_be_down}
 use Rattle.sm_tasks.specs.Caps.{MeetsCaps, names_away}
-use Rattle.sm_tasks.specs.Groups.{group_count, down_of, is_of}
+use Rattle.sm_tasks.specs.Groups.{group_count, down_of, is_in_group}
 use Rattle.sm_tasks.specs.Domains.{domain_count, domain_down, is_server_of}
 use Rattle.sm_tasks.specs.States.{is_away, is_paused, is_stopped}
 use Rattle.sm_tasks.proofs.Restarts.{cond_within, false_within, count_by-within, count_by-within_but}
@@ -41,7 +41,7 @@ one_within p q stand h e =
     names_one-named q stand found.0 found.1.0 (h found.0 found.1.1)
 
 of_within : (p q : Stand → Bool) (g : ℕ) (shard : Shard) → (p shard.stand ≡ true → q shard.stand ≡ true)
-    → is_of p g shard ≡ true → is_of q g shard ≡ true
+    → is_in_group p g shard ≡ true → is_in_group q g shard ≡ true
 of_within p q g shard h e =
     let parts = and_parts (eqb shard.row.group g) (p shard.stand) e in
     and_from (eqb shard.row.group g) (q shard.stand) parts.0 (h parts.1)
@@ -67,7 +67,7 @@ MeetsCaps-calm ops books a state len known away stopped caps =
       shards = λ k h cap. false_within _ _ (within (shard_at books.shards k).stand) (caps.shards k h cap);
       groups = λ g h.
           let fewer : group_count (names_away (with_state books a state)) books.shards g ≤ group_count (names_away books) books.shards g =
-          count_by-within (is_of (names_away (with_state books a state)) g) (is_of (names_away books) g) books.shards
+          count_by-within (is_in_group (names_away (with_state books a state)) g) (is_in_group (names_away books) g) books.shards
           (λ shard. of_within (names_away (with_state books a state)) (names_away books) g shard (within shard.stand)) in
           omega (arith, fewer, caps.groups g h);
       stopped = λ k h e.
@@ -136,8 +136,8 @@ MeetsCaps-approve ops books a len known e caps =
                 let none : group_count (λ stand. names stand a) books.shards g ≤ 0 =
                 ltb-false 0 (group_count (λ stand. names stand a) books.shards g) p in
                 let fewer : group_count (names_away new) books.shards g ≤ group_count (names_away books) books.shards g =
-                count_by-within_but (is_of (names_away new) g) (is_of (names_away books) g)
-                (is_of (λ stand. names stand a) g) books.shards none
+                count_by-within_but (is_in_group (names_away new) g) (is_in_group (names_away books) g)
+                (is_in_group (λ stand. names stand a) g) books.shards none
                 (λ shard no t. of_within (names_away new) (names_away books) g shard
                 (unnamed shard.stand
                 (not_named (eqb shard.row.group g) (names shard.stand a)
@@ -147,7 +147,7 @@ MeetsCaps-approve ops books a len known e caps =
                 let few : group_count (names_down books a) books.shards g ≤ down_of books g =
                 ltb-false (down_of books g) (group_count (names_down books a) books.shards g) p in
                 let fewer : group_count (names_away new) books.shards g ≤ group_count (names_down books a) books.shards g =
-                count_by-within (is_of (names_away new) g) (is_of (names_down books a) g) books.shards
+                count_by-within (is_in_group (names_away new) g) (is_in_group (names_down books a) g) books.shards
                 (λ shard. of_within (names_away new) (names_down books a) g shard (down shard.stand)) in
                 omega (arith, fewer, few)
           ];

@@ -21,7 +21,7 @@ use Rattle.sm_place.specs.ServerState.{is_leaving}
 use Rattle.sm_place.specs.lemmas.Changed.{length-with_stand, shard_at-other, shard_at-same}
 use Rattle.sm_place.specs.lemmas.Named.{AllNamed-at, names_one-found, names_one-named, names-owner}
 use Rattle.sm_tasks.specs.Caps.{MeetsCaps, TakesNoneLeaving, names_away, names_stopped}
-use Rattle.sm_tasks.specs.Groups.{group_count, is_of}
+use Rattle.sm_tasks.specs.Groups.{group_count, is_in_group}
 use Rattle.sm_tasks.specs.States.{is_away, is_paused, is_stopped}
 use Rattle.sm_tasks.specs.Domains.{domain_count, domain_down}
 use Rattle.sm_tasks.proofs.Zipped.{domain_count-none}
@@ -37,7 +37,7 @@ none_counted p xs all =
     zero_where u e = rw e (omega arith)
 
 -- a vacant shard is of no use to a test
-of_vacant : (test : Stand → Bool) (g : ℕ) (shard : Shard) → test Vacant ≡ false → shard.stand ≡ Vacant → is_of test g shard ≡ false
+of_vacant : (test : Stand → Bool) (g : ℕ) (shard : Shard) → test Vacant ≡ false → shard.stand ≡ Vacant → is_in_group test g shard ≡ false
 of_vacant test g shard fails e = and_right (eqb shard.row.group g) (test shard.stand) (ap test e ∙ fails)
 
 pub MeetsCaps-all_up : (ops : ℕ) (books : BooksView) → All (λ state. state ≡ Up) books.states
@@ -48,7 +48,7 @@ MeetsCaps-all_up ops books up all = record {
   shards = λ k h cap. ap (names_away books) (All-get_or (λ shard. shard.stand ≡ Vacant) books.shards k no_shard h all);
   groups = λ g h.
       let none : group_count (names_away books) books.shards g ≤ 0 =
-      none_counted (is_of (names_away books) g) books.shards
+      none_counted (is_in_group (names_away books) g) books.shards
       (λ k d inside. of_vacant (names_away books) g (get_or books.shards k d) refl (all k d inside)) in
       omega arith;
   stopped = λ k h e.
@@ -94,7 +94,7 @@ still_paused books old stand takes held e =
     ]
 
 of_within : (p : Stand → Bool) (g : ℕ) (shard : Shard) (stand : Stand) → (p stand ≡ true → p shard.stand ≡ true)
-    → is_of p g (moved shard stand) ≡ true → is_of p g shard ≡ true
+    → is_in_group p g (moved shard stand) ≡ true → is_in_group p g shard ≡ true
 of_within p g shard stand h e = both (eqb shard.row.group g) (p stand) (p shard.stand) h e
   where
     both : (u v w : Bool) → (v ≡ true → w ≡ true) → (u && v) ≡ true → (u && w) ≡ true
@@ -121,9 +121,9 @@ MeetsCaps-taken ops books k stand inside takes caps =
             ap (λ (x : Shard). names_away books x.stand) e ∙ caps.shards j h' (sym (ap (λ (x : Shard). x.row.cap) e) ∙ cap)
       ];
       groups = λ g h.
-          let set = sum_by-set (λ x. cond (is_of (names_away books) g x) 1 0) books.shards k (moved s stand) no_shard inside in
-          let less : cond (is_of (names_away books) g (moved s stand)) 1 0 ≤ cond (is_of (names_away books) g s) 1 0 =
-          cond_within (is_of (names_away books) g (moved s stand)) (is_of (names_away books) g s) 1
+          let set = sum_by-set (λ x. cond (is_in_group (names_away books) g x) 1 0) books.shards k (moved s stand) no_shard inside in
+          let less : cond (is_in_group (names_away books) g (moved s stand)) 1 0 ≤ cond (is_in_group (names_away books) g s) 1 0 =
+          cond_within (is_in_group (names_away books) g (moved s stand)) (is_in_group (names_away books) g s) 1
           (of_within (names_away books) g s stand away) in
           omega (arith, set, less, caps.groups g h);
       stopped = λ j h t. elim (eqb_tells j k) [

@@ -15,7 +15,7 @@ use Rattle.sm_place.specs.declared.shard.Shard.{Shard}
 use Rattle.sm_place.specs.Books.{BooksView}
 use Rattle.sm_ranges.specs.Stand.{names}
 use Rattle.sm_tasks.specs.Approvals.{is_full, names_down}
-use Rattle.sm_tasks.specs.Groups.{is_of, group_count, down_of}
+use Rattle.sm_tasks.specs.Groups.{is_in_group, group_count, down_of}
 
 -- the counts of the first shards
 pub record CountsTo (test : Stand → Bool) (shards : List Shard) (i : ℕ) (counts : List ℕ) : Type 0 where
@@ -23,10 +23,10 @@ pub record CountsTo (test : Stand → Bool) (shards : List Shard) (i : ℕ) (cou
   pub at : (g : ℕ) → g < MAX_GROUPS → get_or counts g 0 ≡ group_count test (take i shards) g
 
 group_count-more : (test : Stand → Bool) (shards : List Shard) (i g : ℕ) (shard : Shard) → i < length shards → shard ≡ get_or shards i shard
-    → group_count test (take (i + 1) shards) g ≡ group_count test (take i shards) g + cond (is_of test g shard) 1 0
+    → group_count test (take (i + 1) shards) g ≡ group_count test (take i shards) g + cond (is_in_group test g shard) 1 0
 group_count-more test shards i g shard h e =
-    sum_by_more (λ s. cond (is_of test g s) 1 0) shards i shard h
-    ∙ ap (λ s. group_count test (take i shards) g + cond (is_of test g s) 1 0) (sym e)
+    sum_by_more (λ s. cond (is_in_group test g s) 1 0) shards i shard h
+    ∙ ap (λ s. group_count test (take i shards) g + cond (is_in_group test g s) 1 0) (sym e)
 
 -- a shard that passes counts in its group
 pub CountsTo-counted : (test : Stand → Bool) (shards : List Shard) (i : ℕ) (counts : List ℕ) (shard : Shard) (n : ℕ)
@@ -41,7 +41,7 @@ CountsTo-counted test shards i counts shard n h e pass small en so = record {
         let here : get_or (set counts shard.row.group (n + 1)) shard.row.group 0 ≡ n + 1 =
         get_or-set_same counts shard.row.group (n + 1) 0 inside in
         let more = group_count-more test shards i shard.row.group shard h e in
-        let one : ◌≡◌ {A = ℕ} (cond (is_of test shard.row.group shard) 1 0) 1 =
+        let one : ◌≡◌ {A = ℕ} (cond (is_in_group test shard.row.group shard) 1 0) 1 =
         ap (λ u. cond u 1 0)
         (and_from (eqb shard.row.group shard.row.group) (test shard.stand) (eq-eqb shard.row.group shard.row.group refl) pass) in
         let goal : get_or (set counts shard.row.group (n + 1)) shard.row.group 0 ≡ group_count test (take (i + 1) shards) shard.row.group =
@@ -51,7 +51,7 @@ CountsTo-counted test shards i counts shard n h e pass small en so = record {
         let there : get_or (set counts shard.row.group (n + 1)) g 0 ≡ get_or counts g 0 =
         get_or-set_other counts shard.row.group g (n + 1) 0 (λ same. p.1 (sym same)) in
         let more = group_count-more test shards i g shard h e in
-        let none : ◌≡◌ {A = ℕ} (cond (is_of test g shard) 1 0) 0 = ap (λ u. cond (u && test shard.stand) 1 0) p.0 in
+        let none : ◌≡◌ {A = ℕ} (cond (is_in_group test g shard) 1 0) 0 = ap (λ u. cond (u && test shard.stand) 1 0) p.0 in
         omega (arith, there, more, none, so.at g hg)
   ];
 }
@@ -64,7 +64,7 @@ CountsTo-passed test shards i counts shard h e fail so = record {
   len = so.len;
   at = λ g hg.
       let more = group_count-more test shards i g shard h e in
-      let none : ◌≡◌ {A = ℕ} (cond (is_of test g shard) 1 0) 0 =
+      let none : ◌≡◌ {A = ℕ} (cond (is_in_group test g shard) 1 0) 0 =
       ap (λ u. cond u 1 0) (and_right (eqb shard.row.group g) (test shard.stand) fail) in
       omega (arith, more, none, so.at g hg);
 }
@@ -79,7 +79,7 @@ CountsTo-none test shards n e = record {
 pub CountsTo-le : (test : Stand → Bool) (shards : List Shard) (i : ℕ) (counts : List ℕ) (g : ℕ) → CountsTo test shards i counts
     → g < MAX_GROUPS → get_or counts g 0 ≤ i
 CountsTo-le test shards i counts g so hg =
-    omega (arith, so.at g hg, count_by-le-length (is_of test g) (take i shards), length-take i shards)
+    omega (arith, so.at g hg, count_by-le-length (is_in_group test g) (take i shards), length-take i shards)
 
 -- all shards
 pub CountsTo-all : (test : Stand → Bool) (shards : List Shard) (i : ℕ) (counts : List ℕ) → length shards ≤ i → CountsTo test shards i counts

@@ -5,12 +5,12 @@ use Rattle.sm_place.specs.declared.shard.Shard.{Shard}
 use Rattle.sm_place.specs.Books.{BooksView, no_group}
 
 -- whether the shard is of the group and its stand passes the test
-abbrev pub is_of : (Stand → Bool) → ℕ → Shard → Bool
-is_of test g shard = (shard.row.group == g) && test shard.stand
+abbrev pub is_in_group : (Stand → Bool) → ℕ → Shard → Bool
+is_in_group test g shard = (shard.row.group == g) && test shard.stand
 
 -- how many shards of the group have a stand that passes the test
 abbrev pub group_count : (Stand → Bool) → List Shard → ℕ → ℕ
-group_count test shards g = count_by (is_of test g) shards
+group_count test shards g = count_by (is_in_group test g) shards
 
 -- how many shards of the group may be down for planned restarts at the same time
 abbrev pub down_of : BooksView → ℕ → ℕ

@@ -17,7 +17,7 @@ use Rattle.sm_rule.specs.Boards.{BoardValue}
 use Rattle.sm_rule.specs.Views.{Begins}
 use Rattle.sm_service.specs.declared.request.Request.{Request}
 use Rattle.sm_service.specs.declared.request.Request.TheVariants.{Get, Inc}
-use Rattle.sm_threads.specs.Loads.{IsLoadOf, count_in}
+use Rattle.sm_threads.specs.Loads.{IsLoadOf, count_replied}
 use Rattle.sm_threads.specs.Sessions.{IsNewClientOf, IsWhole}
 
 pub stays_client : (before after : ClusterValue Request) (client : ClientValue Request) → after.control.chair.board ≡ before.control.chair.board → after.bounds ≡ before.bounds
@@ -110,10 +110,10 @@ back_of n all front back split many =
 -- a load by the clients in front is one of all
 pub load_of_front : (key : List ℕ) (count each : ℕ) (all front back front' : List (ClientValue Request)) (report : LoadReport)
     → all ≡ front ++ back → length front ≡ count + 1 → AreClientsSince front front'
-    → HaveLoaded counter_text count_in (Get key) (Inc key (pos 1)) each front report front' → IsLoadOf key count each all report (front' ++ back)
+    → HaveLoaded counter_text count_replied (Get key) (Inc key (pos 1)) each front report front' → IsLoadOf key count each all report (front' ++ back)
 load_of_front key count each all front back front' report split many since did =
     let many' : length front' ≡ count + 1 = since.0 ∙ many in
-    let Did : List (ClientValue Request) → List (ClientValue Request) → Type 0 = λ before after. HaveLoaded counter_text count_in (Get key) (Inc key (pos 1)) each before report after in
+    let Did : List (ClientValue Request) → List (ClientValue Request) → Type 0 = λ before after. HaveLoaded counter_text count_replied (Get key) (Inc key (pos 1)) each before report after in
     record {
       loaded = subst (λ (before : List (ClientValue Request)). Did before (take (count + 1) (front' ++ back))) (sym (front_of (count + 1) all front back split many))
           (subst (λ (after : List (ClientValue Request)). Did front after) (sym (front_of (count + 1) (front' ++ back) front' back refl many')) did);

@@ -29,8 +29,8 @@ use Rattle.sm_ranges.specs.Stand.{owner_of}
 use Rattle.sm_rule.specs.Passes.{PassLooks, PassValue, record_of}
 use Rattle.sm_rule.specs.Views.{Begins, IsMet}
 use Rattle.sm_script.specs.Lines.{call_of_line}
-use Rattle.sm_script.specs.declared.answer.Answer.{Answer}
-use Rattle.sm_script.specs.declared.answer.Answer.TheVariants.{Made, Refused as IsRefused, Seen, Executed, Planned, Way, Loaded, Error}
+use Rattle.sm_script.specs.declared.line_answer.LineAnswer.{LineAnswer}
+use Rattle.sm_script.specs.declared.line_answer.LineAnswer.TheVariants.{Made, Refused as IsRefused, Seen, Executed, Planned, Way, Loaded, Error}
 use Rattle.sm_script.specs.declared.call.Call.{Call}
 use Rattle.sm_script.specs.declared.call.Call.TheVariants as call
 use Rattle.sm_script.specs.declared.fault.LineFault.{LineFault}
@@ -57,12 +57,12 @@ abbrev pub with_loaders : SessionValue → List (ClientValue Request) → Sessio
 with_loaders session loaders = record session { loaders = loaders }
 
 -- the answer to a call that is made or refused
-abbrev pub answer_to : {T F : Type 0} → (F → Refused) → Result T F → Answer
+abbrev pub answer_to : {T F : Type 0} → (F → Refused) → Result T F → LineAnswer
 answer_to refusal (Ok made) = Made
 answer_to refusal (Err fault) = IsRefused (refusal fault)
 
 -- the same of a call that may end the run for want of memory, which has no answer
-abbrev pub may_answer : {T F : Type 0} → (F → Option Refused) → Result T F → Option Answer
+abbrev pub may_answer : {T F : Type 0} → (F → Option Refused) → Result T F → Option LineAnswer
 may_answer refusal (Ok made) = Some Made
 may_answer refusal (Err fault) = option_map IsRefused (refusal fault)
 
@@ -80,7 +80,7 @@ pub record WasExecuted (client : ClientValue Request) (request : Request) (reply
   pub others : after ≡ client_seeing client after.pass
 
 -- what a request of this client is answered: it was executed, or refused for a fault that its call may have, which leaves the client
-abbrev pub WasAnswered : (ClientValue Request → CallFault → Type 0) → ClientValue Request → Request → Answer → ClientValue Request → Type 0
+abbrev pub WasAnswered : (ClientValue Request → CallFault → Type 0) → ClientValue Request → Request → LineAnswer → ClientValue Request → Type 0
 WasAnswered may client request (Executed reply server place) after = WasExecuted client request reply server place after
 WasAnswered may client request (IsRefused why) after = (fault : CallFault) × may after fault × (call_refused fault ≡ Some why)
 WasAnswered may client request answer after = ⊥
@@ -90,18 +90,18 @@ abbrev pub shard_for : ClientValue Request → Request → ℕ
 shard_for client request = shard_of client.bounds (key_of_request request)
 
 -- a request goes to a server that exists, or is refused
-abbrev pub AnsweredWhere : Bool → SessionValue → Request → Answer → SessionValue → Type 0
+abbrev pub AnsweredWhere : Bool → SessionValue → Request → LineAnswer → SessionValue → Type 0
 AnsweredWhere true before request answer after =
     WasAnswered (λ client. FaultAt counter_text before.client client 0 request) before.client request answer after.client
     × (after ≡ with_client before after.client)
 AnsweredWhere false before request answer after = (answer ≡ IsRefused refused.UnknownServer) × (after ≡ before)
 
 -- a request goes to this server
-abbrev pub AnsweredAt : SessionValue → ℕ → Request → Answer → SessionValue → Type 0
+abbrev pub AnsweredAt : SessionValue → ℕ → Request → LineAnswer → SessionValue → Type 0
 AnsweredAt before server request answer after = AnsweredWhere (is_known before.cluster.control.desk.books.servers server) before request answer after
 
 -- a request goes to the shard's owner, and is refused where there is none
-abbrev pub AnsweredByOwner : SessionValue → Option ℕ → Request → Answer → SessionValue → Type 0
+abbrev pub AnsweredByOwner : SessionValue → Option ℕ → Request → LineAnswer → SessionValue → Type 0
 AnsweredByOwner before None request answer after = (answer ≡ IsRefused (refused.Request (Admit Vacant))) × (after ≡ before)
 AnsweredByOwner before (Some owner) request answer after = AnsweredAt before owner request answer after
 
@@ -112,21 +112,21 @@ looking session pass = with_client session (client_seeing session.client pass)
 -- ---- calls
 
 -- a record is that of all that the client then has seen
-abbrev pub Looked : SessionValue → ℕ → Answer → SessionValue → Type 0
+abbrev pub Looked : SessionValue → ℕ → LineAnswer → SessionValue → Type 0
 Looked before shard (Seen state) after =
     (shard < length before.cluster.bounds) × PassLooks before.client.pass after.client.pass × (state ≡ record_of after.client.pass shard) × (after ≡ looking before after.client.pass)
 Looked before shard answer after = (length before.cluster.bounds ≤ shard) × (answer ≡ IsRefused refused.UnknownShard) × (after ≡ before)
 
 -- a route is the last one of the key's shard in all publications that the client's router then has seen, or the read was refused
-abbrev pub Routed : SessionValue → List ℕ → Answer → SessionValue → Type 0
-Routed before key (Way route) after =
+abbrev pub RoutedKey : SessionValue → List ℕ → LineAnswer → SessionValue → Type 0
+RoutedKey before key (Way route) after =
     Extends after.client.router.seen before.client.router.seen
     × ((route ≡ routes_of after.client.router.seen (shard_of before.client.bounds key)) ⊎ ((route ≡ None) × (after.client.router.seen ≡ before.client.router.seen)))
     × (after ≡ with_client before (client_reading before.client after.client.router))
-Routed before key answer after = ⊥
+RoutedKey before key answer after = ⊥
 
 -- a plan for the server's shards, where the server exists
-abbrev pub drain_answer : ClusterValue Request → ℕ → Answer
+abbrev pub drain_answer : ClusterValue Request → ℕ → LineAnswer
 drain_answer cluster server =
     if is_known cluster.control.desk.books.servers server then Planned (drain_plan cluster.control.desk.books server) else IsRefused refused.UnknownServer
 
@@ -138,7 +138,7 @@ TellsClient before after =
     × (after ≡ with_cluster (looking before after.client.pass) after.cluster)
 
 -- a command was made or refused as the cluster's control says
-abbrev pub WasCommanded : SessionValue → Command → Answer → SessionValue → Type 0
+abbrev pub WasCommanded : SessionValue → Command → LineAnswer → SessionValue → Type 0
 WasCommanded before command answer after =
     (made : Result (Unit {0}) ControlFault)
     × Commanded (desk_fault before.cluster.control.desk command) before.cluster.control after.cluster.control command made
@@ -146,14 +146,14 @@ WasCommanded before command answer after =
     × (answer ≡ answer_to command_refused made) × TellsClient before after
 
 -- a hold was made or refused as the cluster says, and its end
-abbrev pub WasHeld : SessionValue → ℕ → ℕ → Answer → SessionValue → Type 0
+abbrev pub WasHeld : SessionValue → ℕ → ℕ → LineAnswer → SessionValue → Type 0
 WasHeld before shard server answer after =
     (made : Result (Unit {0}) HoldFault)
     × OnOk made (HasHeld before.cluster shard server after.cluster)
     × IfErr made (λ fault. HoldRefused before.cluster shard server fault after.cluster)
     × (answer ≡ answer_to hold_refused made) × TellsClient before after
 
-abbrev pub WasFreed : SessionValue → ℕ → Answer → SessionValue → Type 0
+abbrev pub WasFreed : SessionValue → ℕ → LineAnswer → SessionValue → Type 0
 WasFreed before shard answer after =
     (made : Result (Unit {0}) FreeFault)
     × OnOk made (HasFreed before.cluster shard after.cluster) × IfErr made (FreeRefused before.cluster shard)
@@ -161,7 +161,7 @@ WasFreed before shard answer after =
     × (answer ≡ answer_to free_refused made) × TellsClient before after
 
 -- a checkpoint was made or refused as the cluster says
-abbrev pub WasBased : SessionValue → ℕ → ℕ → Answer → SessionValue → Type 0
+abbrev pub WasBased : SessionValue → ℕ → ℕ → LineAnswer → SessionValue → Type 0
 WasBased before shard server answer after =
     let control = before.cluster.control in
     (made : Result Front CheckpointRefusal)
@@ -173,20 +173,20 @@ WasBased before shard server answer after =
     × (may_answer checkpoint_refused made ≡ Some answer) × TellsClient before after
 
 -- a shard's route was published or refused as the cluster says
-abbrev pub WasPublished : SessionValue → ℕ → Answer → SessionValue → Type 0
+abbrev pub WasPublished : SessionValue → ℕ → LineAnswer → SessionValue → Type 0
 WasPublished before shard answer after =
     (made : Result Route PublishRefusal)
     × Published (route_fault before.cluster.control.desk.books shard) before.cluster after.cluster shard made
     × (may_answer publish_refused made ≡ Some answer) × TellsClient before after
 
 -- a request goes to the owner in the record that the client then sees
-abbrev pub WasRequested : SessionValue → Request → Answer → SessionValue → Type 0
+abbrev pub WasRequested : SessionValue → Request → LineAnswer → SessionValue → Type 0
 WasRequested before request answer after =
     (seen : PassValue Request) × PassLooks before.client.pass seen
     × AnsweredByOwner (looking before seen) (owner_of (record_of seen (shard_for before.client request)).stand) request answer after
 
 -- a request goes by the published route
-abbrev pub WasRouted : SessionValue → Request → Answer → SessionValue → Type 0
+abbrev pub WasRouted : SessionValue → Request → LineAnswer → SessionValue → Type 0
 WasRouted before request answer after =
     Extends after.client.router.seen before.client.router.seen
     × WasAnswered (λ client. FaultByRoute counter_text before.client client 0 request) (client_reading before.client after.client.router) request answer after.client
@@ -194,20 +194,20 @@ WasRouted before request answer after =
 
 -- so many of the session's clients made so many additions each, of which each was acknowledged or refused, and the answer says whether
 -- the counts that another one was told differ by those that were acknowledged. Nothing else in the session has changed
-abbrev pub WasLoaded : SessionValue → List ℕ → ℕ → ℕ → Answer → SessionValue → Type 0
+abbrev pub WasLoaded : SessionValue → List ℕ → ℕ → ℕ → LineAnswer → SessionValue → Type 0
 WasLoaded before key clients each (Loaded verdict) after =
     (report : LoadReport) × (report.acked + report.refused ≡ clients * each) × IsLoadOf key clients each before.loaders report after.loaders
     × IsVerdictOn report verdict × (after ≡ with_loaders before after.loaders)
 WasLoaded before key clients each answer after = ⊥
 
 -- what may be answered to a call
-abbrev pub Answers : SessionValue → Call → Answer → SessionValue → Type 0
+abbrev pub Answers : SessionValue → Call → LineAnswer → SessionValue → Type 0
 Answers before (call.Control command) answer after = WasCommanded before command answer after
 Answers before (call.Hold shard server) answer after = WasHeld before shard server answer after
 Answers before (call.Free shard) answer after = WasFreed before shard answer after
 Answers before (call.Checkpoint shard server) answer after = WasBased before shard server answer after
 Answers before (call.Publish shard) answer after = WasPublished before shard answer after
-Answers before (call.Route key) answer after = Routed before key answer after
+Answers before (call.Route key) answer after = RoutedKey before key answer after
 Answers before (call.Look shard) answer after = Looked before shard answer after
 Answers before (call.Load key clients each) answer after = WasLoaded before key clients each answer after
 Answers before call.Place answer after = (answer ≡ Planned (assign_plan before.cluster.control.desk.books)) × (after ≡ before)
@@ -222,7 +222,7 @@ Answers before (call.RequestByRoute request) answer after = WasRouted before req
 abbrev pub WasRead : SessionValue → Result (Option Call) LineFault → List ℕ → SessionValue → Type 0
 WasRead before (Err fault) text after = (text ≡ answer_line (Error fault)) × (after ≡ before)
 WasRead before (Ok None) text after = (text ≡ []) × (after ≡ before)
-WasRead before (Ok (Some asked)) text after = (answer : Answer) × (text ≡ answer_line answer) × Answers before asked answer after
+WasRead before (Ok (Some asked)) text after = (answer : LineAnswer) × (text ≡ answer_line answer) × Answers before asked answer after
 
 abbrev pub Responds : SessionValue → List ℕ → List ℕ → SessionValue → Type 0
 Responds before line text after = WasRead before (call_of_line line) text after

@@ -12,13 +12,13 @@ use Rattle.sm_service.specs.declared.request.Request.{Request}
 use Rattle.sm_service.specs.declared.request.Request.TheVariants.{Get, Inc}
 
 -- the count that a reply tells, if it tells one
-abbrev pub count_in : Reply → Option ℤ
-count_in (Count count) = Some count
-count_in reply = None
+abbrev pub count_replied : Reply → Option ℤ
+count_replied (Count count) = Some count
+count_replied reply = None
 
 -- the first of these clients was told the key's count twice, and so many others added one to it, so many times each; the rest made no call
 pub record IsLoadOf (key : List ℕ) (clients each : ℕ) (before : List (ClientValue Request)) (report : LoadReport) (after : List (ClientValue Request)) : Type 0 where
-  pub loaded : HaveLoaded counter_text count_in (Get key) (Inc key (pos 1)) each (take (clients + 1) before) report (take (clients + 1) after)
+  pub loaded : HaveLoaded counter_text count_replied (Get key) (Inc key (pos 1)) each (take (clients + 1) before) report (take (clients + 1) after)
   pub rest : drop (clients + 1) after ≡ drop (clients + 1) before
   pub since : AreClientsSince before after
 

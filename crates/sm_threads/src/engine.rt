@@ -45,7 +45,7 @@ impl<
     ghost use Rattle.sm_script.specs.declared.line.TheConstants.{MAX_LINE as LINE_LIMIT};
     ghost use Rattle.sm_settings.specs.SettingsLine.{values_of};
     ghost use Rattle.sm_settings.specs.SettingsRules.{KeepsRules};
-    ghost use Rattle.sm_threads.specs.Beginning.{Begins};
+    ghost use Rattle.sm_threads.specs.Beginning.{BeginsSessions};
     ghost use Rattle.sm_threads.specs.Sessions.{IsBegun, MayRefuse};
 
     type Session = ThreadSession<R>;
@@ -55,7 +55,7 @@ impl<
     ghost MAX_LINE = { LINE_LIMIT };
 
     // The session's runtime may be shared with other threads, and the closure starts what settings begin.
-    ghost ready = { λ _. IsSync R.row × Begins (λ settings. KeepsRules (values_of settings)) F.pre F.step
+    ghost ready = { λ _. IsSync R.row × BeginsSessions (λ settings. KeepsRules (values_of settings)) F.pre F.step
         (λ settings. IsBegun (values_of settings)) (λ settings. MayRefuse (values_of settings)) };
 
     ghost begins = { IsBegun };

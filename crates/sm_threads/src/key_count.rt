@@ -15,13 +15,13 @@ pub struct KeyCount {
 impl Counting<TextBody> for KeyCount {
     ghost use Rattle.std.specs.Prelude.{pos};
     ghost use Rattle.sm_service.specs.declared.request.Request.TheVariants.{Get, Inc};
-    ghost use Rattle.sm_threads.specs.Loads.{count_in};
+    ghost use Rattle.sm_threads.specs.Loads.{count_replied};
 
     ghost asks = { λ count. Get count.key };
 
     ghost adds = { λ count. Inc count.key (pos 1) };
 
-    ghost tells = { λ _ reply. count_in reply };
+    ghost tells = { λ _ reply. count_replied reply };
 
     fn get(&self) -> Result<Request, AllocError> {
         Ok(Request::Get(self.key.try_clone(self.alloc)?))

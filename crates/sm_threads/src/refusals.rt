@@ -12,7 +12,7 @@ use sm_publish::PublishFault;
 use sm_rule::admit_refusal::AdmitRefusal;
 use sm_rule::permit::Front;
 use sm_run::BeginFault;
-use sm_script::{Answer, Refused};
+use sm_script::{LineAnswer, Refused};
 use sm_server::{CheckpointFault, Refusal};
 use sm_settings::SettingsFault;
 use std::alloc::AllocError;
@@ -29,13 +29,13 @@ pub(crate) fn begin_fault(fault: StartFault) -> BeginFault
 }
 
 /// The answer to a command.
-pub(crate) fn command_answer(made: Result<(), ControlFault>) -> Answer
+pub(crate) fn command_answer(made: Result<(), ControlFault>) -> LineAnswer
     ensures { result ≡ answer_to command_refused made }
 {
     match made {
-        Ok(()) => Answer::Made,
-        Err(ControlFault::Command(fault)) => Answer::Refused(Refused::Command(fault)),
-        Err(ControlFault::Raced { .. }) => Answer::Refused(Refused::Raced),
+        Ok(()) => LineAnswer::Made,
+        Err(ControlFault::Command(fault)) => LineAnswer::Refused(Refused::Command(fault)),
+        Err(ControlFault::Raced { .. }) => LineAnswer::Refused(Refused::Raced),
     }
 }
 
@@ -50,91 +50,93 @@ fn admit_refused(refusal: AdmitRefusal) -> Refused
 }
 
 /// The answer to a hold.
-pub(crate) fn hold_answer(made: Result<(), HoldFault>) -> Answer
+pub(crate) fn hold_answer(made: Result<(), HoldFault>) -> LineAnswer
     ensures { result ≡ answer_to hold_refused made }
 {
     match made {
-        Ok(()) => Answer::Made,
-        Err(HoldFault::UnknownShard) => Answer::Refused(Refused::UnknownShard),
-        Err(HoldFault::UnknownServer) => Answer::Refused(Refused::UnknownServer),
-        Err(HoldFault::Admit(refusal)) => Answer::Refused(admit_refused(refusal)),
+        Ok(()) => LineAnswer::Made,
+        Err(HoldFault::UnknownShard) => LineAnswer::Refused(Refused::UnknownShard),
+        Err(HoldFault::UnknownServer) => LineAnswer::Refused(Refused::UnknownServer),
+        Err(HoldFault::Admit(refusal)) => LineAnswer::Refused(admit_refused(refusal)),
     }
 }
 
 /// The answer to the end of a hold.
-pub(crate) fn free_answer(made: Result<(), FreeFault>) -> Answer
+pub(crate) fn free_answer(made: Result<(), FreeFault>) -> LineAnswer
     ensures { result ≡ answer_to free_refused made }
 {
     match made {
-        Ok(()) => Answer::Made,
-        Err(FreeFault::UnknownShard) => Answer::Refused(Refused::UnknownShard),
-        Err(FreeFault::NotHeld) => Answer::Refused(Refused::NotHeld),
+        Ok(()) => LineAnswer::Made,
+        Err(FreeFault::UnknownShard) => LineAnswer::Refused(Refused::UnknownShard),
+        Err(FreeFault::NotHeld) => LineAnswer::Refused(Refused::NotHeld),
     }
 }
 
 /// The answer to a checkpoint; an error is want of memory.
 pub(crate) fn checkpoint_answer(
     made: Result<Front, CheckpointRefusal>,
-) -> Result<Answer, AllocError>
+) -> Result<LineAnswer, AllocError>
     ensures ok { IfOk result (λ answer. may_answer checkpoint_refused made ≡ Some answer) }
     ensures err { OnErr result (may_answer checkpoint_refused made ≡ None) }
 {
     match made {
-        Ok(_) => Ok(Answer::Made),
-        Err(CheckpointRefusal::UnknownShard) => Ok(Answer::Refused(Refused::UnknownShard)),
-        Err(CheckpointRefusal::UnknownServer) => Ok(Answer::Refused(Refused::UnknownServer)),
+        Ok(_) => Ok(LineAnswer::Made),
+        Err(CheckpointRefusal::UnknownShard) => Ok(LineAnswer::Refused(Refused::UnknownShard)),
+        Err(CheckpointRefusal::UnknownServer) => Ok(LineAnswer::Refused(Refused::UnknownServer)),
         Err(CheckpointRefusal::Checkpoint(CheckpointFault::Admit(refusal))) => {
-            Ok(Answer::Refused(admit_refused(refusal)))
+            Ok(LineAnswer::Refused(admit_refused(refusal)))
         }
         Err(CheckpointRefusal::Checkpoint(CheckpointFault::NoMemory)) => Err(AllocError),
     }
 }
 
 /// The answer to a publication; an error is want of memory.
-pub(crate) fn publish_answer(made: Result<Route, PublishRefusal>) -> Result<Answer, AllocError>
+pub(crate) fn publish_answer(made: Result<Route, PublishRefusal>) -> Result<LineAnswer, AllocError>
     ensures ok { IfOk result (λ answer. may_answer publish_refused made ≡ Some answer) }
     ensures err { OnErr result (may_answer publish_refused made ≡ None) }
 {
     match made {
-        Ok(_) => Ok(Answer::Made),
+        Ok(_) => Ok(LineAnswer::Made),
         Err(PublishRefusal::Route(RouteFault::UnknownShard))
         | Err(PublishRefusal::Publish(PublishFault::UnknownShard)) => {
-            Ok(Answer::Refused(Refused::UnknownShard))
+            Ok(LineAnswer::Refused(Refused::UnknownShard))
         }
         Err(PublishRefusal::Route(RouteFault::WrongPhase)) => {
-            Ok(Answer::Refused(Refused::WrongPhase))
+            Ok(LineAnswer::Refused(Refused::WrongPhase))
         }
         Err(PublishRefusal::Publish(PublishFault::OldRoute)) => {
-            Ok(Answer::Refused(Refused::OldRoute))
+            Ok(LineAnswer::Refused(Refused::OldRoute))
         }
         Err(PublishRefusal::Publish(PublishFault::NoMemory)) => Err(AllocError),
     }
 }
 
 /// The answer to a request that was not answered; an error is want of memory.
-pub(crate) fn call_refused(fault: CallFault) -> Result<Answer, AllocError>
-    ensures ok { IfOk result (λ answer. option_map Answer.Refused (call_refused fault) ≡ Some answer) }
+pub(crate) fn call_refused(fault: CallFault) -> Result<LineAnswer, AllocError>
+    ensures ok { IfOk result (λ answer. option_map LineAnswer.Refused (call_refused fault) ≡ Some answer) }
     ensures err { OnErr result (call_refused fault ≡ None) }
 {
     match fault {
-        CallFault::NoRoute => Ok(Answer::Refused(Refused::NoRoute)),
-        CallFault::Unreachable => Ok(Answer::Refused(Refused::Unreachable)),
+        CallFault::NoRoute => Ok(LineAnswer::Refused(Refused::NoRoute)),
+        CallFault::Unreachable => Ok(LineAnswer::Refused(Refused::Unreachable)),
         CallFault::Refused(refusal) => request_refused(refusal),
         CallFault::NoMemory => Err(AllocError),
-        CallFault::Closed => Ok(Answer::Refused(Refused::Closed)),
+        CallFault::Closed => Ok(LineAnswer::Refused(Refused::Closed)),
     }
 }
 
 /// The answer to a request that a server refused; an error is want of memory.
-fn request_refused(refusal: Refusal) -> Result<Answer, AllocError>
-    ensures ok { IfOk result (λ answer. option_map Answer.Refused (request_refused refusal) ≡ Some answer) }
+fn request_refused(refusal: Refusal) -> Result<LineAnswer, AllocError>
+    ensures ok { IfOk result (λ answer. option_map LineAnswer.Refused (request_refused refusal) ≡ Some answer) }
     ensures err { OnErr result (request_refused refusal ≡ None) }
 {
     match refusal {
-        Refusal::WrongShard => Ok(Answer::Refused(Refused::WrongShard)),
-        Refusal::TooManyHops => Ok(Answer::Refused(Refused::Request(RequestRefusal::TooManyHops))),
-        Refusal::Admit(refusal) => Ok(Answer::Refused(admit_refused(refusal))),
-        Refusal::KeptFull => Ok(Answer::Refused(Refused::Request(RequestRefusal::KeptFull))),
+        Refusal::WrongShard => Ok(LineAnswer::Refused(Refused::WrongShard)),
+        Refusal::TooManyHops => Ok(LineAnswer::Refused(Refused::Request(
+            RequestRefusal::TooManyHops,
+        ))),
+        Refusal::Admit(refusal) => Ok(LineAnswer::Refused(admit_refused(refusal))),
+        Refusal::KeptFull => Ok(LineAnswer::Refused(Refused::Request(RequestRefusal::KeptFull))),
         Refusal::NoMemory => Err(AllocError),
     }
 }

@@ -14,7 +14,7 @@ use sm_cluster::{Client, Cluster, Gate, Setup};
 use sm_lines::Responder;
 use sm_model::beginning::{desk_of, write_line, write_long_line};
 use sm_run::BeginFault;
-use sm_script::{Answer, Call, ParseFault, parse};
+use sm_script::{Call, LineAnswer, ParseFault, parse};
 use sm_settings::settings::Settings;
 use std::alloc::{AllocError, Global};
 use std::marker::Model;
@@ -114,7 +114,7 @@ impl<R: Threads + Wait + Drop> ThreadSession<R> {
 
 impl<R: Threads + Wait + Sync> ThreadSession<R> {
     /// Runs the call; an error is want of memory.
-    fn run(&mut self, call: Call) -> Result<Answer, AllocError>
+    fn run(&mut self, call: Call) -> Result<LineAnswer, AllocError>
         ensures { IfOk result (λ answer. Answers self.old call answer self.new) }
     {
         match call {
@@ -153,7 +153,7 @@ impl<R: Threads + Wait + Sync> Responder for ThreadSession<R> {
                 let answer = self.run(call)?;
                 write_line(&answer, out)
             }
-            Err(ParseFault::Line(fault)) => write_line(&Answer::Error(fault), out),
+            Err(ParseFault::Line(fault)) => write_line(&LineAnswer::Error(fault), out),
             Err(ParseFault::NoMemory) => Err(AllocError),
         }
     }

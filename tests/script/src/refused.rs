@@ -1,7 +1,7 @@
 //! Lines and answers where memory is refused: the same call made again does its work.
 use sm_model::beginning::write_long_line;
 use sm_ranges::ServerId;
-use sm_script::{Answer, Call, ParseFault, parse};
+use sm_script::{LineAnswer, Call, ParseFault, parse};
 use sm_service::{Bytes, Reply, Request};
 use std::alloc::Global;
 use std::process::Abort;
@@ -19,7 +19,7 @@ fn call_in_two(rt: &impl Abort, alloc: Global, line: &[u8]) -> Call {
 }
 
 // Writes the answer. Where memory is refused, nothing is written, and it is written again.
-fn write_in_two(rt: &impl Abort, answer: &Answer, out: &mut Vec<u8>) {
+fn write_in_two(rt: &impl Abort, answer: &LineAnswer, out: &mut Vec<u8>) {
     let length = out.len();
     if answer.write_to(out).is_err() {
         assert!(rt; out.len() == length);
@@ -38,11 +38,11 @@ fn scans(call: &Call, from: &[u8], to: &[u8]) -> bool {
 }
 
 // What the call puts is the answer to a request for it.
-fn answer_of(call: Call, server: ServerId) -> Option<Answer> {
+fn answer_of(call: Call, server: ServerId) -> Option<LineAnswer> {
     let Call::Request(Request::Put(_, text)) = call else {
         return None;
     };
-    Some(Answer::Executed {
+    Some(LineAnswer::Executed {
         reply: Reply::Text(text),
         server,
         place: 12,
@@ -68,7 +68,7 @@ fn refused_memory_changes_nothing(rt: HostRuntime) {
     let put = call_in_two(&rt, alloc, b"put m a text of some length");
     let answer = answer_of(put, ServerId::of(3)).expect(&rt, "an answer");
     write_in_two(&rt, &answer, &mut out);
-    write_in_two(&rt, &Answer::Made, &mut out);
+    write_in_two(&rt, &LineAnswer::Made, &mut out);
     assert!(rt; long_in_two(&rt, alloc).as_slice() == b"error LineTooLong\n".as_slice());
     assert!(rt; out.as_slice() == b"text 21:a text of some length @3#12ok".as_slice());
 }

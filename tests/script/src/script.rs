@@ -12,7 +12,7 @@ use sm_ranges::server_id::ServerId;
 use sm_ranges::shard_id::ShardId;
 use sm_ranges::stand::Stand;
 use sm_script::{
-    Answer, Call, LineFault, LoadClients, MAX_LINE, ParseFault, Refused, long_line_fault, parse,
+    LineAnswer, Call, LineFault, LoadClients, MAX_LINE, ParseFault, Refused, long_line_fault, parse,
 };
 use sm_service::bytes::Bytes;
 use sm_service::reply::Reply;
@@ -28,7 +28,7 @@ fn documented_example(rt: HostRuntime) -> Result<(), Fail> {
     let fault = parse(alloc, b"assign 0").err();
     assert_eq!(rt; fault, Some(ParseFault::Line(LineFault::BadLine)));
     let mut out = Vec::new(alloc);
-    Answer::Error(LineFault::BadLine).write_to(&mut out)?;
+    LineAnswer::Error(LineFault::BadLine).write_to(&mut out)?;
     assert_eq!(rt; out.as_slice(), b"error BadLine".as_slice());
     Ok(())
 }
@@ -394,7 +394,7 @@ fn lines_at_the_limit(rt: HostRuntime) {
 }
 
 // Whether the answer adds this text to what was written.
-fn is_text(rt: &impl Abort, alloc: Global, answer: &Answer, text: &str) -> bool {
+fn is_text(rt: &impl Abort, alloc: Global, answer: &LineAnswer, text: &str) -> bool {
     let mut out = Vec::from_slice(alloc, b"> ").ok().expect(rt, "memory");
     answer.write_to(&mut out).ok().expect(rt, "memory");
     out.starts_with(b"> ") && out.get(2..) == Some(text.as_bytes())
@@ -404,7 +404,7 @@ fn is_text(rt: &impl Abort, alloc: Global, answer: &Answer, text: &str) -> bool 
 fn have_texts(rt: &impl Abort, alloc: Global, refusals: &[(Refused, &str)]) {
     for (refused, text) in refusals {
         assert!(rt;
-            is_text(rt, alloc, &Answer::Refused(*refused), text),
+            is_text(rt, alloc, &LineAnswer::Refused(*refused), text),
             "{text}"
         );
     }
@@ -463,7 +463,7 @@ fn texts_of_records(rt: &impl Abort, alloc: Global, owner: ServerId, next: Serve
         ),
     ];
     for (record, text) in &records {
-        assert!(rt; is_text(rt, alloc, &Answer::Seen(*record), text), "{text}");
+        assert!(rt; is_text(rt, alloc, &LineAnswer::Seen(*record), text), "{text}");
     }
 }
 
@@ -476,7 +476,7 @@ fn has_text(
     place: u64,
     text: &str,
 ) {
-    let answer = Answer::Executed {
+    let answer = LineAnswer::Executed {
         reply,
         server,
         place,
@@ -507,7 +507,7 @@ fn texts_of_answers(rt: HostRuntime) {
     texts_of_refusals(&rt, alloc);
     texts_of_records(&rt, alloc, owner, next);
     texts_of_replies(&rt, alloc, owner, next);
-    assert!(rt; is_text(&rt, alloc, &Answer::Made, "ok"));
-    let not_here = Answer::Error(LineFault::NotHere);
+    assert!(rt; is_text(&rt, alloc, &LineAnswer::Made, "ok"));
+    let not_here = LineAnswer::Error(LineFault::NotHere);
     assert!(rt; is_text(&rt, alloc, &not_here, "error NotHere"));
 }

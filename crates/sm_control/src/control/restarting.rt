@@ -2,7 +2,7 @@
 ghost use Rattle.std.specs.Prelude.{◌≡◌};
 ghost use Rattle.sm_desk.specs.declared.command.Command.TheVariants.{Ask, Approve, Stopped, Back, Fail};
 ghost use Rattle.sm_desk.specs.Desk.{books_commanded, desk_fault};
-ghost use Rattle.sm_control.specs.Controls.{Commanded, Stepped};
+ghost use Rattle.sm_control.specs.Controls.{Commanded, IsMadeOrRefused};
 
 use super::Control;
 use crate::control_fault::ControlFault;
@@ -54,7 +54,7 @@ impl<S: Service> Control<S> {
     // Makes a step, which leaves the stands as they are, where the desk lets it through.
     fn step(&mut self, step: Command) -> Result<(), ControlFault>
         requires { (books_commanded self.old.desk.books step).shards ≡ self.old.desk.books.shards }
-        ensures answer { Stepped (desk_fault self.old.desk step) self.old self.new step result }
+        ensures answer { IsMadeOrRefused (desk_fault self.old.desk step) self.old self.new step result }
         ensures board { self.new.chair.board ≡ self.old.chair.board }
     {
         self.desk.check(&step)?;

@@ -21,8 +21,8 @@ module _ {Q : Type 0} (count ceiling : ℕ) where
   table earlier = table_of_latest count ceiling earlier
 
   -- the entry fits after these
-  abbrev Fits : List (Entry Q) → Entry Q → Type 0
-  Fits earlier entry = fits ceiling earlier (table earlier) entry ≡ true
+  abbrev FitsAfter : List (Entry Q) → Entry Q → Type 0
+  FitsAfter earlier entry = fits ceiling earlier (table earlier) entry ≡ true
 
   -- the record of the entry's shard after it
   abbrev after : List (Entry Q) → Entry Q → Record
@@ -39,31 +39,31 @@ module _ {Q : Type 0} (count ceiling : ℕ) where
   length-table_of history = length-table_of_latest (reverse history)
 
   -- an entry that fits changes the record of its shard
-  pub record_at-latest : (entry : Entry Q) (earlier : List (Entry Q)) → Fits earlier entry → record_at (table (entry ∷ earlier)) entry.shard ≡ after earlier entry
+  pub record_at-latest : (entry : Entry Q) (earlier : List (Entry Q)) → FitsAfter earlier entry → record_at (table (entry ∷ earlier)) entry.shard ≡ after earlier entry
   record_at-latest entry earlier fit =
       let there = ltb-true entry.shard (length (table earlier)) (and_parts _ _ fit).0 in
       rw fit (get_or-set_same (table earlier) entry.shard (after earlier entry) vacant there)
 
   -- and of no other
-  pub record_at-latest_other : (entry : Entry Q) (earlier : List (Entry Q)) (shard : ℕ) → shard ≢ entry.shard → Fits earlier entry → record_at (table (entry ∷ earlier)) shard ≡ record_at (table earlier) shard
+  pub record_at-latest_other : (entry : Entry Q) (earlier : List (Entry Q)) (shard : ℕ) → shard ≢ entry.shard → FitsAfter earlier entry → record_at (table (entry ∷ earlier)) shard ≡ record_at (table earlier) shard
   record_at-latest_other entry earlier shard apart fit = rw fit (get_or-set_other (table earlier) entry.shard shard (after earlier entry) vacant apart)
 
   -- the same of an entry at the end of a history
-  pub table_of-push : (history : List (Entry Q)) (entry : Entry Q) → Fits (reverse history) entry → table_of count ceiling (history ++ entry ∷ []) ≡ slice_set (table_of count ceiling history) entry.shard (after (reverse history) entry)
+  pub table_of-push : (history : List (Entry Q)) (entry : Entry Q) → FitsAfter (reverse history) entry → table_of count ceiling (history ++ entry ∷ []) ≡ slice_set (table_of count ceiling history) entry.shard (after (reverse history) entry)
   table_of-push history entry fit = rw (reverse-append history (entry ∷ [])) (rw fit refl)
 
-  pub record_at-push : (history : List (Entry Q)) (entry : Entry Q) → Fits (reverse history) entry → record_at (table_of count ceiling (history ++ entry ∷ [])) entry.shard ≡ after (reverse history) entry
+  pub record_at-push : (history : List (Entry Q)) (entry : Entry Q) → FitsAfter (reverse history) entry → record_at (table_of count ceiling (history ++ entry ∷ [])) entry.shard ≡ after (reverse history) entry
   record_at-push history entry fit = rw (reverse-append history (entry ∷ [])) (record_at-latest entry (reverse history) fit)
 
-  pub record_at-push_other : (history : List (Entry Q)) (entry : Entry Q) (shard : ℕ) → shard ≢ entry.shard → Fits (reverse history) entry → record_at (table_of count ceiling (history ++ entry ∷ [])) shard ≡ record_at (table_of count ceiling history) shard
+  pub record_at-push_other : (history : List (Entry Q)) (entry : Entry Q) (shard : ℕ) → shard ≢ entry.shard → FitsAfter (reverse history) entry → record_at (table_of count ceiling (history ++ entry ∷ [])) shard ≡ record_at (table_of count ceiling history) shard
   record_at-push_other history entry shard apart fit = rw (reverse-append history (entry ∷ [])) (record_at-latest_other entry (reverse history) shard apart fit)
 
   -- the history stays legal
-  pub legal-push : (history : List (Entry Q)) (entry : Entry Q) → IsLegal count ceiling history → Fits (reverse history) entry → IsLegal count ceiling (history ++ entry ∷ [])
+  pub legal-push : (history : List (Entry Q)) (entry : Entry Q) → IsLegal count ceiling history → FitsAfter (reverse history) entry → IsLegal count ceiling (history ++ entry ∷ [])
   legal-push history entry legal fit = rw (reverse-append history (entry ∷ [])) (fit, legal)
 
   -- an entry of a legal history fits what came before it
-  pub fits-push : (history : List (Entry Q)) (entry : Entry Q) → IsLegal count ceiling (history ++ entry ∷ []) → Fits (reverse history) entry
+  pub fits-push : (history : List (Entry Q)) (entry : Entry Q) → IsLegal count ceiling (history ++ entry ∷ []) → FitsAfter (reverse history) entry
   fits-push history entry legal = (rw (reverse-append history (entry ∷ [])) at legal).0
 
   legal_earlier : (later earlier : List (Entry Q)) → IsLegalLatest count ceiling (later ++ earlier) → IsLegalLatest count ceiling earlier

@@ -5,7 +5,7 @@ use Rattle.std.proofs.lemmas.List.{drop-append-le, take-append-le, take_all}
 use Rattle.std.proofs.Math.Seq.{drop-length}
 use Rattle.core.proofs.iter.runs.Lists.{fold-append}
 use Rattle.sm_ownership.specs.declared.entry.Ending.TheVariants.{Request}
-use Rattle.sm_rule.specs.declared.view.Held.{Held}
+use Rattle.sm_rule.specs.declared.view.HeldShard.{HeldShard}
 use Rattle.sm_rule.specs.Bodies.{Keeps, all_after, checkpoint_ending}
 use Rattle.sm_rule.specs.Views.{EndsWith, all_held, first_held, list_held}
 
@@ -15,7 +15,7 @@ all_based all [] = refl
 all_based all (request ∷ more) = refl
 
 -- a body that kept nothing ends with nothing, and else with a checkpoint
-checkpoint_ends : {S Q : Type 0} (rests : S → ℕ → List Q → Type 0) (held : Option (Held Q)) (body : S) → first_held held ≤ length (all_held held) → rests body (length (all_held held)) (all_held held) → EndsWith rests held body (checkpoint_ending (list_held held))
+checkpoint_ends : {S Q : Type 0} (rests : S → ℕ → List Q → Type 0) (held : Option (HeldShard Q)) (body : S) → first_held held ≤ length (all_held held) → rests body (length (all_held held)) (all_held held) → EndsWith rests held body (checkpoint_ending (list_held held))
 checkpoint_ends rests held body within is = by_list (list_held held) refl
   where
     left : length (list_held held) ≡ length (all_held held) - first_held held
@@ -38,7 +38,7 @@ module _ {S State Q : Type 0} (initial : State) (next : State → Q → State) (
   keeps = Keeps initial next base before requests
 
   -- a body that was lent
-  pub lent_rests : (held : Option (Held Q)) (given lent : S) → lent ≡ given → keeps given (first_held held) (all_held held) → keeps lent (first_held held) (all_held held)
+  pub lent_rests : (held : Option (HeldShard Q)) (given lent : S) → lent ≡ given → keeps given (first_held held) (all_held held) → keeps lent (first_held held) (all_held held)
   lent_rests held given lent same is = subst (λ body. keeps body (first_held held) (all_held held)) (sym same) is
 
   -- a body that has applied one request more
@@ -72,7 +72,7 @@ module _ {S State Q : Type 0} (initial : State) (next : State → Q → State) (
       omega arith
 
   -- the same of a body that was lent to apply a request, which an admission may then end with
-  pub ends_applied : (held : Option (Held Q)) (given lent later : S) (request : Q) → lent ≡ given → keeps given (first_held held) (all_held held) → requests later ≡ requests lent ++ request ∷ [] → base later ≡ base lent → before later ≡ before lent → EndsWith keeps held later (Request request)
+  pub ends_applied : (held : Option (HeldShard Q)) (given lent later : S) (request : Q) → lent ≡ given → keeps given (first_held held) (all_held held) → requests later ≡ requests lent ++ request ∷ [] → base later ≡ base lent → before later ≡ before lent → EndsWith keeps held later (Request request)
   ends_applied held given lent later request same is gained same_base same_before =
       rests_applied lent later (first_held held) (all_held held) request (lent_rests held given lent same is) gained same_base same_before
 
@@ -85,7 +85,7 @@ module _ {S State Q : Type 0} (initial : State) (next : State → Q → State) (
     based ∙ (state_after body first all is ∙ ap (fold next initial) (sym (take_all (length all) all (omega arith)))),
   )
 
-  pub ends_based : (held : Option (Held Q)) (given lent later : S) → lent ≡ given → keeps given (first_held held) (all_held held) → base later ≡ fold next (base lent) (requests lent) → before later ≡ before lent + length (requests lent) → requests later ≡ [] → EndsWith keeps held later (checkpoint_ending (list_held held))
+  pub ends_based : (held : Option (HeldShard Q)) (given lent later : S) → lent ≡ given → keeps given (first_held held) (all_held held) → base later ≡ fold next (base lent) (requests lent) → before later ≡ before lent + length (requests lent) → requests later ≡ [] → EndsWith keeps held later (checkpoint_ending (list_held held))
   ends_based held given lent later same is based counted none =
       let rests = lent_rests held given lent same is in
       checkpoint_ends keeps held later is.0 (rests_based lent later (first_held held) (all_held held) rests based counted none)

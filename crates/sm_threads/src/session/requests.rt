@@ -6,7 +6,7 @@ ghost use Rattle.sm_ranges.specs.Stand.{owner_of};
 ghost use Rattle.std.specs.Option.{option_map};
 ghost use Rattle.sm_rule.specs.Passes.{PassLooks, record_of};
 ghost use Rattle.sm_rule.specs.Views.{Begins};
-ghost use Rattle.sm_script.specs.declared.answer.Answer.TheVariants.{Refused as IsRefused};
+ghost use Rattle.sm_script.specs.declared.line_answer.LineAnswer.TheVariants.{Refused as IsRefused};
 ghost use Rattle.sm_threads.specs.Calls.{AnsweredAt, WasAnswered, WasLoaded, WasRequested, WasRouted, looking, with_client};
 ghost use Rattle.sm_threads.specs.Loads.{IsLoadOf, IsVerdictOn};
 ghost use Rattle.sm_threads.specs.Refusals.{call_refused};
@@ -22,7 +22,7 @@ use sm_ownership::admit_fault::AdmitFault;
 use sm_ranges::key::Key;
 use sm_ranges::server_id::ServerId;
 use sm_ranges::shard_id::ShardId;
-use sm_script::{Answer, LoadClients, LoadVerdict, Refused};
+use sm_script::{LineAnswer, LoadClients, LoadVerdict, Refused};
 use sm_server::Answer as Given;
 use sm_service::request::Request;
 use std::alloc::{AllocError, Global};
@@ -31,13 +31,13 @@ use std::thread::Threads;
 
 impl<R: Wait> ThreadSession<R> {
     /// Has the request executed by the owner of its key's shard; an error is want of memory.
-    pub(super) fn request(&mut self, request: Request) -> Result<Answer, AllocError>
+    pub(super) fn request(&mut self, request: Request) -> Result<LineAnswer, AllocError>
         ensures { IfOk result (λ answer. WasRequested self.old request answer self.new) }
     {
         let shard = self.cluster.layout().shard_of(TextBody::key(&request));
         match self.owner(shard) {
             Some(owner) => self.request_at(owner, request),
-            None => Ok(Answer::Refused(Refused::Request(Refusal::Admit(AdmitFault::Vacant)))),
+            None => Ok(LineAnswer::Refused(Refused::Request(Refusal::Admit(AdmitFault::Vacant)))),
         }
     }
 
@@ -56,18 +56,18 @@ impl<R: Wait> ThreadSession<R> {
         &mut self,
         server: ServerId,
         request: Request,
-    ) -> Result<Answer, AllocError>
+    ) -> Result<LineAnswer, AllocError>
         ensures { IfOk result (λ answer. AnsweredAt self.old server request answer self.new) }
     {
         if self.cluster.desk().knows(server) {
             self.send(server, request)
         } else {
-            Ok(Answer::Refused(Refused::UnknownServer))
+            Ok(LineAnswer::Refused(Refused::UnknownServer))
         }
     }
 
     /// Sends the request to a server that exists; an error is want of memory.
-    fn send(&mut self, server: ServerId, request: Request) -> Result<Answer, AllocError>
+    fn send(&mut self, server: ServerId, request: Request) -> Result<LineAnswer, AllocError>
         ensures answered { IfOk result (λ answer. WasAnswered (λ client. FaultAt counter_text self.old.client client 0 request)
             self.old.client request answer self.new.client) }
         ensures unchanged { self.new ≡ with_client self.old self.new.client }
@@ -79,7 +79,7 @@ impl<R: Wait> ThreadSession<R> {
     }
 
     /// Sends the request by the published route of its key's shard; an error is want of memory.
-    pub(super) fn request_by_route(&mut self, request: Request) -> Result<Answer, AllocError>
+    pub(super) fn request_by_route(&mut self, request: Request) -> Result<LineAnswer, AllocError>
         ensures { IfOk result (λ answer. WasRouted self.old request answer self.new) }
     {
         let given = self.client.call(&self.rt, self.alloc, 0, request);
@@ -89,7 +89,7 @@ impl<R: Wait> ThreadSession<R> {
 
 impl<R: Threads + Wait + Sync> ThreadSession<R> {
     /// Has so many clients add to the key's count at the same time, so many times each.
-    pub(super) fn load(&mut self, key: Key, clients: LoadClients, each: u16) -> Answer
+    pub(super) fn load(&mut self, key: Key, clients: LoadClients, each: u16) -> LineAnswer
         ensures { WasLoaded self.old key clients each result self.new }
     {
         let report = load_by(
@@ -100,7 +100,7 @@ impl<R: Threads + Wait + Sync> ThreadSession<R> {
             key,
             each,
         );
-        Answer::Loaded(verdict_on(&report))
+        LineAnswer::Loaded(verdict_on(&report))
     }
 }
 
@@ -127,7 +127,7 @@ fn load_by<R: Threads + Wait + Sync>(
 fn learned(
     client: &mut Client<TextBody>,
     given: Result<Given<TextBody>, CallRefused<Request>>,
-) -> Result<Answer, AllocError>
+) -> Result<LineAnswer, AllocError>
     requires { IfOk given (λ answer. answer.note.board ≡ client.old.pass.board) }
     ensures board { client.new.pass.board ≡ client.old.pass.board }
     ensures bounds { client.new.bounds ≡ client.old.bounds }
@@ -141,7 +141,7 @@ fn learned(
     match given {
         Ok(answer) => {
             let told = client.learn(answer);
-            Ok(Answer::Executed {
+            Ok(LineAnswer::Executed {
                 reply: told.reply,
                 server: told.server,
                 place: told.place,

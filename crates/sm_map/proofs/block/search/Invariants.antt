@@ -3,7 +3,7 @@ use Rattle.std.specs.List.{AllWithin}
 use Rattle.std.specs.declared.cmp.Ordering.TheVariants.{Less, Greater}
 use Rattle.sm_ranges.specs.KeyOrder.{key_cmp}
 use Rattle.sm_map.specs.KeyMap.{Pair}
-use Rattle.sm_map.specs.Entry.{pairs_of}
+use Rattle.sm_map.specs.KeyEntry.{pairs_of}
 use Rattle.sm_map.proofs.block.search.Given as goal
 
 abbrev pub invariant-loop-low : goal.invariant-loop-low

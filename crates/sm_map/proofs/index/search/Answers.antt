@@ -3,9 +3,9 @@ use Rattle.std.specs.List.{AllWithin}
 use Rattle.std.specs.declared.cmp.Ordering.TheVariants.{Less, Greater}
 use Rattle.sm_ranges.specs.KeyOrder.{key_cmp}
 use Rattle.sm_map.specs.KeyMap.{Pair}
-use Rattle.sm_map.specs.Entry.{pairs_of}
+use Rattle.sm_map.specs.KeyEntry.{pairs_of}
 use Rattle.sm_map.specs.Block.{BlockValue}
-use Rattle.sm_map.specs.Blocks.{entries_in, lengths_in, IsFilled}
+use Rattle.sm_map.specs.Blocks.{entries_in, lengths_in, IsSized}
 use Rattle.sm_map.proofs.Blocks.{blocks_counted}
 use Rattle.sm_map.proofs.Search.{none_after, first_placed, first_less, first_equal, first_greater}
 use Rattle.sm_map.proofs.index.search.Goals as goal
@@ -17,14 +17,14 @@ pub get-requires : goal.get-requires
 get-requires c =
     let middle = c.loop-low.low + (c.loop-low.high - c.loop-low.low) / 2 in
     let lt : middle < length c.args.blocks.now = omega (arith, c.loop-low-test.true, c.loop-low.invariant.within) in
-    let some = (subst (λ (x : BlockValue). IsFilled x) (sym c.index-blocks-middle.is) (c.requires.filled middle c.index-blocks-middle.result lt)).0 in
+    let some = (subst (λ (x : BlockValue). IsSized x) (sym c.index-blocks-middle.is) (c.requires.filled middle c.index-blocks-middle.result lt)).0 in
     first_placed _ _ c.args.key.now c.requires.rising middle lt _ c.index-blocks-middle.is some _ c.entry.ensures _ refl c.requires.keys
 
 pub loop-low-preserved-in-Less : goal.loop-low-preserved-in-Less
 loop-low-preserved-in-Less c =
     let middle = c.loop-low.low + (c.loop-low.high - c.loop-low.low) / 2 in
     let lt : middle < length c.args.blocks.now = omega (arith, c.loop-low-test.true, c.loop-low.invariant.within) in
-    let some = (subst (λ (x : BlockValue). IsFilled x) (sym c.index-blocks-middle.is) (c.requires.filled middle c.index-blocks-middle.result lt)).0 in
+    let some = (subst (λ (x : BlockValue). IsSized x) (sym c.index-blocks-middle.is) (c.requires.filled middle c.index-blocks-middle.result lt)).0 in
     let one : middle ≡ (middle + 1) - 1 = omega arith in
     record {
       ordered = omega (arith, c.loop-low-test.true);
@@ -37,14 +37,14 @@ pub returns-in-Equal-clause-found : goal.returns-in-Equal-clause-found
 returns-in-Equal-clause-found c =
     let middle = c.loop-low.low + (c.loop-low.high - c.loop-low.low) / 2 in
     let lt : middle < length c.args.blocks.now = omega (arith, c.loop-low-test.true, c.loop-low.invariant.within) in
-    let some = (subst (λ (x : BlockValue). IsFilled x) (sym c.index-blocks-middle.is) (c.requires.filled middle c.index-blocks-middle.result lt)).0 in
+    let some = (subst (λ (x : BlockValue). IsSized x) (sym c.index-blocks-middle.is) (c.requires.filled middle c.index-blocks-middle.result lt)).0 in
     first_equal _ _ c.args.key.now c.requires.rising middle lt _ c.index-blocks-middle.is some _ c.entry.ensures _ c.get.ensures c.in-Equal.ensures
 
 pub loop-low-preserved : goal.loop-low-preserved
 loop-low-preserved c =
     let middle = c.loop-low.low + (c.loop-low.high - c.loop-low.low) / 2 in
     let lt : middle < length c.args.blocks.now = omega (arith, c.loop-low-test.true, c.loop-low.invariant.within) in
-    let some = (subst (λ (x : BlockValue). IsFilled x) (sym c.index-blocks-middle.is) (c.requires.filled middle c.index-blocks-middle.result lt)).0 in
+    let some = (subst (λ (x : BlockValue). IsSized x) (sym c.index-blocks-middle.is) (c.requires.filled middle c.index-blocks-middle.result lt)).0 in
     record {
       ordered = omega arith;
       within = omega (arith, lt);

@@ -1,7 +1,7 @@
 use Rattle.std.proofs.Common.{subst}
 use Rattle.sm_body.specs.Service.{meaning_of}
 use Rattle.sm_cluster.specs.Calls.{ClientValue}
-use Rattle.sm_cluster.specs.Exchanging.{IsLeftAfter, answer_of}
+use Rattle.sm_cluster.specs.Exchanging.{IsLeftAfter, call_outcome}
 use Rattle.sm_cluster.proofs.Acking.{since_call}
 use Rattle.sm_cluster.proofs.Calling.{call_answer, call_answered, call_back, call_fault}
 use Rattle.sm_cluster.proofs.client.Client.call_at.Goals as goal
@@ -45,5 +45,5 @@ returns-in-Ok-clause-since g c =
     let reply = c.exchange-reply.result in
     let after = c.taken.new.self in
     let left = subst (λ (client : ClientValue g.row.S-Request.Denot). IsLeftAfter client reply after) c.message.ensures.unchanged c.taken.ensures.client in
-    since_call service c.args.number c.args.request before after (answer_of reply) (call_answered service before c.args.number c.args.request asked of reply after left)
+    since_call service c.args.number c.args.request before after (call_outcome reply) (call_answered service before c.args.number c.args.request asked of reply after left)
     (call_fault service before c.args.number c.args.request asked of reply after c.exchange-reply.ensures left)

@@ -3,7 +3,7 @@ use Rattle.std.specs.List.{HoldsAt}
 use Rattle.sm_map.specs.KeyMap.{Pair, text_of}
 use Rattle.sm_map.specs.ArenaMap.{MapValue, IsRewrite}
 use Rattle.sm_map.specs.KeyMap.{Text as HeldText}
-use Rattle.sm_map.specs.Entry.{pair_of}
+use Rattle.sm_map.specs.KeyEntry.{pair_of}
 use Rattle.sm_map.specs.Blocks.{entries_in, number_of}
 use Rattle.sm_map.proofs.Entries.{slot_readable, pair_there}
 use Rattle.sm_map.proofs.Blocks.{number_inside}

@@ -4,7 +4,7 @@ use Rattle.std.specs.Borrow.{Bor}
 use Rattle.std.proofs.lemmas.List.{length_push}
 use Rattle.sm_map.specs.ArenaMap.{MapValue}
 use Rattle.sm_map.specs.Blocks.{entries_in, lengths_in, number_of}
-use Rattle.sm_map.specs.Entry.{pairs_of}
+use Rattle.sm_map.specs.KeyEntry.{pairs_of}
 use Rattle.sm_map.specs.Val.{row_of}
 use Rattle.sm_map.specs.declared.val.Val.{Val}
 use Rattle.sm_map.proofs.Blocks.{item_there}

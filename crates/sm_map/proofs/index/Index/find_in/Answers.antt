@@ -1,7 +1,7 @@
 use Rattle.std.proofs.Common.{◌<◌, ◌+◌, length, subst, sym, arith}
 use Rattle.sm_ranges.specs.Keyed.{IsKeyPlace, IsKeyGap}
 use Rattle.sm_map.specs.KeyMap.{key_of, IsKeyMap}
-use Rattle.sm_map.specs.Entry.{pairs_of, HasKeys}
+use Rattle.sm_map.specs.KeyEntry.{pairs_of, HasKeys}
 use Rattle.sm_map.specs.Index.{IndexValue}
 use Rattle.sm_map.specs.Blocks.{entries_in, lengths_in, number_of, IsBlockGap}
 use Rattle.sm_map.proofs.Blocks.{blocks_counted}

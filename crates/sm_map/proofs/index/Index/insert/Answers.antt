@@ -4,7 +4,7 @@ use Rattle.std.proofs.Common.{◌≡◌, ◌<◌, ◌≤◌, vec_len, List, ◌+
 use Rattle.std.specs.List.{insert}
 use Rattle.sm_map.specs.Index.{IndexValue, IsIndex, IsReady}
 use Rattle.sm_map.specs.Blocks.{entries_in, lengths_in, number_of}
-use Rattle.sm_map.specs.declared.entry.Entry.{Entry}
+use Rattle.sm_map.specs.declared.key_entry.KeyEntry.{KeyEntry}
 use Rattle.sm_map.specs.declared.room.Room.TheVariants.{Inside, Beside, Behind}
 use Rattle.sm_map.proofs.Indexes.{entries_bounded, ready_as, insert_entries, insert_kept, half_entries, half_kept, behind_entries, behind_kept}
 use Rattle.sm_map.proofs.index.Index.insert.Goals as goal
@@ -41,12 +41,12 @@ returns-in-Beside c =
 pub invariant_of-self-in-Behind : goal.invariant_of-self-in-Behind
 invariant_of-self-in-Behind c =
     let ready : IsReady (record { blocks = c.self.inside.blocks.items; room = vec_capacity c.self.inside.blocks - vec_len c.self.inside.blocks }) c.args.place (Behind c.in-Behind.last) = ready_as _ _ _ _ _ c.self.view_is c.in-Behind.is c.requires in
-    let one = c.insert-in-Behind.ensures ∙ ap (λ (l : List Entry). insert l 0 c.args.entry) ready.3 in
+    let one = c.insert-in-Behind.ensures ∙ ap (λ (l : List KeyEntry). insert l 0 c.args.entry) ready.3 in
     subst (λ (l : List BlockValue). IsIndex l (c.self.inside.len + 1)) (sym c.add-in-Behind.ensures) (behind_kept c.self.inside.blocks.items c.self.inside.len c.self.invariant c.args.place c.insert-in-Behind.new.self c.args.entry ready.0 ready.1 one)
 
 pub returns-in-Behind : goal.returns-in-Behind
 returns-in-Behind c =
     let ready : IsReady (record { blocks = c.self.inside.blocks.items; room = vec_capacity c.self.inside.blocks - vec_len c.self.inside.blocks }) c.args.place (Behind c.in-Behind.last) = ready_as _ _ _ _ _ c.self.view_is c.in-Behind.is c.requires in
-    let one = c.insert-in-Behind.ensures ∙ ap (λ (l : List Entry). insert l 0 c.args.entry) ready.3 in
+    let one = c.insert-in-Behind.ensures ∙ ap (λ (l : List KeyEntry). insert l 0 c.args.entry) ready.3 in
     subst (λ (x : IndexValue). entries_in (c.add-in-Behind.new.blocks.items) ≡ insert (entries_in x.blocks) (number_of (lengths_in x.blocks) c.args.place) c.args.entry) c.self.view_is
     (ap entries_in c.add-in-Behind.ensures ∙ behind_entries c.self.inside.blocks.items c.self.inside.len c.self.invariant c.args.place c.insert-in-Behind.new.self c.args.entry ready.0 ready.1 one)

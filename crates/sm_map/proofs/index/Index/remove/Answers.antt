@@ -3,7 +3,7 @@ use Rattle.std.proofs.lemmas.List.{get_or-set_same}
 use Rattle.sm_map.specs.Block.{BlockValue}
 use Rattle.std.specs.List.{remove}
 use Rattle.sm_map.specs.Index.{IndexValue, IsIndex}
-use Rattle.sm_map.specs.declared.entry.Entry.{Entry}
+use Rattle.sm_map.specs.declared.key_entry.KeyEntry.{KeyEntry}
 use Rattle.sm_map.specs.declared.place.Place.{Place}
 use Rattle.sm_map.specs.Blocks.{entries_in, lengths_in, number_of, HasEntry}
 use Rattle.sm_map.proofs.Blocks.{blocks_counted, entry_read, number_inside}
@@ -18,7 +18,7 @@ module _ {seen now : IndexValue} (is : seen ≡ now) (place : Place) (asked : Ha
   inside : place.block < length seen.blocks
   inside = omega (arith, has.0, blocks_counted seen.blocks)
 
-  gone_entry : (old : BlockValue) → old ≡ get_or seen.blocks place.block old → (entry d : Entry) → entry ≡ get_or old.entries place.offset d
+  gone_entry : (old : BlockValue) → old ≡ get_or seen.blocks place.block old → (entry d : KeyEntry) → entry ≡ get_or old.entries place.offset d
       → entry ≡ get_or (entries_in now.blocks) (number_of (lengths_in now.blocks) place) d
   gone_entry old read entry d there =
       subst (λ (x : IndexValue). entry ≡ get_or (entries_in x.blocks) (number_of (lengths_in x.blocks) place) d) is (entry_read seen.blocks place old has read entry d there)

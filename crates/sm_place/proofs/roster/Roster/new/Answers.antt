@@ -3,13 +3,13 @@ use Rattle.std.proofs.lemmas.List.{get_or_default}
 use Rattle.sm_ranges.specs.declared.limits.TheConstants.{MAX_SERVER}
 use Rattle.sm_rows.specs.declared.server_row.ServerRow.{ServerRow}
 use Rattle.sm_place.specs.Books.{no_server}
-use Rattle.sm_place.proofs.Placing.{IsFilled-new, IsFilled-next, HasPlaces-filled}
+use Rattle.sm_place.proofs.Placing.{IsPlacedUpTo-new, IsPlacedUpTo-next, HasPlaces-filled}
 use Rattle.sm_place.proofs.roster.Roster.new.Goals as goal
 
 pub loop-at-init : goal.loop-at-init
 loop-at-init c =
     let empty = c.in_ok-places.ensures.items_if_clones_equal (λ y h. h) in
-    rw empty (IsFilled-new c.args.rows.now (MAX_SERVER + 1) (length c.args.rows.now) cc)
+    rw empty (IsPlacedUpTo-new c.args.rows.now (MAX_SERVER + 1) (length c.args.rows.now) cc)
 
 pub loop-at-preserved : goal.loop-at-preserved
 loop-at-preserved c =
@@ -20,7 +20,7 @@ loop-at-preserved c =
     let id : c.number.result ≡ (get_or rows i no_server).id = c.number.ensures.value ∙ ap (λ (r : ServerRow). r.id) row in
     let small : c.number.result < MAX_SERVER + 1 = omega (arith, c.number.ensures.value, c.number.ensures.in_range) in
     let here : c.from.result ≡ c.number.result = cc in
-    rw here (IsFilled-next rows (MAX_SERVER + 1) c.loop-at.places.items i c.number.result c.requires.rise c.loop-at-test.true
+    rw here (IsPlacedUpTo-next rows (MAX_SERVER + 1) c.loop-at.places.items i c.number.result c.requires.rise c.loop-at-test.true
     id small c.loop-at.invariant)
 
 pub invariant_of-result : goal.invariant_of-result

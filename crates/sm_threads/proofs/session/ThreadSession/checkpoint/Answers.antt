@@ -1,7 +1,7 @@
 use Rattle.std.proofs.Common.{◌≡◌, IfOk, Some, subst, sym}
 use Rattle.std.proofs.lemmas.Result.{IfOk-weaker}
 use Rattle.sm_cluster.specs.Clusters.{ClusterValue}
-use Rattle.sm_script.specs.declared.answer.Answer.{Answer}
+use Rattle.sm_script.specs.declared.line_answer.LineAnswer.{LineAnswer}
 use Rattle.sm_service.specs.declared.request.Request.{Request}
 use Rattle.sm_threads.specs.Calls.{WasBased, may_answer}
 use Rattle.sm_threads.specs.Refusals.{checkpoint_refused}
@@ -26,10 +26,10 @@ returns g c =
     let loaders = c.self.inside.loaders.items in
     let made = c.checkpoint-made.ensures in
     let told = c.tell.ensures in
-    let Says : Answer → Type 0 = λ answer. may_answer checkpoint_refused c.checkpoint-made.result ≡ Some answer in
+    let Says : LineAnswer → Type 0 = λ answer. may_answer checkpoint_refused c.checkpoint-made.result ≡ Some answer in
     let after = session_with c.tell.new.self loaders c.tell.new.client in
-    let Was : SessionValue → Answer → Type 0 = λ s answer. WasBased s c.args.shard c.args.server answer after in
-    let was : (answer : Answer) → Says answer → Was (session_with before loaders client) answer = λ answer says.
+    let Was : SessionValue → LineAnswer → Type 0 = λ s answer. WasBased s c.args.shard c.args.server answer after in
+    let was : (answer : LineAnswer) → Says answer → Was (session_with before loaders client) answer = λ answer says.
     subst (λ (cluster : ClusterValue Request). WasBased (session_with before loaders client) c.args.shard c.args.server answer (session_with cluster loaders c.tell.new.client)) (sym told.unchanged) (
       c.checkpoint-made.result,
       made.unknown_shard,

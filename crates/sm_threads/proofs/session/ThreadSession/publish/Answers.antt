@@ -1,7 +1,7 @@
 use Rattle.std.proofs.Common.{◌≡◌, IfOk, Some, subst, sym}
 use Rattle.std.proofs.lemmas.Result.{IfOk-weaker}
 use Rattle.sm_cluster.specs.Clusters.{ClusterValue}
-use Rattle.sm_script.specs.declared.answer.Answer.{Answer}
+use Rattle.sm_script.specs.declared.line_answer.LineAnswer.{LineAnswer}
 use Rattle.sm_service.specs.declared.request.Request.{Request}
 use Rattle.sm_threads.specs.Calls.{WasPublished, may_answer}
 use Rattle.sm_threads.specs.Refusals.{publish_refused}
@@ -25,10 +25,10 @@ returns g c =
     let client = c.self.inside.client in
     let loaders = c.self.inside.loaders.items in
     let told = c.tell.ensures in
-    let Says : Answer → Type 0 = λ answer. may_answer publish_refused c.publish-made.result ≡ Some answer in
+    let Says : LineAnswer → Type 0 = λ answer. may_answer publish_refused c.publish-made.result ≡ Some answer in
     let after = session_with c.tell.new.self loaders c.tell.new.client in
-    let Was : SessionValue → Answer → Type 0 = λ s answer. WasPublished s c.args.shard answer after in
-    let was : (answer : Answer) → Says answer → Was (session_with before loaders client) answer = λ answer says.
+    let Was : SessionValue → LineAnswer → Type 0 = λ s answer. WasPublished s c.args.shard answer after in
+    let was : (answer : LineAnswer) → Says answer → Was (session_with before loaders client) answer = λ answer says.
     subst (λ (cluster : ClusterValue Request). WasPublished (session_with before loaders client) c.args.shard answer (session_with cluster loaders c.tell.new.client)) (sym told.unchanged) (
       c.publish-made.result,
       c.publish-made.ensures.published,

@@ -5,21 +5,21 @@ use Rattle.sm_arena.specs.declared.span.Span.{Span}
 use Rattle.sm_arena.specs.Pieces.{Places, IsPlaced, bytes_of}
 use Rattle.sm_map.specs.KeyMap.{Pair}
 use Rattle.sm_map.specs.Slot.{held_in, uses_piece, uses_slot}
-use Rattle.sm_map.specs.declared.entry.Entry.{Entry}
+use Rattle.sm_map.specs.declared.key_entry.KeyEntry.{KeyEntry}
 
-abbrev pub pair_of : Places → Entry → Pair
+abbrev pub pair_of : Places → KeyEntry → Pair
 pair_of placed entry = record { key = bytes_of placed entry.key; value = held_in placed entry.slot }
 
-abbrev pub pairs_of : Places → List Entry → List Pair
+abbrev pub pairs_of : Places → List KeyEntry → List Pair
 pairs_of placed entries = map (pair_of placed) entries
 
 -- how often an entry, or a list of them, uses the span s
-abbrev pub uses_entry : Entry → Span → ℕ
+abbrev pub uses_entry : KeyEntry → Span → ℕ
 uses_entry entry s = uses_piece entry.key s + uses_slot entry.slot s
 
-abbrev pub uses_all : List Entry → Span → ℕ
+abbrev pub uses_all : List KeyEntry → Span → ℕ
 uses_all entries s = sum_by (λ entry. uses_entry entry s) entries
 
 -- the key of each entry lies in the arena
-abbrev pub HasKeys : Places → List Entry → Type 0
+abbrev pub HasKeys : Places → List KeyEntry → Type 0
 HasKeys placed entries = All (λ entry. IsPlaced placed entry.key) entries

@@ -19,7 +19,7 @@ use std::alloc::AllocError;
 
 /// The answer to a line of a script.
 #[derive(Drop)]
-pub enum Answer {
+pub enum LineAnswer {
     /// What the line asked for was done.
     Made,
     /// What the line asked for was refused.
@@ -43,7 +43,7 @@ pub enum Answer {
     Error(LineFault),
 }
 
-impl Answer {
+impl LineAnswer {
     ghost use Rattle.sm_script.specs.Answers.{answer_text};
 
     /// Appends the answer's text, without a line feed, or nothing where memory for it is refused.
@@ -52,19 +52,19 @@ impl Answer {
         ensures err { OnErr result (out.new.items ≡ out.old.items) }
     {
         match self {
-            Answer::Made => append_all(out, &[b"ok"]),
-            Answer::Refused(refused) => append_refused(out, refused),
-            Answer::Seen(record) => append_record(out, record),
-            Answer::Executed {
+            LineAnswer::Made => append_all(out, &[b"ok"]),
+            LineAnswer::Refused(refused) => append_refused(out, refused),
+            LineAnswer::Seen(record) => append_record(out, record),
+            LineAnswer::Executed {
                 reply,
                 server,
                 place,
             } => append_executed(out, reply, *server, *place),
-            Answer::Planned(plan) => append_plan(out, plan),
-            Answer::Way(Some(route)) => append_route(out, route),
-            Answer::Way(None) => append_all(out, &[b"none"]),
-            Answer::Loaded(verdict) => append_all(out, &[b"load ", verdict.name().as_bytes()]),
-            Answer::Error(fault) => append_all(out, &[b"error ", fault.name().as_bytes()]),
+            LineAnswer::Planned(plan) => append_plan(out, plan),
+            LineAnswer::Way(Some(route)) => append_route(out, route),
+            LineAnswer::Way(None) => append_all(out, &[b"none"]),
+            LineAnswer::Loaded(verdict) => append_all(out, &[b"load ", verdict.name().as_bytes()]),
+            LineAnswer::Error(fault) => append_all(out, &[b"error ", fault.name().as_bytes()]),
         }
     }
 }

@@ -4,7 +4,7 @@ use crate::chunk::Chunk;
 use std::alloc::{AllocError, Global};
 
 /// A chunk with the allocator that frees it when it is dropped.
-pub(crate) struct Block {
+pub(crate) struct OwnedChunk {
     alloc: Global,
     size: u32,
     chunk: Chunk<Global>,
@@ -12,9 +12,9 @@ pub(crate) struct Block {
     ghost small: { size < 2 ^ 32 },
 }
 
-impl Drop for Block {
+impl Drop for OwnedChunk {
     fn drop(self) {
-        let Block {
+        let OwnedChunk {
             alloc,
             size: _,
             chunk,
@@ -23,13 +23,13 @@ impl Drop for Block {
     }
 }
 
-impl Block {
+impl OwnedChunk {
     /// A block of so many bytes with nothing written.
-    pub(crate) fn new(alloc: Global, size: u32) -> Result<Block, AllocError>
+    pub(crate) fn new(alloc: Global, size: u32) -> Result<OwnedChunk, AllocError>
         ensures { IfOk result (λ block. (block.size ≡ size) × (block.chunk.bytes ≡ [])) }
     {
         let chunk = Chunk::make(&alloc, size as usize).ok_or(AllocError)?;
-        Ok(Block { alloc, size, chunk })
+        Ok(OwnedChunk { alloc, size, chunk })
     }
 
     /// The bytes written so far.
