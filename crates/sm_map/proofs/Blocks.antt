@@ -12,7 +12,7 @@ use Rattle.sm_map.specs.KeyEntry.{pair_of, pairs_of}
 use Rattle.sm_map.specs.Block.{BlockValue}
 use Rattle.std.proofs.lemmas.Bool.Decides.{nat_tests}
 use Rattle.sm_map.specs.Places.{precedes}
-use Rattle.sm_map.specs.Blocks.{entries_in, lengths_in, number_of, HasEntry, IsStop, IsCut}
+use Rattle.sm_map.specs.Blocks.{entries_in, lengths_in, number_of, HasEntry, IsStop, IsHalved}
 use Rattle.sm_map.specs.declared.key_entry.KeyEntry.{KeyEntry}
 use Rattle.sm_map.specs.declared.place.Place.{Place}
 
@@ -126,7 +126,7 @@ dropped (x ∷ xs) (suc b) d lt is = ap (λ (l : List KeyEntry). x.entries ++ l)
 
 -- an entry that is put into a half of a full block
 module _ (xs : List KeyEntry) (at : ℕ) (e : KeyEntry) (lower upper : BlockValue) (full : length xs ≡ 64) where
-  pub lower_insert : at ≤ 32 → (cut : List KeyEntry) → cut ≡ take 32 xs → lower.entries ≡ insert cut at e → upper.entries ≡ drop 32 xs → IsCut (insert xs at e) lower upper
+  pub lower_insert : at ≤ 32 → (cut : List KeyEntry) → cut ≡ take 32 xs → lower.entries ≡ insert cut at e → upper.entries ≡ drop 32 xs → IsHalved (insert xs at e) lower upper
   lower_insert le cut is_cut is_lower is_upper =
       let front : length (take 32 xs) ≡ 32 = omega (arith, length-take 32 xs) in
       let low : lower.entries ≡ insert (take 32 xs) at e = is_lower ∙ ap (λ (l : List KeyEntry). insert l at e) is_cut in
@@ -137,7 +137,7 @@ module _ (xs : List KeyEntry) (at : ℕ) (e : KeyEntry) (lower upper : BlockValu
         high = (omega (arith, ap length is_upper, length-drop 32 xs), omega (arith, ap length is_upper, length-drop 32 xs));
       }
 
-  pub upper_insert : 32 < at → at ≤ 64 → (cut : List KeyEntry) → cut ≡ drop 32 xs → lower.entries ≡ take 32 xs → upper.entries ≡ insert cut (at - 32) e → IsCut (insert xs at e) lower upper
+  pub upper_insert : 32 < at → at ≤ 64 → (cut : List KeyEntry) → cut ≡ drop 32 xs → lower.entries ≡ take 32 xs → upper.entries ≡ insert cut (at - 32) e → IsHalved (insert xs at e) lower upper
   upper_insert more le cut is_cut is_lower is_upper =
       let front : length (take 32 xs) ≡ 32 = omega (arith, length-take 32 xs) in
       let high : upper.entries ≡ insert (drop 32 xs) (at - 32) e = is_upper ∙ ap (λ (l : List KeyEntry). insert l (at - 32) e) is_cut in

@@ -7,7 +7,7 @@ use Rattle.sm_arena.specs.declared.span.Span.{Span}
 use Rattle.sm_arena.specs.Pieces.{Places, piece_of, bytes_of}
 use Rattle.sm_arena.specs.Value.{ArenaValue, forgetting}
 use Rattle.sm_ranges.specs.Keyed.{IsKeyGap}
-use Rattle.sm_map.specs.KeyMap.{Stored, Pair, key_of, text_of, size_of}
+use Rattle.sm_map.specs.KeyMap.{KeyValue, Pair, key_of, text_of, size_of}
 use Rattle.sm_map.specs.KeyMap.{Text as HeldText}
 use Rattle.sm_map.specs.ArenaMap.{MapValue, IsRewrite, IsRemoval, IsAddition}
 use Rattle.sm_map.specs.Stored.{IsTidy, IsStored}
@@ -60,20 +60,20 @@ module _ (v : ArenaValue) (es : List KeyEntry) (m : IsMap v es) (at : ℕ) (with
       tidy = tidy_forgot w (λ s. uses_all es s + uses_slot slot s) (uses_all (set es at new)) e.slot slot_parts tidy_with;
     }
 
-    pub rewritten : (ls after : List ℕ) (held : Stored) → held_in w.placed slot ≡ held → HoldsAt (λ (pair : Pair). IsRewrite (map_of v es ls) at pair held (map_of (forgetting_slot w e.slot) (set es at new) after)) (pairs_of v.placed es) at
+    pub rewritten : (ls after : List ℕ) (held : KeyValue) → held_in w.placed slot ≡ held → HoldsAt (λ (pair : Pair). IsRewrite (map_of v es ls) at pair held (map_of (forgetting_slot w e.slot) (set es at new) after)) (pairs_of v.placed es) at
     rewritten ls after held is d =
         let f = forgets w e.slot in
         let same : held_in w.placed e.slot ≡ held_in v.placed e.slot = same_held v.placed w.placed e.slot (λ s lt. keeps_there s (omega arith)) in
         let there : (get_or (pairs_of v.placed es) at d).value ≡ held_in v.placed e.slot = ap (λ (pair : Pair). pair.value) (pair_there es at within e read v.placed d) in
         record {
           pairs = rw (← is) (new_pairs d);
-          dead = omega (arith, f.dead, ap (λ (h : Stored). length (text_of (Some h))) same, ap (λ (h : Stored). length (text_of (Some h))) there, dead_stored v (uses_slot slot) w st (uses_all es) m.tidy);
+          dead = omega (arith, f.dead, ap (λ (h : KeyValue). length (text_of (Some h))) same, ap (λ (h : KeyValue). length (text_of (Some h))) there, dead_stored v (uses_slot slot) w st (uses_all es) m.tidy);
         }
 
     pub lengthened : (ls after : List ℕ) (tail : List ℕ) → held_in w.placed slot ≡ HeldText (text_of (Some (held_in v.placed e.slot)) ++ tail) → HoldsAt (λ (pair : Pair). IsRewrite (map_of v es ls) at pair (HeldText (text_of (Some pair.value) ++ tail)) (map_of (forgetting_slot w e.slot) (set es at new) after)) (pairs_of v.placed es) at
     lengthened ls after tail is d =
         let there : held_in v.placed e.slot ≡ (get_or (pairs_of v.placed es) at d).value = sym (ap (λ (pair : Pair). pair.value) (pair_there es at within e read v.placed d)) in
-        rewritten ls after (HeldText (text_of (Some (get_or (pairs_of v.placed es) at d).value) ++ tail)) (is ∙ ap (λ (h : Stored). HeldText (text_of (Some h) ++ tail)) there) d
+        rewritten ls after (HeldText (text_of (Some (get_or (pairs_of v.placed es) at d).value) ++ tail)) (is ∙ ap (λ (h : KeyValue). HeldText (text_of (Some h) ++ tail)) there) d
 
   -- the entry goes
   removed_parts : (s : Span) → (uses_all (remove es at) s + uses_slot e.slot s) + uses_slot (Text e.key) s ≡ uses_all es s

@@ -10,7 +10,7 @@ use Rattle.std.proofs.lemmas.List.Edits.{insert_end}
 use Rattle.sm_ranges.specs.KeyOrder.{key_cmp}
 use Rattle.sm_ranges.specs.Keyed.{IsKeyPlace, IsKeyGap}
 use Rattle.sm_ranges.specs.lemmas.Keyed as keyed
-use Rattle.sm_map.specs.KeyMap.{Stored, Pair, key_of, IsKeyMap, held_at, holding, without, text_of, text_at, size_of, size_at, IsEdgeOf}
+use Rattle.sm_map.specs.KeyMap.{KeyValue, Pair, key_of, IsKeyMap, held_at, holding, without, text_of, text_at, size_of, size_at, IsEdgeOf}
 use Rattle.sm_map.specs.ArenaMap.{MapValue, IsRewrite, IsAddition}
 
 module _ (m : List Pair) (key : List ℕ) (map : IsKeyMap m) where
@@ -24,7 +24,7 @@ module _ (m : List Pair) (key : List ℕ) (map : IsKeyMap m) where
     pub size_here : (d : Pair) → size_at m key ≡ size_of (get_or m at d)
     size_here d = ap (λ (pair : Option Pair). unwrap_or (option_map size_of pair) 0) (keyed.found_here key_of m key map at place d)
 
-    pub set_here : (d : Pair) (value : Stored) → set m at (record { key = (get_or m at d).key; value = value }) ≡ holding m key value
+    pub set_here : (d : Pair) (value : KeyValue) → set m at (record { key = (get_or m at d).key; value = value }) ≡ holding m key value
     set_here d value = ap (λ (k : List ℕ). set m at (record { key = k; value = value })) (keyed.key_here key_of m key map at place d) ∙ keyed.set_here key_of m key map at place (record { key = key; value = value })
 
     pub remove_here : remove m at ≡ without m key
@@ -43,7 +43,7 @@ module _ (m : List Pair) (key : List ℕ) (map : IsKeyMap m) where
     pub size_nowhere : size_at m key ≡ 0
     size_nowhere = ap (λ (pair : Option Pair). unwrap_or (option_map size_of pair) 0) (keyed.found_nowhere key_of m key map at gap)
 
-    pub insert_here : (value : Stored) → insert m at (record { key = key; value = value }) ≡ holding m key value
+    pub insert_here : (value : KeyValue) → insert m at (record { key = key; value = value }) ≡ holding m key value
     insert_here value = keyed.insert_here key_of m key map at gap (record { key = key; value = value })
 
     pub without_here : m ≡ without m key
@@ -52,14 +52,14 @@ module _ (m : List Pair) (key : List ℕ) (map : IsKeyMap m) where
     pub edge_gap : IsEdgeOf m key at
     edge_gap = record { within = gap.within; apart = (λ k d low high. ap is_lt (gap.apart.0 k d low high), λ k d low high. ap is_lt (gap.apart.1 k d low high)) }
 
-  pub holding_in_order : (value : Stored) → IsKeyMap (holding m key value)
+  pub holding_in_order : (value : KeyValue) → IsKeyMap (holding m key value)
   holding_in_order value = keyed.with_key_in_order key_of m key map (record { key = key; value = value }) refl
 
   pub without_in_order : IsKeyMap (without m key)
   without_in_order = keyed.without_key_in_order key_of m key map
 
 module _ (m : List Pair) (map : IsKeyMap m) (at : ℕ) (within : at < length m) (d : Pair) where
-  pub set_in_order : (value : Stored) → IsKeyMap (set m at (record { key = (get_or m at d).key; value = value }))
+  pub set_in_order : (value : KeyValue) → IsKeyMap (set m at (record { key = (get_or m at d).key; value = value }))
   set_in_order value = rw (set_here m (get_or m at d).key map at (keyed.place_itself key_of m map at within d) d value) (holding_in_order m (get_or m at d).key map value)
 
   pub remove_in_order : IsKeyMap (remove m at)
@@ -87,14 +87,14 @@ module _ (m : List Pair) (map : IsKeyMap m) (at : ℕ) (within : at < length m) 
 
 -- what a change at the place of a key leaves at the key
 module _ {T E : Type 0} (r : Result T E) (old : MapValue) (key : List ℕ) (map : IsKeyMap old.pairs) (at : ℕ) (new : MapValue) where
-  module _ (place : IsKeyPlace key_of old.pairs key at) (value : Pair → Stored) (d : Pair) (written : OnOk r (HoldsAt (λ pair. IsRewrite old at pair (value pair) new) old.pairs at)) where
+  module _ (place : IsKeyPlace key_of old.pairs key at) (value : Pair → KeyValue) (d : Pair) (written : OnOk r (HoldsAt (λ pair. IsRewrite old at pair (value pair) new) old.pairs at)) where
     pub rewrite_holds : OnOk r (new.pairs ≡ holding old.pairs key (value (get_or old.pairs at d)))
     rewrite_holds = on_ok_weaker r (λ (each : HoldsAt (λ pair. IsRewrite old at pair (value pair) new) old.pairs at). (each d).pairs ∙ set_here old.pairs key map at place d (value (get_or old.pairs at d))) written
 
     pub rewrite_dead : OnOk r (new.dead ≡ old.dead + length (text_at old.pairs key))
     rewrite_dead = on_ok_weaker r (λ (each : HoldsAt (λ pair. IsRewrite old at pair (value pair) new) old.pairs at). (each d).dead ∙ ap (λ (text : List ℕ). old.dead + length text) (sym (text_here old.pairs key map at place d))) written
 
-  module _ (gap : IsKeyGap key_of old.pairs key at) (value : Stored) (added : OnOk r (IsAddition old at (record { key = key; value = value }) new)) where
+  module _ (gap : IsKeyGap key_of old.pairs key at) (value : KeyValue) (added : OnOk r (IsAddition old at (record { key = key; value = value }) new)) where
     pub addition_holds : OnOk r (new.pairs ≡ holding old.pairs key value)
     addition_holds = on_ok_weaker r (λ (one : IsAddition old at (record { key = key; value = value }) new). one.pairs ∙ insert_here old.pairs key map at gap value) added
 

@@ -1,7 +1,7 @@
 -- What a contract sees of an ArenaMap, and how a change of the pair at a place shows there.
 use Rattle.std.specs.Prelude.{◌≡◌, ℕ, ◌+◌, List, Some, length, slice_set}
 use Rattle.std.specs.List.{remove, insert}
-use Rattle.sm_map.specs.KeyMap.{Stored, Pair, text_of, size_of}
+use Rattle.sm_map.specs.KeyMap.{KeyValue, Pair, text_of, size_of}
 
 -- the pairs in the order of their keys, how many bytes of the arena are live, and dead, and how many pairs each block of the
 -- index has
@@ -12,7 +12,7 @@ pub record MapValue : Type 0 where
   pub blocks : List ℕ
 
 -- new is old with this value in the pair at the place, whose old text is dead
-pub record IsRewrite (old : MapValue) (at : ℕ) (pair : Pair) (value : Stored) (new : MapValue) : Type 0 where
+pub record IsRewrite (old : MapValue) (at : ℕ) (pair : Pair) (value : KeyValue) (new : MapValue) : Type 0 where
   pub pairs : new.pairs ≡ slice_set old.pairs at (record { key = pair.key; value = value })
   pub dead : new.dead ≡ old.dead + length (text_of (Some pair.value))
 

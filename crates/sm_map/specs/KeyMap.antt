@@ -5,13 +5,13 @@ use Rattle.std.specs.Option.{option_map}
 use Rattle.sm_ranges.specs.Keyed.{IsInKeyOrder, comes_before, has_key, with_key, without_key}
 
 -- what a key holds: the bytes of a text, or a count
-pub data Stored : Type 0 where
-  Text : List ℕ → Stored
-  Count : ℤ → Stored
+pub data KeyValue : Type 0 where
+  Text : List ℕ → KeyValue
+  Count : ℤ → KeyValue
 
 pub record Pair : Type 0 where
   pub key : List ℕ
-  pub value : Stored
+  pub value : KeyValue
 
 abbrev pub key_of : Pair → List ℕ
 key_of pair = pair.key
@@ -21,11 +21,11 @@ abbrev pub IsKeyMap : List Pair → Type 0
 IsKeyMap m = IsInKeyOrder key_of m
 
 -- what the map holds at the key
-abbrev pub held_at : List Pair → List ℕ → Option Stored
+abbrev pub held_at : List Pair → List ℕ → Option KeyValue
 held_at m key = option_map (λ pair. pair.value) (find (has_key key_of key) m)
 
 -- the map that holds the value at the key, and else what m holds
-abbrev pub holding : List Pair → List ℕ → Stored → List Pair
+abbrev pub holding : List Pair → List ℕ → KeyValue → List Pair
 holding m key value = with_key key_of m key (record { key = key; value = value })
 
 -- the map that holds nothing at the key, and else what m holds
@@ -37,12 +37,12 @@ abbrev pub within : List Pair → List ℕ → List ℕ → List Pair
 within m low high = filter (λ pair. not (comes_before key_of low pair) && comes_before key_of high pair) m
 
 -- the text that is held, and no bytes where none is
-abbrev pub text_of : Option Stored → List ℕ
+abbrev pub text_of : Option KeyValue → List ℕ
 text_of None = []
 text_of (Some (Text text)) = text
 text_of (Some (Count count)) = []
 
-abbrev pub IsText : Stored → Type 0
+abbrev pub IsText : KeyValue → Type 0
 IsText held = held ≡ Text (text_of (Some held))
 
 abbrev pub text_at : List Pair → List ℕ → List ℕ

@@ -1,13 +1,13 @@
 -- What a caller's value holds, and the pair that a caller gets.
 use Rattle.std.specs.Prelude.{ℕ, List}
 use Rattle.std.specs.Borrow.{Bor}
-use Rattle.sm_map.specs.KeyMap.{Stored, Pair}
+use Rattle.sm_map.specs.KeyMap.{KeyValue, Pair}
 use Rattle.sm_map.specs.KeyMap.{Text as HeldText, Count as HeldCount}
 use Rattle.sm_map.specs.declared.val.Val.{Val}
 use Rattle.sm_map.specs.declared.val.Val.TheVariants.{Text, Count}
 
 -- a caller's value
-abbrev pub held_of : Val → Stored
+abbrev pub held_of : Val → KeyValue
 held_of (Text text) = HeldText text.now
 held_of (Count count) = HeldCount count
 

@@ -3,7 +3,7 @@ ghost use Rattle.std.specs.List.{HoldsAt, between, insert, remove};
 ghost use Rattle.sm_map.specs.KeyMap.{key_of, IsKeyMap};
 ghost use Rattle.sm_ranges.specs.Keyed.{IsKeyPlace, IsKeyGap};
 ghost use Rattle.sm_map.specs.KeyEntry.{pairs_of, HasKeys};
-ghost use Rattle.sm_map.specs.Blocks.{IsCut};
+ghost use Rattle.sm_map.specs.Blocks.{IsHalved};
 
 use crate::key_entry::KeyEntry;
 use sm_arena::arena::Arena;
@@ -106,7 +106,7 @@ impl Block {
         requires full { length self.old.entries ≡ MOST_ENTRIES }
         requires empty { upper.entries ≡ [] }
         requires room { MOST_ENTRIES ≤ upper.room }
-        ensures { IsCut (insert self.old.entries at entry) self.new result }
+        ensures { IsHalved (insert self.old.entries at entry) self.new result }
     {
         let mut upper = self.cut(upper);
         if at <= HALF_ENTRIES {

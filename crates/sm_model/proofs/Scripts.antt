@@ -22,7 +22,7 @@ use Rattle.sm_model.specs.Calls.{settings_frame}
 use Rattle.sm_model.specs.LongLines.{IsLongResponse, RespondsLong}
 use Rattle.sm_model.specs.Sessions.{IsAt, IsNew, RespondsAsWorld}
 use Rattle.sm_model.specs.Runs.{LacksMemory, RefusesSettings, WritesScript, WroteScript}
-use Rattle.sm_run.specs.Openings.{RefusesSettings, RefusedScript, Unbegun, settings_in}
+use Rattle.sm_run.specs.Openings.{ReadIsRefused, RefusedScript, Unbegun, settings_in}
 use Rattle.sm_run.specs.Runs.{RanScript, WritesFor}
 use Rattle.sm_model.specs.Script.{line_response, responded, responses, script, script_with}
 
@@ -94,7 +94,7 @@ ran_script (Some bytes) old new ran =
     subst (λ (t : List ℕ). Appends old new t) (is ∙ script_is bytes ran.first ran.lines s.settings ran.are s.accepted) ran.wrote
 
 -- the model refuses settings by their rules alone
-refused_by_rules : (read : Result SettingsValues SettingsFault) (fault : SettingsFault) → RefusesSettings LacksMemory fault read → read ≡ Err fault
+refused_by_rules : (read : Result SettingsValues SettingsFault) (fault : SettingsFault) → ReadIsRefused LacksMemory fault read → read ≡ Err fault
 refused_by_rules (Err found) fault is = ap Err is
 refused_by_rules (Ok settings) fault is = absurd (let no : false ≡ true = cc in false≢true no)
 

@@ -30,8 +30,3 @@ ending_between [] [] = Nothing
 ending_between [] (request ∷ more) = Request request
 ending_between (one ∷ list) [] = Checkpoint
 ending_between (one ∷ list) (other ∷ more) = ending_between list more
-
--- how the checkpoint of a body with this list ends an admission: one that keeps nothing stays as it was
-abbrev pub checkpoint_ending : {Q : Type 0} → List Q → Ending Q
-checkpoint_ending [] = Nothing
-checkpoint_ending (request ∷ more) = Checkpoint

@@ -39,20 +39,20 @@ ReadsAs line (Accepted settings) = (settings_of line ≡ Ok (values_of settings)
 ReadsAs line (Refused fault) = settings_of line ≡ Err fault
 
 -- settings that were read so are refused with this fault: by their rules, or else by the engine, where `refuses` says so
-abbrev pub RefusesSettings : (SettingsValues → BeginFault → Type 0) → SettingsFault → Result SettingsValues SettingsFault → Type 0
-RefusesSettings refuses fault (Err found) = found ≡ fault
-RefusesSettings refuses fault (Ok settings) = refuses settings (IsOfSettings fault)
+abbrev pub ReadIsRefused : (SettingsValues → BeginFault → Type 0) → SettingsFault → Result SettingsValues SettingsFault → Type 0
+ReadIsRefused refuses fault (Err found) = found ≡ fault
+ReadIsRefused refuses fault (Ok settings) = refuses settings (IsOfSettings fault)
 
 -- the settings in front of the input were refused, and what was written is their fault
 pub record RefusedScript (refuses : SettingsValues → BeginFault → Type 0) (input old new : Option (List ℕ)) : Type 0 where
   pub fault : SettingsFault
-  pub refused : IfKnown input (λ bytes. RefusesSettings refuses fault (settings_in (lines_of bytes)))
+  pub refused : IfKnown input (λ bytes. ReadIsRefused refuses fault (settings_in (lines_of bytes)))
   pub wrote : Appends old new (settings_line fault)
 
 -- the settings in front of the input were refused, and a front of their fault was written
 pub record RefusedShort (refuses : SettingsValues → BeginFault → Type 0) (input old new : Option (List ℕ)) : Type 0 where
   pub fault : SettingsFault
-  pub refused : IfKnown input (λ bytes. RefusesSettings refuses fault (settings_in (lines_of bytes)))
+  pub refused : IfKnown input (λ bytes. ReadIsRefused refuses fault (settings_in (lines_of bytes)))
   pub wrote : WroteFront old new (settings_line fault)
 
 -- the settings in front of the input were accepted, and for this reason no session was begun with them. Nothing was written

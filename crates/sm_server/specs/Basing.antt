@@ -3,9 +3,8 @@ use Rattle.std.specs.Prelude.{ℕ, ◌≡◌}
 use Rattle.sm_ownership.specs.declared.entry.Ending.TheVariants.{Nothing}
 use Rattle.sm_ownership.specs.declared.entry.Kind.TheVariants.{Done}
 use Rattle.sm_ownership.specs.declared.mode.Mode.TheVariants.{Direct}
-use Rattle.sm_ownership.specs.History.{all_of, kept}
+use Rattle.sm_ownership.specs.History.{all_of, checkpoint_ending, kept}
 use Rattle.sm_rule.specs.Admissions.{PassAdmitted, RefusedBy}
-use Rattle.sm_rule.specs.Bodies.{checkpoint_ending}
 use Rattle.sm_rule.specs.Passes.{PassAdds, PassLooks, PassValue}
 use Rattle.sm_server.specs.declared.checkpoint_fault.CheckpointFault.{CheckpointFault}
 use Rattle.sm_server.specs.declared.checkpoint_fault.CheckpointFault.TheVariants.{Admit as NotAdmitted, NoMemory}

@@ -6,7 +6,8 @@ use Rattle.std.proofs.Math.Seq.{drop-length}
 use Rattle.core.proofs.iter.runs.Lists.{fold-append}
 use Rattle.sm_ownership.specs.declared.entry.Ending.TheVariants.{Request}
 use Rattle.sm_rule.specs.declared.view.HeldShard.{HeldShard}
-use Rattle.sm_rule.specs.Bodies.{Keeps, all_after, checkpoint_ending}
+use Rattle.sm_ownership.specs.History.{checkpoint_ending}
+use Rattle.sm_rule.specs.Bodies.{Keeps, all_after}
 use Rattle.sm_rule.specs.Views.{EndsWith, all_held, first_held, list_held}
 
 -- all requests stay by a checkpoint

@@ -32,9 +32,9 @@ use Rattle.sm_place.specs.lemmas.Changed.{id-at_place}
 use Rattle.sm_rows.specs.declared.server_row.ServerRow.{ServerRow}
 use Rattle.sm_envelope.specs.Envelope.{EnvelopeView, one_hop_more, sent_on}
 use Rattle.sm_envelope.specs.declared.envelope.TheConstants.{MOST_HOPS}
-use Rattle.sm_ownership.specs.History.{vacant, record_at, kept}
+use Rattle.sm_ownership.specs.History.{checkpoint_ending, vacant, record_at, kept}
 use Rattle.sm_body.specs.Service.{Service}
-use Rattle.sm_table.specs.World.{Frame, WorldState, Mark, Plain, Unmade, Unserved, Outcome, count_of, world_record, is_there, table_fault, with_change, controlled, after_look, after_send, flight_to, reached, after_hop, hopped, arrived, without_flight, delivered, after_lose, with_room, worked, served, held, after_hold, based, after_checkpoint, checkpoint_ending, let_go, freed, after_free, published, empty_world, next, world_after, world_of}
+use Rattle.sm_table.specs.World.{Frame, WorldState, Mark, Plain, Unmade, Unserved, StepOutcome, count_of, world_record, is_there, table_fault, with_change, controlled, after_look, after_send, flight_to, reached, after_hop, hopped, arrived, without_flight, delivered, after_lose, with_room, worked, served, held, after_hold, based, after_checkpoint, let_go, freed, after_free, published, empty_world, next, world_after, world_of}
 use Rattle.sm_table.specs.Standing.{IsFrame, IsFlight, IsLedTo, IsThere, AgreesWithHand, IsSound, desk_after}
 use Rattle.sm_ownership.specs.lemmas.Growth.{record_at-empty}
 use Rattle.sm_table.specs.lemmas.Names.{known_forward}
@@ -146,7 +146,7 @@ sound_taken {Q = Q} w place sound = sound_flights w (remove w.in_flight place) s
 
 -- what each step leaves
 module _ {Q : Type 0} (R : Type 0) (w : WorldState Q) (sound : IsSound w) where
-  abbrev LeavesSound : Outcome Q R → Type 0
+  abbrev LeavesSound : StepOutcome Q R → Type 0
   LeavesSound outcome = IsSound outcome.1
 
   abbrev IsGoing : Flight Q → Type 0
