@@ -10,7 +10,7 @@ use Rattle.sm_desk.specs.declared.command.Command.TheVariants.{Change as ChangeO
 use Rattle.sm_desk.specs.declared.command.CommandFault.{CommandFault}
 use Rattle.sm_desk.specs.declared.command.CommandFault.TheVariants.{Change as ChangeRefused}
 use Rattle.sm_ownership.specs.declared.entry.Ending.{Ending}
-use Rattle.sm_ownership.specs.declared.entry.Ending.TheVariants.{Nothing, Request, Checkpoint}
+use Rattle.sm_ownership.specs.declared.entry.Ending.TheVariants.{Nothing, Request}
 use Rattle.sm_ownership.specs.declared.entry.Entry.{Entry}
 use Rattle.sm_ownership.specs.declared.entry.Kind.{Kind}
 use Rattle.sm_ownership.specs.declared.entry.Kind.TheVariants.{Change as Changed, Admit, Done}
