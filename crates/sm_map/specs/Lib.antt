@@ -1,6 +1,6 @@
 pub mod KeyMap
 pub mod ArenaMap
-pub mod KeyValue
+pub mod Stored
 pub mod Val
 pub mod Slot
 pub mod KeyEntry
