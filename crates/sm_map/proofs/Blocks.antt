@@ -7,7 +7,7 @@ use Rattle.std.proofs.lemmas.List.Concat.{flat_map-append, length-flat_map, get_
 use Rattle.std.proofs.lemmas.List.Edits.{length-insert, length-between, get_or-between, insert-append_left, insert-append_right, remove-append_left, remove-append_right}
 use Rattle.std.proofs.lemmas.List.Sums.{sum-map, sum_by_more, sum_by-take-le}
 use Rattle.sm_arena.specs.Pieces.{Places}
-use Rattle.sm_map.specs.KeyMap.{Pair}
+use Rattle.sm_map.specs.KeyMap.{KeyPair}
 use Rattle.sm_map.specs.KeyEntry.{pair_of, pairs_of}
 use Rattle.sm_map.specs.Block.{BlockValue}
 use Rattle.std.proofs.lemmas.Bool.Decides.{nat_tests}
@@ -49,7 +49,7 @@ pair_parts placed blocks b d lt =
     let front = entries_in (take b blocks) in
     let part = (get_or blocks b d).entries in
     let back = entries_in (drop (suc b) blocks) in
-    ap (pairs_of placed) (parts blocks b d lt) ∙ (map-append (pair_of placed) front (part ++ back) ∙ ap (λ (l : List Pair). pairs_of placed front ++ l) (map-append (pair_of placed) part back))
+    ap (pairs_of placed) (parts blocks b d lt) ∙ (map-append (pair_of placed) front (part ++ back) ∙ ap (λ (l : List KeyPair). pairs_of placed front ++ l) (map-append (pair_of placed) part back))
 
 pub front_pairs : (placed : Places) (blocks : List BlockValue) (b : ℕ) → length (pairs_of placed (entries_in (take b blocks))) ≡ sum (take b (lengths_in blocks))
 front_pairs placed blocks b = length-map (entries_in (take b blocks)) (pair_of placed) ∙ sym (before_block blocks b)

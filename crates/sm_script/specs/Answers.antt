@@ -6,7 +6,7 @@ use Rattle.sm_desk.specs.declared.command.CommandFault.{CommandFault}
 use Rattle.sm_desk.specs.declared.command.CommandFault.TheVariants as command
 use Rattle.sm_envelope.specs.declared.refusal.Refusal.{Refusal}
 use Rattle.sm_envelope.specs.declared.refusal.Refusal.TheVariants as request
-use Rattle.sm_map.specs.KeyMap.{Held, Pair}
+use Rattle.sm_map.specs.KeyMap.{KeyPair, KeyValue}
 use Rattle.sm_map.specs.KeyMap.{Text as HeldText, Count as HeldCount}
 use Rattle.sm_ownership.specs.declared.admit_fault.AdmitFault.{AdmitFault}
 use Rattle.sm_ownership.specs.declared.admit_fault.AdmitFault.TheVariants as admit
@@ -153,12 +153,12 @@ abbrev pub counted : List ℕ → List ℕ
 counted bytes = decimal (length bytes) ++ codes ":" ++ bytes
 
 -- what a key holds, in a scan
-abbrev pub held_text : Held → List ℕ
+abbrev pub held_text : KeyValue → List ℕ
 held_text (HeldText text) = codes " t" ++ counted text
 held_text (HeldCount count) = codes " c" ++ signed_decimal count
 
 -- a pair of a scan
-abbrev pub pair_text : Pair → List ℕ
+abbrev pub pair_text : KeyPair → List ℕ
 pair_text pair = codes " " ++ counted pair.key ++ held_text pair.value
 
 -- a reply of the service

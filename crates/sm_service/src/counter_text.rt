@@ -35,9 +35,9 @@ pub struct KeyMachine {
 
 impl Model for KeyMachine {
     ghost use Rattle.std.specs.Prelude.{List};
-    ghost use Rattle.sm_map.specs.KeyMap.{Pair};
+    ghost use Rattle.sm_map.specs.KeyMap.{KeyPair};
 
-    ghost Value = { List Pair };
+    ghost Value = { List KeyPair };
 
     ghost view = { λ machine. machine.map.pairs };
 }
