@@ -82,11 +82,13 @@ def public_functions(crate):
 
 def head_of(lines):
     """Returns the lines of a function's signature and clauses, which come first."""
-    in_clauses = False
+    in_clauses, depth = False, 0
     for n, line in enumerate(lines):
         word = line.strip()
         in_clauses = in_clauses or bool(CLAUSE.match(word))
-        if word in ("{", "{}") or word.endswith(";") or not in_clauses and word.endswith(("{", "{}")):
+        is_end = word in ("{", "{}") or word.endswith(";") or not in_clauses and word.endswith(("{", "{}"))
+        depth += sum((it in "([{") - (it in ")]}") for it in word)
+        if is_end and depth == word.endswith("{"):
             return lines[: n + 1]
     return lines
 

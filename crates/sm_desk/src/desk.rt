@@ -78,8 +78,8 @@ impl Desk {
         )
     }
 
-    /// Whether books and caps allow the command, or the first fault that applies. `Spent` and `Busy` are for the ownership
-    /// table to answer.
+    /// Whether books and caps allow the command, or the first fault that applies. `Spent` and `Busy` are for the
+    /// ownership table to answer.
     pub fn check(&self, command: &Command) -> Result<(), CommandFault>
         ensures { result_err result ≡ desk_fault self.now command.now }
     {

@@ -3,8 +3,8 @@ use Rattle.std.specs.Prelude.{◌≡◌, ℕ, ◌+◌, List, Some, length, slice
 use Rattle.std.specs.List.{remove, insert}
 use Rattle.sm_map.specs.KeyMap.{Stored, Pair, text_of, size_of}
 
--- the pairs in the order of their keys, how many bytes of the arena are live, and dead, and how many pairs each block of the
--- index has
+-- the pairs in the order of their keys, how many bytes of the arena are live, and dead, and how many pairs each block
+-- of the index has
 pub record MapValue : Type 0 where
   pub pairs : List Pair
   pub bytes : ℕ

@@ -1,5 +1,6 @@
 -- Key maps: pairs of a key and what it holds, with distinct keys, in the order of the keys.
-use Rattle.std.specs.Prelude.{◌≡◌, ℕ, ℤ, ◌≤◌, ◌+◌, true, false, not, ◌&&◌, List, [], Option, Some, None, filter, find, length, unwrap_or}
+use Rattle.std.specs.Prelude.{◌≡◌, ℕ, ℤ, ◌≤◌, ◌+◌, true, false, not, ◌&&◌, List, [], Option, Some, None, filter, find}
+use Rattle.std.specs.Prelude.{length, unwrap_or}
 use Rattle.std.specs.List.Sorted.{IsPartitionPoint}
 use Rattle.std.specs.Option.{option_map}
 use Rattle.sm_ranges.specs.Keyed.{IsInKeyOrder, comes_before, has_key, with_key, without_key}
@@ -62,4 +63,5 @@ size_at m key = unwrap_or (option_map size_of (find (has_key key_of key) m)) 0
 -- the pairs before this place, and no other, are below the key
 pub record IsEdgeOf (m : List Pair) (key : List ℕ) (at : ℕ) : Type 0 where
   pub within : at ≤ length m
-  pub apart : IsPartitionPoint (λ pair. comes_before key_of key pair ≡ true) (λ pair. comes_before key_of key pair ≡ false) m at
+  pub apart :
+      IsPartitionPoint (λ pair. comes_before key_of key pair ≡ true) (λ pair. comes_before key_of key pair ≡ false) m at

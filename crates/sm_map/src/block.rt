@@ -31,7 +31,10 @@ impl Model for Block {
 
     ghost Value = { BlockValue };
 
-    ghost view = { λ block. record { entries = block.entries.items; room = vec_capacity block.entries - vec_len block.entries } };
+    ghost view = { λ block. record {
+      entries = block.entries.items;
+      room = vec_capacity block.entries - vec_len block.entries;
+    } };
 }
 
 impl Block {
@@ -144,7 +147,8 @@ impl Block {
     }
 }
 
-// The place of the entry with the key, or the place where one would go: each step halves the entries between low and high.
+// The place of the entry with the key, or the place where one would go: each step halves the entries between low and
+// high.
 fn search(entries: &[KeyEntry], arena: &Arena, key: &[u8]) -> Result<usize, usize>
     requires keys { HasKeys arena.now.placed entries.now }
     requires rising { IsKeyMap (pairs_of arena.now.placed entries.now) }

@@ -1,16 +1,19 @@
 -- The rules of ownership: what each change does, who executes a shard's requests, and who forwards them.
-use Rattle.std.specs.Prelude.{ℕ, Bool, true, false, Option, Some, None, Result, Ok, Err, ◌≡◌, ◌==◌, ◌+◌, ◌&&◌, nat_lt, not, if◌then◌else◌}
+use Rattle.std.specs.Prelude.{ℕ, Bool, true, false, Option, Some, None, Result, Ok, Err, ◌≡◌, ◌==◌, ◌+◌, ◌&&◌, nat_lt}
+use Rattle.std.specs.Prelude.{not, if◌then◌else◌}
 use Rattle.sm_ranges.specs.declared.stand.Stand.{Stand}
 use Rattle.sm_ranges.specs.declared.stand.Stand.TheVariants.{Vacant, Serving, Prepared, Forwarding, Taken, Paused}
 use Rattle.sm_ownership.specs.declared.change.Change.{Change}
-use Rattle.sm_ownership.specs.declared.change.Change.TheVariants.{Assign, PrepareAddShard, PrepareDropShard, AddShard, DropShard, Cancel, Pause, Resume, Reassign}
+use Rattle.sm_ownership.specs.declared.change.Change.TheVariants.{Assign, PrepareAddShard, PrepareDropShard, AddShard}
+use Rattle.sm_ownership.specs.declared.change.Change.TheVariants.{DropShard, Cancel, Pause, Resume, Reassign}
 use Rattle.sm_ownership.specs.declared.change.PhaseFault.{PhaseFault}
 use Rattle.sm_ownership.specs.declared.change.PhaseFault.TheVariants.{WrongPhase, SameServer}
 use Rattle.sm_ownership.specs.declared.mode.Mode.{Mode}
 use Rattle.sm_ownership.specs.declared.mode.Mode.TheVariants.{Direct, Forwarded}
 use Rattle.sm_ownership.specs.declared.record.Record.{Record}
 use Rattle.sm_ownership.specs.declared.admit_fault.AdmitFault.{AdmitFault}
-use Rattle.sm_ownership.specs.declared.admit_fault.AdmitFault.TheVariants.{Vacant as IsVacant, Paused as IsPaused, NotExecutor, NotYet, Admitted, Spent}
+use Rattle.sm_ownership.specs.declared.admit_fault.AdmitFault.TheVariants.{Vacant as IsVacant, Paused as IsPaused}
+use Rattle.sm_ownership.specs.declared.admit_fault.AdmitFault.TheVariants.{NotExecutor, NotYet, Admitted, Spent}
 
 -- the stand that a change leads to from a stand, where it may be made there
 abbrev pub stand_after : Stand → Change → Option Stand
@@ -81,7 +84,8 @@ abbrev pub is_forwarded_by : ℕ → Mode → Bool
 is_forwarded_by owner Direct = false
 is_forwarded_by owner (Forwarded from) = from == owner
 
--- the server executes what comes to it so: the executor does, but while the owner forwards, only what the owner forwarded
+-- the server executes what comes to it so: the executor does, but while the owner forwards, only what the owner
+-- forwarded
 abbrev pub accepts_at : Stand → ℕ → Mode → Bool
 accepts_at Vacant server mode = false
 accepts_at (Serving owner) server mode = owner == server

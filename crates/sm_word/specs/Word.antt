@@ -1,6 +1,7 @@
--- The word of a record. From the highest bit: the phase in 3 bits, whether it is admitted in 1, the owner in 12, the next
--- or previous server in 12, and the generation in 36.
-use Rattle.std.specs.Prelude.{ℕ, Bool, true, false, Option, Some, None, ◌==◌, if◌then◌else◌, ◌≡◌, ◌≢◌, ◌≤◌, ◌+◌, ◌*◌, ◌^◌}
+-- The word of a record. From the highest bit: the phase in 3 bits, whether it is admitted in 1, the owner in 12, the
+-- next or previous server in 12, and the generation in 36.
+use Rattle.std.specs.Prelude.{ℕ, Bool, true, false, Option, Some, None, ◌==◌, if◌then◌else◌, ◌≡◌, ◌≢◌, ◌≤◌, ◌+◌, ◌*◌}
+use Rattle.std.specs.Prelude.{◌^◌}
 use Rattle.sm_ranges.specs.ServerId.{IsServer}
 use Rattle.sm_ranges.specs.Stand.{owner_number, other_number}
 use Rattle.sm_ranges.specs.declared.stand.Stand.{Stand}
@@ -27,7 +28,8 @@ bit_of false = 0
 -- the word of a record
 abbrev pub word_of : Record → ℕ
 word_of state =
-    phase_of state.stand * 2 ^ 61 + bit_of state.admitted * 2 ^ 60 + owner_number state.stand * 2 ^ 48 + other_number state.stand * 2 ^ 36 + state.generation
+    phase_of state.stand * 2 ^ 61 + bit_of state.admitted * 2 ^ 60 + owner_number state.stand * 2 ^ 48
+    + other_number state.stand * 2 ^ 36 + state.generation
 
 -- a migration is between two servers
 abbrev pub AreTwoServers : ℕ → ℕ → Type 0
