@@ -10,10 +10,12 @@ pub data Stored : Type 0 where
   Text : List ℕ → Stored
   Count : ℤ → Stored
 
+-- a key, and what is stored at it
 pub record Pair : Type 0 where
   pub key : List ℕ
   pub value : Stored
 
+-- the key of a pair
 abbrev pub key_of : Pair → List ℕ
 key_of pair = pair.key
 
@@ -46,6 +48,7 @@ text_of (Some (Count count)) = []
 abbrev pub IsText : Stored → Type 0
 IsText held = held ≡ Text (text_of (Some held))
 
+-- the text at a key, or the empty one
 abbrev pub text_at : List Pair → List ℕ → List ℕ
 text_at m key = text_of (held_at m key)
 
