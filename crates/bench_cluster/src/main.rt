@@ -21,7 +21,8 @@ use std::time::Instant;
 use std::{env, io};
 
 const USAGE: &str =
-    "usage: bench_cluster rest|load|graceful|abrupt SERVERS WORKERS SHARDS CLIENTS CALLS MIGRATIONS, or soak SECONDS SEED";
+    "usage: bench_cluster rest|load|graceful|abrupt SERVERS WORKERS SHARDS CLIENTS CALLS MIGRATIONS, \
+     or soak SECONDS SEED";
 
 fn main(rt: HostRuntime) -> anyhow::Result<()> {
     let alloc = rt.alloc();

@@ -24,9 +24,11 @@ pub record ClientValue (Q : Type 0) : Type 0 where
   pub router : RouterView
   pub bounds : List (List ℕ)
 
+-- a client with a pass that has seen this
 abbrev pub client_seeing : {Q : Type 0} → ClientValue Q → PassValue Q → ClientValue Q
 client_seeing client pass = record client { pass = pass }
 
+-- a client with a router that has seen this
 abbrev pub client_reading : {Q : Type 0} → ClientValue Q → RouterView → ClientValue Q
 client_reading client router = record client { router = router }
 
@@ -55,6 +57,7 @@ abbrev pub handed_back : {Q : Type 0} → CallFault → Q → Option Q
 handed_back Closed request = None
 handed_back fault request = Some request
 
+-- the request of a call that was not answered comes back, or doesn't, as its fault says
 abbrev pub HandsBack : {Q : Type 0} → Q → CallRefused Q → Type 0
 HandsBack request refused = refused.back ≡ handed_back refused.fault request
 

@@ -28,15 +28,19 @@ pub record ClusterValue (Q : Type 0) : Type 0 where
   pub holds : List (Option (PassValue Q))
   pub told : List (Entry Q)
 
+-- a cluster with a control that is now this
 abbrev pub cluster_commanded : {Q : Type 0} → ClusterValue Q → ControlValue Q → ClusterValue Q
 cluster_commanded cluster control = record cluster { control = control }
 
+-- a cluster with a control and a map that are now these
 abbrev pub cluster_publishing : {Q : Type 0} → ClusterValue Q → ControlValue Q → PublisherView → ClusterValue Q
 cluster_publishing cluster control map = record cluster { control = control; map = map }
 
+-- a cluster whose hold of a shard is now this
 abbrev pub cluster_holding : {Q : Type 0} → ClusterValue Q → ℕ → Option (PassValue Q) → ClusterValue Q
 cluster_holding cluster shard hold = record cluster { holds = slice_set cluster.holds shard hold }
 
+-- a cluster that tells this history
 abbrev pub cluster_telling : {Q : Type 0} → ClusterValue Q → List (Entry Q) → ClusterValue Q
 cluster_telling cluster told = record cluster { told = told }
 

@@ -34,9 +34,11 @@ pub record DeskView : Type 0 where
   pub books : BooksView
   pub ops : ℕ
 
+-- there is a row of the server
 abbrev pub is_known : List ServerRow → ℕ → Bool
 is_known servers server = nat_lt (place_of servers server) (length servers)
 
+-- a server is named, and there is no row of it
 abbrev pub is_unknown : List ServerRow → Option ℕ → Bool
 is_unknown servers None = false
 is_unknown servers (Some server) = not (is_known servers server)

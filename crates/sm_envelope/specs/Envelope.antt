@@ -22,6 +22,7 @@ pub record ShellView : Type 0 where
   pub mode : Mode
   pub hops : ℕ
 
+-- what an envelope is without its request and its note
 abbrev pub shell_of : {Q N : Type 0} → EnvelopeView Q N → ShellView
 shell_of envelope =
     record { number = envelope.number; shard = envelope.shard; mode = envelope.mode; hops = envelope.hops }
@@ -41,6 +42,7 @@ whole shell request note = record {
 abbrev pub one_hop_more : {Q N : Type 0} → EnvelopeView Q N → ℕ → EnvelopeView Q N
 one_hop_more envelope from = record envelope { mode = Forwarded from; hops = envelope.hops + 1 }
 
+-- an envelope that a server forwards, and to whom; it stays where nobody is named, or no hop is left
 abbrev pub sent_on : {Q N : Type 0} → EnvelopeView Q N → ℕ → Option ℕ → Result (ℕ × EnvelopeView Q N) (EnvelopeView Q N)
 sent_on envelope from None = Err envelope
 sent_on envelope from (Some to) =

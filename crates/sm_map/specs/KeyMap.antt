@@ -10,11 +10,13 @@ pub data KeyValue : Type 0 where
   Text : List ℕ → KeyValue
   Count : ℤ → KeyValue
 
-pub record KeyPair : Type 0 where
+-- a key, and what is stored at it
+pub record Pair : Type 0 where
   pub key : List ℕ
   pub value : KeyValue
 
-abbrev pub key_of : KeyPair → List ℕ
+-- the key of a pair
+abbrev pub key_of : Pair → List ℕ
 key_of pair = pair.key
 
 -- the pairs are in the order of their keys, and no key comes twice
@@ -46,7 +48,8 @@ text_of (Some (Count count)) = []
 abbrev pub IsText : KeyValue → Type 0
 IsText held = held ≡ Text (text_of (Some held))
 
-abbrev pub text_at : List KeyPair → List ℕ → List ℕ
+-- the text at a key, or the empty one
+abbrev pub text_at : List Pair → List ℕ → List ℕ
 text_at m key = text_of (held_at m key)
 
 abbrev pub HoldsText : List KeyPair → List ℕ → Type 0

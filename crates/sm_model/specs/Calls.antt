@@ -82,6 +82,7 @@ answer_of _ = None
 abbrev pub Stepped : Type 0
 Stepped = Result (WorldAnswer Reply) WorldFault × WorldState Request
 
+-- what a step of the world answers and leaves, no memory refused
 abbrev pub stepped : WorldState Request → Step Request → Stepped
 stepped w step = outcome counter_text w Plain step
 
@@ -90,10 +91,12 @@ abbrev pub is_sent : Result (WorldAnswer Reply) WorldFault → Bool
 is_sent (Ok Sent) = true
 is_sent _ = false
 
+-- the step began a request at a server
 abbrev pub is_begun : Result (WorldAnswer Reply) WorldFault → Bool
 is_begun (Ok (Began server)) = true
 is_begun _ = false
 
+-- the step forwarded a request
 abbrev pub is_forwarded : Result (WorldAnswer Reply) WorldFault → Bool
 is_forwarded (Ok (Forwarded server)) = true
 is_forwarded _ = false

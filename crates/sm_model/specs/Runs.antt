@@ -12,9 +12,11 @@ use Rattle.sm_settings.specs.SettingsLine.{SettingsValues}
 abbrev pub WroteScript : Option (List ℕ) → Option (List ℕ) → Option (List ℕ) → Type 0
 WroteScript input old new = IfKnown input (λ bytes. Appends old new (script bytes))
 
+-- the input, where it is known, begins with settings that are accepted
 abbrev pub AcceptsSettings : Option (List ℕ) → Type 0
 AcceptsSettings input = IfKnown input (λ bytes. IsOk (settings_in (lines_of bytes)))
 
+-- the input, where it is known, begins with settings that are refused
 abbrev pub RefusesSettings : Option (List ℕ) → Type 0
 RefusesSettings input = IfKnown input (λ bytes. IsErr (settings_in (lines_of bytes)))
 

@@ -32,12 +32,15 @@ after_change state change =
       generation = state.generation + 1;
     }
 
+-- a record after an admission
 abbrev pub after_admit : Record → Record
 after_admit state = record { stand = state.stand; admitted = true; generation = state.generation + 1 }
 
+-- a record after the end of an admission
 abbrev pub after_done : Record → Record
 after_done state = record { stand = state.stand; admitted = false; generation = state.generation + 1 }
 
+-- a record after an entry of this kind
 abbrev pub after_kind : {Q : Type 0} → Record → Kind Q → Record
 after_kind state (Changed change) = after_change state change
 after_kind state (Admit server mode) = after_admit state
@@ -58,10 +61,12 @@ acts_as earlier actor server = list_all (λ entry. not (entry.actor == actor) ||
 abbrev pub latest_of : {Q : Type 0} → List (Entry Q) → ℕ → Option (Entry Q)
 latest_of earlier shard = find (λ entry. entry.shard == shard) earlier
 
+-- an entry of this kind admits
 abbrev pub is_admit : {Q : Type 0} → Kind Q → Bool
 is_admit (Admit server mode) = true
 is_admit _ = false
 
+-- the entry is an admission by this actor
 abbrev pub is_admission_of : {Q : Type 0} → ℕ → Option (Entry Q) → Bool
 is_admission_of actor None = false
 is_admission_of actor (Some entry) = entry.actor == actor && is_admit entry.kind
@@ -82,6 +87,7 @@ admit_fits ceiling earlier state actor server mode =
 abbrev pub done_fits : {Q : Type 0} → List (Entry Q) → Record → ℕ → ℕ → Bool
 done_fits earlier state actor shard = state.admitted && is_admission_of actor (latest_of earlier shard)
 
+-- an entry of this kind may come next
 abbrev pub kind_fits : {Q : Type 0} → ℕ → List (Entry Q) → Record → ℕ → ℕ → Kind Q → Bool
 kind_fits ceiling earlier state actor shard (Changed change) = change_fits ceiling state actor change
 kind_fits ceiling earlier state actor shard (Admit server mode) = admit_fits ceiling earlier state actor server mode
@@ -100,6 +106,7 @@ table_with ceiling earlier table entry =
     then slice_set table entry.shard (after_kind (record_at table entry.shard) entry.kind)
     else table
 
+-- the table that entries make, the latest of them first
 abbrev pub table_of_latest : {Q : Type 0} → ℕ → ℕ → List (Entry Q) → List Record
 table_of_latest count ceiling [] = replicate count vacant
 table_of_latest count ceiling (entry ∷ earlier) =
@@ -109,6 +116,7 @@ table_of_latest count ceiling (entry ∷ earlier) =
 abbrev pub table_of : {Q : Type 0} → ℕ → ℕ → List (Entry Q) → List Record
 table_of count ceiling history = table_of_latest count ceiling (reverse history)
 
+-- each entry fits what came before it, the latest first
 abbrev pub IsLegalLatest : {Q : Type 0} → ℕ → ℕ → List (Entry Q) → Type 0
 IsLegalLatest count ceiling [] = Unit {0}
 IsLegalLatest count ceiling (entry ∷ earlier) =
@@ -126,11 +134,13 @@ NoneBy actor entries = All (λ entry. entry.actor ≢ actor) entries
 abbrev pub IsSameOrLater : Record → Record → Type 0
 IsSameOrLater before after = (after ≡ before) ⊎ (before.generation < after.generation)
 
+-- the admissions that stand after an entry: one more, all but its actor's, or the same
 abbrev pub without_ended : {Q : Type 0} → Entry Q → Kind Q → List (Entry Q) → List (Entry Q)
 without_ended entry (Changed change) standing = standing
 without_ended entry (Admit server mode) standing = entry ∷ standing
 without_ended entry (Done ending) standing = filter (λ admission. not (admission.actor == entry.actor)) standing
 
+-- the admissions that stand after entries, the latest first
 abbrev pub open_admissions_latest : {Q : Type 0} → List (Entry Q) → ℕ → List (Entry Q)
 open_admissions_latest [] shard = []
 open_admissions_latest (entry ∷ earlier) shard =
@@ -151,11 +161,7 @@ abbrev pub request_of : {Q : Type 0} → Ending Q → Option Q
 request_of (Request request) = Some request
 request_of _ = None
 
--- how the checkpoint of a body that keeps this list ends an admission: one that keeps nothing stays as it was
-abbrev pub checkpoint_ending : {Q : Type 0} → List Q → Ending Q
-checkpoint_ending [] = Nothing
-checkpoint_ending (request ∷ more) = Checkpoint
-
+-- an admission ended so made a checkpoint
 abbrev pub is_checkpoint : {Q : Type 0} → Ending Q → Bool
 is_checkpoint Checkpoint = true
 is_checkpoint _ = false
@@ -165,6 +171,7 @@ abbrev pub all_of : {Q : Type 0} → List (Entry Q) → ℕ → List Q
 all_of history shard =
     filter_map (λ entry. if entry.shard == shard then request_of (ending_of entry.kind) else None) history
 
+-- how many requests came before the base, by entries, the latest first
 abbrev pub first_latest : {Q : Type 0} → List (Entry Q) → ℕ → ℕ
 first_latest [] shard = 0
 first_latest (entry ∷ earlier) shard =

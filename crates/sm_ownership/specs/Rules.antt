@@ -77,9 +77,11 @@ executor_of (Forwarding owner next) = Some next
 executor_of (Taken owner previous) = Some owner
 executor_of (Paused owner) = None
 
+-- who executes requests on a shard of this record
 abbrev pub executor : Record → Option ℕ
 executor state = executor_of state.stand
 
+-- it came by way of this server
 abbrev pub is_forwarded_by : ℕ → Mode → Bool
 is_forwarded_by owner Direct = false
 is_forwarded_by owner (Forwarded from) = from == owner
@@ -94,6 +96,7 @@ accepts_at (Forwarding owner next) server mode = next == server && is_forwarded_
 accepts_at (Taken owner previous) server mode = owner == server
 accepts_at (Paused owner) server mode = false
 
+-- the record has the server execute what comes to it so
 abbrev pub accepts : Record → ℕ → Mode → Bool
 accepts state server mode = accepts_at state.stand server mode
 
@@ -103,9 +106,11 @@ forward_at (Forwarding owner next) server = if owner == server then Some next el
 forward_at (Taken owner previous) server = if previous == server then Some owner else None
 forward_at _ server = None
 
+-- the server to which this one forwards requests on a shard of this record
 abbrev pub forward_to : Record → ℕ → Option ℕ
 forward_to state server = forward_at state.stand server
 
+-- the server that is named is this one
 abbrev pub is_server : Option ℕ → ℕ → Bool
 is_server None server = false
 is_server (Some named) server = named == server
@@ -124,6 +129,7 @@ executing_fault ceiling state server mode =
     else if nat_lt ceiling (state.generation + 2) then Some Spent
     else None
 
+-- why nobody is admitted at a stand, or what else is wrong
 abbrev pub fault_at : Stand → Option AdmitFault → Option AdmitFault
 fault_at Vacant later = Some IsVacant
 fault_at (Paused owner) later = Some IsPaused

@@ -27,6 +27,7 @@ pub record IsBelowCeiling (ceiling : ℕ) (state : Record) : Type 0 where
   pub reached : state.generation ≤ ceiling
   pub room : state.admitted ≡ true → state.generation < ceiling
 
+-- the fault of a stand, as the fault of a change
 abbrev pub change_fault_of : PhaseFault → ChangeFault
 change_fault_of NotItsPhase = WrongPhase
 change_fault_of ItsOwner = SameServer

@@ -47,5 +47,6 @@ AllNamed IsSuch stand = IfSome (owner_of stand) IsSuch × IfSome (other_of stand
 abbrev pub owner_number : Stand → ℕ
 owner_number stand = unwrap_or (owner_of stand) 0
 
+-- the number of a stand's next or previous server, or 0
 abbrev pub other_number : Stand → ℕ
 other_number stand = unwrap_or (other_of stand) 0

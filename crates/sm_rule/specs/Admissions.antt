@@ -49,6 +49,7 @@ pub record PermitValue (S : Type 0) : Type 0 where
   pub state : Record
   pub body : S
 
+-- a permit whose body is now this
 abbrev pub with_body : {S : Type 0} → PermitValue S → S → PermitValue S
 with_body permit body = record permit { body = body }
 

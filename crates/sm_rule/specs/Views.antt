@@ -16,6 +16,7 @@ use Rattle.sm_rule.specs.declared.view.View.{View}
 abbrev pub record_in : {Q : Type 0} → Limits → List (Entry Q) → ℕ → Record
 record_in limits history shard = record_at (table_of limits.count limits.ceiling history) shard
 
+-- an entry of this actor and kind
 abbrev pub entry_of : {Q : Type 0} → ℕ → ℕ → Kind Q → Entry Q
 entry_of actor shard kind = record { actor = actor; shard = shard; kind = kind }
 

@@ -195,9 +195,11 @@ left_text shard = codes " " ++ decimal shard
 abbrev pub moves_text : List Move → List ℕ
 moves_text moves = codes "plan" ++ flat_map move_text moves
 
+-- the shards that a plan leaves
 abbrev pub all_left_text : List ℕ → List ℕ
 all_left_text shards = codes " left" ++ flat_map left_text shards
 
+-- a plan: its moves, and what it leaves
 abbrev pub plan_text : PlanView → List ℕ
 plan_text plan = moves_text plan.moves ++ all_left_text plan.left
 

@@ -119,6 +119,7 @@ RefusedFor before after envelope back KeptFull =
 RefusedFor before after envelope back NoMemory =
     IsUnserved before envelope back × (length (kept back.note.seen envelope.shard) < limit_of before envelope.shard)
 
+-- it was refused for another reason than that its key is of another shard
 abbrev pub is_of_shard : Refusal → Bool
 is_of_shard WrongShard = false
 is_of_shard _ = true

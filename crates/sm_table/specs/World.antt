@@ -77,6 +77,7 @@ may_go (CheckpointAt shard server) Unmade = true
 may_go (Finish shard) Unserved = true
 may_go step mark = false
 
+-- the number of shards
 abbrev pub count_of : {Q : Type 0} → WorldState Q → ℕ
 count_of w = length w.frame.bounds
 
@@ -84,6 +85,7 @@ count_of w = length w.frame.bounds
 abbrev pub world_table : {Q : Type 0} → WorldState Q → List Record
 world_table w = table_of (count_of w) w.frame.ceiling w.history
 
+-- the record of a shard in a world
 abbrev pub world_record : {Q : Type 0} → WorldState Q → ℕ → Record
 world_record w shard = record_at (world_table w) shard
 
@@ -91,13 +93,16 @@ world_record w shard = record_at (world_table w) shard
 abbrev pub last_routes : {Q : Type 0} → WorldState Q → List (Option Route)
 last_routes w = map (routes_of w.publications) (range_with_len 0 (count_of w))
 
-abbrev pub StepOutcome : Type 0 → Type 0 → Type 0
-StepOutcome Q R = Result (WorldAnswer R) WorldFault × WorldState Q
+-- what a step answers, and the world that it leaves
+abbrev pub Outcome : Type 0 → Type 0 → Type 0
+Outcome Q R = Result (WorldAnswer R) WorldFault × WorldState Q
 
+-- a world with one more entry
 abbrev pub with_entry : {Q : Type 0} → WorldState Q → ℕ → ℕ → Kind Q → WorldState Q
 with_entry w actor shard kind =
     record w { history = w.history ++ record { actor = actor; shard = shard; kind = kind } ∷ [] }
 
+-- a world with this in hand for a shard
 abbrev pub with_hand : {Q : Type 0} → WorldState Q → ℕ → Option (InHand Q) → WorldState Q
 with_hand w shard hand = record w { in_hand = slice_set w.in_hand shard hand }
 
@@ -116,7 +121,8 @@ abbrev pub with_change : {Q : Type 0} → WorldState Q → Command → WorldStat
 with_change w (ChangeOf shard change) = with_entry w 0 shard (Changed change)
 with_change w command = w
 
-abbrev pub controlled : {Q R : Type 0} → WorldState Q → Command → Option CommandFault → StepOutcome Q R
+-- a command, which a fault of the desk forbids
+abbrev pub controlled : {Q R : Type 0} → WorldState Q → Command → Option CommandFault → Outcome Q R
 controlled w command (Some fault) = (Err (CommandRefused fault), w)
 controlled w command None = (Ok Made, record (with_change w command) { desk = commanded w.desk command })
 
@@ -124,12 +130,13 @@ controlled w command None = (Ok Made, record (with_change w command) { desk = co
 abbrev pub after_control : {Q R : Type 0} → WorldState Q → Command → StepOutcome Q R
 after_control w command = controlled w command (option_or (desk_fault w.desk command) (table_fault w command))
 
-abbrev pub after_look : {Q R : Type 0} → WorldState Q → ℕ → StepOutcome Q R
+-- a look at a shard's record
+abbrev pub after_look : {Q R : Type 0} → WorldState Q → ℕ → Outcome Q R
 after_look w shard = if nat_lt shard (count_of w) then (Ok (Seen (world_record w shard)), w) else (Err UnknownShard, w)
 
 -- a direct envelope is put last in flight, for the shard whose range covers the request's key, where the server is
 -- reached
-abbrev pub after_send : {Q R : Type 0} → Service Q R → WorldState Q → ℕ → ℕ → Q → StepOutcome Q R
+abbrev pub after_send : {Q R : Type 0} → Service Q R → WorldState Q → ℕ → ℕ → Q → Outcome Q R
 after_send service w to number request =
     if is_there w to
     then (if is_reached w.desk to
@@ -177,19 +184,22 @@ after_hop desk in_flight (Ok hop) =
     else (Refused NotReached, in_flight)
 after_hop desk in_flight (Err envelope) = (Refused TooManyHops, in_flight)
 
-abbrev pub hopped : {Q R : Type 0} → WorldState Q → WorldAnswer R × List (Flight Q) → StepOutcome Q R
+-- a forwarded envelope is on its way, or was refused
+abbrev pub hopped : {Q R : Type 0} → WorldState Q → WorldAnswer R × List (Flight Q) → Outcome Q R
 hopped w hop = (Ok hop.0, record w { in_flight = hop.1 })
 
 -- a server that forwards requests on the shard forwards the envelope; any other begins it or refuses it
-abbrev pub arrived : {Q R : Type 0} → WorldState Q → ℕ → EnvelopeView Q (Unit {0}) → Option ℕ → StepOutcome Q R
+abbrev pub arrived : {Q R : Type 0} → WorldState Q → ℕ → EnvelopeView Q (Unit {0}) → Option ℕ → Outcome Q R
 arrived w at envelope None =
     reached w at envelope (admit_fault w.frame.ceiling (world_record w envelope.shard) at envelope.mode)
 arrived w at envelope (Some to) = hopped w (after_hop w.desk w.in_flight (sent_on envelope at (Some to)))
 
+-- a world without the envelope at this place
 abbrev pub without_flight : {Q : Type 0} → WorldState Q → ℕ → WorldState Q
 without_flight w place = record w { in_flight = remove w.in_flight place }
 
-abbrev pub delivered : {Q R : Type 0} → WorldState Q → ℕ → Option (Flight Q) → StepOutcome Q R
+-- the delivery of an envelope, if there is one
+abbrev pub delivered : {Q R : Type 0} → WorldState Q → ℕ → Option (Flight Q) → Outcome Q R
 delivered w place None = (Err NoEnvelope, w)
 delivered w place (Some flight) = arrived (without_flight w place) flight.to flight.envelope
     (forward_to (world_record w flight.envelope.shard) flight.to)
@@ -199,7 +209,7 @@ abbrev pub after_deliver : {Q R : Type 0} → WorldState Q → ℕ → StepOutco
 after_deliver w place = delivered w place (slice_get w.in_flight place)
 
 -- the envelope at this place of those in flight is lost
-abbrev pub after_lose : {Q R : Type 0} → WorldState Q → ℕ → StepOutcome Q R
+abbrev pub after_lose : {Q R : Type 0} → WorldState Q → ℕ → Outcome Q R
 after_lose w place =
     if nat_lt place (length w.in_flight) then (Ok Made, without_flight w place) else (Err NoEnvelope, w)
 
@@ -216,14 +226,16 @@ with_room service w mark shard server work = (
   ended w shard server (Request work.request),
 )
 
-abbrev pub worked : {Q R : Type 0} → Service Q R → WorldState Q → Mark → ℕ → ℕ → Option (Work Q) → StepOutcome Q R
+-- an admission with work ends by its request, or refused where the shard keeps as many as it may
+abbrev pub worked : {Q R : Type 0} → Service Q R → WorldState Q → Mark → ℕ → ℕ → Option (Work Q) → Outcome Q R
 worked service w mark shard server None = (Err NotHeld, w)
 worked service w mark shard server (Some work) =
     if nat_lt (length (kept w.history shard)) (slice_index_or w.frame.limits shard 0)
     then with_room service w mark shard server work
     else (Ok (Refused KeptFull), ended w shard server Nothing)
 
-abbrev pub served : {Q R : Type 0} → Service Q R → WorldState Q → Mark → ℕ → Option (InHand Q) → StepOutcome Q R
+-- the end of the admission in hand, if there is one
+abbrev pub served : {Q R : Type 0} → Service Q R → WorldState Q → Mark → ℕ → Option (InHand Q) → Outcome Q R
 served service w mark shard None = (Err NotHeld, w)
 served service w mark shard (Some hand) = worked service w mark shard hand.server hand.work
 
@@ -231,7 +243,8 @@ served service w mark shard (Some hand) = worked service w mark shard hand.serve
 abbrev pub after_finish : {Q R : Type 0} → Service Q R → WorldState Q → Mark → ℕ → StepOutcome Q R
 after_finish service w mark shard = served service w mark shard (slice_index_or w.in_hand shard None)
 
-abbrev pub held : {Q R : Type 0} → WorldState Q → ℕ → ℕ → Option AdmitFault → StepOutcome Q R
+-- a hold by a server, which a fault of its admission forbids
+abbrev pub held : {Q R : Type 0} → WorldState Q → ℕ → ℕ → Option AdmitFault → Outcome Q R
 held w shard server (Some fault) = (Err (AdmitRefused fault), w)
 held w shard server None = (
   Ok Made,
@@ -246,20 +259,28 @@ after_hold w shard server =
     (admit_fault w.frame.ceiling (world_record w shard) server Direct) else (Err UnknownServer, w))
     else (Err UnknownShard, w)
 
-abbrev pub let_go : {Q R : Type 0} → WorldState Q → ℕ → ℕ → Option (Work Q) → StepOutcome Q R
+-- an admission without work ends with nothing
+abbrev pub let_go : {Q R : Type 0} → WorldState Q → ℕ → ℕ → Option (Work Q) → Outcome Q R
 let_go w shard server None = (Ok Made, ended w shard server Nothing)
 let_go w shard server (Some work) = (Err NotHeld, w)
 
-abbrev pub freed : {Q R : Type 0} → WorldState Q → ℕ → Option (InHand Q) → StepOutcome Q R
+-- the end of what holds a shard, if anything does
+abbrev pub freed : {Q R : Type 0} → WorldState Q → ℕ → Option (InHand Q) → Outcome Q R
 freed w shard None = (Err NotHeld, w)
 freed w shard (Some hand) = let_go w shard hand.server hand.work
 
 -- the admission without a request ends
-abbrev pub after_free : {Q R : Type 0} → WorldState Q → ℕ → StepOutcome Q R
+abbrev pub after_free : {Q R : Type 0} → WorldState Q → ℕ → Outcome Q R
 after_free w shard =
     if nat_lt shard (count_of w) then freed w shard (slice_index_or w.in_hand shard None) else (Err UnknownShard, w)
 
-abbrev pub based : {Q R : Type 0} → WorldState Q → ℕ → ℕ → Option AdmitFault → StepOutcome Q R
+-- how the admission of a checkpoint ends: as one, or with nothing where the shard keeps no request
+abbrev pub checkpoint_ending : {Q : Type 0} → List Q → Ending Q
+checkpoint_ending [] = Nothing
+checkpoint_ending (request ∷ later) = Checkpoint
+
+-- a checkpoint by a server, which a fault of its admission forbids
+abbrev pub based : {Q R : Type 0} → WorldState Q → ℕ → ℕ → Option AdmitFault → Outcome Q R
 based w shard server (Some fault) = (Err (AdmitRefused fault), w)
 based w shard server None = (
   Ok Made,
@@ -275,14 +296,15 @@ after_checkpoint w shard server =
     (admit_fault w.frame.ceiling (world_record w shard) server Direct) else (Err UnknownServer, w))
     else (Err UnknownShard, w)
 
-abbrev pub published : {Q R : Type 0} → WorldState Q → Option Route → StepOutcome Q R
+-- the publication of a shard's route, if it has one
+abbrev pub published : {Q R : Type 0} → WorldState Q → Option Route → Outcome Q R
 published w None = (Err WrongPhase, w)
 published w (Some route) =
     if is_old (routes_of w.publications route.shard) route then (Err OldRoute, w)
     else (Ok Made, record w { publications = w.publications ++ route ∷ [] })
 
 -- the shard's owner at its generation is published, where it has one and that is above the shard's last route
-abbrev pub after_publish : {Q R : Type 0} → WorldState Q → ℕ → StepOutcome Q R
+abbrev pub after_publish : {Q R : Type 0} → WorldState Q → ℕ → Outcome Q R
 after_publish w shard =
     if nat_lt shard (count_of w) then published w (record_route shard (world_record w shard)) else (Err UnknownShard, w)
 

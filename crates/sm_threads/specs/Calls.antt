@@ -54,9 +54,11 @@ use Rattle.sm_threads.specs.Sessions.{SessionValue}
 abbrev pub with_cluster : SessionValue → ClusterValue Request → SessionValue
 with_cluster session cluster = record session { cluster = cluster }
 
+-- a session whose client is now this
 abbrev pub with_client : SessionValue → ClientValue Request → SessionValue
 with_client session client = record session { client = client }
 
+-- a session whose other clients are now these
 abbrev pub with_loaders : SessionValue → List (ClientValue Request) → SessionValue
 with_loaders session loaders = record session { loaders = loaders }
 
@@ -172,6 +174,7 @@ WasHeld before shard server answer after =
     × IfErr made (λ fault. HoldRefused before.cluster shard server fault after.cluster)
     × (answer ≡ answer_to hold_refused made) × TellsClient before after
 
+-- how the end of a hold may be answered
 abbrev pub WasFreed : SessionValue → ℕ → LineAnswer → SessionValue → Type 0
 WasFreed before shard answer after =
     (made : Result (Unit {0}) FreeFault)
@@ -249,5 +252,6 @@ WasRead before (Ok None) text after = (text ≡ []) × (after ≡ before)
 WasRead before (Ok (Some asked)) text after =
     (answer : LineAnswer) × (text ≡ answer_line answer) × Answers before asked answer after
 
+-- what a line may be answered, and what it leaves
 abbrev pub Responds : SessionValue → List ℕ → List ℕ → SessionValue → Type 0
 Responds before line text after = WasRead before (call_of_line line) text after

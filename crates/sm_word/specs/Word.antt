@@ -9,6 +9,7 @@ use Rattle.sm_ranges.specs.declared.stand.Stand.TheVariants.{Vacant, Serving, Pr
 use Rattle.sm_ownership.specs.declared.record.TheConstants.{MAX_GENERATION}
 use Rattle.sm_ownership.specs.declared.record.Record.{Record}
 
+-- the number of a stand's phase in a word
 abbrev pub phase_of : Stand → ℕ
 phase_of Vacant = 0
 phase_of (Serving owner) = 1
@@ -21,6 +22,7 @@ phase_of (Paused owner) = 5
 abbrev pub server_of : ℕ → Option ℕ
 server_of number = if number == 0 then None else Some number
 
+-- a truth value as a bit
 abbrev pub bit_of : Bool → ℕ
 bit_of true = 1
 bit_of false = 0

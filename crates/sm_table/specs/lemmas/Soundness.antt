@@ -36,11 +36,11 @@ use Rattle.sm_envelope.specs.Envelope.{EnvelopeView, one_hop_more, sent_on}
 use Rattle.sm_envelope.specs.declared.envelope.TheConstants.{MOST_HOPS}
 use Rattle.sm_ownership.specs.History.{checkpoint_ending, vacant, record_at, kept}
 use Rattle.sm_body.specs.Service.{Service}
-use Rattle.sm_table.specs.World.{Frame, WorldState, Mark, Plain, Unmade, Unserved, StepOutcome, count_of, world_record}
+use Rattle.sm_table.specs.World.{Frame, WorldState, Mark, Plain, Unmade, Unserved, Outcome, count_of, world_record}
 use Rattle.sm_table.specs.World.{is_there, table_fault, with_change, controlled, after_look, after_send, flight_to}
 use Rattle.sm_table.specs.World.{reached, after_hop, hopped, arrived, without_flight, delivered, after_lose, with_room}
-use Rattle.sm_table.specs.World.{worked, served, held, after_hold, based, after_checkpoint, let_go, freed, after_free}
-use Rattle.sm_table.specs.World.{published, empty_world, next, world_after, world_of}
+use Rattle.sm_table.specs.World.{worked, served, held, after_hold, based, after_checkpoint, checkpoint_ending, let_go}
+use Rattle.sm_table.specs.World.{freed, after_free, published, empty_world, next, world_after, world_of}
 use Rattle.sm_table.specs.Standing.{IsFrame, IsFlight, IsLedTo, IsThere, AgreesWithHand, IsSound, desk_after}
 use Rattle.sm_ownership.specs.lemmas.Growth.{record_at-empty}
 use Rattle.sm_table.specs.lemmas.Names.{known_forward}
