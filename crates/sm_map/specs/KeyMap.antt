@@ -11,12 +11,12 @@ pub data KeyValue : Type 0 where
   Count : ℤ → KeyValue
 
 -- a key, and what is stored at it
-pub record Pair : Type 0 where
+pub record KeyPair : Type 0 where
   pub key : List ℕ
   pub value : KeyValue
 
 -- the key of a pair
-abbrev pub key_of : Pair → List ℕ
+abbrev pub key_of : KeyPair → List ℕ
 key_of pair = pair.key
 
 -- the pairs are in the order of their keys, and no key comes twice
@@ -49,7 +49,7 @@ abbrev pub IsText : KeyValue → Type 0
 IsText held = held ≡ Text (text_of (Some held))
 
 -- the text at a key, or the empty one
-abbrev pub text_at : List Pair → List ℕ → List ℕ
+abbrev pub text_at : List KeyPair → List ℕ → List ℕ
 text_at m key = text_of (held_at m key)
 
 abbrev pub HoldsText : List KeyPair → List ℕ → Type 0

@@ -161,6 +161,11 @@ abbrev pub request_of : {Q : Type 0} → Ending Q → Option Q
 request_of (Request request) = Some request
 request_of _ = None
 
+-- how the checkpoint of a body that keeps this list ends an admission: one that keeps nothing stays as it was
+abbrev pub checkpoint_ending : {Q : Type 0} → List Q → Ending Q
+checkpoint_ending [] = Nothing
+checkpoint_ending (request ∷ more) = Checkpoint
+
 -- an admission ended so made a checkpoint
 abbrev pub is_checkpoint : {Q : Type 0} → Ending Q → Bool
 is_checkpoint Checkpoint = true

@@ -78,7 +78,7 @@ AreHome {S} keeps limit limits homes history =
 -- the words are those of the table of a legal history of known servers; the bodies of its idle shards are at home; each
 -- seat that acts knows it as far as it has looked, and so do those that were cut off or taken in; a number that no seat
 -- has yet has no entry in it
-pub record Holds {S Q : Type 0} (keeps : S → ℕ → List Q → Type 0) (limit : S → ℕ) (limits : Limits) (words : List ℕ)
+pub record RuleHolds {S Q : Type 0} (keeps : S → ℕ → List Q → Type 0) (limit : S → ℕ) (limits : Limits) (words : List ℕ)
     (homes : List (math.Option (Option S))) (views : List (View Q)) (history : List (Entry Q)) : Type 0 where
   pub legal : IsLegalLatest limits.count limits.ceiling history
   pub known : AreKnown history
@@ -96,4 +96,4 @@ pub record Holds {S Q : Type 0} (keeps : S → ℕ → List Q → Type 0) (limit
 -- there is one history
 abbrev pub Rule : {S Q : Type 0} → (S → ℕ → List Q → Type 0) → (S → ℕ) → Limits → State (Option S) (View Q) → Type 0
 Rule keeps limit limits table =
-    (history : List (Entry _)) × Holds keeps limit limits table.words table.homes table.views history
+    (history : List (Entry _)) × RuleHolds keeps limit limits table.words table.homes table.views history

@@ -41,10 +41,10 @@ ReadsAs line (Refused fault) = settings_of line ≡ Err fault
 
 -- settings that were read so are refused with this fault: by their rules, or else by the engine, where `refuses` says
 -- so
-abbrev pub RefusesSettings : (SettingsValues → BeginFault → Type 0) → SettingsFault
+abbrev pub ReadIsRefused : (SettingsValues → BeginFault → Type 0) → SettingsFault
     → Result SettingsValues SettingsFault → Type 0
-RefusesSettings refuses fault (Err found) = found ≡ fault
-RefusesSettings refuses fault (Ok settings) = refuses settings (IsOfSettings fault)
+ReadIsRefused refuses fault (Err found) = found ≡ fault
+ReadIsRefused refuses fault (Ok settings) = refuses settings (IsOfSettings fault)
 
 -- the settings in front of the input were refused, and what was written is their fault
 pub record RefusedScript (refuses : SettingsValues → BeginFault → Type 0)

@@ -23,7 +23,7 @@ use Rattle.sm_tasks.specs.Caps.{MeetsCaps}
 use Rattle.sm_ownership.specs.History.{after_admit, record_at, IsLegal, admits_only, is_admission_of, latest_of}
 use Rattle.sm_ownership.specs.Tables.{TableView}
 use Rattle.sm_table.specs.Bodies.{BodiesView, Past, past_at, past_of}
-use Rattle.sm_table.specs.World.{Frame, WorldState, Outcome, count_of, last_routes, mark_of, outcome, world_record}
+use Rattle.sm_table.specs.World.{Frame, WorldState, StepOutcome, count_of, last_routes, mark_of, outcome, world_record}
 use Rattle.sm_table.specs.World.{world_table}
 
 -- a frame that a world can be made with: bounds of a layout, and a desk whose books are sound and keep the caps, with a
@@ -140,7 +140,7 @@ pub record StandsFor {Q : Type 0} (view : WorldView Q) (w : WorldState Q) : Type
 
 -- the step answered what it should, and the parts are those of the world that it leaves
 pub record Follows {Q R : Type 0} (view : WorldView Q) (result : Result (WorldAnswer R) WorldFault)
-    (outcome : Outcome Q R) : Type 0 where
+    (outcome : StepOutcome Q R) : Type 0 where
   pub answered : result ≡ outcome.0
   pub stands : StandsFor view outcome.1
 

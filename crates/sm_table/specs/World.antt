@@ -94,8 +94,8 @@ abbrev pub last_routes : {Q : Type 0} → WorldState Q → List (Option Route)
 last_routes w = map (routes_of w.publications) (range_with_len 0 (count_of w))
 
 -- what a step answers, and the world that it leaves
-abbrev pub Outcome : Type 0 → Type 0 → Type 0
-Outcome Q R = Result (WorldAnswer R) WorldFault × WorldState Q
+abbrev pub StepOutcome : Type 0 → Type 0 → Type 0
+StepOutcome Q R = Result (WorldAnswer R) WorldFault × WorldState Q
 
 -- a world with one more entry
 abbrev pub with_entry : {Q : Type 0} → WorldState Q → ℕ → ℕ → Kind Q → WorldState Q
@@ -122,7 +122,7 @@ with_change w (ChangeOf shard change) = with_entry w 0 shard (Changed change)
 with_change w command = w
 
 -- a command, which a fault of the desk forbids
-abbrev pub controlled : {Q R : Type 0} → WorldState Q → Command → Option CommandFault → Outcome Q R
+abbrev pub controlled : {Q R : Type 0} → WorldState Q → Command → Option CommandFault → StepOutcome Q R
 controlled w command (Some fault) = (Err (CommandRefused fault), w)
 controlled w command None = (Ok Made, record (with_change w command) { desk = commanded w.desk command })
 
@@ -131,12 +131,12 @@ abbrev pub after_control : {Q R : Type 0} → WorldState Q → Command → StepO
 after_control w command = controlled w command (option_or (desk_fault w.desk command) (table_fault w command))
 
 -- a look at a shard's record
-abbrev pub after_look : {Q R : Type 0} → WorldState Q → ℕ → Outcome Q R
+abbrev pub after_look : {Q R : Type 0} → WorldState Q → ℕ → StepOutcome Q R
 after_look w shard = if nat_lt shard (count_of w) then (Ok (Seen (world_record w shard)), w) else (Err UnknownShard, w)
 
 -- a direct envelope is put last in flight, for the shard whose range covers the request's key, where the server is
 -- reached
-abbrev pub after_send : {Q R : Type 0} → Service Q R → WorldState Q → ℕ → ℕ → Q → Outcome Q R
+abbrev pub after_send : {Q R : Type 0} → Service Q R → WorldState Q → ℕ → ℕ → Q → StepOutcome Q R
 after_send service w to number request =
     if is_there w to
     then (if is_reached w.desk to
@@ -185,11 +185,11 @@ after_hop desk in_flight (Ok hop) =
 after_hop desk in_flight (Err envelope) = (Refused TooManyHops, in_flight)
 
 -- a forwarded envelope is on its way, or was refused
-abbrev pub hopped : {Q R : Type 0} → WorldState Q → WorldAnswer R × List (Flight Q) → Outcome Q R
+abbrev pub hopped : {Q R : Type 0} → WorldState Q → WorldAnswer R × List (Flight Q) → StepOutcome Q R
 hopped w hop = (Ok hop.0, record w { in_flight = hop.1 })
 
 -- a server that forwards requests on the shard forwards the envelope; any other begins it or refuses it
-abbrev pub arrived : {Q R : Type 0} → WorldState Q → ℕ → EnvelopeView Q (Unit {0}) → Option ℕ → Outcome Q R
+abbrev pub arrived : {Q R : Type 0} → WorldState Q → ℕ → EnvelopeView Q (Unit {0}) → Option ℕ → StepOutcome Q R
 arrived w at envelope None =
     reached w at envelope (admit_fault w.frame.ceiling (world_record w envelope.shard) at envelope.mode)
 arrived w at envelope (Some to) = hopped w (after_hop w.desk w.in_flight (sent_on envelope at (Some to)))
@@ -199,7 +199,7 @@ abbrev pub without_flight : {Q : Type 0} → WorldState Q → ℕ → WorldState
 without_flight w place = record w { in_flight = remove w.in_flight place }
 
 -- the delivery of an envelope, if there is one
-abbrev pub delivered : {Q R : Type 0} → WorldState Q → ℕ → Option (Flight Q) → Outcome Q R
+abbrev pub delivered : {Q R : Type 0} → WorldState Q → ℕ → Option (Flight Q) → StepOutcome Q R
 delivered w place None = (Err NoEnvelope, w)
 delivered w place (Some flight) = arrived (without_flight w place) flight.to flight.envelope
     (forward_to (world_record w flight.envelope.shard) flight.to)
@@ -209,7 +209,7 @@ abbrev pub after_deliver : {Q R : Type 0} → WorldState Q → ℕ → StepOutco
 after_deliver w place = delivered w place (slice_get w.in_flight place)
 
 -- the envelope at this place of those in flight is lost
-abbrev pub after_lose : {Q R : Type 0} → WorldState Q → ℕ → Outcome Q R
+abbrev pub after_lose : {Q R : Type 0} → WorldState Q → ℕ → StepOutcome Q R
 after_lose w place =
     if nat_lt place (length w.in_flight) then (Ok Made, without_flight w place) else (Err NoEnvelope, w)
 
@@ -227,7 +227,7 @@ with_room service w mark shard server work = (
 )
 
 -- an admission with work ends by its request, or refused where the shard keeps as many as it may
-abbrev pub worked : {Q R : Type 0} → Service Q R → WorldState Q → Mark → ℕ → ℕ → Option (Work Q) → Outcome Q R
+abbrev pub worked : {Q R : Type 0} → Service Q R → WorldState Q → Mark → ℕ → ℕ → Option (Work Q) → StepOutcome Q R
 worked service w mark shard server None = (Err NotHeld, w)
 worked service w mark shard server (Some work) =
     if nat_lt (length (kept w.history shard)) (slice_index_or w.frame.limits shard 0)
@@ -235,7 +235,7 @@ worked service w mark shard server (Some work) =
     else (Ok (Refused KeptFull), ended w shard server Nothing)
 
 -- the end of the admission in hand, if there is one
-abbrev pub served : {Q R : Type 0} → Service Q R → WorldState Q → Mark → ℕ → Option (InHand Q) → Outcome Q R
+abbrev pub served : {Q R : Type 0} → Service Q R → WorldState Q → Mark → ℕ → Option (InHand Q) → StepOutcome Q R
 served service w mark shard None = (Err NotHeld, w)
 served service w mark shard (Some hand) = worked service w mark shard hand.server hand.work
 
@@ -244,7 +244,7 @@ abbrev pub after_finish : {Q R : Type 0} → Service Q R → WorldState Q → Ma
 after_finish service w mark shard = served service w mark shard (slice_index_or w.in_hand shard None)
 
 -- a hold by a server, which a fault of its admission forbids
-abbrev pub held : {Q R : Type 0} → WorldState Q → ℕ → ℕ → Option AdmitFault → Outcome Q R
+abbrev pub held : {Q R : Type 0} → WorldState Q → ℕ → ℕ → Option AdmitFault → StepOutcome Q R
 held w shard server (Some fault) = (Err (AdmitRefused fault), w)
 held w shard server None = (
   Ok Made,
@@ -260,27 +260,22 @@ after_hold w shard server =
     else (Err UnknownShard, w)
 
 -- an admission without work ends with nothing
-abbrev pub let_go : {Q R : Type 0} → WorldState Q → ℕ → ℕ → Option (Work Q) → Outcome Q R
+abbrev pub let_go : {Q R : Type 0} → WorldState Q → ℕ → ℕ → Option (Work Q) → StepOutcome Q R
 let_go w shard server None = (Ok Made, ended w shard server Nothing)
 let_go w shard server (Some work) = (Err NotHeld, w)
 
 -- the end of what holds a shard, if anything does
-abbrev pub freed : {Q R : Type 0} → WorldState Q → ℕ → Option (InHand Q) → Outcome Q R
+abbrev pub freed : {Q R : Type 0} → WorldState Q → ℕ → Option (InHand Q) → StepOutcome Q R
 freed w shard None = (Err NotHeld, w)
 freed w shard (Some hand) = let_go w shard hand.server hand.work
 
 -- the admission without a request ends
-abbrev pub after_free : {Q R : Type 0} → WorldState Q → ℕ → Outcome Q R
+abbrev pub after_free : {Q R : Type 0} → WorldState Q → ℕ → StepOutcome Q R
 after_free w shard =
     if nat_lt shard (count_of w) then freed w shard (slice_index_or w.in_hand shard None) else (Err UnknownShard, w)
 
--- how the admission of a checkpoint ends: as one, or with nothing where the shard keeps no request
-abbrev pub checkpoint_ending : {Q : Type 0} → List Q → Ending Q
-checkpoint_ending [] = Nothing
-checkpoint_ending (request ∷ later) = Checkpoint
-
 -- a checkpoint by a server, which a fault of its admission forbids
-abbrev pub based : {Q R : Type 0} → WorldState Q → ℕ → ℕ → Option AdmitFault → Outcome Q R
+abbrev pub based : {Q R : Type 0} → WorldState Q → ℕ → ℕ → Option AdmitFault → StepOutcome Q R
 based w shard server (Some fault) = (Err (AdmitRefused fault), w)
 based w shard server None = (
   Ok Made,
@@ -297,14 +292,14 @@ after_checkpoint w shard server =
     else (Err UnknownShard, w)
 
 -- the publication of a shard's route, if it has one
-abbrev pub published : {Q R : Type 0} → WorldState Q → Option Route → Outcome Q R
+abbrev pub published : {Q R : Type 0} → WorldState Q → Option Route → StepOutcome Q R
 published w None = (Err WrongPhase, w)
 published w (Some route) =
     if is_old (routes_of w.publications route.shard) route then (Err OldRoute, w)
     else (Ok Made, record w { publications = w.publications ++ route ∷ [] })
 
 -- the shard's owner at its generation is published, where it has one and that is above the shard's last route
-abbrev pub after_publish : {Q R : Type 0} → WorldState Q → ℕ → Outcome Q R
+abbrev pub after_publish : {Q R : Type 0} → WorldState Q → ℕ → StepOutcome Q R
 after_publish w shard =
     if nat_lt shard (count_of w) then published w (record_route shard (world_record w shard)) else (Err UnknownShard, w)
 

@@ -36,7 +36,7 @@ use Rattle.sm_envelope.specs.Envelope.{EnvelopeView, one_hop_more, sent_on}
 use Rattle.sm_envelope.specs.declared.envelope.TheConstants.{MOST_HOPS}
 use Rattle.sm_ownership.specs.History.{checkpoint_ending, vacant, record_at, kept}
 use Rattle.sm_body.specs.Service.{Service}
-use Rattle.sm_table.specs.World.{Frame, WorldState, Mark, Plain, Unmade, Unserved, Outcome, count_of, world_record}
+use Rattle.sm_table.specs.World.{Frame, WorldState, Mark, Plain, Unmade, Unserved, StepOutcome, count_of, world_record}
 use Rattle.sm_table.specs.World.{is_there, table_fault, with_change, controlled, after_look, after_send, flight_to}
 use Rattle.sm_table.specs.World.{reached, after_hop, hopped, arrived, without_flight, delivered, after_lose, with_room}
 use Rattle.sm_table.specs.World.{worked, served, held, after_hold, based, after_checkpoint, checkpoint_ending, let_go}
