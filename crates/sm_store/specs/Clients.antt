@@ -1,5 +1,6 @@
 -- A shard's requests by client: which number comes next, and what each is answered.
-use Rattle.std.specs.Prelude.{ℕ, Bool, Option, Some, None, ◌==◌, ◌&&◌, ◌<◌, ◌+◌, List, [], ◌∷◌, ◌++◌, if◌then◌else◌, max}
+use Rattle.std.specs.Prelude.{ℕ, Bool, Option, Some, None, ◌==◌, ◌&&◌, ◌<◌, ◌+◌, List, [], ◌∷◌, ◌++◌, if◌then◌else◌}
+use Rattle.std.specs.Prelude.{max}
 use Rattle.sm_store.specs.declared.item.Item.{Item}
 
 -- the greatest number of a client's requests among these, 0 where it has none

@@ -1,7 +1,8 @@
 -- What processes do to the store: which transaction each deed is, when a process may send it, by what it has read, and
 -- when it
 -- is right for the store as it is.
-use Rattle.std.specs.Prelude.{ℕ, Bool, true, false, Some, ◌≡◌, ◌≢◌, ◌<◌, ◌≤◌, ◌+◌, IsTrue, List, [], ◌∷◌, ◌++◌, length, slice_get}
+use Rattle.std.specs.Prelude.{ℕ, Bool, true, false, Some, ◌≡◌, ◌≢◌, ◌<◌, ◌≤◌, ◌+◌, IsTrue, List, [], ◌∷◌, ◌++◌, length}
+use Rattle.std.specs.Prelude.{slice_get}
 use Rattle.std.specs.List.{AllByRecursion}
 use Rattle.sm_ownership.specs.declared.change.Change.{Change}
 use Rattle.sm_ownership.specs.declared.record.Record.{Record}
@@ -14,7 +15,9 @@ use Rattle.sm_store.specs.declared.store_key.PassingKey.{PassingKey}
 use Rattle.sm_store.specs.declared.store_key.PassingKey.TheVariants.{Leader, Server, Batch, Part}
 use Rattle.sm_store.specs.declared.store_key.StoreKey.{StoreKey}
 use Rattle.sm_store.specs.Clients.{AreNext}
-use Rattle.sm_store.specs.Store.{Transaction, Leads, Stands, Heads, Executes, Bases, Follows, Deletes, Elsewhere, leader_key, record_key, head_key, part_key, revision_of, all_hold, leader_of, stored_record, head_of, part_at, made, made_until}
+use Rattle.sm_store.specs.Store.{Transaction, Leads, Stands, Heads, Executes, Bases, Follows, Deletes, Elsewhere}
+use Rattle.sm_store.specs.Store.{leader_key, record_key, head_key, part_key, revision_of, all_hold, leader_of}
+use Rattle.sm_store.specs.Store.{stored_record, head_of, part_at, made, made_until}
 
 -- what all processes go by: how many shards there are, the greatest generation of a record, and the parts of a base
 -- that stands

@@ -1,6 +1,7 @@
 -- The store: its transactions, the latest first, and what they leave. A transaction's revision is its place in this
 -- order.
-use Rattle.std.specs.Prelude.{ℕ, Bool, true, false, Option, Some, None, nat_lt, ◌==◌, ◌&&◌, ◌+◌, List, [], ◌∷◌, ◌++◌, length, if◌then◌else◌}
+use Rattle.std.specs.Prelude.{ℕ, Bool, true, false, Option, Some, None, nat_lt, ◌==◌, ◌&&◌, ◌+◌, List, [], ◌∷◌, ◌++◌}
+use Rattle.std.specs.Prelude.{length, if◌then◌else◌}
 use Rattle.std.specs.List.{list_all, list_any}
 use Rattle.sm_ownership.specs.declared.change.Change.{Change}
 use Rattle.sm_ownership.specs.declared.record.Record.{Record}

@@ -5,7 +5,8 @@ ghost use Rattle.std.specs.List.{AllByRecursion};
 ghost use Rattle.sm_ownership.specs.declared.record.Record.{Record};
 ghost use Rattle.sm_ownership.specs.History.{IsLegal, all_of, record_at, table_of};
 ghost use Rattle.sm_store.specs.Histories.{history_of};
-ghost use Rattle.sm_store.specs.Store.{Transaction, made, head_key, leader_key, leader_of, record_key, revision_of, stored_record};
+ghost use Rattle.sm_store.specs.Store.{Transaction, made, head_key, leader_key, leader_of, record_key, revision_of};
+ghost use Rattle.sm_store.specs.Store.{stored_record};
 ghost use Rattle.sm_store.specs.Deeds.{AreRight, Charter, IsHonest, ShardLog, WasFound, shard_log};
 ghost use Rattle.sm_store.specs.System.{Event, IsLawful, MightHappen, StaysOvertaken, system_after};
 ghost use Rattle.sm_store.specs.Whole.{IsWhole};
@@ -23,23 +24,26 @@ pub fn read_stands<Q, P>()
         → revision_of (head_key shard) log ≡ revision → shard_log shard log ≡ read }
 {}
 
-/// Each transaction of an honest store, to which no one sent anything but what he might, was right for the store before it: a
-/// change was made by who led then, and the rule allowed it; a batch by the server that the record accepts, with requests that
-/// come next; a head names a base that lies there whole; and what was deleted lay behind the base, or was a lease.
+/// Each transaction of an honest store, to which no one sent anything but what he might, was right for the store before
+/// it: a change was made by who led then, and the rule allowed it; a batch by the server that the record accepts, with
+/// requests that come next; a head names a base that lies there whole; and what was deleted lay behind the base, or was
+/// a lease.
 pub fn honest_is_right<Q, P>()
     ensures { (charter : Charter Q P) (log : List (Transaction Q P)) → IsHonest charter log → AreRight charter log }
 {}
 
-/// What lies at a shard's keys leads to all requests that are made: the base that the head names, and the batches after it.
+/// What lies at a shard's keys leads to all requests that are made: the base that the head names, and the batches after
+/// it.
 pub fn keys_are_whole<Q, P>()
     ensures { (charter : Charter Q P) (log : List (Transaction Q P)) (shard : ℕ)
         → IsHonest charter log → IsWhole charter shard log }
 {}
 
-/// The law of the store, over every run of all processes, each of which sends only what it may and claims only what it knows.
-/// What was claimed to be overtaken is never made later.
+/// The law of the store, over every run of all processes, each of which sends only what it may and claims only what it
+/// knows. What was claimed to be overtaken is never made later.
 pub fn runs_are_lawful<Q, P, R, S>()
-    ensures lawful { (after : S → Q → S) (reply : S → Q → R) (start : S) (charter : Charter Q P) (events : List (Event Q P R))
+    ensures lawful { (after : S → Q → S) (reply : S → Q → R) (start : S) (charter : Charter Q P)
+        (events : List (Event Q P R))
         → MightHappen after reply start charter events
         → IsLawful after reply start charter (system_after events) }
     ensures overtaken { (after : S → Q → S) (reply : S → Q → R) (start : S) (charter : Charter Q P)
@@ -49,8 +53,8 @@ pub fn runs_are_lawful<Q, P, R, S>()
         AllByRecursion (StaysOvertaken before now) before.claims }
 {}
 
-/// An honest store stands for a legal history of the ownership table, whose laws so hold of it too: each change is legal, and
-/// for each request the executor is admitted, and no one else.
+/// An honest store stands for a legal history of the ownership table, whose laws so hold of it too: each change is
+/// legal, and for each request the executor is admitted, and no one else.
 pub fn store_is_a_history<Q, P>()
     ensures legal { (charter : Charter Q P) (ceiling : ℕ) (log : List (Transaction Q P)) → IsHonest charter log
         → length (history_of log) ≤ ceiling → IsLegal charter.count ceiling (reverse (history_of log)) }

@@ -1,5 +1,5 @@
-//! A store that several machines share: its transactions in one order, what a process may send to it and claim of it, and the
-//! laws that then hold of every run.
+//! A store that several machines share: its transactions in one order, what a process may send to it and claim of it,
+//! and the laws that then hold of every run.
 //!
 //! The store keeps a value at a key, and makes a transaction as a whole: it writes where each compare still holds.
 //! Nothing here runs.

@@ -1,5 +1,6 @@
 -- What the store's growth leaves: what was read, what may be sent, and what was claimed.
-use Rattle.std.proofs.Common.{◌≡◌, ℕ, ◌<◌, Bool, true, false, List, [], ◌∷◌, ◌++◌, refl, sym, ap, subst, ◌∙◌, arith, ⊎_elim, append_assoc, append-nil}
+use Rattle.std.proofs.Common.{◌≡◌, ℕ, ◌<◌, Bool, true, false, List, [], ◌∷◌, ◌++◌, refl, sym, ap, subst, ◌∙◌, arith}
+use Rattle.std.proofs.Common.{⊎_elim, append_assoc, append-nil}
 use Rattle.std.specs.Prelude.{◌==◌, max, if◌then◌else◌}
 use Rattle.std.proofs.lemmas.Bool.{eqb-true, cases_Bool}
 use Rattle.sm_store.specs.declared.item.Item.{Item}
@@ -8,7 +9,9 @@ use Rattle.sm_store.specs.declared.store_key.PassingKey.TheVariants.{Leader, Ser
 use Rattle.sm_store.specs.declared.store_key.StoreKey.{StoreKey}
 use Rattle.sm_store.specs.Clients.{last_of, AreNext, times, reply_in}
 use Rattle.sm_store.specs.Store.{Transaction, head_key, made, made_by, touches}
-use Rattle.sm_store.specs.Deeds.{AreRight, Charter, Deed, Electing, Expiring, Changing, Executing, Basing, Naming, Clearing, Following, Checking, Foreign, HasRequests, IsRight, MayClear, MayDo, MaySend, WasFound, transaction_of}
+use Rattle.sm_store.specs.Deeds.{AreRight, Charter, Deed, Electing, Expiring, Changing, Executing, Basing, Naming}
+use Rattle.sm_store.specs.Deeds.{Clearing, Following, Checking, Foreign, HasRequests, IsRight, MayClear, MayDo, MaySend}
+use Rattle.sm_store.specs.Deeds.{WasFound, transaction_of}
 use Rattle.sm_store.specs.System.{Claim, Replies, Overtaken, Reads, IsSo}
 use Rattle.sm_store.specs.lemmas.Numbers.{last-append, next-append, reply-append, times-append, passed}
 

@@ -1,11 +1,13 @@
 -- The head of a log only rises, and the requests of its first batches stay what they are.
-use Rattle.std.proofs.Common.{◌≡◌, ℕ, ◌+◌, ◌≤◌, Bool, true, false, List, [], ◌∷◌, ◌++◌, refl, sym, ap, subst, ◌∙◌, arith, ⊎_elim, inl, inr, append-nil}
+use Rattle.std.proofs.Common.{◌≡◌, ℕ, ◌+◌, ◌≤◌, Bool, true, false, List, [], ◌∷◌, ◌++◌, refl, sym, ap, subst, ◌∙◌}
+use Rattle.std.proofs.Common.{arith, ⊎_elim, inl, inr, append-nil}
 use Rattle.std.specs.Prelude.{nat_lt, ◌==◌, ◌⊎◌, if◌then◌else◌}
 use Rattle.std.proofs.lemmas.Bool.{eqb-true, cases_Bool, cond_both, cond-true, cond-false, lt-ltb, le-ltb}
 use Rattle.sm_store.specs.declared.head.Head.{Head}
 use Rattle.sm_store.specs.declared.item.Item.{Item}
 use Rattle.sm_store.specs.Store.{Transaction, Write, head_key, head_of, made, made_by, made_until, executed_by, touches}
-use Rattle.sm_store.specs.Deeds.{Charter, Deed, Electing, Expiring, Changing, Executing, Basing, Naming, Clearing, Following, Checking, Foreign, transaction_of, HasRequests, IsRight, AreRight, ShardLog}
+use Rattle.sm_store.specs.Deeds.{Charter, Deed, Electing, Expiring, Changing, Executing, Basing, Naming, Clearing}
+use Rattle.sm_store.specs.Deeds.{Following, Checking, Foreign, transaction_of, HasRequests, IsRight, AreRight, ShardLog}
 
 -- there are as many batches, and as new a base
 pub record IsRisen (old new : Head) : Type 0 where

@@ -1,11 +1,13 @@
 -- A compare that holds means that what was read is what stands.
-use Rattle.std.proofs.Common.{◌≡◌, ℕ, ◌+◌, ◌<◌, ◌≤◌, Bool, true, false, List, [], ◌∷◌, ◌++◌, length, refl, sym, ap, subst, ◌∙◌, arith, ⊎_elim, inl, inr, length-append}
+use Rattle.std.proofs.Common.{◌≡◌, ℕ, ◌+◌, ◌<◌, ◌≤◌, Bool, true, false, List, [], ◌∷◌, ◌++◌, length, refl, sym, ap}
+use Rattle.std.proofs.Common.{subst, ◌∙◌, arith, ⊎_elim, inl, inr, length-append}
 use Rattle.std.specs.Prelude.{◌||◌, ◌⊎◌, if◌then◌else◌}
 use Rattle.std.proofs.lemmas.Bool.{true≢false, or_cases, cond-true, cond-false, cases_Bool}
 use Rattle.sm_store.specs.declared.store_key.PassingKey.{PassingKey}
 use Rattle.sm_store.specs.declared.store_key.StoreKey.{StoreKey}
 use Rattle.sm_store.specs.declared.store_key.StoreKey.TheVariants.{Lasting, Passing}
-use Rattle.sm_store.specs.Store.{Transaction, Write, Leads, Stands, Heads, Executes, Bases, Follows, Deletes, Elsewhere, same_key, written_key, is_deletion, left_by, revised, revision_of, touches}
+use Rattle.sm_store.specs.Store.{Transaction, Write, Leads, Stands, Heads, Executes, Bases, Follows, Deletes, Elsewhere}
+use Rattle.sm_store.specs.Store.{same_key, written_key, is_deletion, left_by, revised, revision_of, touches}
 use Rattle.sm_store.specs.Deeds.{WasFound}
 
 -- the key is never deleted

@@ -1,8 +1,10 @@
 -- What a store stands for is a legal history.
-use Rattle.std.proofs.Common.{◌≡◌, ◌≢◌, ℕ, ◌+◌, ◌<◌, ◌≤◌, Bool, true, false, List, [], ◌∷◌, length, refl, sym, ap, subst, ◌∙◌, arith, ⊎_elim}
+use Rattle.std.proofs.Common.{◌≡◌, ◌≢◌, ℕ, ◌+◌, ◌<◌, ◌≤◌, Bool, true, false, List, [], ◌∷◌, length, refl, sym, ap}
+use Rattle.std.proofs.Common.{subst, ◌∙◌, arith, ⊎_elim}
 use Rattle.std.specs.Prelude.{is_some, unwrap_or, not, nat_lt, nat_le, ◌==◌, ◌&&◌, ◌||◌}
 use Rattle.std.specs.List.{AllByRecursion}
-use Rattle.std.proofs.lemmas.Bool.{cases_eq, and_parts, and_from, or_right, not_from_false, lt-ltb, le-leb, eq-eqb, ne_eqb, cond_both, cond-true, cond-false}
+use Rattle.std.proofs.lemmas.Bool.{cases_eq, and_parts, and_from, or_right, not_from_false, lt-ltb, le-leb, eq-eqb}
+use Rattle.std.proofs.lemmas.Bool.{ne_eqb, cond_both, cond-true, cond-false}
 use Rattle.std.proofs.lemmas.List.{length-set, length-replicate}
 use Rattle.sm_ranges.specs.declared.stand.Stand.{Stand}
 use Rattle.sm_ownership.specs.declared.change.Change.{Change}
@@ -10,11 +12,13 @@ use Rattle.sm_ownership.specs.declared.entry.Ending.TheVariants.{Request}
 use Rattle.sm_ownership.specs.declared.entry.Entry.{Entry}
 use Rattle.sm_ownership.specs.declared.entry.Kind.TheVariants.{Change as Changed, Admit, Done}
 use Rattle.sm_ownership.specs.declared.record.Record.{Record}
-use Rattle.sm_ownership.specs.History.{vacant, record_at, after_kind, after_admit, acts_as, latest_of, is_admission_of, change_fits, admit_fits, done_fits, fits, table_of_latest, IsLegalLatest}
+use Rattle.sm_ownership.specs.History.{vacant, record_at, after_kind, after_admit, acts_as, latest_of, is_admission_of}
+use Rattle.sm_ownership.specs.History.{change_fits, admit_fits, done_fits, fits, table_of_latest, IsLegalLatest}
 use Rattle.sm_ownership.specs.lemmas.Growth.{record_at-empty, record_at-latest, record_at-latest_other}
 use Rattle.sm_ownership.specs.Rules.{stand_after, accepts, accepts_at}
 use Rattle.sm_store.specs.declared.item.Item.{Item}
-use Rattle.sm_store.specs.Deeds.{AreRight, Charter, Deed, Electing, Expiring, Changing, Executing, Basing, Naming, Clearing, Following, Checking, Foreign, IsRight, transaction_of}
+use Rattle.sm_store.specs.Deeds.{AreRight, Charter, Deed, Electing, Expiring, Changing, Executing, Basing, Naming}
+use Rattle.sm_store.specs.Deeds.{Clearing, Following, Checking, Foreign, IsRight, transaction_of}
 use Rattle.sm_store.specs.Histories.{history_of, with_requests, with_write}
 use Rattle.sm_store.specs.Store.{Transaction, left_by, stored_record}
 

@@ -1,5 +1,6 @@
 -- The requests of a store's history are those that are made, and the history is legal.
-use Rattle.std.proofs.Common.{reverse, map, Option, None, ◌++◌, append_assoc, append-nil, ◌≡◌, ℕ, ◌<◌, ◌≤◌, Bool, true, false, List, [], ◌∷◌, length, refl, sym, ap, subst, ◌∙◌, ⊎_elim}
+use Rattle.std.proofs.Common.{reverse, map, Option, None, ◌++◌, append_assoc, append-nil, ◌≡◌, ℕ, ◌<◌, ◌≤◌, Bool, true}
+use Rattle.std.proofs.Common.{false, List, [], ◌∷◌, length, refl, sym, ap, subst, ◌∙◌, ⊎_elim}
 use Rattle.std.specs.Prelude.{◌==◌, ◌||◌, if◌then◌else◌}
 use Rattle.std.specs.List.{filter_map}
 use Rattle.std.proofs.lemmas.Bool.{cases_Bool, cond_both}
@@ -9,9 +10,11 @@ use Rattle.sm_ownership.specs.declared.change.Change.{Change}
 use Rattle.sm_ownership.specs.declared.entry.Ending.TheVariants.{Request}
 use Rattle.sm_ownership.specs.declared.entry.Entry.{Entry}
 use Rattle.sm_ownership.specs.declared.entry.Kind.TheVariants.{Change as Changed, Admit, Done}
-use Rattle.sm_ownership.specs.History.{record_at, table_of, table_of_latest, IsLegal, IsLegalLatest, all_of, ending_of, request_of}
+use Rattle.sm_ownership.specs.History.{record_at, table_of, table_of_latest, IsLegal, IsLegalLatest, all_of, ending_of}
+use Rattle.sm_ownership.specs.History.{request_of}
 use Rattle.sm_store.specs.declared.item.Item.{Item}
-use Rattle.sm_store.specs.Deeds.{AreRight, Charter, Deed, Electing, Expiring, Changing, Executing, Basing, Naming, Clearing, Following, Checking, Foreign, transaction_of}
+use Rattle.sm_store.specs.Deeds.{AreRight, Charter, Deed, Electing, Expiring, Changing, Executing, Basing, Naming}
+use Rattle.sm_store.specs.Deeds.{Clearing, Following, Checking, Foreign, transaction_of}
 use Rattle.sm_store.specs.Histories.{history_of, with_requests, with_write}
 use Rattle.sm_store.specs.Store.{Transaction, head_key, left_by, made, made_by, stored_record, touches}
 use Rattle.sm_store.specs.lemmas.Histories.{agrees, with_deed}

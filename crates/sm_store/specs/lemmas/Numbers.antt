@@ -1,5 +1,6 @@
 -- The numbers of a client's requests grow, so none is made twice, and what is passed over isn't made later.
-use Rattle.std.proofs.Common.{◌≡◌, ℕ, ◌+◌, ◌<◌, ◌≤◌, Bool, true, false, List, [], ◌∷◌, ◌++◌, refl, sym, subst, arith, ⊎_elim, append_assoc, append-nil}
+use Rattle.std.proofs.Common.{◌≡◌, ℕ, ◌+◌, ◌<◌, ◌≤◌, Bool, true, false, List, [], ◌∷◌, ◌++◌, refl, sym, subst, arith}
+use Rattle.std.proofs.Common.{⊎_elim, append_assoc, append-nil}
 use Rattle.std.specs.Prelude.{Option, Some, ◌==◌, ◌&&◌, if◌then◌else◌, max}
 use Rattle.std.proofs.lemmas.Bool.{and_parts, eqb-true, cases_Bool}
 use Rattle.sm_store.specs.declared.item.Item.{Item}

@@ -1,5 +1,6 @@
 -- What is made of an honest store was right when it was made.
-use Rattle.std.proofs.Common.{◌≡◌, ℕ, ◌≤◌, true, List, [], ◌∷◌, ◌++◌, Some, length, refl, sym, ap, subst, ◌∙◌, arith, inl, inr}
+use Rattle.std.proofs.Common.{◌≡◌, ℕ, ◌≤◌, true, List, [], ◌∷◌, ◌++◌, Some, length, refl, sym, ap, subst, ◌∙◌, arith}
+use Rattle.std.proofs.Common.{inl, inr}
 use Rattle.std.specs.Prelude.{◌==◌, slice_get}
 use Rattle.std.proofs.lemmas.Bool.{and_parts, eqb-true}
 use Rattle.sm_ownership.specs.declared.record.Record.{Record}
@@ -9,8 +10,12 @@ use Rattle.sm_store.specs.declared.item.Item.{Item}
 use Rattle.sm_store.specs.declared.store_key.PassingKey.{PassingKey}
 use Rattle.sm_store.specs.declared.store_key.PassingKey.TheVariants.{Leader, Server, Batch, Part, Other}
 use Rattle.sm_store.specs.declared.store_key.StoreKey.{StoreKey}
-use Rattle.sm_store.specs.Store.{Transaction, all_hold, head_key, head_of, leader_key, leader_of, made, part_at, record_key, revision_of, stored_record}
-use Rattle.sm_store.specs.Deeds.{Charter, Deed, Electing, Expiring, Changing, Executing, Basing, Naming, Clearing, Following, Checking, Foreign, transaction_of, at, AreAccepted, IsChanged, ShardLog, shard_log, WasFound, MayDo, MayName, MayClear, IsHonest, IsBehind, IsRight, IsRightBase, AreRight}
+use Rattle.sm_store.specs.Store.{Transaction, all_hold, head_key, head_of, leader_key, leader_of, made, part_at}
+use Rattle.sm_store.specs.Store.{record_key, revision_of, stored_record}
+use Rattle.sm_store.specs.Deeds.{Charter, Deed, Electing, Expiring, Changing, Executing, Basing, Naming, Clearing}
+use Rattle.sm_store.specs.Deeds.{Following, Checking, Foreign, transaction_of, at, AreAccepted, IsChanged, ShardLog}
+use Rattle.sm_store.specs.Deeds.{shard_log, WasFound, MayDo, MayName, MayClear, IsHonest, IsBehind, IsRight}
+use Rattle.sm_store.specs.Deeds.{IsRightBase, AreRight}
 use Rattle.sm_store.specs.lemmas.Heads.{read_until, risen}
 use Rattle.sm_store.specs.lemmas.Heart.{stands}
 use Rattle.sm_store.specs.lemmas.Parts.{part_is, part_stays}

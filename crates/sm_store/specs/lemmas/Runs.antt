@@ -1,5 +1,6 @@
 -- Every run is lawful.
-use Rattle.std.proofs.Common.{◌≡◌, ℕ, ◌≤◌, true, false, List, [], ◌∷◌, ◌++◌, length, refl, sym, ap, subst, ◌∙◌, arith, ⊎_elim, inl, append_assoc, length-append, zero, suc}
+use Rattle.std.proofs.Common.{◌≡◌, ℕ, ◌≤◌, true, false, List, [], ◌∷◌, ◌++◌, length, refl, sym, ap, subst, ◌∙◌, arith}
+use Rattle.std.proofs.Common.{⊎_elim, inl, append_assoc, length-append, zero, suc}
 use Rattle.std.specs.Prelude.{Option, Some, None, IfSome, ◌==◌, slice_get}
 use Rattle.std.specs.List.{AllByRecursion}
 use Rattle.std.proofs.lemmas.Bool.{and_parts, cases_Bool, cond_both, cond-true, cond-false, eqb-true}
@@ -8,7 +9,9 @@ use Rattle.sm_store.specs.declared.item.Item.{Item}
 use Rattle.sm_store.specs.Clients.{state_after, times}
 use Rattle.sm_store.specs.Store.{Transaction, Write, all_hold, head_key, made, revision_of}
 use Rattle.sm_store.specs.Deeds.{AreRight, Charter, IsHonest, MaySend}
-use Rattle.sm_store.specs.System.{Ask, Claim, Replies, Overtaken, Reads, Event, Comes, Sends, Reaches, Claims, Held, Sent, System, IsLawful, IsSo, May, MayClaim, MayRead, MightHappen, StaysOvertaken, extended, happens, reached, system_after}
+use Rattle.sm_store.specs.System.{Ask, Claim, Replies, Overtaken, Reads, Event, Comes, Sends, Reaches, Claims, Held}
+use Rattle.sm_store.specs.System.{Sent, System, IsLawful, IsSo, May, MayClaim, MayRead, MightHappen, StaysOvertaken}
+use Rattle.sm_store.specs.System.{extended, happens, reached, system_after}
 use Rattle.sm_store.specs.lemmas.Growth.{made_next, overtaken_grows, send_grows, so_grows}
 use Rattle.sm_store.specs.lemmas.Heart.{stood_then}
 use Rattle.sm_store.specs.lemmas.Numbers.{once}

@@ -6,7 +6,10 @@ use Rattle.sm_store.specs.declared.head.Head.{Head}
 use Rattle.sm_store.specs.declared.item.Item.{Item}
 use Rattle.sm_store.specs.declared.store_key.PassingKey.TheVariants.{Leader, Batch, Part}
 use Rattle.sm_store.specs.declared.store_key.StoreKey.{StoreKey}
-use Rattle.sm_store.specs.Store.{Write, Leads, Stands, Heads, Executes, Bases, Follows, Deletes, Elsewhere, leader_key, record_key, head_key, batch_key, part_key, same_key, same_passing, written_key, left_by, view_of, touches, led, leader_of, stood, stored_record, headed, head_of, batched, batch_at, based_on, part_at, executed_by, made}
+use Rattle.sm_store.specs.Store.{Write, Leads, Stands, Heads, Executes, Bases, Follows, Deletes, Elsewhere, leader_key}
+use Rattle.sm_store.specs.Store.{record_key, head_key, batch_key, part_key, same_key, same_passing, written_key}
+use Rattle.sm_store.specs.Store.{left_by, view_of, touches, led, leader_of, stood, stored_record, headed, head_of}
+use Rattle.sm_store.specs.Store.{batched, batch_at, based_on, part_at, executed_by, made}
 use Rattle.sm_store.specs.Deeds.{shard_log}
 use Rattle.sm_store.specs.lemmas.Heart.{IsViewOf, apart_writes}
 

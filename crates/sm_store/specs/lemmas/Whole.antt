@@ -1,13 +1,16 @@
 -- What lies at a shard's keys is all that is made.
-use Rattle.std.proofs.Common.{◌≡◌, ◌≢◌, ℕ, ◌+◌, ◌<◌, ◌≤◌, Bool, true, false, List, [], ◌∷◌, ◌++◌, Some, None, length, refl, sym, ap, subst, ◌∙◌, arith, ⊎_elim, inl, inr, append-nil, zero, suc}
+use Rattle.std.proofs.Common.{◌≡◌, ◌≢◌, ℕ, ◌+◌, ◌<◌, ◌≤◌, Bool, true, false, List, [], ◌∷◌, ◌++◌, Some, None, length}
+use Rattle.std.proofs.Common.{refl, sym, ap, subst, ◌∙◌, arith, ⊎_elim, inl, inr, append-nil, zero, suc}
 use Rattle.std.specs.Prelude.{◌==◌, ◌&&◌, ◌⊎◌, nat_lt, slice_get}
-use Rattle.std.proofs.lemmas.Bool.{true≢false, and_parts, and_from, eqb-true, eq-eqb, ne_eqb, cases_Bool, cases_eq, cond_both, cond-true, cond-false, le-ltb}
+use Rattle.std.proofs.lemmas.Bool.{true≢false, and_parts, and_from, eqb-true, eq-eqb, ne_eqb, cases_Bool, cases_eq}
+use Rattle.std.proofs.lemmas.Bool.{cond_both, cond-true, cond-false, le-ltb}
 use Rattle.sm_store.specs.declared.head.Head.{Head}
 use Rattle.sm_store.specs.declared.item.Item.{Item}
 use Rattle.sm_store.specs.declared.store_key.PassingKey.{PassingKey}
 use Rattle.sm_store.specs.declared.store_key.PassingKey.TheVariants.{Leader, Server, Batch, Part, Other}
 use Rattle.sm_store.specs.Store.{Transaction, batch_at, head_of, made, made_by, made_until, same_passing, Deletes}
-use Rattle.sm_store.specs.Deeds.{Charter, Deed, Electing, Expiring, Changing, Executing, Basing, Naming, Clearing, Following, Checking, Foreign, transaction_of, is_leased, IsBehind, IsRight, AreRight}
+use Rattle.sm_store.specs.Deeds.{Charter, Deed, Electing, Expiring, Changing, Executing, Basing, Naming, Clearing}
+use Rattle.sm_store.specs.Deeds.{Following, Checking, Foreign, transaction_of, is_leased, IsBehind, IsRight, AreRight}
 use Rattle.sm_store.specs.Whole.{AreThere, IsBased, IsThere, IsWhole, base_parts}
 use Rattle.sm_store.specs.lemmas.Heads.{until_all, until_there}
 use Rattle.sm_store.specs.lemmas.Parts.{part_is, part_stays_one}
