@@ -9,15 +9,14 @@ from testing.part import Part, verdict
 from testing.program import EXAMPLES, Program, opens_nothing, tool
 
 DOCS = (
-    "definitions",
     "doc-crates",
     "doc-examples",
     "doc-figures",
     "doc-paths",
     "doc-words",
     "edits",
+    "headline",
     "names",
-    "reading-list",
 )
 PROVED = sources.CRATES / "sm_cli/out/sm_cli"
 BY_RATTLE = sources.CRATES / "sm_cli/out/sm_cli.by-rattle"
