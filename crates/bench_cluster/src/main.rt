@@ -1,5 +1,5 @@
-//! Measures a cluster of the sample service: calls, loads, migrations beside calls, start and stop; and runs it by chance for a
-//! while. Without arguments it makes 100 calls beside three migrations.
+//! Measures a cluster of the sample service: calls, loads, migrations beside calls, start and stop; and runs it by
+//! chance for a while. Without arguments it makes 100 calls beside three migrations.
 #![tactic(auto)]
 
 mod calling;
@@ -108,7 +108,8 @@ fn measure<R: Threads + Wait + Clock + Print + Clone + Send + Sync + Drop + 'sta
     print_outcome(rt, &outcome)
 }
 
-// Prints what clients were told, what was applied, and when each part of the run had ended; and the time of each migration.
+// Prints what clients were told, what was applied, and when each part of the run had ended; and the time of each
+// migration.
 fn print_outcome<R: Print>(rt: &R, outcome: &Outcome) -> io::Result<()> {
     let tally = &outcome.tally;
     println!(rt;

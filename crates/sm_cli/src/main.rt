@@ -104,8 +104,8 @@ enum Runner {
     Threads,
 }
 
-/// What the command line asks for: a script on this runner, and whether sentences about lines that are refused go to standard
-/// error.
+/// What the command line asks for: a script on this runner, and whether sentences about lines that are refused go to
+/// standard error.
 #[derive(Clone, Copy, Drop)]
 struct Choice {
     runner: Runner,
@@ -193,8 +193,9 @@ fn end_plain<R: Runtime>(rt: &R, ended: Result<Status, RunFault>) -> anyhow::Res
     }
 }
 
-/// Runs the script of the reader, and writes its answers, on any streams alike. Of streams that tell their bytes, as a buffer in
-/// memory does, what was written is what the runner's definition says. Standard input and output, which `main` hands over, tell none.
+/// Runs the script of the reader, and writes its answers, on any streams alike. Of streams that tell their bytes, as a
+/// buffer in memory does, what was written is what the runner's definition says. Standard input and output, which
+/// `main` hands over, tell none.
 fn run_on<I: Read, W: Write, R: Threads + Wait + Clone + Send + Sync + Drop + 'static>(
     rt: &R,
     alloc: Global,
@@ -226,7 +227,8 @@ fn run_plain<R: Runtime + Threads + Wait + Send + Sync + 'static>(
     end_plain(rt, ended)
 }
 
-/// Runs the script of standard input, and tells on standard error why lines or settings are refused, and what a cluster counted.
+/// Runs the script of standard input, and tells on standard error why lines or settings are refused, and what a cluster
+/// counted.
 fn run_explained<R: Runtime + Threads + Wait + Send + Sync + 'static>(
     rt: &R,
     alloc: Global,

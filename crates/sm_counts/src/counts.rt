@@ -35,8 +35,8 @@ pub struct RefusalCounts {
     pub not_yet: u64,
     pub admitted: u64,
     pub spent: u64,
-    /// How often another actor was quicker between the server's look and its admission. Such an envelope doesn't go back: the server
-    /// serves it again, and counts it again.
+    /// How often another actor was quicker between the server's look and its admission. Such an envelope doesn't go
+    /// back: the server serves it again, and counts it again.
     pub raced: u64,
     pub kept_full: u64,
     pub no_memory: u64,

@@ -11,8 +11,8 @@ use crate::changes::{allows_change, check_change, commit_change, make_change};
 use crate::command::{Command, CommandFault};
 use crate::laws::commands_keep_caps;
 use crate::restarts::{check_approve, check_ask, check_back, check_fail, check_stopped};
-use sm_place::{Books, ServerState};
 use sm_ownership::change::Change;
+use sm_place::{Books, ServerState};
 use sm_ranges::server_id::ServerId;
 use sm_ranges::shard_id::ShardId;
 use sm_ranges::stand::Stand;
@@ -81,8 +81,8 @@ impl Desk {
         !self.books.state(server).is_unreached()
     }
 
-    /// The stand that the change leads to, where the desk allows it, or the first fault that applies. `Spent` and `Busy` are
-    /// for the ownership table to answer.
+    /// The stand that the change leads to, where the desk allows it, or the first fault that applies. `Spent` and
+    /// `Busy` are for the ownership table to answer.
     pub fn check_change(&self, k: ShardId, change: &Change) -> Result<Stand, CommandFault>
         ensures fault { result_err result ≡ desk_fault self.now (ChangeOf k change.now) }
         ensures stand { IfOk result (λ stand.
@@ -102,8 +102,8 @@ impl Desk {
         commit_change(&mut self.books, k, change, stand);
     }
 
-    /// Whether books and caps allow the command, or the first fault that applies. `Spent` and `Busy` are for the ownership
-    /// table to answer.
+    /// Whether books and caps allow the command, or the first fault that applies. `Spent` and `Busy` are for the
+    /// ownership table to answer.
     pub fn check(&self, command: &Command) -> Result<(), CommandFault>
         ensures { result_err result ≡ desk_fault self.now command.now }
     {

@@ -1,5 +1,6 @@
 -- What is written in answer to lines.
-use Rattle.std.specs.Prelude.{◌≡◌, ◌⊎◌, Bool, true, false, ℕ, ◌≤◌, ◌<◌, List, [], ◌∷◌, ◌++◌, length, take, ⊤, Option, None, Some, Result, Err, OnOk}
+use Rattle.std.specs.Prelude.{◌≡◌, ◌⊎◌, Bool, true, false, ℕ, ◌≤◌, ◌<◌, List, [], ◌∷◌, ◌++◌, length, take, ⊤, Option}
+use Rattle.std.specs.Prelude.{None, Some, Result, Err, OnOk}
 use Rattle.std.specs.Io.KnownBytes.{Appends}
 use Rattle.sm_lines.specs.Lines.{lines_of, HadFeed, LosesLine, TookLines, TookPart}
 use Rattle.sm_lines.specs.Reading.{Reading}
@@ -10,7 +11,8 @@ use Rattle.sm_lines.specs.Sending.{WroteFront}
 
 -- a responder's answer to one line: `gives` speaks of a line within the limit, and `gives_long` of the first bytes
 -- of a longer one, which changes nothing
-pub record AnswersLine {E : Type 0} (gives : E → List ℕ → List ℕ → E → Type 0) (gives_long : E → List ℕ → List ℕ → Type 0)
+pub record AnswersLine {E : Type 0} (gives : E → List ℕ → List ℕ → E → Type 0)
+    (gives_long : E → List ℕ → List ℕ → Type 0)
     (limit : ℕ) (before : E) (line text : List ℕ) (after : E) : Type 0 where
   pub whole : length line ≤ limit → gives before line text after
   pub long : limit < length line → gives_long before (take limit line) text × (after ≡ before)
@@ -72,7 +74,8 @@ pub record RanShort {E : Type 0} (answers : E → List ℕ → List ℕ → E �
 
 -- the reader failed or was called too often: the end had not been seen before, nothing is held, and the lines in `done`
 -- are all that were read whole
-pub record ReaderStopped (before after : Reading) (failed : Bool) (calls : ℕ) (input left : Option (List ℕ)) (done : List (List ℕ)) : Type 0 where
+pub record ReaderStopped (before after : Reading) (failed : Bool) (calls : ℕ) (input left : Option (List ℕ))
+    (done : List (List ℕ)) : Type 0 where
   pub unseen : before.ended ≡ false
   pub none_held : after.held ≡ []
   pub all_read : IsAllRead input left done
@@ -88,14 +91,17 @@ abbrev pub ReadingStopped : Reading → Reading → Bool → ℕ → Option (Lis
 ReadingStopped before after failed calls input left done =
     ReaderStopped before after failed calls input left done ⊎ LinesCounted input left done
 
--- how answering the input ended. Without a fault, all lines were answered; where reading stopped, all that were read whole;
--- where memory was refused, all before the one at which it was; and exactly these answers were written. Where writing
--- failed, a front of the answers to the lines that were read was written
+-- how answering the input ended. Without a fault, all lines were answered; where reading stopped, all that were read
+-- whole; where memory was refused, all before the one at which it was; and exactly these answers were written. Where
+-- writing failed, a front of the answers to the lines that were read was written
 pub record AnsweredInput {T E : Type 0} (answers : E → List ℕ → List ℕ → E → Type 0) (result : Result T AnswerFault)
-    (before after : Reading) (failed : Bool) (calls : ℕ) (input left old new : Option (List ℕ)) (begun now : E) : Type 0 where
+    (before after : Reading) (failed : Bool) (calls : ℕ) (input left old new : Option (List ℕ))
+    (begun now : E) : Type 0 where
   pub ran : OnOk result (RanAll answers input old new begun now)
-  pub read : result ≡ Err Read → (done : List (List ℕ)) × RanTo answers old new begun now done × ReadingStopped before after failed calls input left done
-  pub no_memory : result ≡ Err NoMemory → (done : List (List ℕ)) × (last : E) × StopsAfter input left done × RanTo answers old new begun last done
+  pub read : result ≡ Err Read → (done : List (List ℕ)) × RanTo answers old new begun now done
+      × ReadingStopped before after failed calls input left done
+  pub no_memory : result ≡ Err NoMemory
+      → (done : List (List ℕ)) × (last : E) × StopsAfter input left done × RanTo answers old new begun last done
   pub write : result ≡ Err Write → RanShort answers input left old new begun
 
 -- the first line of the input was taken off and answered

@@ -22,12 +22,13 @@ abbrev pub end_call : Bool → ℕ
 end_call true = 1
 end_call false = 0
 
--- the reader was called no more often than it gave bytes, but for the call that saw the end: `was` and `ended` say whether it
--- was seen before and after
+-- the reader was called no more often than it gave bytes, but for the call that saw the end: `was` and `ended` say
+-- whether it was seen before and after
 abbrev pub CallsFit : Bool → Bool → Option (List ℕ) → Option (List ℕ) → ℕ → ℕ → Type 0
 CallsFit was ended None left before after = ⊤
 CallsFit was ended (Some bytes) None before after = ⊥
-CallsFit was ended (Some bytes) (Some left) before after = after + length left + end_call was ≤ before + length bytes + end_call ended
+CallsFit was ended (Some bytes) (Some left) before after =
+    after + length left + end_call was ≤ before + length bytes + end_call ended
 
 -- what is held came from so many calls, each of which gives a piece at most
 abbrev pub HeldGiven : Reading → ℕ → Type 0

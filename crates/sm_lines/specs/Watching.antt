@@ -22,6 +22,7 @@ pub record KeepsReading {T R : Type 0} (remaining : R → Option (List ℕ)) (re
   pub not_past_end : reader.ended ≡ was.ended → left.read_past_end ≡ reader.read_past_end
   -- also of unknown bytes, `Read` comes only where the reader failed, or its calls could give as many bytes as lines or
   -- calls are counted
-  pub read_calls : result ≡ Err Read → HeldGiven was reader.calls → (left.failed ≡ true) ⊎ (COUNT_LIMIT ≤ PIECE * left.calls)
+  pub read_calls : result ≡ Err Read → HeldGiven was reader.calls
+      → (left.failed ≡ true) ⊎ (COUNT_LIMIT ≤ PIECE * left.calls)
   -- at most a piece is read beyond the line in front
   pub piece : length was.held ≤ PIECE → length lines.held ≤ PIECE

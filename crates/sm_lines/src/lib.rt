@@ -1,5 +1,5 @@
-//! Reads a text line by line and writes an answer to each. A failed reader, a failed writer and want of memory are told apart,
-//! and after each the contracts say which answers were written.
+//! Reads a text line by line and writes an answer to each. A failed reader, a failed writer and want of memory are told
+//! apart, and after each the contracts say which answers were written.
 //!
 //! ```rust
 //! let mut reader = Watched::new(b"one\nthree".as_slice());

@@ -1,4 +1,5 @@
-ghost use Rattle.std.specs.Prelude.{◌≡◌, ◌≢◌, ◌+◌, ◌<◌, ◌≤◌, ◌⊎◌, ◌↔◌, ◌++◌, [], true, false, IsTrue, IfOk, IfSome, IfNone, OnOk, OnErr, All, Contains, length, take, drop, slice_index};
+ghost use Rattle.std.specs.Prelude.{◌≡◌, ◌≢◌, ◌+◌, ◌<◌, ◌≤◌, ◌⊎◌, ◌↔◌, ◌++◌, [], true, false, IsTrue, IfOk, IfSome};
+ghost use Rattle.std.specs.Prelude.{IfNone, OnOk, OnErr, All, Contains, length, take, drop, slice_index};
 ghost use Rattle.std.specs.Io.KnownBytes.{Consumes, IsAtEnd};
 ghost use Rattle.sm_lines.specs.Lines.{TookLine, TookLongLine, TookPart};
 ghost use Rattle.sm_lines.specs.Reading.{unread, CallsFit, EndStands, LinesGiven};
@@ -250,8 +251,8 @@ impl LineReader {
 
     /// Reads the next line, whose bytes [`LineReader::line`] then lends.
     ///
-    /// Nothing is read once the end of the text was seen, nor where the line's end is already held. After a fault the line in
-    /// front may have lost some of its bytes.
+    /// Nothing is read once the end of the text was seen, nor where the line's end is already held. After a fault the
+    /// line in front may have lost some of its bytes.
     pub fn next_line<R: Read>(
         &mut self,
         reader: &mut Watched<R>,

@@ -16,8 +16,8 @@ use std::io::{Read, Write};
 pub trait Responder {
     ghost use Rattle.std.specs.Prelude.{ℕ, List, ⊤};
 
-    /// What a responder needs to know while it is used, and no field of it can hold: as that a runtime which it was handed
-    /// may be shared with other threads. Whoever calls it owes this once, and every call keeps it.
+    /// What a responder needs to know while it is used, and no field of it can hold: as that a runtime which it was
+    /// handed may be shared with other threads. Whoever calls it owes this once, and every call keeps it.
     ghost ready: { Self → Type 0 } = { λ _. ⊤ };
 
     /// The answers that may be given to a line: the responder before, the line, the answer and the responder after.
@@ -99,7 +99,8 @@ fn answer_next<R: Read, E: Responder>(
     }
 }
 
-/// Writes the answers that wait, where the next line needs a call of the reader: whoever gives that line may wait for them.
+/// Writes the answers that wait, where the next line needs a call of the reader: whoever gives that line may wait for
+/// them.
 fn flush_before_read<W: Write>(
     lines: &LineReader,
     pieces: &mut PieceWriter,
@@ -122,9 +123,9 @@ fn flush_before_read<W: Write>(
 /// Answers each line to come by the responder, until the input ends. A line beyond the limit is answered by its first
 /// bytes, as many as the limit.
 ///
-/// Where reading stopped or no memory was left, exactly the answers to the lines before were written; where writing failed, a
-/// front of the answers to the lines that were read. Before the reader is called all answers so far are written, so that whoever
-/// gives the next line may wait for them: no failed write comes after a failed read.
+/// Where reading stopped or no memory was left, exactly the answers to the lines before were written; where writing
+/// failed, a front of the answers to the lines that were read. Before the reader is called all answers so far are
+/// written, so that whoever gives the next line may wait for them: no failed write comes after a failed read.
 pub fn answer_lines<R: Read, W: Write, E: Responder>(
     alloc: Global,
     lines: &mut LineReader,

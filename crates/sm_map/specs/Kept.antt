@@ -11,7 +11,8 @@ use Rattle.sm_map.specs.declared.arena_map.ArenaMap.TheInside.{Inside}
 
 -- the map that these entries are in an arena, in blocks of these lengths
 abbrev pub map_of : ArenaValue → List KeyEntry → List ℕ → MapValue
-map_of v entries lengths = record { pairs = pairs_of v.placed entries; bytes = live_of v; dead = dead_of v; blocks = lengths }
+map_of v entries lengths =
+    record { pairs = pairs_of v.placed entries; bytes = live_of v; dead = dead_of v; blocks = lengths }
 
 pub record IsMap (v : ArenaValue) (entries : List KeyEntry) : Type 0 where
   pub rising : IsKeyMap (pairs_of v.placed entries)

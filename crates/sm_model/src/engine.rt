@@ -69,7 +69,8 @@ pub fn run_model<R: Read, W: Write>(
     ensures bad_settings { result ≡ Ok Status.BadSettings
         → RefusesSettings (R.remaining reader.old.inner) }
 
-    // Exactly the script of all lines before the one at which a fault came was written, but for a front of that line's answer.
+    // Exactly the script of all lines before the one at which a fault came was written, but for a front of that line's
+    // answer.
     ensures stopped { StoppedEarly LacksMemory WritesScript result reader.new.failed reader.new.calls
         (R.remaining reader.old.inner) (R.remaining reader.new.inner)
         (W.contents writer.old.inner) (W.contents writer.new.inner) }

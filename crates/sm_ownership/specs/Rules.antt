@@ -1,16 +1,19 @@
 -- The rules of ownership: what each change does, who executes a shard's requests, and who forwards them.
-use Rattle.std.specs.Prelude.{ℕ, Bool, false, Option, Some, None, Result, Ok, Err, ◌≡◌, ◌==◌, ◌+◌, ◌&&◌, nat_lt, not, is_some, if◌then◌else◌}
+use Rattle.std.specs.Prelude.{ℕ, Bool, false, Option, Some, None, Result, Ok, Err, ◌≡◌, ◌==◌, ◌+◌, ◌&&◌, nat_lt, not}
+use Rattle.std.specs.Prelude.{is_some, if◌then◌else◌}
 use Rattle.sm_ranges.specs.declared.stand.Stand.{Stand}
 use Rattle.sm_ranges.specs.declared.stand.Stand.TheVariants.{Vacant, Serving, Prepared, Forwarding, Taken, Paused}
 use Rattle.sm_ownership.specs.declared.change.Change.{Change}
-use Rattle.sm_ownership.specs.declared.change.Change.TheVariants.{Assign, PrepareAddShard, PrepareDropShard, AddShard, DropShard, Cancel, Pause, Resume, Reassign}
+use Rattle.sm_ownership.specs.declared.change.Change.TheVariants.{Assign, PrepareAddShard, PrepareDropShard, AddShard}
+use Rattle.sm_ownership.specs.declared.change.Change.TheVariants.{DropShard, Cancel, Pause, Resume, Reassign}
 use Rattle.sm_ownership.specs.declared.change.PhaseFault.{PhaseFault}
 use Rattle.sm_ownership.specs.declared.change.PhaseFault.TheVariants.{WrongPhase, SameServer}
 use Rattle.sm_ownership.specs.declared.mode.Mode.{Mode}
 use Rattle.sm_ownership.specs.declared.mode.Mode.TheVariants.{Direct, Forwarded}
 use Rattle.sm_ownership.specs.declared.record.Record.{Record}
 use Rattle.sm_ownership.specs.declared.admit_fault.AdmitFault.{AdmitFault}
-use Rattle.sm_ownership.specs.declared.admit_fault.AdmitFault.TheVariants.{Vacant as IsVacant, Paused as IsPaused, NotExecutor, NotYet, Admitted, Spent}
+use Rattle.sm_ownership.specs.declared.admit_fault.AdmitFault.TheVariants.{Vacant as IsVacant, Paused as IsPaused}
+use Rattle.sm_ownership.specs.declared.admit_fault.AdmitFault.TheVariants.{NotExecutor, NotYet, Admitted, Spent}
 
 -- the stand that a change leads to from a stand, where it may be made there
 abbrev pub stand_after : Stand → Change → Option Stand
@@ -35,7 +38,8 @@ names_owner _ _ = false
 -- the reason for which a stand doesn't allow a change, where it leads nowhere from there
 abbrev pub phase_fault : Stand → Change → Option PhaseFault
 phase_fault stand change =
-    if is_some (stand_after stand change) then None else Some (if names_owner stand change then SameServer else WrongPhase)
+    if is_some (stand_after stand change) then None
+    else Some (if names_owner stand change then SameServer else WrongPhase)
 
 -- what a change of a stand answers: the stand that it leads to, or the first fault
 abbrev pub IsChangeResult : Stand → Change → Result Stand PhaseFault → Type 0

@@ -23,7 +23,13 @@ pub record PassValue (Q : Type 0) : Type 0 where
 -- the pass of a seat with this view
 abbrev pub pass_value : {Q : Type 0} → TableId → View Q → PassValue Q
 pass_value id view =
-    record { board = record { id = id; limits = view.limits }; number = view.number; server = view.server; held = view.held; seen = view.seen }
+    record {
+      board = record { id = id; limits = view.limits };
+      number = view.number;
+      server = view.server;
+      held = view.held;
+      seen = view.seen;
+    }
 
 -- the slots that a pass has: that of the shard that it holds, whose body is out with the permit
 abbrev pub slots_of : {S Q : Type 0} → Option (HeldShard Q) → List (ℕ × Option S)

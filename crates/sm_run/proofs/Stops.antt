@@ -20,7 +20,7 @@ use Rattle.sm_run.specs.declared.opening.Opening.{Opening}
 use Rattle.sm_run.specs.declared.opening.Opening.TheVariants.{Accepted, Refused}
 use Rattle.sm_settings.specs.declared.settings_fault.SettingsFault.{SettingsFault}
 use Rattle.sm_run.specs.Faults.{status_of}
-use Rattle.sm_run.specs.Openings.{IfKnown, IsOpening, RefusesSettings, RefusedShort, settings_in}
+use Rattle.sm_run.specs.Openings.{IfKnown, IsOpening, ReadIsRefused, RefusedShort, settings_in}
 use Rattle.sm_run.specs.Runs.{AreFirst, IsSession, RanScript, StoppedAt, StoppedEarly, StoppedReading, StoppedWriting, WritesFor, WroteBefore}
 use Rattle.sm_lines.specs.declared.answer_fault.AnswerFault.{AnswerFault}
 use Rattle.sm_lines.specs.declared.answer_fault.AnswerFault.TheVariants as answer
@@ -130,15 +130,15 @@ opened ended lines input left opening settings none is opens =
 
 -- the settings in front of the input were refused by their rules
 pub refused_opening : (refuses : SettingsValues → BeginFault → Type 0) (ended : Bool) (lines : Reading) (input left : Option (List ℕ)) (opening : Opening) (fault : SettingsFault)
-    → lines.held ≡ [] → opening ≡ Refused fault → IsOpening ended (unread lines input) left opening → IfKnown input (λ bytes. RefusesSettings refuses fault (settings_in (lines_of bytes)))
+    → lines.held ≡ [] → opening ≡ Refused fault → IsOpening ended (unread lines input) left opening → IfKnown input (λ bytes. ReadIsRefused refuses fault (settings_in (lines_of bytes)))
 refused_opening refuses ended lines input left opening fault none is opens =
     let P : Opening → Type 0 = λ o. IsOpening ended (unread lines input) left o in
     let Q : Option (List ℕ) → Type 0 = λ i. IsOpening ended i left (Refused fault) in
     by_rules input (subst Q (nothing_held lines.held input none) (subst P is opens))
   where
-    by_rules : (input : Option (List ℕ)) → IfKnown input (λ bytes. settings_in (lines_of bytes) ≡ Err fault) → IfKnown input (λ bytes. RefusesSettings refuses fault (settings_in (lines_of bytes)))
+    by_rules : (input : Option (List ℕ)) → IfKnown input (λ bytes. settings_in (lines_of bytes) ≡ Err fault) → IfKnown input (λ bytes. ReadIsRefused refuses fault (settings_in (lines_of bytes)))
     by_rules None refused = tt
-    by_rules (Some bytes) refused = let P : Result SettingsValues SettingsFault → Type 0 = RefusesSettings refuses fault in subst P (sym refused) refl
+    by_rules (Some bytes) refused = let P : Result SettingsValues SettingsFault → Type 0 = ReadIsRefused refuses fault in subst P (sym refused) refl
 
 -- the settings in front of the input
 pub accepted_in : (ended : Bool) (input left : Option (List ℕ)) (settings : SettingsValues) → Opened ended input left settings → IfKnown input (λ bytes. settings_in (lines_of bytes) ≡ Ok settings)
@@ -148,13 +148,13 @@ accepted_in ended (Some bytes) (Some rest) settings o = ap settings_in o.lost �
 
 -- they were refused by the engine
 pub refused_by_engine : (refuses : SettingsValues → BeginFault → Type 0) (ended : Bool) (input left : Option (List ℕ)) (settings : SettingsValues) (fault : BeginFault) (why : SettingsFault)
-    → Opened ended input left settings → refuses settings fault → fault ≡ IsOfSettings why → IfKnown input (λ bytes. RefusesSettings refuses why (settings_in (lines_of bytes)))
+    → Opened ended input left settings → refuses settings fault → fault ≡ IsOfSettings why → IfKnown input (λ bytes. ReadIsRefused refuses why (settings_in (lines_of bytes)))
 refused_by_engine refuses ended input left settings fault why o refused is = by_engine input (accepted_in ended input left settings o)
   where
-    by_engine : (input : Option (List ℕ)) → IfKnown input (λ bytes. settings_in (lines_of bytes) ≡ Ok settings) → IfKnown input (λ bytes. RefusesSettings refuses why (settings_in (lines_of bytes)))
+    by_engine : (input : Option (List ℕ)) → IfKnown input (λ bytes. settings_in (lines_of bytes) ≡ Ok settings) → IfKnown input (λ bytes. ReadIsRefused refuses why (settings_in (lines_of bytes)))
     by_engine None accepted = tt
     by_engine (Some bytes) accepted =
-        let P : Result SettingsValues SettingsFault → Type 0 = RefusesSettings refuses why in
+        let P : Result SettingsValues SettingsFault → Type 0 = ReadIsRefused refuses why in
         let Q : BeginFault → Type 0 = refuses settings in
         subst P (sym accepted) (subst Q is refused)
 

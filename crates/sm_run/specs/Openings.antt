@@ -29,7 +29,8 @@ IfKnown (Some bytes) fact = fact bytes
 
 -- the first line of the input was taken off as settings, or refused
 abbrev pub IsOpening : Bool → Option (List ℕ) → Option (List ℕ) → Opening → Type 0
-IsOpening ended input left (Accepted settings) = (first : List ℕ) × LosesLine input left first × HadFeed ended input left first
+IsOpening ended input left (Accepted settings) =
+    (first : List ℕ) × LosesLine input left first × HadFeed ended input left first
     × (settings_of first ≡ Ok (values_of settings)) × KeepsRules (values_of settings)
 IsOpening ended input left (Refused fault) = IfKnown input (λ bytes. settings_in (lines_of bytes) ≡ Err fault)
 
@@ -38,25 +39,31 @@ abbrev pub ReadsAs : List ℕ → Opening → Type 0
 ReadsAs line (Accepted settings) = (settings_of line ≡ Ok (values_of settings)) × KeepsRules (values_of settings)
 ReadsAs line (Refused fault) = settings_of line ≡ Err fault
 
--- settings that were read so are refused with this fault: by their rules, or else by the engine, where `refuses` says so
-abbrev pub RefusesSettings : (SettingsValues → BeginFault → Type 0) → SettingsFault → Result SettingsValues SettingsFault → Type 0
-RefusesSettings refuses fault (Err found) = found ≡ fault
-RefusesSettings refuses fault (Ok settings) = refuses settings (IsOfSettings fault)
+-- settings that were read so are refused with this fault: by their rules, or else by the engine, where `refuses` says
+-- so
+abbrev pub ReadIsRefused : (SettingsValues → BeginFault → Type 0) → SettingsFault → Result SettingsValues SettingsFault
+    → Type 0
+ReadIsRefused refuses fault (Err found) = found ≡ fault
+ReadIsRefused refuses fault (Ok settings) = refuses settings (IsOfSettings fault)
 
 -- the settings in front of the input were refused, and what was written is their fault
-pub record RefusedScript (refuses : SettingsValues → BeginFault → Type 0) (input old new : Option (List ℕ)) : Type 0 where
+pub record RefusedScript (refuses : SettingsValues → BeginFault → Type 0)
+    (input old new : Option (List ℕ)) : Type 0 where
   pub fault : SettingsFault
-  pub refused : IfKnown input (λ bytes. RefusesSettings refuses fault (settings_in (lines_of bytes)))
+  pub refused : IfKnown input (λ bytes. ReadIsRefused refuses fault (settings_in (lines_of bytes)))
   pub wrote : Appends old new (settings_line fault)
 
 -- the settings in front of the input were refused, and a front of their fault was written
-pub record RefusedShort (refuses : SettingsValues → BeginFault → Type 0) (input old new : Option (List ℕ)) : Type 0 where
+pub record RefusedShort (refuses : SettingsValues → BeginFault → Type 0)
+    (input old new : Option (List ℕ)) : Type 0 where
   pub fault : SettingsFault
-  pub refused : IfKnown input (λ bytes. RefusesSettings refuses fault (settings_in (lines_of bytes)))
+  pub refused : IfKnown input (λ bytes. ReadIsRefused refuses fault (settings_in (lines_of bytes)))
   pub wrote : WroteFront old new (settings_line fault)
 
--- the settings in front of the input were accepted, and for this reason no session was begun with them. Nothing was written
-pub record Unbegun (refuses : SettingsValues → BeginFault → Type 0) (fault : BeginFault) (input old new : Option (List ℕ)) : Type 0 where
+-- the settings in front of the input were accepted, and for this reason no session was begun with them. Nothing was
+-- written
+pub record Unbegun (refuses : SettingsValues → BeginFault → Type 0) (fault : BeginFault)
+    (input old new : Option (List ℕ)) : Type 0 where
   pub settings : SettingsValues
   pub accepted : IfKnown input (λ bytes. settings_in (lines_of bytes) ≡ Ok settings)
   pub refused : refuses settings fault

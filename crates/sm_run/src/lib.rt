@@ -1,4 +1,5 @@
-//! Runs a script: reads the settings in front, makes a session of an engine with them, and answers each other line by it.
+//! Runs a script: reads the settings in front, makes a session of an engine with them, and answers each other line by
+//! it.
 //!
 //! ```rust
 //! let mut reader = Watched::new(script.as_slice());

@@ -18,14 +18,14 @@ use sm_lines::{AnswerFault, LineReader, Watched, answer_lines};
 use std::alloc::Global;
 use std::io::{Read, Write};
 
-/// Runs the script of the reader on the engine, and writes its answers. What is said of bytes holds of a reader and a writer that
-/// tell theirs.
+/// Runs the script of the reader on the engine, and writes its answers. What is said of bytes holds of a reader and a
+/// writer that tell theirs.
 ///
 /// `Read` comes only where the reader failed, or 2^32 of its calls or lines were counted; `Write` only where the writer
-/// failed; `NoMemory` and `NoThread` only where neither failed. The answers to all lines before the one at which a fault came were
-/// written, and nothing else, but for a front of that line's answer where writing failed. Where memory was refused, all
-/// lines before that one were taken off the reader, and beyond it at most a piece was read. `NoThread` comes only where the engine
-/// began no session for it, before any answer.
+/// failed; `NoMemory` and `NoThread` only where neither failed. The answers to all lines before the one at which a
+/// fault came were written, and nothing else, but for a front of that line's answer where writing failed. Where memory
+/// was refused, all lines before that one were taken off the reader, and beyond it at most a piece was read. `NoThread`
+/// comes only where the engine began no session for it, before any answer.
 pub fn run<R: Read, W: Write, E: Engine>(
     alloc: Global,
     reader: &mut Watched<R>,
@@ -39,7 +39,8 @@ pub fn run<R: Read, W: Write, E: Engine>(
     ensures read_all { result ≡ Ok Status.Ran → IsAtEnd (R.remaining reader.new.inner) }
     ensures bad_settings { result ≡ Ok Status.BadSettings → RefusedScript E.refuses
         (R.remaining reader.old.inner) (W.contents writer.old.inner) (W.contents writer.new.inner) }
-    // Exactly the answers to all lines before the one at which a fault came were written, but for a front of that line's.
+    // Exactly the answers to all lines before the one at which a fault came were written, but for a front of that
+    // line's.
     ensures stopped { StoppedEarly E.refuses
         (WritesFor E.begins (AnswersLine E.Session.gives E.Session.gives_long E.MAX_LINE)) result
         reader.new.failed reader.new.calls (R.remaining reader.old.inner)

@@ -10,7 +10,8 @@ use Rattle.sm_rule.specs.Passes.{PassAdds, PassLooks, PassValue}
 use Rattle.sm_server.specs.declared.checkpoint_fault.CheckpointFault.{CheckpointFault}
 use Rattle.sm_server.specs.declared.checkpoint_fault.CheckpointFault.TheVariants.{Admit as NotAdmitted, NoMemory}
 
--- the pass was admitted, and ended its admission with a checkpoint, or with nothing where the shard kept no request then
+-- the pass was admitted, and ended its admission with a checkpoint, or with nothing where the shard kept no request
+-- then
 abbrev pub HasMadeCheckpoint : {Q : Type 0} → PassValue Q → ℕ → PassValue Q → Type 0
 HasMadeCheckpoint before shard after =
     (admitted : PassValue _) × PassAdmitted before shard Direct admitted
@@ -19,7 +20,8 @@ HasMadeCheckpoint before shard after =
 
 -- why there is no checkpoint: the pass wasn't admitted, or memory was refused and its admission ended with nothing
 abbrev pub CheckpointRefused : {Q : Type 0} → PassValue Q → ℕ → PassValue Q → CheckpointFault → Type 0
-CheckpointRefused before shard after (NotAdmitted refusal) = PassLooks before after × RefusedBy before after shard Direct refusal
+CheckpointRefused before shard after (NotAdmitted refusal) =
+    PassLooks before after × RefusedBy before after shard Direct refusal
 CheckpointRefused before shard after NoMemory =
     (admitted : PassValue _) × PassAdmitted before shard Direct admitted
     × PassAdds admitted shard (Done Nothing) after

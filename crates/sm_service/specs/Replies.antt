@@ -1,5 +1,6 @@
 -- What each request of the sample service replies on a key map, and changes there.
-use Rattle.std.specs.Prelude.{ℕ, ◌-◌, ◌^◌, ℤ, pos, neg_ℤ, ◌+ℤ◌, int_le, Bool, ◌&&◌, List, ◌++◌, Option, Some, None, length, min, take, nat_le, if◌then◌else◌}
+use Rattle.std.specs.Prelude.{ℕ, ◌-◌, ◌^◌, ℤ, pos, neg_ℤ, ◌+ℤ◌, int_le, Bool, ◌&&◌, List, ◌++◌, Option, Some, None}
+use Rattle.std.specs.Prelude.{length, min, take, nat_le, if◌then◌else◌}
 use Rattle.sm_map.specs.KeyMap.{Held, Pair, Text, Count, held_at, text_at, holding, without, within}
 use Rattle.sm_service.specs.declared.counter_text.TheConstants.{MAX_SCANNED, MAX_TEXT}
 use Rattle.sm_service.specs.declared.reply.Reply.{Reply}

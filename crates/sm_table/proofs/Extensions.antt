@@ -19,7 +19,7 @@ use Rattle.sm_envelope.specs.Envelope.{EnvelopeView}
 use Rattle.sm_ownership.specs.History.{kept}
 use Rattle.sm_ownership.specs.Routes.{is_old, routes_of}
 use Rattle.sm_body.specs.Service.{Service}
-use Rattle.sm_table.specs.World.{WorldState, Mark, Plain, Unmade, Unserved, Outcome, count_of, controlled, is_there, reached, arrived, without_flight, delivered, with_room, worked, served, after_admission, made_unless, after_hold, after_checkpoint, let_go, freed, published, next, world_after}
+use Rattle.sm_table.specs.World.{WorldState, Mark, Plain, Unmade, Unserved, StepOutcome, count_of, controlled, is_there, reached, arrived, without_flight, delivered, with_room, worked, served, after_admission, made_unless, after_hold, after_checkpoint, let_go, freed, published, next, world_after}
 
 -- the later world has the frame of the earlier one, its history and then these entries, and its publications and then these routes
 pub record GrowsInto {Q : Type 0} (w later : WorldState Q) : Type 0 where
@@ -42,7 +42,7 @@ extends_further w middle later first second = record {
 }
 
 module _ {Q : Type 0} (R : Type 0) (w : WorldState Q) where
-  abbrev LeavesExtended : Outcome Q R → Type 0
+  abbrev LeavesExtended : StepOutcome Q R → Type 0
   LeavesExtended outcome = GrowsInto w outcome.1
 
   -- the desk knows more

@@ -24,7 +24,7 @@ use Rattle.sm_desk.specs.Desk.{DeskView, is_reached}
 use Rattle.sm_envelope.specs.Envelope.{EnvelopeView}
 use Rattle.sm_ownership.specs.History.{all_of, kept, said}
 use Rattle.sm_body.specs.Service.{Service}
-use Rattle.sm_table.specs.World.{Frame, WorldState, Mark, Plain, Unmade, Unserved, Outcome, count_of, world_record, controlled, is_there, reached, after_hop, hopped, arrived, without_flight, delivered, with_room, worked, served, after_admission, made_unless, let_go, freed, published, empty_world, answer, next, outcome, world_after, world_of}
+use Rattle.sm_table.specs.World.{Frame, WorldState, Mark, Plain, Unmade, Unserved, StepOutcome, count_of, world_record, controlled, is_there, reached, after_hop, hopped, arrived, without_flight, delivered, with_room, worked, served, after_admission, made_unless, let_go, freed, published, empty_world, answer, next, outcome, world_after, world_of}
 use Rattle.sm_table.proofs.Extensions.{extends_after}
 use Rattle.sm_ownership.specs.lemmas.Requests.{all_of-append, all_of-push_some}
 
@@ -36,7 +36,7 @@ said_middle : {Q R : Type 0} (reply_of : List Q → Q → R) (all before : List 
 said_middle reply_of all before request after is = rw is (rw (slice_get-middle before request after, take_at before (request ∷ after) (length before) refl) refl)
 
 -- a step that replied executed a request after all those of the shard, and that is in the history
-record HasRun {Q R : Type 0} (service : Service Q R) (w : WorldState Q) (outcome : Outcome Q R) (shard : ℕ) (reply : R) (place : ℕ) : Type 0 where
+record HasRun {Q R : Type 0} (service : Service Q R) (w : WorldState Q) (outcome : StepOutcome Q R) (shard : ℕ) (reply : R) (place : ℕ) : Type 0 where
   server : ℕ
   request : Q
   at_end : place ≡ length (all_of w.history shard)
@@ -44,7 +44,7 @@ record HasRun {Q R : Type 0} (service : Service Q R) (w : WorldState Q) (outcome
   written : outcome.1.history ≡ w.history ++ record { actor = server; shard = shard; kind = Done (Request request) } ∷ []
 
 module _ {Q R : Type 0} (service : Service Q R) (w : WorldState Q) (number server : ℕ) (reply : R) (place : ℕ) where
-  abbrev RunsAt : ℕ → Outcome Q R → Type 0
+  abbrev RunsAt : ℕ → StepOutcome Q R → Type 0
   RunsAt shard outcome = outcome.0 ≡ Ok (Replied number server reply place) → HasRun service w outcome shard reply place
 
   runs_with_room : (mark : Mark) (shard by : ℕ) (work : Work Q) → RunsAt shard (with_room service w mark shard by work)
@@ -64,7 +64,7 @@ module _ {Q R : Type 0} (service : Service Q R) (w : WorldState Q) (number serve
   runs_served mark shard None answered = absurd cc
   runs_served mark shard (Some hand) answered = runs_worked mark shard hand.server hand.work answered
 
-  abbrev NeverReplied : Outcome Q R → Type 0
+  abbrev NeverReplied : StepOutcome Q R → Type 0
   NeverReplied outcome = outcome.0 ≡ Ok (Replied number server reply place) → ⊥
 
   never_controlled : (command : Command) (fault : Option CommandFault) → NeverReplied (controlled w command fault)

@@ -11,7 +11,8 @@ use Rattle.sm_tasks.specs.declared.task_fault.AlreadyFailed.{AlreadyFailed}
 use Rattle.sm_tasks.specs.declared.task_fault.AlreadyUp.{AlreadyUp}
 use Rattle.sm_tasks.specs.declared.task_fault.NotUp.{NotUp}
 use Rattle.sm_tasks.specs.declared.task_fault.ApproveFault.{ApproveFault}
-use Rattle.sm_tasks.specs.declared.task_fault.ApproveFault.TheVariants.{NotAsked, GlobalCap, ShardCap, GroupCap, DomainCap}
+use Rattle.sm_tasks.specs.declared.task_fault.ApproveFault.TheVariants.{NotAsked, GlobalCap, ShardCap, GroupCap}
+use Rattle.sm_tasks.specs.declared.task_fault.ApproveFault.TheVariants.{DomainCap}
 use Rattle.sm_tasks.specs.declared.task_fault.StoppedFault.{StoppedFault}
 use Rattle.sm_tasks.specs.declared.task_fault.StoppedFault.TheVariants.{NotApproved, StillServing}
 use Rattle.sm_tasks.specs.Groups.{group_count, down_of}

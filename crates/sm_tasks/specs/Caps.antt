@@ -16,8 +16,8 @@ abbrev pub names_stopped : BooksView → Stand → Bool
 names_stopped books stand = names_one (λ b. is_stopped (state_of books b)) stand
 
 -- what approved restarts keep to: at most `ops` servers are away, no shard of cap 0 names one of them, of each group at
--- most `down` shards name one, each shard that names a stopped server is paused, and of each domain at most `down` servers
--- are away
+-- most `down` shards name one, each shard that names a stopped server is paused, and of each domain at most `down`
+-- servers are away
 pub record MeetsCaps (ops : ℕ) (books : BooksView) : Type 0 where
   pub servers : count_by is_away books.states ≤ ops
   pub shards : (k : ℕ) → k < length books.shards

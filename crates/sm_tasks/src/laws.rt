@@ -19,7 +19,8 @@ pub fn all_up_meets_caps()
     ensures all_up { (ops : ℕ) (books : BooksView)
         → All (λ state. state ≡ Up) books.states → All (λ shard. shard.stand ≡ Vacant) books.shards
         → MeetsCaps ops books }
-    ensures new { (ops : ℕ) (servers : List ServerRow) (groups : List GroupRow) (shards : List ShardRow) (domains : List DomainRow)
+    ensures new { (ops : ℕ) (servers : List ServerRow) (groups : List GroupRow) (shards : List ShardRow)
+        (domains : List DomainRow)
         → MeetsCaps ops (new_books servers groups shards domains) }
 {}
 
@@ -42,9 +43,9 @@ pub fn steps_keep_caps()
         → MeetsCaps ops books → MeetsCaps ops (with_state books a Failed) }
 {}
 
-/// A new stand of a shard keeps the caps where it takes on no server that is leaving: so where a server that isn't leaving
-/// comes to serve the shard, or is prepared beside the owner, and where a shard that is not paused names no further
-/// server. A shard that is paused and keeps naming a server that is leaving has to stay paused.
+/// A new stand of a shard keeps the caps where it takes on no server that is leaving: so where a server that isn't
+/// leaving comes to serve the shard, or is prepared beside the owner, and where a shard that is not paused names no
+/// further server. A shard that is paused and keeps naming a server that is leaving has to stay paused.
 pub fn stands_keep_caps()
     ensures taken { (ops : ℕ) (books : BooksView) (k : ℕ) (stand : Stand) → k < length books.shards
         → TakesNoneLeaving books (shard_at books.shards k).stand stand

@@ -5,8 +5,8 @@ use sm_service::{ApplyFault, CounterText, Reply, Request, Service};
 use std::alloc::{AllocError, Global};
 use std::marker::Model;
 
-/// A body of the sample service, as a type that is no instance of a generic one: a cluster of `CounterText` itself is made of more
-/// types than the borrow checker covers.
+/// A body of the sample service, as a type that is no instance of a generic one: a cluster of `CounterText` itself is
+/// made of more types than the borrow checker covers.
 #[derive(Drop)]
 pub struct TextBody {
     inner: CounterText,

@@ -21,14 +21,14 @@ use std::io::{Read, Write};
 use std::sync::Wait;
 use std::thread::Threads;
 
-/// Runs the script of the reader on a cluster, one command at a time, and writes its answers. Each server has as many workers as
-/// the settings say, and each of them passes a clone of the gate before it serves a request. The cluster is stopped at the end.
-/// What is said of bytes holds of a reader and a writer that tell theirs.
+/// Runs the script of the reader on a cluster, one command at a time, and writes its answers. Each server has as many
+/// workers as the settings say, and each of them passes a clone of the gate before it serves a request. The cluster is
+/// stopped at the end. What is said of bytes holds of a reader and a writer that tell theirs.
 ///
-/// It may wait for the cluster's threads. `Read` comes only where the reader failed, or 2^32 of its calls or lines were counted;
-/// `Write` only where the writer failed; `NoMemory` and `NoThread` only where neither failed. The answers to all lines before the
-/// one at which a fault came were written, and nothing else, but for a front of that line's answer where writing failed.
-/// `NoThread` comes only where no cluster was started for it, before any answer.
+/// It may wait for the cluster's threads. `Read` comes only where the reader failed, or 2^32 of its calls or lines were
+/// counted; `Write` only where the writer failed; `NoMemory` and `NoThread` only where neither failed. The answers to
+/// all lines before the one at which a fault came were written, and nothing else, but for a front of that line's answer
+/// where writing failed. `NoThread` comes only where no cluster was started for it, before any answer.
 pub fn run_threads<
     I: Read,
     W: Write,
@@ -47,7 +47,8 @@ pub fn run_threads<
     ensures read_all { result ≡ Ok Status.Ran → IsAtEnd (I.remaining reader.new.inner) }
     ensures bad_settings { result ≡ Ok Status.BadSettings → RefusedScript MayRefuse
         (I.remaining reader.old.inner) (W.contents writer.old.inner) (W.contents writer.new.inner) }
-    // Exactly the answers to all lines before the one at which a fault came were written, but for a front of that line's.
+    // Exactly the answers to all lines before the one at which a fault came were written, but for a front of that
+    // line's.
     ensures stopped { StoppedEarly MayRefuse WritesAnswers result reader.new.failed reader.new.calls
         (I.remaining reader.old.inner) (I.remaining reader.new.inner)
         (W.contents writer.old.inner) (W.contents writer.new.inner) }
@@ -64,7 +65,8 @@ pub fn run_threads<
     run(alloc, reader, writer, &mut plain)
 }
 
-/// The same, and tells the one listener why lines were refused, and the other one what the cluster counted, where it was started.
+/// The same, and tells the one listener why lines were refused, and the other one what the cluster counted, where it
+/// was started.
 pub fn run_threads_explained<
     I: Read,
     W: Write,

@@ -1,5 +1,5 @@
--- The word of a record. From the highest bit: the phase in 3 bits, whether it is admitted in 1, the owner in 12, the next
--- or previous server in 12, and the generation in 36.
+-- The word of a record. From the highest bit: the phase in 3 bits, whether it is admitted in 1, the owner in 12, the
+-- next or previous server in 12, and the generation in 36.
 use Rattle.std.specs.Prelude.{ℕ, Bool, true, false, Option, Some, None, ◌==◌, if◌then◌else◌, ◌≡◌, ◌≤◌, ◌+◌, ◌*◌, ◌^◌}
 use Rattle.sm_ranges.specs.ServerId.{IsServer}
 use Rattle.sm_ranges.specs.Stand.{AllNamed, is_vacant, owner_number, other_number}
@@ -29,7 +29,8 @@ bit_of false = 0
 -- the word of a record
 abbrev pub word_of : Record → ℕ
 word_of state =
-    phase_of state.stand * 2 ^ 61 + bit_of state.admitted * 2 ^ 60 + owner_number state.stand * 2 ^ 48 + other_number state.stand * 2 ^ 36 + state.generation
+    phase_of state.stand * 2 ^ 61 + bit_of state.admitted * 2 ^ 60 + owner_number state.stand * 2 ^ 48
+    + other_number state.stand * 2 ^ 36 + state.generation
 
 -- a stand names servers alone, and two where it names two
 abbrev pub NamesServers : Stand → Type 0
@@ -37,7 +38,8 @@ NamesServers stand = AllNamed IsServer stand × IsApart stand
 
 -- a shard that nobody executes for is idle, and one has had no entry exactly where it is vacant
 abbrev pub FitsStand : Stand → Bool → ℕ → Type 0
-FitsStand stand admitted generation = (executor_of stand ≡ None → admitted ≡ false) × (is_vacant stand ≡ (generation == 0))
+FitsStand stand admitted generation =
+    (executor_of stand ≡ None → admitted ≡ false) × (is_vacant stand ≡ (generation == 0))
 
 -- a record that has a word
 pub record IsWellFormed (state : Record) : Type 0 where

@@ -1,6 +1,8 @@
 //! Changes of a shard's stand.
 ghost use Rattle.std.specs.Prelude.{◌≡◌};
-ghost use Rattle.sm_ownership.specs.declared.change.Change.TheVariants.{Assign, PrepareAddShard, PrepareDropShard, AddShard, DropShard, Cancel, Pause, Resume, Reassign};
+ghost use Rattle.sm_ownership.specs.declared.change.Change.TheVariants.{Assign, PrepareAddShard, PrepareDropShard};
+ghost use Rattle.sm_ownership.specs.declared.change.Change.TheVariants.{AddShard, DropShard, Cancel, Pause, Resume};
+ghost use Rattle.sm_ownership.specs.declared.change.Change.TheVariants.{Reassign};
 ghost use Rattle.sm_desk.specs.declared.command.Command.TheVariants.{Change as ChangeOf};
 ghost use Rattle.sm_desk.specs.Desk.{desk_fault};
 ghost use Rattle.sm_control.specs.Controls.{Commanded};
@@ -17,7 +19,8 @@ impl<S: Service> Control<S> {
     /// Gives a vacant shard this owner, or answers the first fault that applies.
     pub fn assign(&mut self, board: &Board<S>, k: ShardId, a: ServerId) -> Result<(), ControlFault>
         requires { self.old.chair.board ≡ board.now }
-        ensures answer { let command = ChangeOf k (Assign a) in Commanded (desk_fault self.old.desk command) self.old self.new command result }
+        ensures answer { let command = ChangeOf k (Assign a) in
+            Commanded (desk_fault self.old.desk command) self.old self.new command result }
         ensures board { self.new.chair.board ≡ self.old.chair.board }
     {
         self.change(board, k, Change::Assign(a))
@@ -31,7 +34,8 @@ impl<S: Service> Control<S> {
         next: ServerId,
     ) -> Result<(), ControlFault>
         requires { self.old.chair.board ≡ board.now }
-        ensures answer { let command = ChangeOf k (PrepareAddShard next) in Commanded (desk_fault self.old.desk command) self.old self.new command result }
+        ensures answer { let command = ChangeOf k (PrepareAddShard next) in
+            Commanded (desk_fault self.old.desk command) self.old self.new command result }
         ensures board { self.new.chair.board ≡ self.old.chair.board }
     {
         self.change(board, k, Change::PrepareAddShard(next))
@@ -40,7 +44,8 @@ impl<S: Service> Control<S> {
     /// Has the shard's owner stop executing and forward to the next owner, or answers the first fault that applies.
     pub fn prepare_drop_shard(&mut self, board: &Board<S>, k: ShardId) -> Result<(), ControlFault>
         requires { self.old.chair.board ≡ board.now }
-        ensures answer { let command = ChangeOf k PrepareDropShard in Commanded (desk_fault self.old.desk command) self.old self.new command result }
+        ensures answer { let command = ChangeOf k PrepareDropShard in
+            Commanded (desk_fault self.old.desk command) self.old self.new command result }
         ensures board { self.new.chair.board ≡ self.old.chair.board }
     {
         self.change(board, k, Change::PrepareDropShard)
@@ -49,7 +54,8 @@ impl<S: Service> Control<S> {
     /// Makes the next owner the owner, to whom the previous one forwards, or answers the first fault that applies.
     pub fn add_shard(&mut self, board: &Board<S>, k: ShardId) -> Result<(), ControlFault>
         requires { self.old.chair.board ≡ board.now }
-        ensures answer { let command = ChangeOf k AddShard in Commanded (desk_fault self.old.desk command) self.old self.new command result }
+        ensures answer { let command = ChangeOf k AddShard in
+            Commanded (desk_fault self.old.desk command) self.old self.new command result }
         ensures board { self.new.chair.board ≡ self.old.chair.board }
     {
         self.change(board, k, Change::AddShard)
@@ -58,7 +64,8 @@ impl<S: Service> Control<S> {
     /// Ends the migration, as the previous owner drops the shard, or answers the first fault that applies.
     pub fn drop_shard(&mut self, board: &Board<S>, k: ShardId) -> Result<(), ControlFault>
         requires { self.old.chair.board ≡ board.now }
-        ensures answer { let command = ChangeOf k DropShard in Commanded (desk_fault self.old.desk command) self.old self.new command result }
+        ensures answer { let command = ChangeOf k DropShard in
+            Commanded (desk_fault self.old.desk command) self.old self.new command result }
         ensures board { self.new.chair.board ≡ self.old.chair.board }
     {
         self.change(board, k, Change::DropShard)
@@ -67,7 +74,8 @@ impl<S: Service> Control<S> {
     /// Gives the migration up before `add_shard`, or answers the first fault that applies.
     pub fn cancel(&mut self, board: &Board<S>, k: ShardId) -> Result<(), ControlFault>
         requires { self.old.chair.board ≡ board.now }
-        ensures answer { let command = ChangeOf k Cancel in Commanded (desk_fault self.old.desk command) self.old self.new command result }
+        ensures answer { let command = ChangeOf k Cancel in
+            Commanded (desk_fault self.old.desk command) self.old self.new command result }
         ensures board { self.new.chair.board ≡ self.old.chair.board }
     {
         self.change(board, k, Change::Cancel)
@@ -76,7 +84,8 @@ impl<S: Service> Control<S> {
     /// Pauses the shard, so that nobody executes its requests, or answers the first fault that applies.
     pub fn pause(&mut self, board: &Board<S>, k: ShardId) -> Result<(), ControlFault>
         requires { self.old.chair.board ≡ board.now }
-        ensures answer { let command = ChangeOf k Pause in Commanded (desk_fault self.old.desk command) self.old self.new command result }
+        ensures answer { let command = ChangeOf k Pause in
+            Commanded (desk_fault self.old.desk command) self.old self.new command result }
         ensures board { self.new.chair.board ≡ self.old.chair.board }
     {
         self.change(board, k, Change::Pause)
@@ -85,7 +94,8 @@ impl<S: Service> Control<S> {
     /// Has the owner of a paused shard execute again, or answers the first fault that applies.
     pub fn resume(&mut self, board: &Board<S>, k: ShardId) -> Result<(), ControlFault>
         requires { self.old.chair.board ≡ board.now }
-        ensures answer { let command = ChangeOf k Resume in Commanded (desk_fault self.old.desk command) self.old self.new command result }
+        ensures answer { let command = ChangeOf k Resume in
+            Commanded (desk_fault self.old.desk command) self.old self.new command result }
         ensures board { self.new.chair.board ≡ self.old.chair.board }
     {
         self.change(board, k, Change::Resume)
@@ -99,7 +109,8 @@ impl<S: Service> Control<S> {
         next: ServerId,
     ) -> Result<(), ControlFault>
         requires { self.old.chair.board ≡ board.now }
-        ensures answer { let command = ChangeOf k (Reassign next) in Commanded (desk_fault self.old.desk command) self.old self.new command result }
+        ensures answer { let command = ChangeOf k (Reassign next) in
+            Commanded (desk_fault self.old.desk command) self.old self.new command result }
         ensures board { self.new.chair.board ≡ self.old.chair.board }
     {
         self.change(board, k, Change::Reassign(next))
@@ -113,7 +124,8 @@ impl<S: Service> Control<S> {
         change: Change,
     ) -> Result<(), ControlFault>
         requires { self.old.chair.board ≡ board.now }
-        ensures answer { let command = ChangeOf k change in Commanded (desk_fault self.old.desk command) self.old self.new command result }
+        ensures answer { let command = ChangeOf k change in
+            Commanded (desk_fault self.old.desk command) self.old self.new command result }
         ensures board { self.new.chair.board ≡ self.old.chair.board }
     {
         let stand = match self.desk.check_change(k, &change) {

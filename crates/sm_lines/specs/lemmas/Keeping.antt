@@ -1,5 +1,6 @@
 -- What reading leaves of a watched reader, where it stopped.
-use Rattle.std.proofs.Common.{◌≡◌, ◌≢◌, ◌+◌, ◌≤◌, Bool, true, false, ℕ, List, length, Option, Some, None, Result, Ok, Err, refl, sym, ap, subst, arith}
+use Rattle.std.proofs.Common.{◌≡◌, ◌≢◌, ◌+◌, ◌≤◌, Bool, true, false, ℕ, List, length, Option, Some, None, Result, Ok}
+use Rattle.std.proofs.Common.{Err, refl, sym, ap, subst, arith}
 use Rattle.sm_lines.specs.Reading.{CallsFit, Reading}
 use Rattle.sm_lines.specs.Watching.{KeepsReading}
 use Rattle.sm_lines.specs.declared.answer_fault.AnswerFault.{AnswerFault}
@@ -12,7 +13,8 @@ no_call true (Some bytes) calls = omega arith
 no_call false (Some bytes) calls = omega arith
 
 -- nothing was read
-pub keeps_unread : {T R : Type 0} (remaining : R → Option (List ℕ)) (result : Result T AnswerFault) (lines : Reading) (reader : Watched R)
+pub keeps_unread : {T R : Type 0} (remaining : R → Option (List ℕ)) (result : Result T AnswerFault) (lines : Reading)
+    (reader : Watched R)
     → result ≡ Err NoMemory → KeepsReading remaining result lines lines reader reader
 keeps_unread {T} remaining result lines reader is =
     let P : Result T AnswerFault → Type 0 = λ r. KeepsReading remaining r lines lines reader reader in
@@ -27,8 +29,10 @@ keeps_unread {T} remaining result lines reader is =
     })
 
 -- a fault that is passed on
-pub keeps_as : {T U R : Type 0} (remaining : R → Option (List ℕ)) (fault : AnswerFault) (was lines : Reading) (reader left : Watched R)
-    → KeepsReading {T = T} remaining (Err fault) was lines reader left → KeepsReading {T = U} remaining (Err fault) was lines reader left
+pub keeps_as : {T U R : Type 0} (remaining : R → Option (List ℕ)) (fault : AnswerFault) (was lines : Reading)
+    (reader left : Watched R)
+    → KeepsReading {T = T} remaining (Err fault) was lines reader left
+    → KeepsReading {T = U} remaining (Err fault) was lines reader left
 keeps_as {T} {U} remaining fault was lines reader left k = record {
   read_all = tt;
   unfailed = λ other. k.unfailed (λ e. (let same : fault ≡ Read = cc in other (ap Err same)));

@@ -20,8 +20,8 @@ use std::marker::Brand;
 
 impl<S: Service> Board<S> {
     /// Makes the change, which the shard's stand in all that the chair has seen allows; or answers that the shard's
-    /// generations are spent, that the shard is admitted, or that the call was overtaken. A refusal adds no entry of the chair.
-    /// That a call adds none of other actors no clause says.
+    /// generations are spent, that the shard is admitted, or that the call was overtaken. A refusal adds no entry of
+    /// the chair. That a call adds none of other actors no clause says.
     pub fn change(
         &self,
         chair: &mut Chair<S>,
@@ -32,7 +32,8 @@ impl<S: Service> Board<S> {
         requires shard { k < self.now.limits.count }
         requires fits { phase_fault (record_at_chair chair.old k).stand change ≡ None }
         ensures made { OnOk result (ChairAdds chair.old k change chair.new) }
-        ensures refused { IfErr result (λ refusal. ChairLooks chair.old chair.new × NotMade chair.old chair.new k refusal) }
+        ensures refused { IfErr result
+            (λ refusal. ChairLooks chair.old chair.new × NotMade chair.old chair.new k refusal) }
     {
         match change.apply_to(chair.stand(k)) {
             Ok(stand) => self.change_to(chair, k, &change, &stand),
@@ -52,7 +53,8 @@ impl<S: Service> Board<S> {
         requires shard { k < self.now.limits.count }
         requires leads { stand_after (record_at_chair chair.old k).stand change.now ≡ Some stand.now }
         ensures made { OnOk result (ChairAdds chair.old k change.now chair.new) }
-        ensures refused { IfErr result (λ refusal. ChairLooks chair.old chair.new × NotMade chair.old chair.new k refusal) }
+        ensures refused { IfErr result
+            (λ refusal. ChairLooks chair.old chair.new × NotMade chair.old chair.new k refusal) }
     {
         self.change_as::<Brand>(chair, k, change, stand)
     }
@@ -69,7 +71,8 @@ impl<S: Service> Board<S> {
         requires leads { stand_after (record_at_chair chair.old k).stand change.now ≡ Some stand.now }
         requires kind { B.kind ≡ Changed change.now }
         ensures made { OnOk result (ChairAdds chair.old k change.now chair.new) }
-        ensures refused { IfErr result (λ refusal. ChairLooks chair.old chair.new × NotMade chair.old chair.new k refusal) }
+        ensures refused { IfErr result
+            (λ refusal. ChairLooks chair.old chair.new × NotMade chair.old chair.new k refusal) }
     {
         let (word, read) = self.load(&mut chair.seat, k, None);
         let next = self.changed(&read, change, stand)?;
@@ -113,7 +116,8 @@ impl<S: Service> Board<S> {
     }
 }
 
-// The servers that a change names are numbered as servers are. Reading the number tells the proof so, and does nothing else.
+// The servers that a change names are numbered as servers are. Reading the number tells the proof so, and does nothing
+// else.
 fn names_servers(change: &Change)
     ensures { NewlyNamesServer change.now }
 {

@@ -23,7 +23,8 @@ pub bit_below : (bit : Bool) → bit_of bit < 2
 bit_below true = omega arith
 bit_below false = omega arith
 
-same_stand : (one two : Stand) → phase_of one ≡ phase_of two → owner_number one ≡ owner_number two → other_number one ≡ other_number two → one ≡ two
+same_stand : (one two : Stand) → phase_of one ≡ phase_of two → owner_number one ≡ owner_number two
+    → other_number one ≡ other_number two → one ≡ two
 same_stand Vacant Vacant phase owner other = refl
 same_stand (Serving a) (Serving b) phase owner other = ap Serving owner
 same_stand (Prepared a x) (Prepared b y) phase owner other = λ i. Prepared (owner i) (other i)
@@ -43,26 +44,31 @@ module _ (state : Record) (formed : IsWellFormed state) where
   low = omega (arith, formed.generation)
 
   pub word_generation : word_of state % 2 ^ 36 ≡ state.generation
-  word_generation = generation_digits (phase_of state.stand) (bit_of state.admitted) (owner_number state.stand) (other_number state.stand) state.generation low
+  word_generation = generation_digits (phase_of state.stand) (bit_of state.admitted) (owner_number state.stand)
+      (other_number state.stand) state.generation low
 
   pub word_other : word_of state / 2 ^ 36 % 4096 ≡ other_number state.stand
   word_other =
-      other_digits (phase_of state.stand) (bit_of state.admitted) (owner_number state.stand) (other_number state.stand) state.generation low
+      other_digits (phase_of state.stand) (bit_of state.admitted) (owner_number state.stand)
+      (other_number state.stand) state.generation low
       (other_below state.stand formed.servers)
 
   pub word_owner : word_of state / 2 ^ 48 % 4096 ≡ owner_number state.stand
   word_owner =
-      owner_digits (phase_of state.stand) (bit_of state.admitted) (owner_number state.stand) (other_number state.stand) state.generation low
+      owner_digits (phase_of state.stand) (bit_of state.admitted) (owner_number state.stand)
+      (other_number state.stand) state.generation low
       (other_below state.stand formed.servers) (owner_below state.stand formed.servers)
 
   pub word_admitted : word_of state / 2 ^ 60 % 2 ≡ bit_of state.admitted
   word_admitted =
-      admitted_digit (phase_of state.stand) (bit_of state.admitted) (owner_number state.stand) (other_number state.stand) state.generation low
+      admitted_digit (phase_of state.stand) (bit_of state.admitted) (owner_number state.stand)
+      (other_number state.stand) state.generation low
       (other_below state.stand formed.servers) (owner_below state.stand formed.servers) (bit_below state.admitted)
 
   pub word_phase : word_of state / 2 ^ 61 ≡ phase_of state.stand
   word_phase =
-      phase_digits (phase_of state.stand) (bit_of state.admitted) (owner_number state.stand) (other_number state.stand) state.generation low
+      phase_digits (phase_of state.stand) (bit_of state.admitted) (owner_number state.stand)
+      (other_number state.stand) state.generation low
       (other_below state.stand formed.servers) (owner_below state.stand formed.servers) (bit_below state.admitted)
 
 -- well-formed records with one word are one
