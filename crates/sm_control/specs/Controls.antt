@@ -7,7 +7,7 @@ use Rattle.sm_ownership.specs.declared.entry.Kind.TheVariants.{Admit}
 use Rattle.sm_ownership.specs.declared.mode.Mode.{Mode}
 use Rattle.sm_ownership.specs.History.{IsLegal, NoneBy}
 use Rattle.sm_place.specs.Books.{BooksView, shard_at, state_of}
-use Rattle.sm_tasks.specs.States.{is_stopped}
+use Rattle.sm_place.specs.ServerState.{is_stopped}
 use Rattle.sm_rule.specs.declared.change_refusal.ChangeRefusal.{ChangeRefusal}
 use Rattle.sm_rule.specs.declared.change_refusal.ChangeRefusal.TheVariants.{Spent, Busy, Raced}
 use Rattle.sm_rule.specs.declared.limits.Limits.{Limits}

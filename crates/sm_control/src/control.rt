@@ -6,7 +6,7 @@ ghost use Rattle.sm_ownership.specs.Rules.{executor};
 ghost use Rattle.sm_place.specs.Books.{state_of};
 ghost use Rattle.sm_place.specs.Sound.{AreSound};
 ghost use Rattle.sm_tasks.specs.Caps.{MeetsCaps};
-ghost use Rattle.sm_tasks.specs.States.{is_stopped};
+ghost use Rattle.sm_place.specs.ServerState.{is_stopped};
 ghost use Rattle.sm_rule.specs.Views.{record_in};
 ghost use Rattle.sm_desk.specs.Desk.{desk_fault};
 ghost use Rattle.sm_control.specs.Controls.{AdmitsUnstopped, AreStandsIn, AreStandsSeen, Commanded, PassesLeadTo};

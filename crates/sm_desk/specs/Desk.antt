@@ -18,8 +18,7 @@ use Rattle.sm_place.specs.declared.server_state.ServerState.TheVariants.{Approve
 use Rattle.sm_place.specs.declared.server_state.ServerState.TheVariants.{Failed as IsFailed}
 use Rattle.sm_place.specs.Books.{BooksView, place_of, shard_at, state_of, with_stand, with_state}
 use Rattle.sm_place.specs.Room.{fit}
-use Rattle.sm_place.specs.ServerState.{is_leaving}
-use Rattle.sm_tasks.specs.States.{is_failed, is_stopped}
+use Rattle.sm_place.specs.ServerState.{is_leaving, is_unreached}
 use Rattle.sm_tasks.specs.Approvals.{approvable, askable, failable, returnable, stoppable}
 use Rattle.sm_desk.specs.declared.command.Command.{Command}
 use Rattle.sm_desk.specs.declared.command.Command.TheVariants.{Change, Ask, Approve, Stopped, Back, Fail}
@@ -52,9 +51,9 @@ is_restart command = true
 abbrev pub stands_of : DeskView → List Stand
 stands_of desk = map (λ shard. shard.stand) desk.books.shards
 
--- whether requests reach the server: they don't where it is stopped or failed
+-- whether requests reach the server
 abbrev pub is_reached : DeskView → ℕ → Bool
-is_reached desk server = not (is_stopped (state_of desk.books server) || is_failed (state_of desk.books server))
+is_reached desk server = not (is_unreached (state_of desk.books server))
 
 -- why the shard has no room on the server that a change newly names
 abbrev pub room_fault : BooksView → ℕ → Option ℕ → Option CommandFault

@@ -1,5 +1,6 @@
 -- Who answers for a shard's requests while it migrates.
-use Rattle.std.specs.Prelude.{ℕ, Some, None, ◌≡◌, ◌≢◌, ◌⊎◌, IsTrue}
+use Rattle.std.specs.Prelude.{ℕ, Some, None, ◌≡◌, ◌≢◌, ◌⊎◌, IfSome, IsTrue}
+use Rattle.sm_ranges.specs.Stand.{other_of, owner_of}
 use Rattle.sm_ranges.specs.declared.stand.Stand.{Stand}
 use Rattle.sm_ranges.specs.declared.stand.Stand.TheVariants.{Vacant, Serving, Prepared, Forwarding, Taken, Paused}
 use Rattle.sm_ownership.specs.declared.change.Change.TheVariants.{AddShard, DropShard}
@@ -8,10 +9,7 @@ use Rattle.sm_ownership.specs.Rules.{accepts_at, executor_of, forward_at, stand_
 
 -- the next or previous server of a stand is not its owner
 abbrev pub IsApart : Stand → Type 0
-IsApart (Prepared owner next) = owner ≢ next
-IsApart (Forwarding owner next) = owner ≢ next
-IsApart (Taken owner previous) = owner ≢ previous
-IsApart _ = Unit {0}
+IsApart stand = IfSome (other_of stand) (λ other. owner_of stand ≢ Some other)
 
 -- the server is the shard's owner, or its previous owner, which hasn't dropped the shard yet; nobody executes for a
 -- shard that is vacant or paused

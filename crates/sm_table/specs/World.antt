@@ -243,21 +243,25 @@ served service w mark shard (Some hand) = worked service w mark shard hand.serve
 abbrev pub after_finish : {Q R : Type 0} → Service Q R → WorldState Q → Mark → ℕ → StepOutcome Q R
 after_finish service w mark shard = served service w mark shard (slice_index_or w.in_hand shard None)
 
--- a hold by a server, which a fault of its admission forbids
-abbrev pub held : {Q R : Type 0} → WorldState Q → ℕ → ℕ → Option AdmitFault → StepOutcome Q R
-held w shard server (Some fault) = (Err (AdmitRefused fault), w)
-held w shard server None = (
-  Ok Made,
-  with_hand (with_entry w server shard (Admit server Direct)) shard (Some (record { server = server; work = None })),
-)
+-- what an admission makes, or its fault and nothing
+abbrev pub made_unless : {Q R : Type 0} → Option AdmitFault → WorldState Q → WorldState Q → StepOutcome Q R
+made_unless (Some fault) w made = (Err (AdmitRefused fault), w)
+made_unless None w made = (Ok Made, made)
+
+-- an admission without a request makes this of the world, or is refused by its first fault
+abbrev pub after_admission : {Q R : Type 0} → WorldState Q → ℕ → ℕ → WorldState Q → StepOutcome Q R
+after_admission w shard server made =
+    if nat_lt shard (count_of w)
+    then (if is_there w server
+    then made_unless (admit_fault w.frame.ceiling (world_record w shard) server Direct) w made
+    else (Err UnknownServer, w))
+    else (Err UnknownShard, w)
 
 -- the server is admitted to the shard, without a request
 abbrev pub after_hold : {Q R : Type 0} → WorldState Q → ℕ → ℕ → StepOutcome Q R
 after_hold w shard server =
-    if nat_lt shard (count_of w)
-    then (if is_there w server then held w shard server
-    (admit_fault w.frame.ceiling (world_record w shard) server Direct) else (Err UnknownServer, w))
-    else (Err UnknownShard, w)
+    after_admission w shard server
+    (with_hand (with_entry w server shard (Admit server Direct)) shard (Some (record { server = server; work = None })))
 
 -- an admission without work ends with nothing
 abbrev pub let_go : {Q R : Type 0} → WorldState Q → ℕ → ℕ → Option (Work Q) → StepOutcome Q R
@@ -274,22 +278,12 @@ abbrev pub after_free : {Q R : Type 0} → WorldState Q → ℕ → StepOutcome 
 after_free w shard =
     if nat_lt shard (count_of w) then freed w shard (slice_index_or w.in_hand shard None) else (Err UnknownShard, w)
 
--- a checkpoint by a server, which a fault of its admission forbids
-abbrev pub based : {Q R : Type 0} → WorldState Q → ℕ → ℕ → Option AdmitFault → StepOutcome Q R
-based w shard server (Some fault) = (Err (AdmitRefused fault), w)
-based w shard server None = (
-  Ok Made,
-  with_entry (with_entry w server shard (Admit server Direct)) server shard
-      (Done (checkpoint_ending (kept w.history shard))),
-)
-
 -- the server is admitted to the shard, makes the shard's state its base, and its admission ends
 abbrev pub after_checkpoint : {Q R : Type 0} → WorldState Q → ℕ → ℕ → StepOutcome Q R
 after_checkpoint w shard server =
-    if nat_lt shard (count_of w)
-    then (if is_there w server then based w shard server
-    (admit_fault w.frame.ceiling (world_record w shard) server Direct) else (Err UnknownServer, w))
-    else (Err UnknownShard, w)
+    after_admission w shard server
+    (with_entry (with_entry w server shard (Admit server Direct)) server shard
+    (Done (checkpoint_ending (kept w.history shard))))
 
 -- the publication of a shard's route, if it has one
 abbrev pub published : {Q R : Type 0} → WorldState Q → Option Route → StepOutcome Q R

@@ -2,9 +2,8 @@
 use Rattle.std.specs.Prelude.{◌≡◌, ℕ, ◌<◌, ◌≤◌, ◌⊎◌, Bool, true, false, length, count_by}
 use Rattle.sm_ranges.specs.declared.stand.Stand.{Stand}
 use Rattle.sm_place.specs.Books.{BooksView, shard_at, state_of}
-use Rattle.sm_ranges.specs.Stand.{AllNamed, names, names_one}
-use Rattle.sm_place.specs.ServerState.{is_leaving}
-use Rattle.sm_tasks.specs.States.{is_away, is_paused, is_stopped}
+use Rattle.sm_ranges.specs.Stand.{AllNamed, names, names_one, is_paused}
+use Rattle.sm_place.specs.ServerState.{is_leaving, is_away, is_stopped}
 use Rattle.sm_tasks.specs.Groups.{group_count, down_of}
 use Rattle.sm_tasks.specs.Domains.{domain_count, domain_down}
 

@@ -9,11 +9,10 @@ ghost use Rattle.sm_rows.specs.declared.server_row.ServerRow.{ServerRow};
 ghost use Rattle.sm_place.specs.declared.server_state.ServerState.TheVariants.{Approved, Asked, Failed, Stopped, Up};
 ghost use Rattle.sm_rows.specs.declared.shard_row.ShardRow.{ShardRow};
 ghost use Rattle.sm_place.specs.Books.{BooksView, IsKnown, new_books, shard_at, state_of, with_stand, with_state};
-ghost use Rattle.sm_ranges.specs.Stand.{AllNamed, names};
+ghost use Rattle.sm_ranges.specs.Stand.{AllNamed, names, is_paused};
 ghost use Rattle.sm_place.specs.ServerState.{is_leaving};
 ghost use Rattle.sm_tasks.specs.Approvals.{approvable, stoppable};
 ghost use Rattle.sm_tasks.specs.Caps.{MeetsCaps, TakesNoneLeaving};
-ghost use Rattle.sm_tasks.specs.States.{is_paused};
 
 /// Books whose servers are all up and whose shards are all vacant meet the caps, and so do new books.
 pub fn all_up_meets_caps()

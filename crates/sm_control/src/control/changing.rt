@@ -1,17 +1,15 @@
 //! Changes of a shard's stand.
-ghost use Rattle.std.specs.Prelude.{◌≡◌, None};
-ghost use Rattle.std.specs.Result.{result_err};
+ghost use Rattle.std.specs.Prelude.{◌≡◌};
 ghost use Rattle.sm_ownership.specs.declared.change.Change.TheVariants.{Assign, PrepareAddShard, PrepareDropShard};
 ghost use Rattle.sm_ownership.specs.declared.change.Change.TheVariants.{AddShard, DropShard, Cancel, Pause, Resume};
 ghost use Rattle.sm_ownership.specs.declared.change.Change.TheVariants.{Reassign};
 ghost use Rattle.sm_desk.specs.declared.command.Command.TheVariants.{Change as ChangeOf};
-ghost use Rattle.sm_desk.specs.Desk.{commanded, desk_fault};
+ghost use Rattle.sm_desk.specs.Desk.{desk_fault};
 ghost use Rattle.sm_control.specs.Controls.{Commanded};
 
 use super::Control;
 use crate::control_fault::ControlFault;
 use sm_body::service::Service;
-use sm_desk::{Command, CommandFault, Desk};
 use sm_ownership::change::Change;
 use sm_ranges::server_id::ServerId;
 use sm_ranges::shard_id::ShardId;
@@ -118,7 +116,7 @@ impl<S: Service> Control<S> {
         self.change(board, k, Change::Reassign(next))
     }
 
-    // Checks the change at the desk, makes it on the board, and then at the desk.
+    // Has the desk judge the change, and makes it on the board, and then at the desk.
     pub(super) fn change(
         &mut self,
         board: &Board<S>,
@@ -130,28 +128,14 @@ impl<S: Service> Control<S> {
             Commanded (desk_fault self.old.desk command) self.old self.new command result }
         ensures board { self.new.chair.board ≡ self.old.chair.board }
     {
-        if let Err(fault) = check(&self.desk, k, &change) {
-            return Err(fault.into());
-        }
-        if let Err(refusal) = board.change(&mut self.chair, k, change) {
+        let stand = match self.desk.check_change(k, &change) {
+            Ok(stand) => stand,
+            Err(fault) => return Err(fault.into()),
+        };
+        if let Err(refusal) = board.change_to(&mut self.chair, k, &change, &stand) {
             return Err(refusal.into());
         }
-        commit(&mut self.desk, k, &change);
+        self.desk.commit_change(k, &change, &stand);
         Ok(())
     }
-}
-
-// Whether the desk lets the change through.
-fn check(desk: &Desk, k: ShardId, change: &Change) -> Result<(), CommandFault>
-    ensures { result_err result ≡ desk_fault desk.now (ChangeOf k change.now) }
-{
-    desk.check(&Command::Change(k, *change))
-}
-
-// Makes the change at the desk.
-fn commit(desk: &mut Desk, k: ShardId, change: &Change)
-    requires { desk_fault desk.old (ChangeOf k change.now) ≡ None }
-    ensures { desk.new ≡ commanded desk.old (ChangeOf k change.now) }
-{
-    desk.commit(Command::Change(k, *change));
 }

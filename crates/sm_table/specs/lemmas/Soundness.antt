@@ -39,8 +39,9 @@ use Rattle.sm_body.specs.Service.{Service}
 use Rattle.sm_table.specs.World.{Frame, WorldState, Mark, Plain, Unmade, Unserved, StepOutcome, count_of, world_record}
 use Rattle.sm_table.specs.World.{is_there, table_fault, with_change, controlled, after_look, after_send, flight_to}
 use Rattle.sm_table.specs.World.{reached, after_hop, hopped, arrived, without_flight, delivered, after_lose, with_room}
-use Rattle.sm_table.specs.World.{worked, served, held, after_hold, based, after_checkpoint, checkpoint_ending, let_go}
-use Rattle.sm_table.specs.World.{freed, after_free, published, empty_world, next, world_after, world_of}
+use Rattle.sm_table.specs.World.{worked, served, after_admission, made_unless, after_hold, after_checkpoint}
+use Rattle.sm_table.specs.World.{let_go, freed, after_free, published, empty_world, next}
+use Rattle.sm_table.specs.World.{world_after, world_of}
 use Rattle.sm_table.specs.Standing.{IsFrame, IsFlight, IsLedTo, IsThere, AgreesWithHand, IsSound, desk_after}
 use Rattle.sm_ownership.specs.lemmas.Growth.{record_at-empty}
 use Rattle.sm_table.specs.lemmas.Names.{known_forward}
@@ -252,32 +253,29 @@ module _ {Q : Type 0} (R : Type 0) (w : WorldState Q) (sound : IsSound w) where
   sound_lose place =
       cond_both (nat_lt place (length w.in_flight)) _ _ LeavesSound (λ _. sound_taken w place sound) (λ _. sound)
 
-  sound_held : (shard server : ℕ) (fault : Option AdmitFault) → shard < count_of w → IsServer server
-      → admit_fault w.frame.ceiling (world_record w shard) server Direct ≡ fault
-      → LeavesSound (held w shard server fault)
-  sound_held shard server (Some fault) within is none = sound
-  sound_held shard server None within is none = sound_admit w sound server shard Direct _ within is refl none
+  sound_made : (made : WorldState Q) (fault : Option AdmitFault) → (fault ≡ None → IsSound made)
+      → LeavesSound (made_unless fault w made)
+  sound_made made (Some fault) is = sound
+  sound_made made None is = is refl
+
+  sound_admission : (shard server : ℕ) (made : WorldState Q)
+      → (shard < count_of w → IsServer server → admit_fault w.frame.ceiling (world_record w shard) server Direct ≡ None
+      → IsSound made)
+      → LeavesSound (after_admission w shard server made)
+  sound_admission shard server made is = cond_both (nat_lt shard (count_of w)) _ _ LeavesSound
+      (λ within. cond_both (is_there w server) _ _ LeavesSound
+      (λ known. sound_made made _ (is (ltb-true _ _ within) (known_server w server sound known)))
+      (λ _. sound))
+      (λ _. sound)
 
   sound_hold : (shard server : ℕ) → LeavesSound (after_hold w shard server)
-  sound_hold shard server = cond_both (nat_lt shard (count_of w)) _ _ LeavesSound
-      (λ within. cond_both (is_there w server) _ _ LeavesSound
-      (λ known. sound_held shard server _ (ltb-true _ _ within) (known_server w server sound known) refl)
-      (λ _. sound))
-      (λ _. sound)
-
-  sound_based : (shard server : ℕ) (fault : Option AdmitFault) → shard < count_of w → IsServer server
-      → admit_fault w.frame.ceiling (world_record w shard) server Direct ≡ fault
-      → LeavesSound (based w shard server fault)
-  sound_based shard server (Some fault) within is none = sound
-  sound_based shard server None within is none =
-      sound_admit_done w sound server shard (checkpoint_ending (kept w.history shard)) within is none
+  sound_hold shard server =
+      sound_admission shard server _ (λ within is none. sound_admit w sound server shard Direct _ within is refl none)
 
   sound_checkpoint : (shard server : ℕ) → LeavesSound (after_checkpoint w shard server)
-  sound_checkpoint shard server = cond_both (nat_lt shard (count_of w)) _ _ LeavesSound
-      (λ within. cond_both (is_there w server) _ _ LeavesSound
-      (λ known. sound_based shard server _ (ltb-true _ _ within) (known_server w server sound known) refl)
-      (λ _. sound))
-      (λ _. sound)
+  sound_checkpoint shard server = sound_admission shard server _
+      (λ within is none. sound_admit_done w sound server shard
+      (checkpoint_ending (kept w.history shard)) within is none)
 
   sound_let_go : (shard : ℕ) (hand : InHand Q) (work : Option (Work Q))
       → slice_index_or w.in_hand shard None ≡ Some hand → LeavesSound (let_go w shard hand.server work)

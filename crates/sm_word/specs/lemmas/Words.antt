@@ -1,27 +1,23 @@
 -- A word has one record.
-use Rattle.std.proofs.Common.{◌≡◌, ◌/◌, ◌%◌, ◌^◌, ◌<◌, Bool, true, false, refl, sym, ap, ◌∙◌, arith}
+use Rattle.std.proofs.Common.{◌≡◌, ℕ, ◌/◌, ◌%◌, ◌^◌, ◌<◌, Bool, true, false, refl, sym, ap, ◌∙◌, arith}
+use Rattle.std.specs.Prelude.{Option, None, Some, IfSome, unwrap_or}
+use Rattle.sm_ranges.specs.ServerId.{IsServer}
 use Rattle.sm_ranges.specs.declared.stand.Stand.{Stand}
 use Rattle.sm_ranges.specs.declared.stand.Stand.TheVariants.{Vacant, Serving, Prepared, Forwarding, Taken, Paused}
 use Rattle.sm_ownership.specs.declared.record.Record.{Record}
 use Rattle.sm_word.specs.lemmas.Digits.{generation_digits, other_digits, owner_digits, admitted_digit, phase_digits}
-use Rattle.sm_ranges.specs.Stand.{owner_number, other_number}
+use Rattle.sm_ranges.specs.Stand.{other_of, owner_of, owner_number, other_number}
 use Rattle.sm_word.specs.Word.{phase_of, bit_of, word_of, NamesServers, IsWellFormed}
 
+number_below : (server : Option ℕ) → IfSome server IsServer → unwrap_or server 0 < 4096
+number_below None is = omega arith
+number_below (Some server) is = let most = is.1 in omega arith
+
 pub owner_below : (stand : Stand) → NamesServers stand → owner_number stand < 4096
-owner_below Vacant named = omega arith
-owner_below (Serving owner) named = let most = named.1 in omega arith
-owner_below (Prepared owner next) named = let most = named.0.1 in omega arith
-owner_below (Forwarding owner next) named = let most = named.0.1 in omega arith
-owner_below (Taken owner previous) named = let most = named.0.1 in omega arith
-owner_below (Paused owner) named = let most = named.1 in omega arith
+owner_below stand named = number_below (owner_of stand) named.0.0
 
 pub other_below : (stand : Stand) → NamesServers stand → other_number stand < 4096
-other_below Vacant named = omega arith
-other_below (Serving owner) named = omega arith
-other_below (Prepared owner next) named = let most = named.1.1 in omega arith
-other_below (Forwarding owner next) named = let most = named.1.1 in omega arith
-other_below (Taken owner previous) named = let most = named.1.1 in omega arith
-other_below (Paused owner) named = omega arith
+other_below stand named = number_below (other_of stand) named.0.1
 
 pub bit_below : (bit : Bool) → bit_of bit < 2
 bit_below true = omega arith
