@@ -5,8 +5,10 @@ use std::alloc::{AllocError, Global};
 /// What a user of the manager writes: a state that answers requests one at a time. It knows nothing of the requests
 /// before, of limits, places or servers.
 pub trait Machine: Drop + Send {
+    /// What a client asks.
     type Request: Drop + Send;
 
+    /// What it is answered.
     type Reply: Drop + Send;
 
     /// The machine before any request.

@@ -29,8 +29,10 @@ impl Error for ApplyFault {}
 /// The body of a shard: a state machine with the list of the requests that it applied since a state, its base. Bodies,
 /// requests and replies pass between threads. `Logged` makes one of any `Machine`.
 pub trait Service: Drop + Send {
+    /// What a client asks.
     type Request: Drop + Send;
 
+    /// What it is answered.
     type Reply: Drop + Send;
 
     /// What replies depend on.
