@@ -4,6 +4,7 @@ use Rattle.std.specs.Prelude.{cond, min, max}
 use Rattle.std.specs.List.{last_or}
 use Rattle.sm_arena.specs.declared.owned_chunk.OwnedChunk.{OwnedChunk}
 
+-- the sizes of chunks for pieces that fit one of them
 abbrev pub chunk_sizes : List ℕ
 chunk_sizes = 1024 ∷ 2048 ∷ 4096 ∷ 8192 ∷ 16384 ∷ 32768 ∷ 65536 ∷ []
 

@@ -18,6 +18,7 @@ pub record IsMap (v : ArenaValue) (entries : List KeyEntry) : Type 0 where
   pub rising : IsKeyMap (pairs_of v.placed entries)
   pub tidy : IsTidy v (uses_all entries)
 
+-- a map as contracts see it
 abbrev pub value_of : Inside → MapValue
 value_of map = map_of map.arena (entries_in map.index.blocks) (lengths_in map.index.blocks)
 

@@ -7,9 +7,11 @@ use Rattle.sm_map.specs.KeyMap.{Pair}
 use Rattle.sm_map.specs.Slot.{held_in, uses_piece, uses_slot}
 use Rattle.sm_map.specs.declared.key_entry.KeyEntry.{KeyEntry}
 
+-- the pair of an entry: its key's bytes, and what its slot holds
 abbrev pub pair_of : Places → KeyEntry → Pair
 pair_of placed entry = record { key = bytes_of placed entry.key; value = held_in placed entry.slot }
 
+-- the pairs of entries
 abbrev pub pairs_of : Places → List KeyEntry → List Pair
 pairs_of placed entries = map (pair_of placed) entries
 

@@ -52,6 +52,7 @@ IsText held = held ≡ Text (text_of (Some held))
 abbrev pub text_at : List Pair → List ℕ → List ℕ
 text_at m key = text_of (held_at m key)
 
+-- the key holds a text
 abbrev pub HoldsText : List Pair → List ℕ → Type 0
 HoldsText m key = held_at m key ≡ Some (Text (text_at m key))
 

@@ -323,9 +323,11 @@ outcome service w mark (CheckpointAt shard server) = after_checkpoint w shard se
 outcome service w mark (Publish shard) = after_publish w shard
 outcome service w mark (RouteOf key) = (Ok (Way (routes_of w.publications (shard_of w.frame.bounds key))), w)
 
+-- what a step answers
 abbrev pub answer : {Q R : Type 0} → Service Q R → WorldState Q → Mark → Step Q → Result (WorldAnswer R) WorldFault
 answer service w mark step = (outcome service w mark step).0
 
+-- the world that a step leaves
 abbrev pub next : {Q R : Type 0} → Service Q R → WorldState Q → Mark → Step Q → WorldState Q
 next service w mark step = (outcome service w mark step).1
 
