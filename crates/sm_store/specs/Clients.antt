@@ -14,6 +14,7 @@ abbrev pub AreNext : {Q : Type 0} → List (Item Q) → List (Item Q) → Type 0
 AreNext before [] = Unit {0}
 AreNext before (item ∷ items) = (last_of item.client before < item.number) × AreNext (before ++ item ∷ []) items
 
+-- it is the client's request of this number
 abbrev pub is_from : {Q : Type 0} → ℕ → ℕ → Item Q → Bool
 is_from client number item = item.client == client && item.number == number
 

@@ -27,6 +27,7 @@ pub record Charter (Q P : Type 0) : Type 0 where
   pub ceiling : ℕ
   pub parts : List (Item Q) → List P
 
+-- what a process does to the store
 pub data Deed (Q P : Type 0) : Type 0 where
   -- a process is elected
   Electing : (process : ℕ) → Deed Q P
@@ -50,6 +51,7 @@ pub data Deed (Q P : Type 0) : Type 0 where
   -- something else is written
   Foreign : Deed Q P
 
+-- a compare of a key with a revision
 abbrev pub at : StoreKey → ℕ → Compare
 at key revision = record { key = key; revision = revision }
 
@@ -93,6 +95,7 @@ pub record ShardLog (Q : Type 0) : Type 0 where
   pub head : Head
   pub items : List (Item Q)
 
+-- a shard's head and requests in a store
 abbrev pub shard_log : {Q P : Type 0} → ℕ → List (Transaction Q P) → ShardLog Q
 shard_log shard log = record { head = head_of shard log; items = made shard log }
 
@@ -106,6 +109,7 @@ pub record IsChanged (ceiling : ℕ) (state : Record) (change : Change) (next : 
   pub fits : IsTrue (change_fits ceiling state 0 change)
   pub is : next ≡ after_change state change
 
+-- the key lies under a lease, and goes when that ends
 abbrev pub is_leased : PassingKey → Bool
 is_leased Leader = true
 is_leased (Server server) = true
@@ -142,6 +146,7 @@ pub record HasRequests {Q P : Type 0} (log : List (Transaction Q P)) (shard numb
   pub log_was : WasFound (shard_log shard) (head_key shard) log (record { head = head; items = items }) revision
   pub all : head.batches ≡ number
 
+-- one who has read the requests of so many batches, of whose base this is a part
 pub record MayBase {Q P : Type 0} (charter : Charter Q P) (log : List (Transaction Q P)) (shard number place : ℕ)
     (part : P) : Type 0 where
   pub items : List (Item Q)
@@ -184,6 +189,7 @@ MayDo charter log (Following server revision) = Unit {0}
 MayDo charter log (Checking compares) = Unit {0}
 MayDo charter log Foreign = Unit {0}
 
+-- the transaction is that of a deed that a process may do
 pub record MaySend {Q P : Type 0} (charter : Charter Q P) (log : List (Transaction Q P))
     (txn : Transaction Q P) : Type 0 where
   pub deed : Deed Q P
@@ -237,6 +243,7 @@ IsBehind charter log (Batch shard number) = number ≤ (head_of shard log).base
 IsBehind charter log (Part shard number place) = number < (head_of shard log).base
 IsBehind charter log _ = ⊥
 
+-- the deed is right for the store as it is
 abbrev pub IsRight : {Q P : Type 0} → Charter Q P → List (Transaction Q P) → Deed Q P → Type 0
 IsRight charter log (Electing process) = Unit {0}
 IsRight charter log (Expiring key) = IsTrue (is_leased key)
@@ -250,6 +257,7 @@ IsRight charter log (Following server revision) = Unit {0}
 IsRight charter log (Checking compares) = Unit {0}
 IsRight charter log Foreign = Unit {0}
 
+-- the transaction is that of a deed that is right
 pub record WasRight {Q P : Type 0} (charter : Charter Q P) (log : List (Transaction Q P))
     (txn : Transaction Q P) : Type 0 where
   pub deed : Deed Q P

@@ -16,12 +16,14 @@ with_requests shard server earlier (item ∷ items) =
     (record { actor = server; shard = shard; kind = Done (Request item.request) }
     ∷ record { actor = server; shard = shard; kind = Admit server item.mode } ∷ earlier) items
 
+-- the entries with those that a write stands for
 abbrev pub with_write : {Q P : Type 0} → List (Entry Q) → Write Q P → List (Entry Q)
 with_write earlier (Stands process shard change next) =
     record { actor = 0; shard = shard; kind = Changed change } ∷ earlier
 with_write earlier (Executes shard number server items) = with_requests shard server earlier items
 with_write earlier _ = earlier
 
+-- the entries that a store stands for
 abbrev pub history_of : {Q P : Type 0} → List (Transaction Q P) → List (Entry Q)
 history_of [] = []
 history_of (txn ∷ earlier) = left_by with_write (history_of earlier) txn.writes

@@ -10,7 +10,7 @@ use Rattle.sm_store.specs.declared.item.Item.{Item}
 use Rattle.sm_store.specs.Clients.{last_of, reply_in, state_after, times}
 use Rattle.sm_store.specs.Store.{Transaction, Write, all_hold, head_key, made}
 use Rattle.sm_store.specs.Deeds.{AreRight, Charter, MaySend, WasFound, at}
-use Rattle.sm_store.specs.Whole.{IsWhole}
+use Rattle.sm_store.specs.Whole.{IsLogWhole}
 
 -- a request that only reads, and the length of the log when it came
 pub record Ask (Q : Type 0) : Type 0 where
@@ -28,12 +28,12 @@ pub data Claim (Q R : Type 0) : Type 0 where
   Reads : (ask : Ask Q) (reply : R) → Claim Q R
 
 -- a transaction that was sent, and the length of the log then
-pub record Sent (Q P : Type 0) : Type 0 where
+pub record SentTransaction (Q P : Type 0) : Type 0 where
   pub txn : Transaction Q P
   pub since : ℕ
 
 -- one whose compares held, and the store at which they did
-pub record Held (Q P : Type 0) : Type 0 where
+pub record Carried (Q P : Type 0) : Type 0 where
   pub txn : Transaction Q P
   pub since : ℕ
   pub moment : List (Transaction Q P)
@@ -42,10 +42,11 @@ pub record Held (Q P : Type 0) : Type 0 where
 pub record System (Q P R : Type 0) : Type 0 where
   pub log : List (Transaction Q P)
   pub asked : List (Ask Q)
-  pub sent : List (Sent Q P)
-  pub held : List (Held Q P)
+  pub sent : List (SentTransaction Q P)
+  pub held : List (Carried Q P)
   pub claims : List (Claim Q R)
 
+-- what happens, one after another
 pub data Event (Q P R : Type 0) : Type 0 where
   -- a request that only reads comes to a process
   Comes : (shard : ℕ) (request : Q) → Event Q P R
@@ -63,9 +64,9 @@ extended txn [] log = log
 extended txn (write ∷ writes) log = txn ∷ log
 
 -- the store makes a transaction that reaches it, where its compares hold
-abbrev pub reached : {Q P R : Type 0} → System Q P R → Option (Sent Q P) → System Q P R
-reached system None = system
-reached system (Some sent) =
+abbrev pub after_arrival : {Q P R : Type 0} → System Q P R → Option (SentTransaction Q P) → System Q P R
+after_arrival system None = system
+after_arrival system (Some sent) =
     if all_hold system.log sent.txn.compares
     then record {
       log = extended sent.txn sent.txn.writes system.log;
@@ -98,7 +99,7 @@ pub record MayRead {Q P R S : Type 0} (after : S → Q → S) (reply : S → Q �
     (ask : Ask Q) (answer : R) : Type 0 where
   pub place : ℕ
   pub was_asked : slice_get system.asked place ≡ Some ask
-  pub held : Held Q P
+  pub held : Carried Q P
   pub which : ℕ
   pub was_held : slice_get system.held which ≡ Some held
   pub sent_after : ask.since ≤ held.since
@@ -109,6 +110,7 @@ pub record MayRead {Q P R S : Type 0} (after : S → Q → S) (reply : S → Q �
   pub compared : slice_get held.txn.compares compare ≡ Some (at (head_key ask.shard) revision)
   pub answer_is : answer ≡ reply (state_after after start items) ask.request
 
+-- what a process may claim: what is so in the store that it has read, and a read by `MayRead`
 abbrev pub MayClaim : {Q P R S : Type 0} → (S → Q → S) → (S → Q → R) → S → System Q P R → Claim Q R → Type 0
 MayClaim after reply start system (Replies shard client number answer) =
     IsSo after reply start system.log (Replies shard client number answer)
@@ -123,6 +125,7 @@ May after reply start charter system (Sends txn) = MaySend charter system.log tx
 May after reply start charter system (Reaches which) = Unit {0}
 May after reply start charter system (Claims claim) = MayClaim after reply start system claim
 
+-- the system after an event
 abbrev pub happens : {Q P R : Type 0} → System Q P R → Event Q P R → System Q P R
 happens system (Comes shard request) =
     record {
@@ -140,7 +143,7 @@ happens system (Sends txn) =
       held = system.held;
       claims = system.claims;
     }
-happens system (Reaches which) = reached system (slice_get system.sent which)
+happens system (Reaches which) = after_arrival system (slice_get system.sent which)
 happens system (Claims claim) =
     record {
       log = system.log;
@@ -167,7 +170,7 @@ pub record IsLawful {Q P R S : Type 0} (after : S → Q → S) (reply : S → Q 
   -- each change was one that the rule allows, by who led; each batch was the accepted server's, and next in the log
   pub right : AreRight charter system.log
   -- what lies at a shard's keys leads to all that is made
-  pub whole : (shard : ℕ) → IsWhole charter shard system.log
+  pub whole : (shard : ℕ) → IsLogWhole charter shard system.log
   -- nothing is made twice
   pub once : (shard client number : ℕ) → times client number (made shard system.log) ≤ 1
   -- whatever was claimed is so, now as when it was claimed

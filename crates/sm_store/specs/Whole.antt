@@ -18,16 +18,17 @@ pub record IsBased {Q P : Type 0} (charter : Charter Q P) (shard : ℕ) (log : L
       → part_at shard head.base place log ≡ slice_get (base_parts charter shard head.base log) place
 
 -- the batch after so many is there, and holds the requests that come next
-pub record IsThere {Q P : Type 0} (shard : ℕ) (log : List (Transaction Q P)) (number : ℕ) : Type 0 where
+pub record IsBatchThere {Q P : Type 0} (shard : ℕ) (log : List (Transaction Q P)) (number : ℕ) : Type 0 where
   pub items : List (Item Q)
   pub stands : batch_at shard (number + 1) log ≡ Some items
   pub next : made_until shard (number + 1) log ≡ made_until shard number log ++ items
 
+-- each batch since the base that the head names is there
 abbrev pub AreThere : {Q P : Type 0} → ℕ → List (Transaction Q P) → Head → Type 0
-AreThere shard log head = (number : ℕ) → head.base ≤ number → number < head.batches → IsThere shard log number
+AreThere shard log head = (number : ℕ) → head.base ≤ number → number < head.batches → IsBatchThere shard log number
 
 -- from nothing, or from the base, the batches after it lead to all that is made
-pub record IsWhole {Q P : Type 0} (charter : Charter Q P) (shard : ℕ) (log : List (Transaction Q P)) : Type 0 where
+pub record IsLogWhole {Q P : Type 0} (charter : Charter Q P) (shard : ℕ) (log : List (Transaction Q P)) : Type 0 where
   pub none : made_until shard 0 log ≡ []
   pub based : IsBased charter shard log (head_of shard log)
   pub batches : AreThere shard log (head_of shard log)

@@ -9,7 +9,7 @@ ghost use Rattle.sm_store.specs.Store.{Transaction, made, head_key, leader_key, 
 ghost use Rattle.sm_store.specs.Store.{stored_record};
 ghost use Rattle.sm_store.specs.Deeds.{AreRight, Charter, IsHonest, ShardLog, WasFound, shard_log};
 ghost use Rattle.sm_store.specs.System.{Event, IsLawful, MightHappen, StaysOvertaken, system_after};
-ghost use Rattle.sm_store.specs.Whole.{IsWhole};
+ghost use Rattle.sm_store.specs.Whole.{IsLogWhole};
 
 /// What was read stands, where its key's revision is still the one that was read.
 pub fn read_stands<Q, P>()
@@ -36,7 +36,7 @@ pub fn honest_is_right<Q, P>()
 /// it.
 pub fn keys_are_whole<Q, P>()
     ensures { (charter : Charter Q P) (log : List (Transaction Q P)) (shard : ℕ)
-        → IsHonest charter log → IsWhole charter shard log }
+        → IsHonest charter log → IsLogWhole charter shard log }
 {}
 
 /// The law of the store, over every run of all processes, each of which sends only what it may and claims only what it

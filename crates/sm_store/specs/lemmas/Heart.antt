@@ -7,7 +7,7 @@ use Rattle.sm_store.specs.declared.store_key.PassingKey.{PassingKey}
 use Rattle.sm_store.specs.declared.store_key.StoreKey.{StoreKey}
 use Rattle.sm_store.specs.declared.store_key.StoreKey.TheVariants.{Lasting, Passing}
 use Rattle.sm_store.specs.Store.{Transaction, Write, Leads, Stands, Heads, Executes, Bases, Follows, Deletes, Elsewhere}
-use Rattle.sm_store.specs.Store.{same_key, written_key, is_deletion, left_by, revised, revision_of, touches}
+use Rattle.sm_store.specs.Store.{same_store_key, written_key, is_deletion, left_by, revised, revision_of, touches}
 use Rattle.sm_store.specs.Deeds.{WasFound}
 
 -- the key is never deleted
@@ -31,7 +31,8 @@ IsTelling key revision = (is_lasting key ≡ true) ⊎ (0 < revision)
 abbrev pub IsRevised : StoreKey → ℕ → ℕ → Type 0
 IsRevised key now left = (left ≡ now) ⊎ ((left ≡ 0) × (is_lasting key ≡ false))
 
-passing_apart : (passing : PassingKey) (key : StoreKey) → same_key (Passing passing) key ≡ true → is_lasting key ≡ false
+passing_apart : (passing : PassingKey) (key : StoreKey) → same_store_key (Passing passing) key ≡ true
+    → is_lasting key ≡ false
 passing_apart passing (Lasting key) same = absurd (true≢false (sym same))
 passing_apart passing (Passing key) same = refl
 
@@ -44,10 +45,10 @@ module _ {Q P : Type 0} where
 
   pub apart_writes : (key : StoreKey) (write : Write Q P) (writes : List (Write Q P)) → touches key (write ∷ writes)
       ≡ false
-      → (same_key (written_key write) key ≡ false) × (touches key writes ≡ false)
-  apart_writes key write writes apart = or_neither (same_key (written_key write) key) (touches key writes) apart
+      → (same_store_key (written_key write) key ≡ false) × (touches key writes ≡ false)
+  apart_writes key write writes apart = or_neither (same_store_key (written_key write) key) (touches key writes) apart
 
-  revised_one : (key : StoreKey) (now before : ℕ) (write : Write Q P) → same_key (written_key write) key ≡ true
+  revised_one : (key : StoreKey) (now before : ℕ) (write : Write Q P) → same_store_key (written_key write) key ≡ true
       → IsRevised key now (revised key now before write)
   revised_one key now before (Leads process) same = inl (cond-true _ now before same)
   revised_one key now before (Stands process shard change next) same = inl (cond-true _ now before same)
@@ -56,7 +57,7 @@ module _ {Q P : Type 0} where
   revised_one key now before (Bases shard number place part) same = inl (cond-true _ now before same)
   revised_one key now before (Follows server revision) same = inl (cond-true _ now before same)
   revised_one key now before (Deletes passing) same =
-      inr (cond-true (same_key (Passing passing) key) 0 before same, passing_apart passing key same)
+      inr (cond-true (same_store_key (Passing passing) key) 0 before same, passing_apart passing key same)
   revised_one key now before Elsewhere same = inl (cond-true _ now before same)
 
   revised_alone : (key : StoreKey) (now before : ℕ) (writes : List (Write Q P)) → touches key writes ≡ false
@@ -65,7 +66,7 @@ module _ {Q P : Type 0} where
   revised_alone key now before (write ∷ writes) apart =
       let parts = apart_writes key write writes apart in
       revised_alone key now (revised key now before write) writes parts.1
-      ∙ cond-false (same_key (written_key write) key) (if is_deletion write then 0 else now) before parts.0
+      ∙ cond-false (same_store_key (written_key write) key) (if is_deletion write then 0 else now) before parts.0
 
   revised_by : (key : StoreKey) (now before : ℕ) (writes : List (Write Q P)) → touches key writes ≡ true
       → IsRevised key now (left_by (revised key now) before writes)
@@ -74,10 +75,10 @@ module _ {Q P : Type 0} where
       ⊎_elim
       (λ (yes : touches key writes ≡ true). revised_by key now (revised key now before write) writes yes)
       (λ (no : touches key writes ≡ false).
-      let here : same_key (written_key write) key ≡ true = ⊎_elim
-      (λ (same : same_key (written_key write) key ≡ true). same)
+      let here : same_store_key (written_key write) key ≡ true = ⊎_elim
+      (λ (same : same_store_key (written_key write) key ≡ true). same)
       (λ (rest : touches key writes ≡ true). absurd (true≢false (sym rest ∙ no)))
-      (or_cases (same_key (written_key write) key) (touches key writes) touched) in
+      (or_cases (same_store_key (written_key write) key) (touches key writes) touched) in
       subst (IsRevised key now) (sym (revised_alone key now (revised key now before write) writes no))
       (revised_one key now before write here))
       (cases_Bool (touches key writes))

@@ -9,9 +9,10 @@ use Rattle.sm_store.specs.declared.item.Item.{Item}
 use Rattle.sm_store.specs.Clients.{state_after, times}
 use Rattle.sm_store.specs.Store.{Transaction, Write, all_hold, head_key, made, revision_of}
 use Rattle.sm_store.specs.Deeds.{AreRight, Charter, IsHonest, MaySend}
-use Rattle.sm_store.specs.System.{Ask, Claim, Replies, Overtaken, Reads, Event, Comes, Sends, Reaches, Claims, Held}
-use Rattle.sm_store.specs.System.{Sent, System, IsLawful, IsSo, May, MayClaim, MayRead, MightHappen, StaysOvertaken}
-use Rattle.sm_store.specs.System.{extended, happens, reached, system_after}
+use Rattle.sm_store.specs.System.{Ask, Claim, Replies, Overtaken, Reads, Event, Comes, Sends, Reaches, Claims, Carried}
+use Rattle.sm_store.specs.System.{SentTransaction, System, IsLawful, IsSo, May, MayClaim, MayRead, MightHappen}
+use Rattle.sm_store.specs.System.{StaysOvertaken}
+use Rattle.sm_store.specs.System.{extended, happens, after_arrival, system_after}
 use Rattle.sm_store.specs.lemmas.Growth.{made_next, overtaken_grows, send_grows, so_grows}
 use Rattle.sm_store.specs.lemmas.Heart.{stood_then}
 use Rattle.sm_store.specs.lemmas.Numbers.{once}
@@ -40,18 +41,19 @@ module _ {Q P : Type 0} where
       (eqb-true (revision_of compare.key log) compare.revision parts.0, compare_held log compares parts.1)
 
   -- what was sent may be sent, and was sent in the past
-  pub record IsSendable (charter : Charter Q P) (log : List (Transaction Q P)) (sent : Sent Q P) : Type 0 where
+  pub record IsSendable (charter : Charter Q P) (log : List (Transaction Q P))
+      (sent : SentTransaction Q P) : Type 0 where
     pub may : MaySend charter log sent.txn
     pub since : sent.since ≤ length log
 
   -- what held did so in the past, after it was sent
-  pub record DidHold (log : List (Transaction Q P)) (held : Held Q P) : Type 0 where
+  pub record DidHold (log : List (Transaction Q P)) (held : Carried Q P) : Type 0 where
     pub later : List (Transaction Q P)
     pub is : log ≡ later ++ held.moment
     pub since : held.since ≤ length held.moment
     pub holds : all_hold held.moment held.txn.compares ≡ true
 
-  sendable_grows : (charter : Charter Q P) (more log : List (Transaction Q P)) (sent : Sent Q P)
+  sendable_grows : (charter : Charter Q P) (more log : List (Transaction Q P)) (sent : SentTransaction Q P)
       → IsSendable charter log sent
       → IsSendable charter (more ++ log) sent
   sendable_grows charter more log sent was = let since = was.since in record {
@@ -59,7 +61,7 @@ module _ {Q P : Type 0} where
     since = omega (arith, length-append more log);
   }
 
-  held_grows : (more log : List (Transaction Q P)) (held : Held Q P) → DidHold log held → DidHold (more ++ log) held
+  held_grows : (more log : List (Transaction Q P)) (held : Carried Q P) → DidHold log held → DidHold (more ++ log) held
   held_grows more log held was = record {
     later = more ++ was.later;
     is = ap (λ (rest : List (Transaction Q P)). more ++ rest) was.is ∙ sym (append_assoc more was.later held.moment);
@@ -108,8 +110,8 @@ module _ {Q P R S : Type 0} (after : S → Q → S) (reply : S → Q → R) (sta
         system.claims sound.claims;
   }
 
-  reached_sound : (system : System Q P R) (found : Option (Sent Q P)) → IsSoundSystem system
-      → IfSome found (IsSendable charter system.log) → IsSoundSystem (reached system found)
+  reached_sound : (system : System Q P R) (found : Option (SentTransaction Q P)) → IsSoundSystem system
+      → IfSome found (IsSendable charter system.log) → IsSoundSystem (after_arrival system found)
   reached_sound system None sound may = sound
   reached_sound system (Some sent) sound may =
       let made_one : System Q P R = record {
@@ -138,7 +140,7 @@ module _ {Q P R S : Type 0} (after : S → Q → S) (reply : S → Q → R) (sta
       → MayRead after reply start system ask answer → IsSo after reply start system.log
       (Reads ask answer)
   read_so system ask answer sound may =
-      let did : DidHold system.log may.held = subst (λ (one : Option (Held Q P)). IfSome one (DidHold system.log))
+      let did : DidHold system.log may.held = subst (λ (one : Option (Carried Q P)). IfSome one (DidHold system.log))
       may.was_held (at_place (DidHold system.log) system.held may.which sound.held) in
       let sent_after = may.sent_after in
       let since = did.since in
@@ -221,7 +223,8 @@ module _ {Q P R S : Type 0} (after : S → Q → S) (reply : S → Q → R) (sta
   abbrev GoesOnFrom : List (Transaction Q P) → System Q P R → Type 0
   GoesOnFrom log system = (more : List (Transaction Q P)) × (system.log ≡ more ++ log)
 
-  log_reached : (system : System Q P R) (found : Option (Sent Q P)) → GoesOnFrom system.log (reached system found)
+  log_reached : (system : System Q P R) (found : Option (SentTransaction Q P))
+      → GoesOnFrom system.log (after_arrival system found)
   log_reached system None = ([], refl)
   log_reached system (Some sent) =
       cond_both (all_hold system.log sent.txn.compares)

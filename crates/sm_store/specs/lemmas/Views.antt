@@ -7,8 +7,8 @@ use Rattle.sm_store.specs.declared.item.Item.{Item}
 use Rattle.sm_store.specs.declared.store_key.PassingKey.TheVariants.{Leader, Batch, Part}
 use Rattle.sm_store.specs.declared.store_key.StoreKey.{StoreKey}
 use Rattle.sm_store.specs.Store.{Write, Leads, Stands, Heads, Executes, Bases, Follows, Deletes, Elsewhere, leader_key}
-use Rattle.sm_store.specs.Store.{record_key, head_key, batch_key, part_key, same_key, same_passing, written_key}
-use Rattle.sm_store.specs.Store.{left_by, view_of, touches, led, leader_of, stood, stored_record, headed, head_of}
+use Rattle.sm_store.specs.Store.{record_key, head_key, batch_key, part_key, same_store_key, same_passing, written_key}
+use Rattle.sm_store.specs.Store.{left_by, view_from, touches, led, leader_of, stood, stored_record, headed, head_of}
 use Rattle.sm_store.specs.Store.{batched, batch_at, based_on, part_at, executed_by, made}
 use Rattle.sm_store.specs.Deeds.{shard_log}
 use Rattle.sm_store.specs.lemmas.Heart.{IsViewOf, apart_writes}
@@ -16,7 +16,8 @@ use Rattle.sm_store.specs.lemmas.Heart.{IsViewOf, apart_writes}
 module _ {Q P : Type 0} where
   -- a write of another key leaves the value
   abbrev IsLocal : {A : Type 0} → (A → Write Q P → A) → StoreKey → Type 0
-  IsLocal {A} one key = (before : A) (write : Write Q P) → same_key (written_key write) key ≡ false → one before write
+  IsLocal {A} one key =
+      (before : A) (write : Write Q P) → same_store_key (written_key write) key ≡ false → one before write
       ≡ before
 
   left_alone : {A : Type 0} (one : A → Write Q P → A) (key : StoreKey) → IsLocal one key
@@ -27,9 +28,9 @@ module _ {Q P : Type 0} where
       left_alone one key local (one before write) writes parts.1 ∙ local before write parts.0
 
   pub local_view : {A : Type 0} (one : A → Write Q P → A) (start : A) (key : StoreKey) → IsLocal one key
-      → IsViewOf (view_of one start) key
+      → IsViewOf (view_from one start) key
   local_view one start key local txn earlier apart = left_alone one key local
-      (view_of one start earlier) txn.writes apart
+      (view_from one start earlier) txn.writes apart
 
   led_local : IsLocal led leader_key
   led_local before (Leads process) apart = absurd (true≢false apart)

@@ -11,7 +11,7 @@ use Rattle.sm_store.specs.declared.store_key.PassingKey.TheVariants.{Leader, Ser
 use Rattle.sm_store.specs.Store.{Transaction, batch_at, head_of, made, made_by, made_until, same_passing, Deletes}
 use Rattle.sm_store.specs.Deeds.{Charter, Deed, Electing, Expiring, Changing, Executing, Basing, Naming, Clearing}
 use Rattle.sm_store.specs.Deeds.{Following, Checking, Foreign, transaction_of, is_leased, IsBehind, IsRight, AreRight}
-use Rattle.sm_store.specs.Whole.{AreThere, IsBased, IsThere, IsWhole, base_parts}
+use Rattle.sm_store.specs.Whole.{AreThere, IsBased, IsBatchThere, IsLogWhole, base_parts}
 use Rattle.sm_store.specs.lemmas.Heads.{until_all, until_there}
 use Rattle.sm_store.specs.lemmas.Parts.{part_is, part_stays_one}
 
@@ -127,7 +127,7 @@ module _ {Q P : Type 0} (charter : Charter Q P) (shard : ℕ) where
   there_grows : (txn : Transaction Q P) (log : List (Transaction Q P)) (number : ℕ)
       → number < (head_of shard log).batches
       → batch_at shard (number + 1) (txn ∷ log) ≡ batch_at shard (number + 1) log
-      → IsThere shard log number → IsThere shard (txn ∷ log) number
+      → IsBatchThere shard log number → IsBatchThere shard (txn ∷ log) number
   there_grows txn log number below same was = record {
     items = was.items;
     stands = same ∙ was.stands;
@@ -268,7 +268,7 @@ module _ {Q P : Type 0} (charter : Charter Q P) (shard : ℕ) where
       (made_until shard 0 log) (le-ltb (head_of shard log).batches 0 (omega arith))
       ∙ none log
 
-  pub whole : (log : List (Transaction Q P)) → AreRight charter log → IsWhole charter shard log
+  pub whole : (log : List (Transaction Q P)) → AreRight charter log → IsLogWhole charter shard log
   whole log right = record {
     none = none log;
     based = based log right;
