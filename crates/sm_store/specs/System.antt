@@ -64,9 +64,9 @@ extended txn [] log = log
 extended txn (write ∷ writes) log = txn ∷ log
 
 -- the store makes a transaction that reaches it, where its compares hold
-abbrev pub after_arrival : {Q P R : Type 0} → System Q P R → Option (SentTransaction Q P) → System Q P R
-after_arrival system None = system
-after_arrival system (Some sent) =
+abbrev pub after_reaching : {Q P R : Type 0} → System Q P R → Option (SentTransaction Q P) → System Q P R
+after_reaching system None = system
+after_reaching system (Some sent) =
     if all_hold system.log sent.txn.compares
     then record {
       log = extended sent.txn sent.txn.writes system.log;
@@ -143,7 +143,7 @@ happens system (Sends txn) =
       held = system.held;
       claims = system.claims;
     }
-happens system (Reaches which) = after_arrival system (slice_get system.sent which)
+happens system (Reaches which) = after_reaching system (slice_get system.sent which)
 happens system (Claims claim) =
     record {
       log = system.log;

@@ -12,7 +12,7 @@ use Rattle.sm_store.specs.Deeds.{AreRight, Charter, IsHonest, MaySend}
 use Rattle.sm_store.specs.System.{Ask, Claim, Replies, Overtaken, Reads, Event, Comes, Sends, Reaches, Claims, Carried}
 use Rattle.sm_store.specs.System.{SentTransaction, System, IsLawful, IsSo, May, MayClaim, MayRead, MightHappen}
 use Rattle.sm_store.specs.System.{StaysOvertaken}
-use Rattle.sm_store.specs.System.{extended, happens, after_arrival, system_after}
+use Rattle.sm_store.specs.System.{extended, happens, after_reaching, system_after}
 use Rattle.sm_store.specs.lemmas.Growth.{made_next, overtaken_grows, send_grows, so_grows}
 use Rattle.sm_store.specs.lemmas.Heart.{stood_then}
 use Rattle.sm_store.specs.lemmas.Numbers.{once}
@@ -111,7 +111,7 @@ module _ {Q P R S : Type 0} (after : S → Q → S) (reply : S → Q → R) (sta
   }
 
   reached_sound : (system : System Q P R) (found : Option (SentTransaction Q P)) → IsSoundSystem system
-      → IfSome found (IsSendable charter system.log) → IsSoundSystem (after_arrival system found)
+      → IfSome found (IsSendable charter system.log) → IsSoundSystem (after_reaching system found)
   reached_sound system None sound may = sound
   reached_sound system (Some sent) sound may =
       let made_one : System Q P R = record {
@@ -224,7 +224,7 @@ module _ {Q P R S : Type 0} (after : S → Q → S) (reply : S → Q → R) (sta
   GoesOnFrom log system = (more : List (Transaction Q P)) × (system.log ≡ more ++ log)
 
   log_reached : (system : System Q P R) (found : Option (SentTransaction Q P))
-      → GoesOnFrom system.log (after_arrival system found)
+      → GoesOnFrom system.log (after_reaching system found)
   log_reached system None = ([], refl)
   log_reached system (Some sent) =
       cond_both (all_hold system.log sent.txn.compares)
