@@ -1,0 +1,46 @@
+-- What calls on handles say.
+use Rattle.std.specs.Prelude.{ℕ, ◌≡◌, ◌⊎◌, Option, Ok}
+use Rattle.sm_ownership.specs.declared.change.Change.{Change}
+use Rattle.sm_ownership.specs.declared.mode.Mode.{Mode}
+use Rattle.sm_ownership.specs.declared.record.Record.{Record}
+use Rattle.sm_desk.specs.declared.command.Command.{Command}
+use Rattle.sm_desk.specs.declared.command.Command.TheVariants.{Change as ChangeOf, Ask, Approve, Stopped, Back, Fail}
+use Rattle.sm_handle.specs.Acts.{AdmitsHandle, CommandsHandle, LooksHandle, RefusesHandle}
+use Rattle.sm_handle.specs.declared.act_fault.ActFault.{ActFault}
+use Rattle.sm_handle.specs.declared.handle_state.HandleState.{HandleState}
+use Rattle.sm_c.specs.Words.{ArePartsOf, CameFrom, IsOfKind}
+use Rattle.sm_c.specs.declared.record_parts.RecordParts.{RecordParts}
+
+-- a step of a server's restart has this kind
+abbrev pub IsStep : ℕ → ℕ → Command → Type 0
+IsStep kind server (Ask named) = (kind ≡ 1) × (server ≡ named)
+IsStep kind server (Approve named) = (kind ≡ 2) × (server ≡ named)
+IsStep kind server (Stopped named) = (kind ≡ 3) × (server ≡ named)
+IsStep kind server (Back named) = (kind ≡ 4) × (server ≡ named)
+IsStep kind server (Fail named) = (kind ≡ 5) × (server ≡ named)
+IsStep kind server (ChangeOf shard change) = ⊥
+
+-- the pass is admitted to the shard for a request that came so, and the number is that of the shard's body
+abbrev pub AdmitsFrom : Option HandleState → Option HandleState → ℕ → ℕ → ℕ → Type 0
+AdmitsFrom before after shard from number =
+    (mode : Mode) × CameFrom from mode × AdmitsHandle before after shard mode number
+
+-- nothing was done, or the pass has looked and isn't admitted
+abbrev pub RefusesFrom : Option HandleState → Option HandleState → ℕ → ℕ → Type 0
+RefusesFrom before after shard from =
+    (after ≡ before)
+    ⊎ ((mode : Mode) × (fault : ActFault) × CameFrom from mode × RefusesHandle before after shard mode fault)
+
+-- the pass has seen more, in which these are the parts of the shard's record
+abbrev pub LooksAt : Option HandleState → Option HandleState → ℕ → RecordParts → Type 0
+LooksAt before after shard parts = (state : Record) × ArePartsOf parts state × LooksHandle before after shard state
+
+-- the control made the change of this kind and server
+abbrev pub ChangesBoard : Option HandleState → Option HandleState → ℕ → ℕ → ℕ → Type 0
+ChangesBoard before after shard kind server =
+    (change : Change) × IsOfKind kind server change × CommandsHandle before after (ChangeOf shard change) (Ok tt)
+
+-- the control made the step of this kind of the server's restart
+abbrev pub Restarts : Option HandleState → Option HandleState → ℕ → ℕ → Type 0
+Restarts before after kind server =
+    (step : Command) × IsStep kind server step × CommandsHandle before after step (Ok tt)

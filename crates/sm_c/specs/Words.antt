@@ -1,0 +1,67 @@
+-- What calls of words say.
+use Rattle.std.specs.Prelude.{ℕ, ◌≡◌, None, true}
+use Rattle.sm_ranges.specs.Stand.{owner_number, other_number}
+use Rattle.sm_ownership.specs.declared.change.Change.{Change}
+use Rattle.sm_ownership.specs.declared.change.Change.TheVariants.{Assign, PrepareAddShard, PrepareDropShard, AddShard}
+use Rattle.sm_ownership.specs.declared.change.Change.TheVariants.{DropShard, Cancel, Pause, Resume, Reassign}
+use Rattle.sm_ownership.specs.declared.mode.Mode.{Mode}
+use Rattle.sm_ownership.specs.declared.mode.Mode.TheVariants.{Direct, Forwarded}
+use Rattle.sm_ownership.specs.declared.record.Record.{Record}
+use Rattle.sm_ownership.specs.History.{after_admit, after_change, after_done}
+use Rattle.sm_ownership.specs.Rules.{admit_fault}
+use Rattle.sm_ownership.specs.Tables.{change_fault}
+use Rattle.sm_word.specs.Word.{IsWellFormed, phase_of, word_of}
+use Rattle.sm_c.specs.declared.record_parts.RecordParts.{RecordParts}
+
+-- the word is that of this record
+abbrev pub IsWordOf : ℕ → Record → Type 0
+IsWordOf word state = IsWellFormed state × (word_of state ≡ word)
+
+-- a change has this kind, and names this server where it names one
+abbrev pub IsOfKind : ℕ → ℕ → Change → Type 0
+IsOfKind kind server (Assign named) = (kind ≡ 1) × (server ≡ named)
+IsOfKind kind server (PrepareAddShard named) = (kind ≡ 2) × (server ≡ named)
+IsOfKind kind server PrepareDropShard = kind ≡ 3
+IsOfKind kind server AddShard = kind ≡ 4
+IsOfKind kind server DropShard = kind ≡ 5
+IsOfKind kind server Cancel = kind ≡ 6
+IsOfKind kind server Pause = kind ≡ 7
+IsOfKind kind server Resume = kind ≡ 8
+IsOfKind kind server (Reassign named) = (kind ≡ 9) × (server ≡ named)
+
+-- a request came from this server, or directly where it is 0
+abbrev pub CameFrom : ℕ → Mode → Type 0
+CameFrom from Direct = from ≡ 0
+CameFrom from (Forwarded server) = from ≡ server
+
+-- the word of the record after this change, which no fault forbids
+abbrev pub ChangesBy : ℕ → ℕ → Change → ℕ → Type 0
+ChangesBy word ceiling change next =
+    (state : Record) × IsWellFormed state × (word_of state ≡ word)
+    × (change_fault ceiling state change ≡ None) × (next ≡ word_of (after_change state change))
+
+-- the same of the change of this kind and server
+abbrev pub ChangesWord : ℕ → ℕ → ℕ → ℕ → ℕ → Type 0
+ChangesWord word kind server ceiling next =
+    (change : Change) × IsOfKind kind server change × ChangesBy word ceiling change next
+
+-- the word of the record after an admission, which no fault forbids
+abbrev pub AdmitsBy : ℕ → ℕ → ℕ → Mode → ℕ → Type 0
+AdmitsBy word ceiling server mode next =
+    (state : Record) × IsWellFormed state × (word_of state ≡ word)
+    × (admit_fault ceiling state server mode ≡ None) × (next ≡ word_of (after_admit state))
+
+abbrev pub AdmitsWord : ℕ → ℕ → ℕ → ℕ → ℕ → Type 0
+AdmitsWord word server from ceiling next = (mode : Mode) × CameFrom from mode × AdmitsBy word ceiling server mode next
+
+-- the word of the record after the end of its admission
+abbrev pub EndsWord : ℕ → ℕ → Type 0
+EndsWord word next =
+    (state : Record) × IsWellFormed state × (word_of state ≡ word)
+    × (state.admitted ≡ true) × (next ≡ word_of (after_done state))
+
+-- the parts are those of this record
+abbrev pub ArePartsOf : RecordParts → Record → Type 0
+ArePartsOf parts state =
+    (parts.phase ≡ phase_of state.stand) × (parts.admitted ≡ state.admitted) × (parts.owner ≡ owner_number state.stand)
+    × (parts.other ≡ other_number state.stand) × (parts.generation ≡ state.generation)

@@ -1,0 +1,311 @@
+//! The proved parts for callers in C, C++, Python and Rust. Each call answers 0, or a code of docs/LIBRARY.md and has
+//! done
+//! nothing but what its contract says. A handle begins as bytes of 0; it may pass from thread to thread, and is used
+//! by one
+//! call at a time.
+#![tactic(auto)]
+
+ghost use Rattle.std.specs.Prelude.{◌≡◌, ◌≢◌, Some, None, unwrap_or};
+ghost use Rattle.sm_ownership.specs.declared.record.Record.{Record as RecordValue};
+ghost use Rattle.sm_ownership.specs.Rules.{executor, forward_to};
+ghost use Rattle.sm_handle.specs.Acts.{EndsHandle, IsOpened, IsPassOf};
+ghost use Rattle.sm_ranges.specs.ServerId.{IsServer};
+ghost use Rattle.sm_word.specs.Word.{IsWellFormed, word_of};
+ghost use Rattle.sm_c.specs.Calls.{AdmitsFrom, ChangesBoard, LooksAt, RefusesFrom, Restarts};
+ghost use Rattle.sm_c.specs.Words.{AdmitsWord, ArePartsOf, ChangesWord, EndsWord};
+
+mod codes;
+mod kinds;
+mod read;
+mod record_parts;
+mod word_fault;
+mod words;
+
+use codes::{
+    BAD_ARGUMENT, BAD_WORD, NOT_ADMITTED, UNKNOWN_SHARD, code_of_act, code_of_open, code_of_word,
+};
+use kinds::{change_of, mode_of, step_of};
+use read::read_of;
+pub use record_parts::RecordParts;
+use record_parts::number;
+use sm_desk::Command;
+use sm_handle::Handle;
+use sm_ranges::server_id::ServerId;
+use sm_ranges::shard_id::ShardId;
+use sm_word::word::unpack;
+use std::alloc::Global;
+use words::{admitted_word, changed_word, ended_word};
+
+/// The word after a change of this kind and server.
+#[unsafe(no_mangle)]
+pub extern "C" fn durkenzo_changed(
+    word: u64,
+    kind: u8,
+    server: u16,
+    ceiling: u64,
+    next: &mut u64,
+) -> u32
+    ensures made { result ≡ 0 → ChangesWord word kind server ceiling next.new }
+    ensures kept { result ≢ 0 → next.new ≡ next.old }
+{
+    let Some(change) = change_of(kind, server) else {
+        return BAD_ARGUMENT;
+    };
+    match changed_word(word, change, ceiling) {
+        Ok(made) => {
+            *next = made;
+            0
+        }
+        Err(fault) => code_of_word(fault),
+    }
+}
+
+/// The word after an admission of the server, for a request that came directly (`from` 0) or from that server.
+#[unsafe(no_mangle)]
+pub extern "C" fn durkenzo_admitted(
+    word: u64,
+    server: u16,
+    from: u16,
+    ceiling: u64,
+    next: &mut u64,
+) -> u32
+    ensures made { result ≡ 0 → AdmitsWord word server from ceiling next.new }
+    ensures kept { result ≢ 0 → next.new ≡ next.old }
+{
+    let (Some(server), Some(mode)) = (ServerId::new(server), mode_of(from)) else {
+        return BAD_ARGUMENT;
+    };
+    match admitted_word(word, server, mode, ceiling) {
+        Ok(made) => {
+            *next = made;
+            0
+        }
+        Err(fault) => code_of_word(fault),
+    }
+}
+
+/// The word after the end of its admission.
+#[unsafe(no_mangle)]
+pub extern "C" fn durkenzo_ended(word: u64, next: &mut u64) -> u32
+    ensures made { result ≡ 0 → EndsWord word next.new }
+    ensures kept { result ≢ 0 → next.new ≡ next.old }
+{
+    match ended_word(word) {
+        Some(made) => {
+            *next = made;
+            0
+        }
+        None => NOT_ADMITTED,
+    }
+}
+
+/// The parts of the record that has this word.
+#[unsafe(no_mangle)]
+pub extern "C" fn durkenzo_unpack(word: u64, parts: &mut RecordParts) -> u32
+    ensures made { result ≡ 0
+        → (state : RecordValue) × IsWellFormed state × (word_of state ≡ word) × ArePartsOf parts.new state }
+    ensures kept { result ≢ 0 → parts.new ≡ parts.old }
+{
+    match unpack(word) {
+        Some(state) => {
+            *parts = RecordParts::of(&state);
+            0
+        }
+        None => BAD_WORD,
+    }
+}
+
+/// The server to which this one forwards requests on the shard of this word, or 0.
+#[unsafe(no_mangle)]
+pub extern "C" fn durkenzo_forward(word: u64, server: u16) -> u16
+    ensures { (state : RecordValue) → IsWellFormed state → word_of state ≡ word → IsServer server
+        → result ≡ unwrap_or (forward_to state server) 0 }
+{
+    let (Some(state), Some(server)) = (unpack(word), ServerId::new(server)) else {
+        return 0;
+    };
+    number(state.forward_to(server))
+}
+
+/// The server that executes requests on the shard of this word, or 0.
+#[unsafe(no_mangle)]
+pub extern "C" fn durkenzo_executor(word: u64) -> u16
+    ensures { (state : RecordValue) → IsWellFormed state → word_of state ≡ word
+        → result ≡ unwrap_or (executor state) 0 }
+{
+    let Some(state) = unpack(word) else {
+        return 0;
+    };
+    number(state.executor())
+}
+
+/// Opens a board with a body for each number, of servers 1 to this one, at most `ops` of which restart at once;
+/// generations
+/// stay at or below the ceiling. The handle keeps its control, in place of what it kept.
+#[unsafe(no_mangle)]
+pub extern "C" fn durkenzo_open(
+    alloc: Global,
+    chief: &mut Handle,
+    numbers: &[u64],
+    servers: u16,
+    ops: u16,
+    ceiling: u64,
+) -> u32
+    ensures made { result ≡ 0 → IsOpened chief.new.owned.state numbers.now ops ceiling }
+    ensures kept { result ≢ 0 → chief.new.owned.state ≡ chief.old.owned.state }
+{
+    match chief.open(alloc, numbers, servers, ops, ceiling) {
+        Ok(()) => 0,
+        Err(fault) => code_of_open(fault),
+    }
+}
+
+/// Makes a new pass on the board of this control, with this server. The pass's handle keeps it, in place of what it
+/// kept.
+#[unsafe(no_mangle)]
+pub extern "C" fn durkenzo_pass(
+    alloc: Global,
+    chief: &mut Handle,
+    pass: &mut Handle,
+    server: u16,
+) -> u32
+    ensures chief { chief.new.owned.state ≡ chief.old.owned.state }
+    ensures made { result ≡ 0 → IsPassOf chief.old.owned.state pass.new.owned.state (Some server) }
+    ensures kept { result ≢ 0 → pass.new.owned.state ≡ pass.old.owned.state }
+{
+    let Some(server) = ServerId::new(server) else {
+        return BAD_ARGUMENT;
+    };
+    match pass.pass(alloc, chief, Some(server)) {
+        Ok(()) => 0,
+        Err(fault) => code_of_act(fault),
+    }
+}
+
+/// Looks at the shard, with a pass that may hold a permit.
+#[unsafe(no_mangle)]
+pub extern "C" fn durkenzo_look(
+    alloc: Global,
+    pass: &mut Handle,
+    shard: u16,
+    parts: &mut RecordParts,
+) -> u32
+    ensures seen { result ≡ 0 → LooksAt pass.old.owned.state pass.new.owned.state shard parts.new }
+    ensures kept { result ≢ 0 → pass.new.owned.state ≡ pass.old.owned.state }
+    ensures unwritten { result ≢ 0 → parts.new ≡ parts.old }
+{
+    let Some(k) = ShardId::new(shard) else {
+        return UNKNOWN_SHARD;
+    };
+    match pass.look(alloc, k) {
+        Ok(state) => {
+            *parts = RecordParts::of(&state);
+            0
+        }
+        Err(fault) => code_of_act(fault),
+    }
+}
+
+/// Admits the pass to the shard for a request that came directly (`from` 0) or from that server. `number` is that of
+/// the
+/// shard's body, which nobody else is given until the admission ends. A refusal by a record, or a lost race, writes
+/// to `read`.
+#[unsafe(no_mangle)]
+pub extern "C" fn durkenzo_admit(
+    alloc: Global,
+    pass: &mut Handle,
+    shard: u16,
+    from: u16,
+    number: &mut u64,
+    read: &mut RecordParts,
+) -> u32
+    ensures admitted { result ≡ 0 → AdmitsFrom pass.old.owned.state pass.new.owned.state shard from number.new }
+    ensures refused { result ≢ 0 → RefusesFrom pass.old.owned.state pass.new.owned.state shard from }
+    ensures unwritten { result ≢ 0 → number.new ≡ number.old }
+{
+    let Some(k) = ShardId::new(shard) else {
+        return UNKNOWN_SHARD;
+    };
+    let Some(mode) = mode_of(from) else {
+        return BAD_ARGUMENT;
+    };
+    match pass.admit(alloc, k, mode) {
+        Ok(body) => {
+            *number = body;
+            0
+        }
+        Err(fault) => {
+            if let Some(state) = read_of(&fault) {
+                *read = RecordParts::of(&state);
+            }
+            code_of_act(fault)
+        }
+    }
+}
+
+/// Ends the admission of the pass. `generation` is the shard's since then.
+#[unsafe(no_mangle)]
+pub extern "C" fn durkenzo_finish(alloc: Global, pass: &mut Handle, generation: &mut u64) -> u32
+    ensures ended { result ≡ 0 → EndsHandle pass.old.owned.state pass.new.owned.state generation.new }
+    ensures kept { result ≢ 0 → pass.new.owned.state ≡ pass.old.owned.state }
+    ensures unwritten { result ≢ 0 → generation.new ≡ generation.old }
+{
+    match pass.finish(alloc) {
+        Ok(left) => {
+            *generation = left;
+            0
+        }
+        Err(fault) => code_of_act(fault),
+    }
+}
+
+/// Makes the change of this kind and server. A refusal by a record, or a lost race, writes to `read`.
+#[unsafe(no_mangle)]
+pub extern "C" fn durkenzo_change(
+    alloc: Global,
+    chief: &mut Handle,
+    shard: u16,
+    kind: u8,
+    server: u16,
+    read: &mut RecordParts,
+) -> u32
+    ensures made { result ≡ 0 → ChangesBoard chief.old.owned.state chief.new.owned.state shard kind server }
+{
+    let Some(k) = ShardId::new(shard) else {
+        return UNKNOWN_SHARD;
+    };
+    let Some(change) = change_of(kind, server) else {
+        return BAD_ARGUMENT;
+    };
+    match chief.command(alloc, Command::Change(k, change)) {
+        Ok(()) => 0,
+        Err(fault) => {
+            if let Some(state) = read_of(&fault) {
+                *read = RecordParts::of(&state);
+            }
+            code_of_act(fault)
+        }
+    }
+}
+
+/// Makes the step of this kind of the server's restart.
+#[unsafe(no_mangle)]
+pub extern "C" fn durkenzo_restart(alloc: Global, chief: &mut Handle, kind: u8, server: u16) -> u32
+    ensures made { result ≡ 0 → Restarts chief.old.owned.state chief.new.owned.state kind server }
+{
+    let Some(step) = step_of(kind, server) else {
+        return BAD_ARGUMENT;
+    };
+    match chief.command(alloc, step) {
+        Ok(()) => 0,
+        Err(fault) => code_of_act(fault),
+    }
+}
+
+/// Lets go what the handle keeps; an admission ends.
+#[unsafe(no_mangle)]
+pub extern "C" fn durkenzo_close(alloc: Global, handle: &mut Handle)
+    ensures { handle.new.owned.state ≡ None }
+{
+    handle.close(alloc);
+}

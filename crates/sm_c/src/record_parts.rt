@@ -1,0 +1,58 @@
+ghost use Rattle.std.specs.Prelude.{◌≡◌, unwrap_or};
+ghost use Rattle.sm_word.specs.Word.{phase_of};
+ghost use Rattle.sm_c.specs.Words.{ArePartsOf};
+
+use sm_ownership::record::Record;
+use sm_ranges::server_id::ServerId;
+use sm_ranges::stand::Stand;
+
+/// A shard's record as C sees it: servers by their numbers, 0 for none; `other` is the next or the previous server.
+/// The phase
+/// is 0 vacant, 1 serving, 2 prepared, 3 forwarding, 4 taken, 5 paused.
+#[repr(C)]
+#[derive(Clone, Copy, Drop)]
+pub struct RecordParts {
+    pub generation: u64,
+    pub owner: u16,
+    pub other: u16,
+    pub phase: u8,
+    pub admitted: bool,
+}
+
+impl RecordParts {
+    /// The parts of a record.
+    pub(crate) fn of(state: &Record) -> RecordParts
+        ensures { ArePartsOf result state.now }
+    {
+        RecordParts {
+            generation: state.generation,
+            owner: number(state.stand.owner()),
+            other: number(state.stand.other()),
+            phase: phase(&state.stand),
+            admitted: state.admitted,
+        }
+    }
+}
+
+/// The number of the server, or 0 where there is none.
+pub(crate) fn number(server: Option<ServerId>) -> u16
+    ensures { result ≡ unwrap_or server 0 }
+{
+    match server {
+        Some(server) => server.number(),
+        None => 0,
+    }
+}
+
+fn phase(stand: &Stand) -> u8
+    ensures { result ≡ phase_of stand.now }
+{
+    match stand {
+        Stand::Vacant => 0,
+        Stand::Serving(_) => 1,
+        Stand::Prepared { .. } => 2,
+        Stand::Forwarding { .. } => 3,
+        Stand::Taken { .. } => 4,
+        Stand::Paused(_) => 5,
+    }
+}

@@ -1,0 +1,69 @@
+//! Steps from word to word.
+ghost use Rattle.std.specs.Prelude.{◌≡◌, ◌≢◌, IfOk, IfSome, None};
+ghost use Rattle.sm_word.specs.Known.{NewlyNamesServer};
+ghost use Rattle.sm_c.specs.Words.{AdmitsBy, ChangesBy, EndsWord};
+
+use crate::word_fault::WordFault;
+use sm_ownership::change::Change;
+use sm_ownership::mode::Mode;
+use sm_ownership::record::MAX_GENERATION;
+use sm_ranges::server_id::ServerId;
+use sm_word::word::{admit_word, done_word, pack, unpack};
+
+// The servers that a change names are numbered as servers are. Reading the number tells the proof so, and does
+// nothing else.
+fn names_servers(change: &Change)
+    ensures { NewlyNamesServer change.now }
+{
+    match change {
+        Change::Assign(server) | Change::PrepareAddShard(server) | Change::Reassign(server) => {
+            let _ = server.number();
+        }
+        _ => {}
+    }
+}
+
+/// The word after the change, or why there is none.
+pub(crate) fn changed_word(word: u64, change: Change, ceiling: u64) -> Result<u64, WordFault>
+    ensures { IfOk result (ChangesBy word ceiling change) }
+{
+    if ceiling > MAX_GENERATION {
+        return Err(WordFault::BadCeiling);
+    }
+    let Some(state) = unpack(word) else {
+        return Err(WordFault::BadWord);
+    };
+    names_servers(&change);
+    match state.changed(change, ceiling) {
+        Ok(next) => Ok(pack(next)),
+        Err(fault) => Err(WordFault::Change(fault)),
+    }
+}
+
+/// The word after an admission, or why there is none.
+pub(crate) fn admitted_word(
+    word: u64,
+    server: ServerId,
+    mode: Mode,
+    ceiling: u64,
+) -> Result<u64, WordFault>
+    ensures { IfOk result (AdmitsBy word ceiling server mode) }
+{
+    let Some(state) = unpack(word) else {
+        return Err(WordFault::BadWord);
+    };
+    match state.admit_fault(server, mode, ceiling) {
+        None => Ok(admit_word(word)),
+        Some(fault) => Err(WordFault::Admit(fault)),
+    }
+}
+
+/// The word after the end of its admission, or none where it has none.
+pub(crate) fn ended_word(word: u64) -> Option<u64>
+    ensures { IfSome result (EndsWord word) }
+{
+    match unpack(word) {
+        Some(state) if state.admitted => Some(done_word(word)),
+        _ => None,
+    }
+}

@@ -1,0 +1,153 @@
+ghost use Rattle.std.specs.Prelude.{◌≡◌, ◌<◌, ◌≤◌, All, IfOk, IfSome, length, map};
+ghost use Rattle.std.specs.Arc.{arc_value};
+ghost use Rattle.sm_ranges.specs.declared.stand.Stand.TheVariants.{Vacant};
+ghost use Rattle.sm_control.specs.Controls.{Commanded};
+ghost use Rattle.sm_desk.specs.Desk.{desk_fault};
+ghost use Rattle.sm_foreign.specs.declared.foreign.Foreign.{Foreign as ForeignValue};
+ghost use Rattle.sm_foreign.specs.Chiefs.{foreign_of};
+
+use crate::foreign::Foreign;
+use crate::free_pass::FreePass;
+use crate::open_fault::OpenFault;
+use sm_control::{Control, ControlFault};
+use sm_desk::{Command, Desk};
+use sm_place::{Books, BooksFault};
+use sm_ranges::server_id::ServerId;
+use sm_rows::limits::MAX_DOMAIN_DOWN;
+use sm_rows::{GroupRow, ServerRow, ShardRow, equal_domains};
+use sm_rule::Board;
+use sm_tasks::Tasks;
+use sm_tasks::laws::all_up_meets_caps;
+use std::alloc::{AllocError, Global};
+use std::marker::Model;
+use std::sync::Arc;
+
+/// A board of foreign bodies and its control. Contracts see the control.
+#[derive(Drop)]
+pub struct Chief {
+    board: Arc<Board<Foreign>>,
+    control: Control<Foreign>,
+}
+
+impl Model for Chief {
+    ghost use Rattle.std.specs.Prelude.{◌≡◌};
+    ghost use Rattle.std.specs.Arc.{arc_value};
+    ghost use Rattle.sm_control.specs.Controls.{ControlValue};
+
+    ghost Value = { ControlValue (Unit {0}) };
+
+    ghost view = { λ chief. chief.control };
+
+    ghost invariant = { λ chief. chief.control.chair.board ≡ arc_value chief.board };
+}
+
+impl Chief {
+    /// The chief of a new board with a body for each number, of servers 1 to this one (at most 4,095), at most `ops`
+    /// of which
+    /// (at most 4,095) restart at once; generations stay at or below the ceiling (3 to 2^36 - 1).
+    pub fn make(
+        alloc: Global,
+        numbers: &[u64],
+        servers: u16,
+        ops: u16,
+        ceiling: u64,
+    ) -> Result<Chief, OpenFault>
+        ensures count { IfOk result (λ chief. chief.chair.board.limits.count ≡ length numbers.now) }
+        ensures ceiling { IfOk result (λ chief. chief.chair.board.limits.ceiling ≡ ceiling) }
+        ensures numbers { IfOk result (λ chief.
+            chief.chair.board.limits.bodies ≡ map (λ (body : ForeignValue). body.number) (foreign_of numbers.now)) }
+        ensures ops { IfOk result (λ chief. chief.desk.ops ≡ ops) }
+    {
+        if servers > 4095 {
+            return Err(OpenFault::Servers);
+        }
+        if ops > 4095 {
+            return Err(OpenFault::Restarts);
+        }
+        let Ok(bodies) = bodies_of(alloc, numbers) else {
+            return Err(OpenFault::NoMemory);
+        };
+        let (board, chair) = match Board::make(alloc, bodies, ceiling) {
+            Ok(made) => made,
+            Err(fault) => return Err(OpenFault::Board(fault)),
+        };
+        let desk = match desk_of(alloc, servers, numbers.len(), ops) {
+            Ok(desk) => desk,
+            Err(fault) => return Err(OpenFault::Books(fault)),
+        };
+        match Arc::new(alloc, board) {
+            Ok(board) => Ok(Chief {
+                board,
+                control: Control::new(chair, desk),
+            }),
+            Err(_) => Err(OpenFault::NoMemory),
+        }
+    }
+
+    /// A new pass on the board, admitted as this server, or never. It is refused for want of memory alone.
+    pub fn pass(&self, server: Option<ServerId>) -> Result<FreePass<Foreign>, AllocError>
+        ensures board { IfOk result (λ free. free.board ≡ self.now.chair.board) }
+        ensures server { IfOk result (λ free. free.server ≡ server) }
+    {
+        let board = Arc::try_clone(&self.board)?;
+        Ok(FreePass::new(board, server))
+    }
+
+    /// Gives the command to the control: it is made, or refused by the first fault that applies.
+    pub fn command(&mut self, command: Command) -> Result<(), ControlFault>
+        ensures answer { Commanded (desk_fault self.old.desk command) self.old self.new command result }
+        ensures board { self.new.chair.board ≡ self.old.chair.board }
+    {
+        self.control.command(&self.board, command)
+    }
+}
+
+// The bodies of these numbers.
+fn bodies_of(alloc: Global, numbers: &[u64]) -> Result<Vec<Foreign>, AllocError>
+    ensures { IfOk result (λ bodies. bodies.items ≡ foreign_of numbers.now) }
+{
+    numbers
+        .iter()
+        .map(|number| Foreign { number: *number })
+        .collect(alloc)
+}
+
+// Servers 1 to this one, each in a domain of its own.
+fn rows_of(alloc: Global, last: u16) -> Result<Vec<ServerRow>, AllocError> {
+    let mut rows = Vec::new(alloc);
+    for number in 0..last {
+        if number < 4095
+            && let Some(id) = ServerId::new(number + 1)
+        {
+            rows.push(ServerRow {
+                id,
+                domain: number,
+                capacity: 4096,
+            })?;
+        }
+    }
+    Ok(rows)
+}
+
+// The desk of so many servers, and of so many shards of load 1, all vacant and of one group.
+fn desk_of(alloc: Global, servers: u16, count: usize, ops: u16) -> Result<Desk, BooksFault>
+    requires { ops ≤ 4095 }
+    ensures count { IfOk result (λ desk. length desk.books.shards ≡ count) }
+    ensures vacant { IfOk result (λ desk. All (λ shard. shard.stand ≡ Vacant) desk.books.shards) }
+    ensures ops { IfOk result (λ desk. desk.ops ≡ ops) }
+{
+    let groups = [GroupRow {
+        limit: 4096,
+        down: 4096,
+    }];
+    let rows = rows_of(alloc, servers)?;
+    let shards = vec![in alloc; ShardRow {
+        group: 0,
+        load: 1,
+        cap: 1
+    }; count]?;
+    let domains = equal_domains(alloc, &rows, MAX_DOMAIN_DOWN)?;
+    let books = Books::new(alloc, &rows, &groups, &shards, &domains)?;
+    all_up_meets_caps();
+    Ok(Desk::new(books, Tasks::new(ops)))
+}

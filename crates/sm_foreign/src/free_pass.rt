@@ -1,0 +1,80 @@
+ghost use Rattle.std.specs.Prelude.{◌≡◌, ◌<◌, None, IfErr, IfOk};
+ghost use Rattle.std.specs.Arc.{arc_value};
+ghost use Rattle.sm_rule.specs.Admissions.{PassAdmitted, RefusedBy};
+ghost use Rattle.sm_rule.specs.Boards.{limit_at};
+ghost use Rattle.sm_rule.specs.Passes.{PassLooks, record_of};
+
+use crate::held_pass::HeldPass;
+use sm_body::service::Service;
+use sm_ownership::mode::Mode;
+use sm_ownership::record::Record;
+use sm_ranges::server_id::ServerId;
+use sm_ranges::shard_id::ShardId;
+use sm_rule::{AdmitRefusal, Board, Pass};
+use std::marker::Model;
+use std::sync::Arc;
+
+/// A pass that holds nothing, and its board. Contracts see the pass.
+#[derive(Drop)]
+pub struct FreePass<S: Service> {
+    pub(crate) board: Arc<Board<S>>,
+    pub(crate) pass: Pass<S>,
+}
+
+impl<S: Service> Model for FreePass<S> {
+    ghost use Rattle.std.specs.Prelude.{◌≡◌, None};
+    ghost use Rattle.std.specs.Arc.{arc_value};
+    ghost use Rattle.sm_rule.specs.Passes.{PassValue};
+
+    ghost Value = { PassValue S.Request };
+
+    ghost view = { λ free. free.pass };
+
+    ghost invariant = { λ free. (free.pass.board ≡ arc_value free.board) × (free.pass.held ≡ None) };
+}
+
+impl<S: Service> FreePass<S> {
+    /// A new pass on the board, admitted as this server, or never.
+    pub fn new(board: Arc<Board<S>>, server: Option<ServerId>) -> FreePass<S>
+        ensures board { result.board ≡ arc_value board }
+        ensures server { result.server ≡ server }
+    {
+        let pass = board.pass(server);
+        FreePass { board, pass }
+    }
+
+    /// The number of the board's shards.
+    pub fn count(&self) -> u32
+        ensures { result ≡ self.now.board.limits.count }
+    {
+        self.board.count()
+    }
+
+    /// The shard's record after all that the pass then has seen.
+    pub fn look(&mut self, k: ShardId) -> Record
+        requires { k < self.old.board.limits.count }
+        ensures seen { PassLooks self.old self.new }
+        ensures state { result ≡ record_of self.new k }
+    {
+        self.board.look(&mut self.pass, k)
+    }
+
+    /// Admits the pass to the shard for a request that came so; or says why not, and the pass has looked.
+    pub fn admit(self, k: ShardId, mode: Mode) -> Result<HeldPass<S>, (FreePass<S>, AdmitRefusal)>
+        requires { k < self.board.limits.count }
+        ensures admitted { IfOk result (λ held. PassAdmitted self k mode held.0) }
+        ensures shard { IfOk result (λ held. held.1.shard ≡ k) }
+        ensures limit { IfOk result (λ held. S.limit held.1.body ≡ limit_at self.board.limits k) }
+        ensures refused { IfErr result (λ back. PassLooks self back.0 × RefusedBy self back.0 k mode back.1) }
+    {
+        let FreePass { board, mut pass } = self;
+        match board.admit(&mut pass, k, mode) {
+            Ok(permit) => Ok(HeldPass {
+                board,
+                pass,
+                permit,
+            }),
+            Err(refusal) => Err((FreePass { board, pass }, refusal)),
+        }
+    }
+}

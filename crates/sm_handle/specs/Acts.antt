@@ -1,0 +1,92 @@
+-- What calls do to the state of a handle.
+use Rattle.std.specs.Prelude.{ℕ, ◌≡◌, List, length, map, Option, Some, None, Result, Ok, Err}
+use Rattle.sm_ownership.specs.declared.entry.Ending.TheVariants.{Nothing}
+use Rattle.sm_ownership.specs.declared.entry.Kind.TheVariants.{Done}
+use Rattle.sm_ownership.specs.declared.mode.Mode.{Mode}
+use Rattle.sm_ownership.specs.declared.record.Record.{Record}
+use Rattle.sm_rule.specs.Admissions.{PassAdmitted, RefusedBy}
+use Rattle.sm_rule.specs.Boards.{limit_at}
+use Rattle.sm_rule.specs.Passes.{PassAdds, PassLooks, record_of}
+use Rattle.sm_control.specs.Controls.{Commanded}
+use Rattle.sm_desk.specs.declared.command.Command.{Command}
+use Rattle.sm_desk.specs.Desk.{desk_fault}
+use Rattle.sm_foreign.specs.declared.foreign.Foreign.{Foreign}
+use Rattle.sm_foreign.specs.Chiefs.{foreign_of}
+use Rattle.sm_handle.specs.declared.act_fault.ActFault.{ActFault}
+use Rattle.sm_handle.specs.declared.act_fault.ActFault.TheVariants.{WrongHandle, Admit, Command as CommandRefused}
+use Rattle.sm_handle.specs.declared.handle_state.HandleState.{HandleState}
+use Rattle.sm_handle.specs.declared.handle_state.HandleState.TheVariants.{Chief, Free, Held}
+
+-- a pass that held nothing was admitted to the shard and holds the permit, and the number is that of the shard's body
+abbrev pub AdmitsState : HandleState → HandleState → ℕ → Mode → ℕ → Type 0
+AdmitsState (Free before) (Held after) shard mode number =
+    PassAdmitted before shard mode after.held.0 × (after.held.1.shard ≡ shard)
+    × (limit_at before.board.limits shard ≡ number) × (after.held.1.body.number ≡ number)
+AdmitsState before after shard mode number = ⊥
+
+-- a pass isn't admitted and has looked, or the state is as it was
+abbrev pub RefusesState : HandleState → HandleState → ℕ → Mode → ActFault → Type 0
+RefusesState (Free before) (Free after) shard mode (Admit refusal) =
+    PassLooks before after × RefusedBy before after shard mode refusal
+RefusesState before after shard mode fault = after ≡ before
+
+-- the admission of the pass has ended, and it holds nothing
+abbrev pub EndsState : HandleState → HandleState → ℕ → Type 0
+EndsState (Held before) (Free after) generation =
+    PassAdds before.held.0 before.held.1.shard (Done Nothing) after
+    × (generation ≡ (record_of after before.held.1.shard).generation)
+EndsState before after generation = ⊥
+
+-- the pass has seen more, in which this is the shard's record, and what it holds is as it was
+abbrev pub LooksState : HandleState → HandleState → ℕ → Record → Type 0
+LooksState (Free before) (Free after) shard state = PassLooks before after × (state ≡ record_of after shard)
+LooksState (Held before) (Held after) shard state =
+    PassLooks before.held.0 after.held.0 × (after.held.1 ≡ before.held.1) × (state ≡ record_of after.held.0 shard)
+LooksState before after shard state = ⊥
+
+-- the control answers the command and is then what it leaves, or the state is as it was
+abbrev pub CommandsState : HandleState → HandleState → Command → Result (Unit {0}) ActFault → Type 0
+CommandsState (Chief before) (Chief after) command (Ok made) =
+    Commanded (desk_fault before.value.desk command) before.value after.value command (Ok tt)
+CommandsState (Chief before) (Chief after) command (Err (CommandRefused fault)) =
+    Commanded (desk_fault before.value.desk command) before.value after.value command (Err fault)
+CommandsState before after command (Ok made) = ⊥
+CommandsState before after command (Err fault) = (fault ≡ WrongHandle) × (after ≡ before)
+
+-- a new pass on the board of the control, with this server or none
+abbrev pub IsPassOfState : HandleState → Option ℕ → HandleState → Type 0
+IsPassOfState (Chief chief) server (Free pass) = (pass.board ≡ chief.value.chair.board) × (pass.server ≡ server)
+IsPassOfState chief server pass = ⊥
+
+-- the same of handles, which keep a state or none
+abbrev pub AdmitsHandle : Option HandleState → Option HandleState → ℕ → Mode → ℕ → Type 0
+AdmitsHandle (Some before) (Some after) shard mode number = AdmitsState before after shard mode number
+AdmitsHandle before after shard mode number = ⊥
+
+abbrev pub RefusesHandle : Option HandleState → Option HandleState → ℕ → Mode → ActFault → Type 0
+RefusesHandle (Some before) (Some after) shard mode fault = RefusesState before after shard mode fault
+RefusesHandle before after shard mode fault = (before ≡ None) × (after ≡ None)
+
+abbrev pub EndsHandle : Option HandleState → Option HandleState → ℕ → Type 0
+EndsHandle (Some before) (Some after) generation = EndsState before after generation
+EndsHandle before after generation = ⊥
+
+abbrev pub LooksHandle : Option HandleState → Option HandleState → ℕ → Record → Type 0
+LooksHandle (Some before) (Some after) shard state = LooksState before after shard state
+LooksHandle before after shard state = ⊥
+
+abbrev pub CommandsHandle : Option HandleState → Option HandleState → Command → Result (Unit {0}) ActFault → Type 0
+CommandsHandle (Some before) (Some after) command result = CommandsState before after command result
+CommandsHandle before after command result = (before ≡ None) × (after ≡ None) × (result ≡ Err WrongHandle)
+
+abbrev pub IsPassOf : Option HandleState → Option HandleState → Option ℕ → Type 0
+IsPassOf (Some chief) (Some pass) server = IsPassOfState chief server pass
+IsPassOf chief pass server = ⊥
+
+-- the handle keeps the control of a board with a body for each number, under this cap of restarts and this ceiling
+abbrev pub IsOpened : Option HandleState → List ℕ → ℕ → ℕ → Type 0
+IsOpened (Some (Chief chief)) numbers ops ceiling =
+    (chief.value.chair.board.limits.count ≡ length numbers) × (chief.value.chair.board.limits.ceiling ≡ ceiling)
+    × (chief.value.chair.board.limits.bodies ≡ map (λ (body : Foreign). body.number) (foreign_of numbers))
+    × (chief.value.desk.ops ≡ ops)
+IsOpened state numbers ops ceiling = ⊥

@@ -1,0 +1,17 @@
+use sm_control::ControlFault;
+use sm_rule::AdmitRefusal;
+
+/// Why a call did nothing.
+#[derive(Clone, Copy, Drop)]
+pub enum ActFault {
+    /// The handle keeps nothing, or nothing that the call is for.
+    WrongHandle,
+    /// The board has no such shard.
+    UnknownShard,
+    /// Memory was refused.
+    NoMemory,
+    /// The pass isn't admitted.
+    Admit(AdmitRefusal),
+    /// The command is refused.
+    Command(ControlFault),
+}

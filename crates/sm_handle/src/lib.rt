@@ -1,0 +1,22 @@
+//! What a caller in C keeps between calls: a handle of a board's control, of a pass, or of an admission.
+//!
+//! ```rust
+//! assert!(rt; chief.open(alloc, &[70, 80], 2, 1, 100).is_ok());
+//! assert!(rt; chief.command(alloc, assign).is_ok());
+//! assert!(rt; pass.pass(alloc, &mut chief, Some(one)).is_ok());
+//! assert!(rt; matches!(pass.admit(alloc, k, Mode::Direct), Ok(80)));
+//! assert!(rt; matches!(pass.finish(alloc), Ok(3)));
+//! ```
+#![tactic(auto)]
+
+pub mod act_fault;
+pub mod acts;
+mod box_parts;
+mod calls;
+pub mod handle;
+pub mod handle_state;
+pub mod owned;
+
+pub use act_fault::ActFault;
+pub use handle::Handle;
+pub use handle_state::HandleState;

@@ -1,0 +1,56 @@
+ghost use Rattle.std.specs.Prelude.{◌≡◌, Some, None, Option, is_some, true};
+ghost use Rattle.sm_handle.specs.declared.handle_state.HandleState.{HandleState as StateValue};
+ghost use Rattle.sm_handle.specs.Owns.{handle_owns, state_coded};
+
+use crate::box_parts::BoxParts;
+use crate::handle_state::HandleState;
+use std::alloc::Global;
+use std::marker::Model;
+
+/// A pointer that owns a state, or nothing.
+#[repr(C)]
+#[derive(Drop)]
+pub struct Owned {
+    ptr: *mut u8,
+    alloc: Global,
+    pub ghost state: { Option StateValue } by { state_coded },
+}
+
+impl Model for Owned {
+    ghost also_owns = { λ h. handle_owns h.alloc h.ptr h.state };
+}
+
+impl Owned {
+    /// What owns nothing.
+    pub(crate) fn empty(alloc: Global) -> Owned
+        ensures { result.state ≡ None }
+    {
+        Owned {
+            ptr: std::ptr::null_mut(),
+            alloc,
+        }
+    }
+
+    /// What owns the state of a box.
+    pub(crate) fn of_parts(parts: BoxParts<HandleState, Global>) -> Owned
+        ensures { result.state ≡ Some parts.value }
+    {
+        let BoxParts { ptr, alloc } = parts;
+        Owned {
+            ptr: ptr as *mut u8,
+            alloc,
+        }
+    }
+
+    /// The box of the state that is owned.
+    pub(crate) fn into_parts(self) -> BoxParts<HandleState, Global>
+        requires { is_some self.state ≡ true }
+        ensures { self.state ≡ Some result.value }
+    {
+        let Owned { ptr, alloc } = self;
+        BoxParts {
+            ptr: ptr as *mut HandleState,
+            alloc,
+        }
+    }
+}

@@ -1,0 +1,178 @@
+/* Shards that move between servers while each has one writer, decided by proved code.
+ *
+ * A board has 1 to 4,096 shards, numbered from 0, and a number for each that stands for a body that you own. A
+ * pass acts as one server, 1 to 4,095, and is admitted to a shard where that server executes the shard's requests
+ * and nobody else is admitted. The number that it is given is the shard's; until the admission ends nobody else is
+ * given it. The control alone changes who owns a shard.
+ *
+ * Each call answers DURKENZO_OK, or why it was refused. A call that is refused writes nothing but where it says
+ * so, and leaves each handle as it was, but that a pass may have looked at its shard.
+ *
+ * A handle is yours: it begins as DURKENZO_HANDLE_INIT, isn't copied, may pass from thread to thread, and is used
+ * by one call at a time, so a control that threads share stands behind a lock of yours. What it keeps belongs to
+ * the library until durkenzo_close. Pointers are borrowed for the time of the call, and are never null.
+ */
+#ifndef DURKENZO_H
+#define DURKENZO_H
+
+#include <stdbool.h>
+#include <stddef.h>
+#include <stdint.h>
+
+#ifdef __cplusplus
+extern "C" {
+#endif
+
+/* What a caller keeps between calls: nothing, a control, a pass, or a pass with an admission. */
+typedef struct durkenzo_handle {
+    bool full;
+    void *owned;
+} durkenzo_handle;
+
+#define DURKENZO_HANDLE_INIT {0}
+
+/* The greatest ceiling of generations. */
+#define DURKENZO_MAX_GENERATION ((UINT64_C(1) << 36) - 1)
+
+/* How far the migration of a shard has come. */
+enum durkenzo_phase {
+    DURKENZO_VACANT = 0,     /* nobody owns the shard yet */
+    DURKENZO_SERVING = 1,    /* the owner executes requests */
+    DURKENZO_PREPARED = 2,   /* the owner executes; `other` is the next owner */
+    DURKENZO_FORWARDING = 3, /* `other`, the next owner, executes what the owner forwards */
+    DURKENZO_TAKEN = 4,      /* the owner executes; `other`, the previous one, forwards */
+    DURKENZO_PAUSED = 5      /* nobody executes */
+};
+
+/* A shard's record. Servers are 0 where there is none. */
+typedef struct durkenzo_record {
+    uint64_t generation; /* how many steps the shard's history has */
+    uint16_t owner;
+    uint16_t other;
+    uint8_t phase;
+    bool admitted; /* whether a pass is admitted now */
+} durkenzo_record;
+
+/* What a call answers. */
+enum durkenzo_code {
+    DURKENZO_OK = 0,
+    DURKENZO_WRONG_HANDLE = 1,  /* the handle keeps nothing that the call is for */
+    DURKENZO_BAD_ARGUMENT = 2,  /* a server or a kind is out of bounds */
+    DURKENZO_NO_MEMORY = 3,     /* memory was refused */
+    DURKENZO_BAD_WORD = 4,      /* no record has the word */
+    DURKENZO_BAD_CEILING = 5,   /* the ceiling isn't 3 to 2^36 - 1 */
+    DURKENZO_NO_SHARD = 6,      /* a board has at least one shard */
+    DURKENZO_TOO_MANY = 7,      /* a board has at most 4,096 shards */
+    DURKENZO_BAD_BOOKS = 8,     /* there are no servers, or memory for their books was refused */
+    DURKENZO_UNKNOWN_SHARD = 10,
+    DURKENZO_WRONG_PHASE = 11,  /* the change doesn't begin from the shard's stand */
+    DURKENZO_SAME_SERVER = 12,  /* the change names the owner as the new server */
+    DURKENZO_CHANGE_SPENT = 13, /* the generations are spent; `read` is written */
+    DURKENZO_BUSY = 14,         /* the shard is admitted; `read` is written */
+    DURKENZO_RACED = 15,        /* another thread was first; `read`, what it left, is written */
+    DURKENZO_NOBODY_OWNS = 21,  /* 21 to 26 refuse an admission; `read` is written */
+    DURKENZO_IS_PAUSED = 22,
+    DURKENZO_NOT_EXECUTOR = 23, /* another server executes the shard's requests */
+    DURKENZO_NOT_YET = 24,      /* the server executes only what the owner forwards */
+    DURKENZO_ADMITTED = 25,     /* the shard has an admission that hasn't ended */
+    DURKENZO_SPENT = 26,        /* the generations are spent */
+    DURKENZO_NOT_ADMITTED = 27, /* the word has no admission that could end */
+    DURKENZO_UNKNOWN_SERVER = 30,
+    DURKENZO_LEAVING = 31,      /* the server is leaving for a restart */
+    DURKENZO_NO_CAPACITY = 32,  /* the server has no room */
+    DURKENZO_DOMAIN_LIMIT = 33, /* the server's domain has its share of the shards */
+    DURKENZO_NOT_UP = 40,       /* 40 to 49 refuse a step of a restart */
+    DURKENZO_NOT_ASKED = 41,
+    DURKENZO_GLOBAL_CAP = 42,   /* too many servers would be leaving */
+    DURKENZO_SHARD_CAP = 43,
+    DURKENZO_GROUP_CAP = 44,
+    DURKENZO_DOMAIN_CAP = 45,
+    DURKENZO_NOT_APPROVED = 46,
+    DURKENZO_STILL_SERVING = 47, /* a shard that names the server isn't paused */
+    DURKENZO_ALREADY_UP = 48,
+    DURKENZO_ALREADY_FAILED = 49
+};
+
+/* Changes of a shard's stand. The first two and the last name a server. */
+enum durkenzo_change_kind {
+    DURKENZO_ASSIGN = 1,             /* a vacant shard gets this owner */
+    DURKENZO_PREPARE_ADD_SHARD = 2,  /* a migration to this server begins */
+    DURKENZO_PREPARE_DROP_SHARD = 3, /* the owner stops executing, and forwards to the next owner */
+    DURKENZO_ADD_SHARD = 4,          /* the next owner becomes the owner, the previous one forwards */
+    DURKENZO_DROP_SHARD = 5,         /* the migration ends */
+    DURKENZO_CANCEL = 6,             /* before ADD_SHARD: the shard stays with its owner */
+    DURKENZO_PAUSE = 7,              /* nobody executes */
+    DURKENZO_RESUME = 8,             /* the owner of a paused shard executes again */
+    DURKENZO_REASSIGN = 9            /* a paused shard gets this owner */
+};
+
+/* Steps of a server's restart. */
+enum durkenzo_restart_kind {
+    DURKENZO_ASK = 1,
+    DURKENZO_APPROVE = 2,
+    DURKENZO_STOPPED = 3,
+    DURKENZO_BACK = 4,
+    DURKENZO_FAIL = 5
+};
+
+/* Opens a board with a body for each of `count` numbers (1 to 4,096), of servers 1 to `servers` (at most 4,095),
+ * at most `ops` of which restart at once; generations stay at or below `ceiling`. The handle keeps its control, in
+ * place of what it kept. Errors: BAD_ARGUMENT, NO_MEMORY, BAD_CEILING, NO_SHARD, TOO_MANY, BAD_BOOKS. */
+uint32_t durkenzo_open(durkenzo_handle *control, const uint64_t *numbers, size_t count, uint16_t servers, uint16_t ops,
+                       uint64_t ceiling);
+
+/* Makes a new pass on the board of this control, as this server for good. The pass's handle keeps it, in place of
+ * what it kept; the board lives until its control and all its passes are closed. Errors: WRONG_HANDLE,
+ * BAD_ARGUMENT, NO_MEMORY. */
+uint32_t durkenzo_pass(durkenzo_handle *control, durkenzo_handle *pass, uint16_t server);
+
+/* Writes the shard's record to `record`. The pass may hold an admission, of whose shard the generation then is a
+ * fencing token: each later admission to the shard has a greater one. Errors: WRONG_HANDLE, UNKNOWN_SHARD. */
+uint32_t durkenzo_look(durkenzo_handle *pass, uint16_t shard, durkenzo_record *record);
+
+/* Admits the pass to the shard, for a request that came directly (`from` 0) or that this server forwarded. Writes
+ * the number of the shard's body, which is yours alone until durkenzo_finish. Errors: WRONG_HANDLE (also where the
+ * pass has an admission), BAD_ARGUMENT, UNKNOWN_SHARD, and 21 to 26 or RACED, which write `read`. */
+uint32_t durkenzo_admit(durkenzo_handle *pass, uint16_t shard, uint16_t from, uint64_t *number, durkenzo_record *read);
+
+/* Ends the admission of the pass, and writes the shard's generation since then. Error: WRONG_HANDLE, where it has
+ * none. */
+uint32_t durkenzo_finish(durkenzo_handle *pass, uint64_t *generation);
+
+/* Makes this change of the shard, for this server where the kind names one. Errors: WRONG_HANDLE, BAD_ARGUMENT,
+ * UNKNOWN_SHARD to SAME_SERVER, UNKNOWN_SERVER to DOMAIN_LIMIT; CHANGE_SPENT, BUSY and RACED write `read`. */
+uint32_t durkenzo_change(durkenzo_handle *control, uint16_t shard, uint8_t kind, uint16_t server,
+                         durkenzo_record *read);
+
+/* Makes this step of the server's restart. Errors: WRONG_HANDLE, BAD_ARGUMENT, UNKNOWN_SERVER, and 40 to 49. */
+uint32_t durkenzo_restart(durkenzo_handle *control, uint8_t kind, uint16_t server);
+
+/* Lets go what the handle keeps: an admission ends, and the handle keeps nothing. */
+void durkenzo_close(durkenzo_handle *handle);
+
+/* One decision on one record, packed into a word that you keep; 0 is that of a vacant shard. Each writes the next
+ * word. */
+
+/* After this change. Errors: BAD_ARGUMENT, BAD_WORD, BAD_CEILING, and 11 to 14. */
+uint32_t durkenzo_changed(uint64_t word, uint8_t kind, uint16_t server, uint64_t ceiling, uint64_t *next);
+
+/* After an admission of the server. Errors: BAD_ARGUMENT, BAD_WORD, and 21 to 26. */
+uint32_t durkenzo_admitted(uint64_t word, uint16_t server, uint16_t from, uint64_t ceiling, uint64_t *next);
+
+/* After the end of its admission. Error: NOT_ADMITTED. */
+uint32_t durkenzo_ended(uint64_t word, uint64_t *next);
+
+/* Writes the record of the word. Error: BAD_WORD. */
+uint32_t durkenzo_unpack(uint64_t word, durkenzo_record *record);
+
+/* The server to which this one forwards requests on the shard of this word, or 0. */
+uint16_t durkenzo_forward(uint64_t word, uint16_t server);
+
+/* The server that executes requests on the shard of this word, or 0. */
+uint16_t durkenzo_executor(uint64_t word);
+
+#ifdef __cplusplus
+}
+#endif
+
+#endif

@@ -1,0 +1,255 @@
+"""Shards that move between servers while each has one writer, decided by proved code.
+
+A Board keeps a body, any object, for each shard. A thread makes a Pass as one of the board's servers, and is
+admitted to a
+shard where that server executes the shard's requests and nobody else is admitted. The Permit then has the body for
+itself,
+without a lock, until it ends. The board's Control moves shards between servers meanwhile.
+
+    board = Board([[] for _ in range(4)], servers=2)
+    board.control.assign(3, 1)
+    with board.new_pass(1) as one:
+        with one.admit(3) as permit:
+            permit.body.append("first")
+
+Which server is admitted, and that no two permits of a shard live at once, is decided by proved code. That a body
+isn't kept
+beyond its permit is up to the caller.
+"""
+from __future__ import annotations
+
+import ctypes
+import threading
+from types import TracebackType
+from typing import Callable, Generic, Iterable, TypeVar
+
+from ._library import LIBRARY, Handle, RecordParts
+from .errors import *
+from .errors import Busy, DurkenzoError, NotAdmitted, Raced, IsAdmitted, error_of
+from .record import Phase, Record
+
+T = TypeVar("T")
+R = TypeVar("R")
+
+MAX_GENERATION = (1 << 36) - 1
+
+
+def _check(code: int, parts: RecordParts | None = None) -> None:
+    if code:
+        raise error_of(code, Record.of(parts) if parts else None)
+
+
+class _Kept:
+    """What the library keeps for an object, which lets it go at the end."""
+
+    def __init__(self) -> None:
+        self._handle = Handle()
+
+    def close(self) -> None:
+        """Lets go what the library keeps for this. An admission ends. Further calls raise WrongHandle."""
+        LIBRARY.durkenzo_close(ctypes.byref(self._handle))
+
+    def __del__(self) -> None:
+        self.close()
+
+
+class Permit(Generic[T]):
+    """The right to a shard's body, which nobody else has. Leave its `with` block, or call finish, to end the
+    admission."""
+
+    def __init__(self, of: Pass[T], shard: int, body: T) -> None:
+        self._pass = of
+        self._is_open = True
+        self.shard = shard
+        self._body = body
+
+    @property
+    def body(self) -> T:
+        """The shard's body. Raises NotAdmitted once the admission has ended."""
+        if not self._is_open:
+            raise NotAdmitted()
+        return self._body
+
+    @property
+    def generation(self) -> int:
+        """The shard's generation at this admission, a fencing token: each later admission to the shard has a
+        greater one."""
+        if not self._is_open:
+            raise NotAdmitted()
+        return self._pass.look(self.shard).generation
+
+    def finish(self) -> int:
+        """Ends the admission, and returns the shard's generation since then. Raises NotAdmitted where it has ended."""
+        if not self._is_open:
+            raise NotAdmitted()
+        self._is_open = False
+        generation = ctypes.c_uint64()
+        _check(LIBRARY.durkenzo_finish(ctypes.byref(self._pass._handle), ctypes.byref(generation)))
+        return generation.value
+
+    def __enter__(self) -> Permit[T]:
+        return self
+
+    def __exit__(self, kind: type[BaseException] | None, error: BaseException | None, at: TracebackType | None) -> None:
+        if self._is_open:
+            self.finish()
+
+
+class Pass(_Kept, Generic[T]):
+    """What one thread at a time acts on a board with, as one server for good."""
+
+    def __init__(self, board: Board[T], server: int) -> None:
+        super().__init__()
+        self._board = board
+        with board._lock:
+            _check(LIBRARY.durkenzo_pass(ctypes.byref(board._handle), ctypes.byref(self._handle), server))
+
+    def look(self, shard: int) -> Record:
+        """Returns the shard's record now. Raises UnknownShard."""
+        parts = RecordParts()
+        _check(LIBRARY.durkenzo_look(ctypes.byref(self._handle), shard, ctypes.byref(parts)))
+        return Record.of(parts)
+
+    def admit(self, shard: int, forwarded_by: int = 0) -> Permit[T]:
+        """Admits the pass's server to the shard, for a client's request or one that this server forwarded.
+
+        Raises NobodyOwns, IsPaused, NotExecutor, NotYet, IsAdmitted, Spent or Raced, with the record that was read;
+        UnknownShard; or WrongHandle where the pass has a permit.
+        """
+        number, parts = ctypes.c_uint64(), RecordParts()
+        code = LIBRARY.durkenzo_admit(
+            ctypes.byref(self._handle), shard, forwarded_by, ctypes.byref(number), ctypes.byref(parts)
+        )
+        _check(code, parts)
+        return Permit(self, shard, self._board._bodies[number.value])
+
+    def run(self, shard: int, work: Callable[[T], R], forwarded_by: int = 0) -> R:
+        """Admits the pass, again while another thread has the shard or was first, and returns what `work` makes of
+        the body."""
+        while True:
+            try:
+                permit = self.admit(shard, forwarded_by)
+            except (IsAdmitted, Raced):
+                continue
+            with permit:
+                return work(permit.body)
+
+    def __enter__(self) -> Pass[T]:
+        return self
+
+    def __exit__(self, kind: type[BaseException] | None, error: BaseException | None, at: TracebackType | None) -> None:
+        self.close()
+
+
+class Control(Generic[T]):
+    """Moves the shards of a board between its servers. Threads may share it: each call takes the control's lock."""
+
+    def __init__(self, board: Board[T]) -> None:
+        self._board = board
+
+    def _change(self, shard: int, kind: int, server: int = 0) -> None:
+        parts = RecordParts()
+        with self._board._lock:
+            code = LIBRARY.durkenzo_change(ctypes.byref(self._board._handle), shard, kind, server, ctypes.byref(parts))
+        _check(code, parts)
+
+    def _restart(self, kind: int, server: int) -> None:
+        with self._board._lock:
+            _check(LIBRARY.durkenzo_restart(ctypes.byref(self._board._handle), kind, server))
+
+    def assign(self, shard: int, server: int) -> None:
+        """Gives a vacant shard this owner."""
+        self._change(shard, 1, server)
+
+    def prepare_add_shard(self, shard: int, server: int) -> None:
+        """Begins a migration of the shard to this server."""
+        self._change(shard, 2, server)
+
+    def prepare_drop_shard(self, shard: int) -> None:
+        """Has the shard's owner stop executing, and forward to the next owner."""
+        self._change(shard, 3)
+
+    def add_shard(self, shard: int) -> None:
+        """Makes the next owner the owner, to whom the previous one forwards."""
+        self._change(shard, 4)
+
+    def drop_shard(self, shard: int) -> None:
+        """Ends the migration, as the previous owner drops the shard."""
+        self._change(shard, 5)
+
+    def cancel(self, shard: int) -> None:
+        """Gives up a migration that hasn't reached add_shard."""
+        self._change(shard, 6)
+
+    def pause(self, shard: int) -> None:
+        """Has nobody execute the shard's requests."""
+        self._change(shard, 7)
+
+    def resume(self, shard: int) -> None:
+        """Has the owner of a paused shard execute again."""
+        self._change(shard, 8)
+
+    def reassign(self, shard: int, server: int) -> None:
+        """Gives a paused shard this owner."""
+        self._change(shard, 9, server)
+
+    def migrate(self, shard: int, server: int) -> None:
+        """Moves the shard to this server by a whole migration, whose steps are tried again while the shard is
+        admitted."""
+        self._again(lambda: self.prepare_add_shard(shard, server))
+        self._again(lambda: self.prepare_drop_shard(shard))
+        self._again(lambda: self.add_shard(shard))
+        self._again(lambda: self.drop_shard(shard))
+
+    def ask(self, server: int) -> None:
+        """Asks for a restart of the server."""
+        self._restart(1, server)
+
+    def approve(self, server: int) -> None:
+        """Approves the restart of the server, within the caps."""
+        self._restart(2, server)
+
+    def stopped(self, server: int) -> None:
+        """Notes that the server was stopped for its restart."""
+        self._restart(3, server)
+
+    def back(self, server: int) -> None:
+        """Notes that the server is up again."""
+        self._restart(4, server)
+
+    def fail(self, server: int) -> None:
+        """Notes that the server failed."""
+        self._restart(5, server)
+
+    @staticmethod
+    def _again(change: Callable[[], None]) -> None:
+        while True:
+            try:
+                return change()
+            except (Busy, Raced):
+                pass
+
+
+class Board(_Kept, Generic[T]):
+    """A board: a body for each shard, and who may use it. Threads may share it."""
+
+    def __init__(self, bodies: Iterable[T], servers: int, restarts: int = 1, ceiling: int = MAX_GENERATION) -> None:
+        """Makes a board with these bodies, 1 to 4,096, of servers 1 to this one, at most `restarts` of which
+        restart at once.
+
+        Raises NoShard, TooMany, BadArgument, BadCeiling or NoMemory.
+        """
+        super().__init__()
+        self._bodies = list(bodies)
+        self._lock = threading.Lock()
+        self.control: Control[T] = Control(self)
+        count = len(self._bodies)
+        numbers = (ctypes.c_uint64 * count)(*range(count))
+        _check(LIBRARY.durkenzo_open(ctypes.byref(self._handle), numbers, count, servers, restarts, ceiling))
+
+    def __len__(self) -> int:
+        return len(self._bodies)
+
+    def new_pass(self, server: int) -> Pass[T]:
+        """Returns a new pass, admitted as this server. Raises BadArgument or NoMemory."""
+        return Pass(self, server)

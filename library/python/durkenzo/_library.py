@@ -1,0 +1,54 @@
+"""The calls of the proved library, as durkenzo.h declares them."""
+import ctypes
+import ctypes.util
+import os
+import pathlib
+
+u8, u16, u32, u64 = ctypes.c_uint8, ctypes.c_uint16, ctypes.c_uint32, ctypes.c_uint64
+NAME = "libdurkenzo.so"
+
+
+class Handle(ctypes.Structure):
+    """What the library keeps between calls. It begins as zeros, and is used by one call at a time."""
+
+    _fields_ = [("full", ctypes.c_bool), ("owned", ctypes.c_void_p)]
+
+
+class RecordParts(ctypes.Structure):
+    """A shard's record."""
+
+    _fields_ = [("generation", u64), ("owner", u16), ("other", u16), ("phase", u8), ("admitted", ctypes.c_bool)]
+
+
+def found() -> str:
+    """Returns where the library is."""
+    here = pathlib.Path(__file__).resolve().parent
+    folders = [os.environ.get("DURKENZO_SO"), here, here.parent.parent / "build"]
+    for folder in filter(None, folders):
+        if (path := pathlib.Path(folder) / NAME).is_file():
+            return str(path)
+    if name := ctypes.util.find_library("durkenzo"):
+        return name
+    raise ImportError(f"{NAME} isn't found: run `make` in library/, or set DURKENZO_SO to a folder that has it")
+
+
+def loaded() -> ctypes.CDLL:
+    """Returns the library with the types of its calls."""
+    library, handle, record, number = ctypes.CDLL(found()), *map(ctypes.POINTER, (Handle, RecordParts, u64))
+    calls = {
+        "open": [handle, number, ctypes.c_size_t, u16, u16, u64],
+        "pass": [handle, handle, u16],
+        "look": [handle, u16, record],
+        "admit": [handle, u16, u16, number, record],
+        "finish": [handle, number],
+        "change": [handle, u16, u8, u16, record],
+        "restart": [handle, u8, u16],
+    }
+    for name, types in calls.items():
+        call = getattr(library, f"durkenzo_{name}")
+        call.argtypes, call.restype = types, u32
+    library.durkenzo_close.argtypes, library.durkenzo_close.restype = [handle], None
+    return library
+
+
+LIBRARY = loaded()

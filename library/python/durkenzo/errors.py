@@ -1,0 +1,265 @@
+"""Why calls are refused: an exception for each reason."""
+from __future__ import annotations
+
+from .record import Record
+
+__all__ = [
+    "DurkenzoError",
+    "WrongHandle",
+    "BadArgument",
+    "NoMemory",
+    "BadCeiling",
+    "NoShard",
+    "TooMany",
+    "BadBooks",
+    "UnknownShard",
+    "WrongPhase",
+    "SameServer",
+    "ChangeSpent",
+    "Busy",
+    "Raced",
+    "NobodyOwns",
+    "IsPaused",
+    "NotExecutor",
+    "NotYet",
+    "IsAdmitted",
+    "Spent",
+    "NotAdmitted",
+    "UnknownServer",
+    "Leaving",
+    "NoCapacity",
+    "DomainLimit",
+    "NotUp",
+    "NotAsked",
+    "GlobalCap",
+    "ShardCap",
+    "GroupCap",
+    "DomainCap",
+    "NotApproved",
+    "StillServing",
+    "AlreadyUp",
+    "AlreadyFailed",
+]
+
+
+class DurkenzoError(Exception):
+    """A call was refused. `record` is what was read of the shard, where a record refused it."""
+
+    code = 0
+
+    def __init__(self, record: Record | None = None) -> None:
+        super().__init__(self.__doc__ if record is None else f"{self.__doc__} {record}")
+        self.record = record
+
+
+class WrongHandle(DurkenzoError):
+    """The pass has a permit, or was closed."""
+
+    code = 1
+
+
+class BadArgument(DurkenzoError):
+    """A server has a number from 1 to 4,095."""
+
+    code = 2
+
+
+class NoMemory(DurkenzoError):
+    """Memory was refused."""
+
+    code = 3
+
+
+class BadCeiling(DurkenzoError):
+    """The ceiling of generations is 3 to 2^36 - 1."""
+
+    code = 5
+
+
+class NoShard(DurkenzoError):
+    """A board has at least one shard."""
+
+    code = 6
+
+
+class TooMany(DurkenzoError):
+    """A board has at most 4,096 shards."""
+
+    code = 7
+
+
+class BadBooks(DurkenzoError):
+    """There are no servers."""
+
+    code = 8
+
+
+class UnknownShard(DurkenzoError):
+    """There is no such shard."""
+
+    code = 10
+
+
+class WrongPhase(DurkenzoError):
+    """The change doesn't begin from the shard's stand."""
+
+    code = 11
+
+
+class SameServer(DurkenzoError):
+    """The server owns the shard."""
+
+    code = 12
+
+
+class ChangeSpent(DurkenzoError):
+    """The shard's generations are spent."""
+
+    code = 13
+
+
+class Busy(DurkenzoError):
+    """The shard is admitted."""
+
+    code = 14
+
+
+class Raced(DurkenzoError):
+    """Another thread was first."""
+
+    code = 15
+
+
+class NobodyOwns(DurkenzoError):
+    """Nobody owns the shard."""
+
+    code = 21
+
+
+class IsPaused(DurkenzoError):
+    """The shard is paused."""
+
+    code = 22
+
+
+class NotExecutor(DurkenzoError):
+    """Another server executes the shard's requests."""
+
+    code = 23
+
+
+class NotYet(DurkenzoError):
+    """The server executes only what the owner forwards."""
+
+    code = 24
+
+
+class IsAdmitted(DurkenzoError):
+    """The shard has an admission that hasn't ended."""
+
+    code = 25
+
+
+class Spent(DurkenzoError):
+    """The shard's generations are spent."""
+
+    code = 26
+
+
+class NotAdmitted(DurkenzoError):
+    """The admission has ended."""
+
+    code = 27
+
+
+class UnknownServer(DurkenzoError):
+    """There is no such server."""
+
+    code = 30
+
+
+class Leaving(DurkenzoError):
+    """The server is leaving for a restart."""
+
+    code = 31
+
+
+class NoCapacity(DurkenzoError):
+    """The server has no room."""
+
+    code = 32
+
+
+class DomainLimit(DurkenzoError):
+    """The server's domain has its share of the shards."""
+
+    code = 33
+
+
+class NotUp(DurkenzoError):
+    """The server isn't up."""
+
+    code = 40
+
+
+class NotAsked(DurkenzoError):
+    """The restart wasn't asked for."""
+
+    code = 41
+
+
+class GlobalCap(DurkenzoError):
+    """Too many servers would be leaving."""
+
+    code = 42
+
+
+class ShardCap(DurkenzoError):
+    """A shard may not be down."""
+
+    code = 43
+
+
+class GroupCap(DurkenzoError):
+    """Too many shards of a group would be down."""
+
+    code = 44
+
+
+class DomainCap(DurkenzoError):
+    """Too many servers of a domain would be down."""
+
+    code = 45
+
+
+class NotApproved(DurkenzoError):
+    """The restart isn't approved."""
+
+    code = 46
+
+
+class StillServing(DurkenzoError):
+    """A shard that names the server isn't paused."""
+
+    code = 47
+
+
+class AlreadyUp(DurkenzoError):
+    """The server is up already."""
+
+    code = 48
+
+
+class AlreadyFailed(DurkenzoError):
+    """The server has failed already."""
+
+    code = 49
+
+
+_READ = {13, 14, 15, 21, 22, 23, 24, 25, 26}
+_BY_CODE = {it.code: it for it in DurkenzoError.__subclasses__()}
+
+
+def error_of(code: int, record: Record | None) -> DurkenzoError:
+    """Returns the exception of a code, with the record where the library wrote one."""
+    return _BY_CODE[code](record if code in _READ else None)

@@ -1,0 +1,35 @@
+"""A shard's record."""
+from __future__ import annotations
+
+import enum
+from dataclasses import dataclass
+
+from ._library import RecordParts
+
+
+class Phase(enum.IntEnum):
+    """How far the migration of a shard has come."""
+
+    VACANT = 0
+    SERVING = 1
+    PREPARED = 2
+    FORWARDING = 3
+    TAKEN = 4
+    PAUSED = 5
+
+
+@dataclass(frozen=True)
+class Record:
+    """What the board holds for a shard. Servers are 0 where there is none; `other` is the next or the previous
+    owner."""
+
+    phase: Phase
+    owner: int
+    other: int
+    admitted: bool
+    generation: int
+
+    @staticmethod
+    def of(parts: RecordParts) -> Record:
+        """Returns the record of what the library wrote."""
+        return Record(Phase(parts.phase), parts.owner, parts.other, parts.admitted, parts.generation)

@@ -1,0 +1,123 @@
+"""Tests of the Python face of the library."""
+import sqlite3
+import threading
+import unittest
+
+import durkenzo
+from durkenzo import Board, Phase
+
+
+class Counter:
+    def __init__(self):
+        self.count = 0
+
+
+class Boards(unittest.TestCase):
+    def test_a_migration_step_by_step(self):
+        board = Board([[], []], servers=3)
+        with board.new_pass(1) as one, board.new_pass(2) as two:
+            with self.assertRaises(durkenzo.NobodyOwns) as refused:
+                one.admit(0)
+            self.assertEqual(refused.exception.record.phase, Phase.VACANT)
+            board.control.assign(0, 1)
+            with one.admit(0) as permit:
+                permit.body.append(1)
+                with self.assertRaises(durkenzo.Busy) as busy:
+                    board.control.pause(0)
+                self.assertTrue(busy.exception.record.admitted)
+                self.assertRaises(durkenzo.WrongHandle, one.admit, 0)
+            self.assertRaises(durkenzo.NotAdmitted, lambda: permit.body)
+            self.assertRaises(durkenzo.NotAdmitted, permit.finish)
+            board.control.prepare_add_shard(0, 2)
+            board.control.prepare_drop_shard(0)
+            self.assertRaises(durkenzo.NotYet, two.admit, 0)
+            with two.admit(0, forwarded_by=1) as permit:
+                permit.body.append(2)
+            board.control.add_shard(0)
+            board.control.drop_shard(0)
+            self.assertEqual((two.look(0).phase, two.look(0).owner), (Phase.SERVING, 2))
+            self.assertEqual(two.run(0, list), [1, 2])
+            self.assertRaises(durkenzo.UnknownShard, two.look, 2)
+
+    def test_an_exception_ends_the_admission(self):
+        board = Board([Counter()], servers=1)
+        board.control.assign(0, 1)
+        with board.new_pass(1) as one:
+            with self.assertRaises(ZeroDivisionError):
+                with one.admit(0) as permit:
+                    token = permit.generation
+                    _ = 1 // 0
+            with one.admit(0) as permit:
+                self.assertGreater(permit.generation, token)
+
+    def test_the_generation_fences_late_writes(self):
+        board = Board([None], servers=2)
+        board.control.assign(0, 1)
+        store = sqlite3.connect(":memory:")
+        store.execute("CREATE TABLE accounts (shard INTEGER, balance INTEGER, generation INTEGER)")
+        store.execute("INSERT INTO accounts VALUES (0, 0, 0)")
+
+        def put(balance, generation):
+            change = "UPDATE accounts SET balance = ?1, generation = ?2 WHERE shard = 0 AND generation <= ?2"
+            return store.execute(change, (balance, generation)).rowcount
+
+        with board.new_pass(1) as one, board.new_pass(2) as two:
+            with one.admit(0) as permit:
+                old = permit.generation
+                self.assertEqual(put(10, old), 1)
+            board.control.migrate(0, 2)
+            with two.admit(0) as permit:
+                self.assertEqual(put(20, permit.generation), 1)
+            self.assertEqual(put(30, old), 0)
+        self.assertEqual(store.execute("SELECT balance FROM accounts").fetchall(), [(20,)])
+
+    def test_sizes_and_restarts(self):
+        self.assertRaises(durkenzo.NoShard, Board, [], servers=1)
+        self.assertRaises(durkenzo.TooMany, Board, range(4097), servers=1)
+        self.assertRaises(durkenzo.BadCeiling, Board, [0], servers=1, ceiling=2)
+        control = Board([0], servers=2).control
+        control.ask(1)
+        control.ask(2)
+        control.approve(1)
+        self.assertRaises(durkenzo.GlobalCap, control.approve, 2)
+        self.assertRaises(durkenzo.Leaving, control.assign, 0, 1)
+
+    def test_threads_count_without_a_lock(self):
+        board = Board([Counter() for _ in range(8)], servers=4)
+        for shard in range(8):
+            board.control.assign(shard, shard % 4 + 1)
+        done = [0] * 4
+
+        def serve(thread):
+            with board.new_pass(thread + 1) as mine:
+                for turn in range(20000):
+                    try:
+                        with mine.admit(turn % 8) as permit:
+                            count = permit.body.count
+                            permit.body.count = count + 1
+                            done[thread] += 1
+                    except (durkenzo.NotExecutor, durkenzo.NotYet, durkenzo.IsAdmitted, durkenzo.Raced):
+                        pass
+
+        threads = [threading.Thread(target=serve, args=(it,)) for it in range(4)]
+        for it in threads:
+            it.start()
+        for turn in range(200):
+            try:
+                board.control.migrate(turn % 8, turn // 8 % 4 + 1)
+            except durkenzo.SameServer:
+                pass
+        for it in threads:
+            it.join()
+        with board.new_pass(1) as look:
+            counts = 0
+            for shard in range(8):
+                board.control.pause(shard)
+                board.control.reassign(shard, 1) if look.look(shard).owner != 1 else board.control.resume(shard)
+                counts += look.run(shard, lambda body: body.count)
+        self.assertEqual(counts, sum(done))
+        self.assertGreater(counts, 0)
+
+
+if __name__ == "__main__":
+    unittest.main()

@@ -1,0 +1,127 @@
+use crate::board::Shared;
+use crate::fault::{ChangeFault, RestartFault};
+use crate::raw::{self, RecordParts};
+use crate::record::Record;
+use std::sync::Arc;
+
+/// The control of a board: it alone changes who owns a shard. Each call takes the control's lock for its own time.
+pub struct Control<T> {
+    shared: Arc<Shared<T>>,
+}
+
+impl<T> Control<T> {
+    pub(crate) fn new(shared: Arc<Shared<T>>) -> Control<T> {
+        Control { shared }
+    }
+
+    /// Gives a vacant shard this owner.
+    pub fn assign(&self, shard: u16, server: u16) -> Result<(), ChangeFault> {
+        self.change(shard, 1, server)
+    }
+
+    /// Begins a migration of the shard to this server.
+    pub fn prepare_add_shard(&self, shard: u16, server: u16) -> Result<(), ChangeFault> {
+        self.change(shard, 2, server)
+    }
+
+    /// Has the shard's owner stop executing, and forward to the next owner.
+    pub fn prepare_drop_shard(&self, shard: u16) -> Result<(), ChangeFault> {
+        self.change(shard, 3, 0)
+    }
+
+    /// Makes the next owner the owner, to whom the previous one forwards.
+    pub fn add_shard(&self, shard: u16) -> Result<(), ChangeFault> {
+        self.change(shard, 4, 0)
+    }
+
+    /// Ends the migration, as the previous owner drops the shard.
+    pub fn drop_shard(&self, shard: u16) -> Result<(), ChangeFault> {
+        self.change(shard, 5, 0)
+    }
+
+    /// Gives up a migration that hasn't reached `add_shard`.
+    pub fn cancel(&self, shard: u16) -> Result<(), ChangeFault> {
+        self.change(shard, 6, 0)
+    }
+
+    /// Has nobody execute the shard's requests.
+    pub fn pause(&self, shard: u16) -> Result<(), ChangeFault> {
+        self.change(shard, 7, 0)
+    }
+
+    /// Has the owner of a paused shard execute again.
+    pub fn resume(&self, shard: u16) -> Result<(), ChangeFault> {
+        self.change(shard, 8, 0)
+    }
+
+    /// Gives a paused shard this owner.
+    pub fn reassign(&self, shard: u16, server: u16) -> Result<(), ChangeFault> {
+        self.change(shard, 9, server)
+    }
+
+    /// Moves the shard to this server by a whole migration, whose steps are tried again while the shard is admitted.
+    pub fn migrate(&self, shard: u16, server: u16) -> Result<(), ChangeFault> {
+        again(|| self.prepare_add_shard(shard, server))?;
+        again(|| self.prepare_drop_shard(shard))?;
+        again(|| self.add_shard(shard))?;
+        again(|| self.drop_shard(shard))
+    }
+
+    /// Asks for a restart of the server.
+    pub fn ask(&self, server: u16) -> Result<(), RestartFault> {
+        self.restart(1, server)
+    }
+
+    /// Approves the restart of the server, within the caps.
+    pub fn approve(&self, server: u16) -> Result<(), RestartFault> {
+        self.restart(2, server)
+    }
+
+    /// Notes that the server was stopped for its restart.
+    pub fn stopped(&self, server: u16) -> Result<(), RestartFault> {
+        self.restart(3, server)
+    }
+
+    /// Notes that the server is up again.
+    pub fn back(&self, server: u16) -> Result<(), RestartFault> {
+        self.restart(4, server)
+    }
+
+    /// Notes that the server failed.
+    pub fn fail(&self, server: u16) -> Result<(), RestartFault> {
+        self.restart(5, server)
+    }
+
+    fn change(&self, shard: u16, kind: u8, server: u16) -> Result<(), ChangeFault> {
+        let mut read = RecordParts::default();
+        // SAFETY: the control's handle is locked, and the record is this call's alone.
+        match unsafe { raw::durkenzo_change(&mut *self.shared.chief(), shard, kind, server, &mut read) } {
+            0 => Ok(()),
+            code => Err(ChangeFault::of(code, Record::of(&read))),
+        }
+    }
+
+    fn restart(&self, kind: u8, server: u16) -> Result<(), RestartFault> {
+        // SAFETY: the control's handle is locked.
+        match unsafe { raw::durkenzo_restart(&mut *self.shared.chief(), kind, server) } {
+            0 => Ok(()),
+            code => Err(RestartFault::of(code)),
+        }
+    }
+}
+
+impl<T> Clone for Control<T> {
+    fn clone(&self) -> Control<T> {
+        Control { shared: self.shared.clone() }
+    }
+}
+
+/// Makes the change, and again while another thread had the shard or was first.
+fn again(change: impl Fn() -> Result<(), ChangeFault>) -> Result<(), ChangeFault> {
+    loop {
+        match change() {
+            Err(fault) if fault.is_passing() => std::thread::yield_now(),
+            answer => return answer,
+        }
+    }
+}

@@ -1,0 +1,289 @@
+//! Why calls are refused.
+use crate::record::Record;
+use std::error::Error;
+use std::fmt;
+
+/// Why there is no board.
+#[derive(Clone, Copy, Debug, PartialEq, Eq)]
+pub enum BuildFault {
+    /// A board has at least one shard.
+    NoShard,
+    /// A board has at most 4,096 shards.
+    TooMany,
+    /// The ceiling of generations is 3 to 68,719,476,735.
+    BadCeiling,
+    /// A board has 1 to 4,095 servers, and at most 4,095 restarts at once.
+    BadServers,
+    /// Memory was refused.
+    NoMemory,
+}
+
+/// Why a shard isn't looked at.
+#[derive(Clone, Copy, Debug, PartialEq, Eq)]
+pub struct UnknownShard;
+
+/// Why there is no pass.
+#[derive(Clone, Copy, Debug, PartialEq, Eq)]
+pub enum PassFault {
+    /// A server has a number from 1 to 4,095.
+    BadServer,
+    /// Memory was refused.
+    NoMemory,
+}
+
+/// Why a pass isn't admitted to a shard, with the record that was read.
+#[derive(Clone, Copy, Debug, PartialEq, Eq)]
+pub enum AdmitFault {
+    /// Nobody owns the shard.
+    Vacant(Record),
+    /// The shard is paused.
+    Paused(Record),
+    /// Another server executes the shard's requests.
+    NotExecutor(Record),
+    /// The server executes only what the owner forwards.
+    NotYet(Record),
+    /// The shard has an admission that hasn't ended.
+    Admitted(Record),
+    /// The shard's generations are spent.
+    Spent(Record),
+    /// Another thread was first; the record is the one that was found.
+    Raced(Record),
+    /// There is no such shard.
+    UnknownShard,
+    /// The server that forwarded has no number from 1 to 4,095.
+    BadServer,
+    /// A permit of this pass was forgotten, so the pass holds it still.
+    Holding,
+}
+
+/// Why a change of a shard isn't made, with the record that was read where one was.
+#[derive(Clone, Copy, Debug, PartialEq, Eq)]
+pub enum ChangeFault {
+    /// There is no such shard.
+    UnknownShard,
+    /// There is no such server.
+    UnknownServer,
+    /// The change doesn't begin from the shard's stand.
+    WrongPhase,
+    /// The change names the shard's owner as its new server.
+    SameServer,
+    /// The shard's generations are spent.
+    Spent(Record),
+    /// The shard is admitted now.
+    Busy(Record),
+    /// Another thread was first; the record is the one that was found.
+    Raced(Record),
+    /// The server is leaving for a restart.
+    Leaving,
+    /// The server has no room.
+    NoCapacity,
+    /// The server's domain has its share of the shard's group.
+    DomainLimit,
+}
+
+/// Why a step of a server's restart isn't made.
+#[derive(Clone, Copy, Debug, PartialEq, Eq)]
+pub enum RestartFault {
+    /// There is no such server.
+    UnknownServer,
+    /// The server isn't up.
+    NotUp,
+    /// The restart wasn't asked for.
+    NotAsked,
+    /// Too many servers would be leaving.
+    GlobalCap,
+    /// A shard may not be down.
+    ShardCap,
+    /// Too many shards of a group would be down.
+    GroupCap,
+    /// Too many servers of a domain would be down.
+    DomainCap,
+    /// The restart isn't approved.
+    NotApproved,
+    /// A shard that names the server isn't paused.
+    StillServing,
+    /// The server is up already.
+    AlreadyUp,
+    /// The server has failed already.
+    AlreadyFailed,
+}
+
+impl BuildFault {
+    pub(crate) fn of(code: u32) -> BuildFault {
+        match code {
+            3 => BuildFault::NoMemory,
+            5 => BuildFault::BadCeiling,
+            6 => BuildFault::NoShard,
+            7 => BuildFault::TooMany,
+            _ => BuildFault::BadServers,
+        }
+    }
+}
+
+impl AdmitFault {
+    pub(crate) fn of(code: u32, read: Record) -> AdmitFault {
+        match code {
+            1 => AdmitFault::Holding,
+            2 => AdmitFault::BadServer,
+            10 => AdmitFault::UnknownShard,
+            15 => AdmitFault::Raced(read),
+            21 => AdmitFault::Vacant(read),
+            22 => AdmitFault::Paused(read),
+            23 => AdmitFault::NotExecutor(read),
+            24 => AdmitFault::NotYet(read),
+            25 => AdmitFault::Admitted(read),
+            26 => AdmitFault::Spent(read),
+            other => unreachable!("an admission answered code {other}"),
+        }
+    }
+
+    /// The record that was read, or found, where one was.
+    pub fn record(&self) -> Option<Record> {
+        use AdmitFault::*;
+        match *self {
+            Vacant(it) | Paused(it) | NotExecutor(it) | NotYet(it) | Admitted(it) | Spent(it) | Raced(it) => Some(it),
+            UnknownShard | BadServer | Holding => None,
+        }
+    }
+
+    /// Whether the same call may be admitted at once when it is made again: another thread had the shard or was first.
+    pub fn is_passing(&self) -> bool {
+        matches!(self, AdmitFault::Admitted(_) | AdmitFault::Raced(_))
+    }
+}
+
+impl ChangeFault {
+    pub(crate) fn of(code: u32, read: Record) -> ChangeFault {
+        match code {
+            2 | 30 => ChangeFault::UnknownServer,
+            10 => ChangeFault::UnknownShard,
+            11 => ChangeFault::WrongPhase,
+            12 => ChangeFault::SameServer,
+            13 => ChangeFault::Spent(read),
+            14 => ChangeFault::Busy(read),
+            15 => ChangeFault::Raced(read),
+            31 => ChangeFault::Leaving,
+            32 => ChangeFault::NoCapacity,
+            33 => ChangeFault::DomainLimit,
+            other => unreachable!("a change answered code {other}"),
+        }
+    }
+
+    /// The record that was read, or found, where one was.
+    pub fn record(&self) -> Option<Record> {
+        match *self {
+            ChangeFault::Spent(it) | ChangeFault::Busy(it) | ChangeFault::Raced(it) => Some(it),
+            _ => None,
+        }
+    }
+
+    /// Whether the same change may be made at once when it is asked for again.
+    pub fn is_passing(&self) -> bool {
+        matches!(self, ChangeFault::Busy(_) | ChangeFault::Raced(_))
+    }
+}
+
+impl RestartFault {
+    pub(crate) fn of(code: u32) -> RestartFault {
+        match code {
+            2 | 30 => RestartFault::UnknownServer,
+            40 => RestartFault::NotUp,
+            41 => RestartFault::NotAsked,
+            42 => RestartFault::GlobalCap,
+            43 => RestartFault::ShardCap,
+            44 => RestartFault::GroupCap,
+            45 => RestartFault::DomainCap,
+            46 => RestartFault::NotApproved,
+            47 => RestartFault::StillServing,
+            48 => RestartFault::AlreadyUp,
+            49 => RestartFault::AlreadyFailed,
+            other => unreachable!("a step of a restart answered code {other}"),
+        }
+    }
+}
+
+impl fmt::Display for BuildFault {
+    fn fmt(&self, f: &mut fmt::Formatter<'_>) -> fmt::Result {
+        f.write_str(match self {
+            BuildFault::NoShard => "a board has at least one shard",
+            BuildFault::TooMany => "a board has at most 4,096 shards",
+            BuildFault::BadCeiling => "the ceiling of generations is 3 to 68,719,476,735",
+            BuildFault::BadServers => "a board has 1 to 4,095 servers, and as many restarts at once at most",
+            BuildFault::NoMemory => "out of memory",
+        })
+    }
+}
+
+impl fmt::Display for UnknownShard {
+    fn fmt(&self, f: &mut fmt::Formatter<'_>) -> fmt::Result {
+        f.write_str("there is no such shard")
+    }
+}
+
+impl fmt::Display for PassFault {
+    fn fmt(&self, f: &mut fmt::Formatter<'_>) -> fmt::Result {
+        f.write_str(match self {
+            PassFault::BadServer => "a server has a number from 1 to 4,095",
+            PassFault::NoMemory => "out of memory",
+        })
+    }
+}
+
+impl fmt::Display for AdmitFault {
+    fn fmt(&self, f: &mut fmt::Formatter<'_>) -> fmt::Result {
+        f.write_str(match self {
+            AdmitFault::Vacant(_) => "nobody owns the shard",
+            AdmitFault::Paused(_) => "the shard is paused",
+            AdmitFault::NotExecutor(_) => "another server executes the shard's requests",
+            AdmitFault::NotYet(_) => "the server executes only what the owner forwards",
+            AdmitFault::Admitted(_) => "the shard is admitted",
+            AdmitFault::Spent(_) => "the shard's generations are spent",
+            AdmitFault::Raced(_) => "another thread was first",
+            AdmitFault::UnknownShard => "there is no such shard",
+            AdmitFault::BadServer => "a server has a number from 1 to 4,095",
+            AdmitFault::Holding => "the pass holds a permit that was forgotten",
+        })
+    }
+}
+
+impl fmt::Display for ChangeFault {
+    fn fmt(&self, f: &mut fmt::Formatter<'_>) -> fmt::Result {
+        f.write_str(match self {
+            ChangeFault::UnknownShard => "there is no such shard",
+            ChangeFault::UnknownServer => "there is no such server",
+            ChangeFault::WrongPhase => "the change doesn't begin from the shard's stand",
+            ChangeFault::SameServer => "the server owns the shard",
+            ChangeFault::Spent(_) => "the shard's generations are spent",
+            ChangeFault::Busy(_) => "the shard is admitted",
+            ChangeFault::Raced(_) => "another thread was first",
+            ChangeFault::Leaving => "the server is leaving",
+            ChangeFault::NoCapacity => "the server has no room",
+            ChangeFault::DomainLimit => "the server's domain has its share of the group",
+        })
+    }
+}
+
+impl fmt::Display for RestartFault {
+    fn fmt(&self, f: &mut fmt::Formatter<'_>) -> fmt::Result {
+        f.write_str(match self {
+            RestartFault::UnknownServer => "there is no such server",
+            RestartFault::NotUp => "the server isn't up",
+            RestartFault::NotAsked => "the restart wasn't asked for",
+            RestartFault::GlobalCap => "too many servers would be leaving",
+            RestartFault::ShardCap => "a shard may not be down",
+            RestartFault::GroupCap => "too many shards of a group would be down",
+            RestartFault::DomainCap => "too many servers of a domain would be down",
+            RestartFault::NotApproved => "the restart isn't approved",
+            RestartFault::StillServing => "a shard that names the server isn't paused",
+            RestartFault::AlreadyUp => "the server is up already",
+            RestartFault::AlreadyFailed => "the server has failed already",
+        })
+    }
+}
+
+impl Error for BuildFault {}
+impl Error for UnknownShard {}
+impl Error for PassFault {}
+impl Error for AdmitFault {}
+impl Error for ChangeFault {}
+impl Error for RestartFault {}

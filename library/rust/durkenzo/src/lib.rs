@@ -1,0 +1,79 @@
+//! Shards that move between servers while each has one writer, decided by proved code.
+//!
+//! A [`Board`] keeps a body of any type for each shard. A thread makes a [`Pass`] as one of the board's servers, and is
+//! admitted to a shard where that server executes the shard's requests and nobody else is admitted. The [`Permit`] then
+//! borrows the body, without a lock of its own. A [`Control`] moves shards between servers meanwhile.
+//!
+//! ```
+//! use durkenzo::{Board, Mode};
+//!
+//! let board = Board::builder().servers(2).build(vec![0u64; 4])?;
+//! let control = board.control();
+//! control.assign(3, 1)?;
+//! let mut pass = board.pass(1)?;
+//! let mut permit = pass.admit(3, Mode::Direct)?;
+//! *permit += 1;
+//! let front = permit.finish();
+//! assert_eq!((front.shard, front.generation), (3, 3));
+//! # Ok::<(), Box<dyn std::error::Error>>(())
+//! ```
+//!
+//! Which server is admitted to a shard, and that no two permits of a shard live at once, is decided by proved code.
+//! That this
+//! crate calls it as its contracts ask, and reaches a body through a permit alone, is not proved: it is the unsafe
+//! code here.
+//!
+//! A pass has one permit at a time, and no permit outlives its end or its pass:
+//! ```compile_fail,E0499
+//! # use durkenzo::{Board, Mode};
+//! # let board = Board::builder().servers(1).build(vec![0u64; 2]).unwrap();
+//! # let mut pass = board.pass(1).unwrap();
+//! let first = pass.admit(0, Mode::Direct).unwrap();
+//! let second = pass.admit(1, Mode::Direct).unwrap();
+//! drop(first);
+//! ```
+//! ```compile_fail,E0382
+//! # use durkenzo::{Board, Mode};
+//! # let board = Board::builder().servers(1).build(vec![0u64; 2]).unwrap();
+//! # let mut pass = board.pass(1).unwrap();
+//! let mut permit = pass.admit(0, Mode::Direct).unwrap();
+//! permit.finish();
+//! *permit += 1;
+//! ```
+//! ```compile_fail,E0505
+//! # use durkenzo::{Board, Mode};
+//! # let board = Board::builder().servers(1).build(vec![0u64; 2]).unwrap();
+//! # let mut pass = board.pass(1).unwrap();
+//! let permit = pass.admit(0, Mode::Direct).unwrap();
+//! drop(pass);
+//! drop(permit);
+//! ```
+//! A body never outlives its permit, so a permit of one board can't be ended on another: it has no call that takes one.
+//! ```compile_fail,E0505
+//! # use durkenzo::{Board, Mode};
+//! # let board = Board::builder().servers(1).build(vec![String::new()]).unwrap();
+//! # let mut pass = board.pass(1).unwrap();
+//! let permit = pass.admit(0, Mode::Direct).unwrap();
+//! let body: &String = &permit;
+//! permit.finish();
+//! println!("{body}");
+//! ```
+//! Bodies that may not pass between threads keep the board in one:
+//! ```compile_fail,E0277
+//! # use durkenzo::Board;
+//! let board = Board::builder().servers(1).build(vec![std::rc::Rc::new(0)]).unwrap();
+//! std::thread::spawn(move || drop(board));
+//! ```
+mod board;
+mod control;
+mod fault;
+mod pass;
+mod raw;
+mod record;
+pub mod word;
+
+pub use board::{Board, Builder};
+pub use control::Control;
+pub use fault::{AdmitFault, BuildFault, ChangeFault, PassFault, RestartFault, UnknownShard};
+pub use pass::{Front, Mode, Pass, Permit};
+pub use record::{Record, Stand};

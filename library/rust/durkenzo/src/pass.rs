@@ -1,0 +1,154 @@
+use crate::board::Shared;
+use crate::fault::{AdmitFault, UnknownShard};
+use crate::raw::{self, Handle, RecordParts};
+use crate::record::Record;
+use std::marker::PhantomData;
+use std::mem::ManuallyDrop;
+use std::ops::{Deref, DerefMut};
+use std::sync::Arc;
+
+/// How a request came to a server.
+#[derive(Clone, Copy, Debug, PartialEq, Eq)]
+pub enum Mode {
+    /// From a client.
+    Direct,
+    /// From this server, as one that it forwarded.
+    Forwarded(u16),
+}
+
+/// Where the end of an admission left its shard.
+#[derive(Clone, Copy, Debug, PartialEq, Eq)]
+pub struct Front {
+    pub shard: u16,
+    /// The shard's generation since then.
+    pub generation: u64,
+}
+
+/// What a thread acts on a board with, as one server for good.
+pub struct Pass<T> {
+    // Before what it is a pass on: a body may be dropped only after the admission.
+    handle: Handle,
+    shared: Arc<Shared<T>>,
+}
+
+impl<T> Pass<T> {
+    pub(crate) fn new(shared: Arc<Shared<T>>, handle: Handle) -> Pass<T> {
+        Pass { handle, shared }
+    }
+
+    /// The shard's record now.
+    pub fn look(&mut self, shard: u16) -> Result<Record, UnknownShard> {
+        let mut parts = RecordParts::default();
+        // SAFETY: the handle is this pass's, which is borrowed alone.
+        match unsafe { raw::durkenzo_look(&mut self.handle, shard, &mut parts) } {
+            0 => Ok(Record::of(&parts)),
+            _ => Err(UnknownShard),
+        }
+    }
+
+    /// Admits the pass's server to the shard, for a request that came so; or says why not.
+    pub fn admit(&mut self, shard: u16, mode: Mode) -> Result<Permit<'_, T>, AdmitFault> {
+        let from = match mode {
+            Mode::Direct => 0,
+            Mode::Forwarded(0) => return Err(AdmitFault::BadServer),
+            Mode::Forwarded(server) => server,
+        };
+        let (mut number, mut read) = (0, RecordParts::default());
+        // SAFETY: the handle is this pass's, which is borrowed alone.
+        match unsafe { raw::durkenzo_admit(&mut self.handle, shard, from, &mut number, &mut read) } {
+            0 => {
+                let body = self.shared.body(number);
+                Ok(Permit { pass: self, shard, body, borrows: PhantomData })
+            }
+            code => Err(AdmitFault::of(code, Record::of(&read))),
+        }
+    }
+
+    /// Admits the pass, again while another thread has the shard or was first, and has the closure work on the body.
+    pub fn with<R>(
+        &mut self,
+        shard: u16,
+        mode: Mode,
+        work: impl FnOnce(&mut Permit<'_, T>) -> R,
+    ) -> Result<R, AdmitFault> {
+        loop {
+            match self.admit(shard, mode) {
+                Ok(mut permit) => return Ok(work(&mut permit)),
+                Err(fault) if fault.is_passing() => std::thread::yield_now(),
+                Err(fault) => return Err(fault),
+            }
+        }
+    }
+}
+
+/// The right to a shard's body, which nobody else has. The admission ends where the permit is dropped, also by a
+/// panic: the
+/// body then stays as the panic left it, and others are admitted to it.
+#[must_use = "the admission ends where the permit is dropped"]
+pub struct Permit<'a, T> {
+    pass: &'a mut Pass<T>,
+    shard: u16,
+    body: *mut T,
+    borrows: PhantomData<&'a mut T>,
+}
+
+// SAFETY: a permit is a loan of the body and of the pass, which is used through `&mut Permit` alone.
+unsafe impl<T: Send> Send for Permit<'_, T> {}
+
+// SAFETY: through `&Permit` nothing but `&T` and numbers are reached.
+unsafe impl<T: Send + Sync> Sync for Permit<'_, T> {}
+
+impl<T> Permit<'_, T> {
+    /// The shard.
+    pub fn shard(&self) -> u16 {
+        self.shard
+    }
+
+    /// The shard's generation at this admission: a fencing token. Each later admission to the shard has a greater
+    /// one, so a
+    /// store that keeps the greatest that it saw, and refuses lesser ones, refuses late writes.
+    pub fn generation(&mut self) -> u64 {
+        let mut parts = RecordParts::default();
+        // SAFETY: the handle is the pass's, which this permit has borrowed alone.
+        let code = unsafe { raw::durkenzo_look(&mut self.pass.handle, self.shard, &mut parts) };
+        assert_eq!(code, 0, "the shard of a permit is there");
+        parts.generation
+    }
+
+    /// Ends the admission, and says where that left the shard.
+    pub fn finish(self) -> Front {
+        ManuallyDrop::new(self).end()
+    }
+
+    fn end(&mut self) -> Front {
+        let mut generation = 0;
+        // SAFETY: the handle is the pass's, which holds this permit.
+        let code = unsafe { raw::durkenzo_finish(&mut self.pass.handle, &mut generation) };
+        debug_assert_eq!(code, 0, "the pass of a permit holds it");
+        Front { shard: self.shard, generation }
+    }
+}
+
+impl<T> Drop for Permit<'_, T> {
+    fn drop(&mut self) {
+        self.end();
+    }
+}
+
+impl<T> Deref for Permit<'_, T> {
+    type Target = T;
+
+    fn deref(&self) -> &T {
+        // SAFETY: the number of the body is the one that the board was given for the shard, no other permit of the
+        // shard
+        // lives, and the pass keeps the bodies.
+        unsafe { &*self.body }
+    }
+}
+
+impl<T> DerefMut for Permit<'_, T> {
+    fn deref_mut(&mut self) -> &mut T {
+        // SAFETY: as in `deref`.
+        unsafe { &mut *self.body }
+    }
+}

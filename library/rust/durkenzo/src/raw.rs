@@ -1,0 +1,73 @@
+//! The calls of the proved library, as `durkenzo.h` declares them.
+
+/// What the library keeps between calls. It begins as zeros, isn't copied, and is used by one call at a time.
+#[repr(C)]
+pub(crate) struct Handle {
+    full: bool,
+    owned: *mut u8,
+}
+
+impl Handle {
+    /// A handle that keeps nothing.
+    pub(crate) const fn empty() -> Handle {
+        Handle { full: false, owned: std::ptr::null_mut() }
+    }
+}
+
+// SAFETY: what a handle owns isn't tied to a thread (an `Arc` of the board with a pass, a permit, or the control), and
+// whoever has the handle uses it alone.
+unsafe impl Send for Handle {}
+
+impl Drop for Handle {
+    fn drop(&mut self) {
+        // SAFETY: the handle is this value's alone.
+        unsafe { durkenzo_close(self) }
+    }
+}
+
+/// A shard's record, with servers by their numbers.
+#[repr(C)]
+#[derive(Clone, Copy, Default)]
+pub(crate) struct RecordParts {
+    pub(crate) generation: u64,
+    pub(crate) owner: u16,
+    pub(crate) other: u16,
+    pub(crate) phase: u8,
+    pub(crate) admitted: bool,
+}
+
+extern "C" {
+    pub(crate) fn durkenzo_open(
+        chief: *mut Handle,
+        numbers: *const u64,
+        count: usize,
+        servers: u16,
+        ops: u16,
+        ceiling: u64,
+    ) -> u32;
+    pub(crate) fn durkenzo_pass(chief: *mut Handle, pass: *mut Handle, server: u16) -> u32;
+    pub(crate) fn durkenzo_look(pass: *mut Handle, shard: u16, parts: *mut RecordParts) -> u32;
+    pub(crate) fn durkenzo_admit(
+        pass: *mut Handle,
+        shard: u16,
+        from: u16,
+        number: *mut u64,
+        read: *mut RecordParts,
+    ) -> u32;
+    pub(crate) fn durkenzo_finish(pass: *mut Handle, generation: *mut u64) -> u32;
+    pub(crate) fn durkenzo_change(
+        chief: *mut Handle,
+        shard: u16,
+        kind: u8,
+        server: u16,
+        read: *mut RecordParts,
+    ) -> u32;
+    pub(crate) fn durkenzo_restart(chief: *mut Handle, kind: u8, server: u16) -> u32;
+    pub(crate) fn durkenzo_close(handle: *mut Handle);
+    pub(crate) fn durkenzo_changed(word: u64, kind: u8, server: u16, ceiling: u64, next: *mut u64) -> u32;
+    pub(crate) fn durkenzo_admitted(word: u64, server: u16, from: u16, ceiling: u64, next: *mut u64) -> u32;
+    pub(crate) fn durkenzo_ended(word: u64, next: *mut u64) -> u32;
+    pub(crate) fn durkenzo_unpack(word: u64, parts: *mut RecordParts) -> u32;
+    pub(crate) fn durkenzo_forward(word: u64, server: u16) -> u16;
+    pub(crate) fn durkenzo_executor(word: u64) -> u16;
+}

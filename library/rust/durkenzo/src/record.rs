@@ -1,0 +1,71 @@
+use crate::raw::RecordParts;
+
+/// Who owns a shard, and how far a migration of it has come.
+#[derive(Clone, Copy, Debug, PartialEq, Eq)]
+pub enum Stand {
+    /// Nobody owns the shard yet.
+    Vacant,
+    /// The owner executes requests.
+    Serving(u16),
+    /// The owner executes requests, and a migration to the next owner has begun.
+    Prepared { owner: u16, next: u16 },
+    /// The next owner executes what the owner forwards to it.
+    Forwarding { owner: u16, next: u16 },
+    /// The new owner executes requests, and the previous one forwards what still reaches it.
+    Taken { owner: u16, previous: u16 },
+    /// The server owns the shard, and nobody executes requests.
+    Paused(u16),
+}
+
+/// What the board holds for a shard.
+#[derive(Clone, Copy, Debug, PartialEq, Eq)]
+pub struct Record {
+    /// Who owns the shard, and how far a migration of it has come.
+    pub stand: Stand,
+    /// Whether a server is admitted to the shard now.
+    pub admitted: bool,
+    /// How many steps the shard's history has.
+    pub generation: u64,
+}
+
+impl Record {
+    pub(crate) fn of(parts: &RecordParts) -> Record {
+        let (owner, other) = (parts.owner, parts.other);
+        let stand = match parts.phase {
+            0 => Stand::Vacant,
+            1 => Stand::Serving(owner),
+            2 => Stand::Prepared { owner, next: other },
+            3 => Stand::Forwarding { owner, next: other },
+            4 => Stand::Taken { owner, previous: other },
+            _ => Stand::Paused(owner),
+        };
+        Record { stand, admitted: parts.admitted, generation: parts.generation }
+    }
+
+    /// The server that owns the shard.
+    pub fn owner(&self) -> Option<u16> {
+        match self.stand {
+            Stand::Vacant => None,
+            Stand::Serving(owner) | Stand::Paused(owner) => Some(owner),
+            Stand::Prepared { owner, .. } | Stand::Forwarding { owner, .. } | Stand::Taken { owner, .. } => Some(owner),
+        }
+    }
+
+    /// The server that executes requests on the shard.
+    pub fn executor(&self) -> Option<u16> {
+        match self.stand {
+            Stand::Vacant | Stand::Paused(_) => None,
+            Stand::Forwarding { next, .. } => Some(next),
+            _ => self.owner(),
+        }
+    }
+
+    /// The server to which this one forwards requests on the shard, if it does.
+    pub fn forward(&self, server: u16) -> Option<u16> {
+        match self.stand {
+            Stand::Forwarding { owner, next } if owner == server => Some(next),
+            Stand::Taken { owner, previous } if previous == server => Some(owner),
+            _ => None,
+        }
+    }
+}

@@ -1,0 +1,109 @@
+//! One decision on one record, packed into a word of 64 bits, which a program may keep and exchange itself.
+//!
+//! ```
+//! use durkenzo::{word, ChangeFault, Stand};
+//!
+//! let served = word::changed(0, word::Change::Assign(7), 100)?;
+//! let admitted = word::admitted(served, 7, durkenzo::Mode::Direct, 100)?;
+//! assert_eq!(word::record(admitted).unwrap().stand, Stand::Serving(7));
+//! assert_eq!(word::record(word::ended(admitted).unwrap()).unwrap().generation, 3);
+//! # Ok::<(), Box<dyn std::error::Error>>(())
+//! ```
+use crate::raw::{self, RecordParts};
+use crate::{AdmitFault, ChangeFault, Mode, Record};
+
+/// A change of a shard's stand.
+#[derive(Clone, Copy, Debug, PartialEq, Eq)]
+pub enum Change {
+    Assign(u16),
+    PrepareAddShard(u16),
+    PrepareDropShard,
+    AddShard,
+    DropShard,
+    Cancel,
+    Pause,
+    Resume,
+    Reassign(u16),
+}
+
+impl Change {
+    fn parts(self) -> (u8, u16) {
+        match self {
+            Change::Assign(server) => (1, server),
+            Change::PrepareAddShard(server) => (2, server),
+            Change::PrepareDropShard => (3, 0),
+            Change::AddShard => (4, 0),
+            Change::DropShard => (5, 0),
+            Change::Cancel => (6, 0),
+            Change::Pause => (7, 0),
+            Change::Resume => (8, 0),
+            Change::Reassign(server) => (9, server),
+        }
+    }
+}
+
+/// The record that has this word, if there is one.
+pub fn record(word: u64) -> Option<Record> {
+    let mut parts = RecordParts::default();
+    // SAFETY: the record is this call's alone.
+    match unsafe { raw::durkenzo_unpack(word, &mut parts) } {
+        0 => Some(Record::of(&parts)),
+        _ => None,
+    }
+}
+
+/// The word after the change, below a ceiling of generations of at most 2^36 - 1.
+pub fn changed(word: u64, change: Change, ceiling: u64) -> Result<u64, ChangeFault> {
+    let read = record(word).ok_or(ChangeFault::UnknownShard)?;
+    let ((kind, server), mut next) = (change.parts(), 0);
+    // SAFETY: the number is this call's alone.
+    match unsafe { raw::durkenzo_changed(word, kind, server, ceiling, &mut next) } {
+        0 => Ok(next),
+        5 => Err(ChangeFault::Spent(read)),
+        code => Err(ChangeFault::of(code, read)),
+    }
+}
+
+/// The word after an admission of the server, for a request that came so.
+pub fn admitted(word: u64, server: u16, mode: Mode, ceiling: u64) -> Result<u64, AdmitFault> {
+    let read = record(word).ok_or(AdmitFault::UnknownShard)?;
+    let from = match mode {
+        Mode::Direct => 0,
+        Mode::Forwarded(0) => return Err(AdmitFault::BadServer),
+        Mode::Forwarded(server) => server,
+    };
+    let mut next = 0;
+    // SAFETY: the number is this call's alone.
+    match unsafe { raw::durkenzo_admitted(word, server, from, ceiling, &mut next) } {
+        0 => Ok(next),
+        code => Err(AdmitFault::of(code, read)),
+    }
+}
+
+/// The word after the end of its admission, if it has one.
+pub fn ended(word: u64) -> Option<u64> {
+    let mut next = 0;
+    // SAFETY: the number is this call's alone.
+    match unsafe { raw::durkenzo_ended(word, &mut next) } {
+        0 => Some(next),
+        _ => None,
+    }
+}
+
+/// The server that executes requests on the shard of this word.
+pub fn executor(word: u64) -> Option<u16> {
+    // SAFETY: the call takes numbers alone.
+    match unsafe { raw::durkenzo_executor(word) } {
+        0 => None,
+        server => Some(server),
+    }
+}
+
+/// The server to which this one forwards requests on the shard of this word.
+pub fn forward(word: u64, server: u16) -> Option<u16> {
+    // SAFETY: the call takes numbers alone.
+    match unsafe { raw::durkenzo_forward(word, server) } {
+        0 => None,
+        server => Some(server),
+    }
+}
