@@ -63,22 +63,27 @@ abbrev pub AdmitsHandle : Option HandleState → Option HandleState → ℕ → 
 AdmitsHandle (Some before) (Some after) shard mode number = AdmitsState before after shard mode number
 AdmitsHandle before after shard mode number = ⊥
 
+-- the same of a refusal; a handle without a state keeps none
 abbrev pub RefusesHandle : Option HandleState → Option HandleState → ℕ → Mode → ActFault → Type 0
 RefusesHandle (Some before) (Some after) shard mode fault = RefusesState before after shard mode fault
 RefusesHandle before after shard mode fault = (before ≡ None) × (after ≡ None)
 
+-- the same of the end of an admission
 abbrev pub EndsHandle : Option HandleState → Option HandleState → ℕ → Type 0
 EndsHandle (Some before) (Some after) generation = EndsState before after generation
 EndsHandle before after generation = ⊥
 
+-- the same of a look
 abbrev pub LooksHandle : Option HandleState → Option HandleState → ℕ → Record → Type 0
 LooksHandle (Some before) (Some after) shard state = LooksState before after shard state
 LooksHandle before after shard state = ⊥
 
+-- the same of a command; a handle without a state is the wrong one
 abbrev pub CommandsHandle : Option HandleState → Option HandleState → Command → Result (Unit {0}) ActFault → Type 0
 CommandsHandle (Some before) (Some after) command result = CommandsState before after command result
 CommandsHandle before after command result = (before ≡ None) × (after ≡ None) × (result ≡ Err WrongHandle)
 
+-- the same of a new pass
 abbrev pub IsPassOf : Option HandleState → Option HandleState → Option ℕ → Type 0
 IsPassOf (Some chief) (Some pass) server = IsPassOfState chief server pass
 IsPassOf chief pass server = ⊥
