@@ -24,7 +24,7 @@ pub fn read_stands<Q, P>()
         → revision_of (head_key shard) log ≡ revision → shard_log shard log ≡ read }
 {}
 
-/// Each transaction of an honest store, to which no one sent anything but what he might, was right for the store before
+/// Each transaction of an honest store, to which all sent only what they might, was right for the store before
 /// it: a change was made by who led then, and the rule allowed it; a batch by the server that the record accepts, with
 /// requests that come next; a head names a base that lies there whole; and what was deleted lay behind the base, or was
 /// a lease.
@@ -43,8 +43,7 @@ pub fn keys_are_whole<Q, P>()
 /// knows. What was claimed to be overtaken is never made later.
 pub fn runs_are_lawful<Q, P, R, S>()
     ensures lawful { (after : S → Q → S) (reply : S → Q → R) (start : S) (charter : Charter Q P)
-        (events : List (Event Q P R))
-        → MightHappen after reply start charter events
+        (events : List (Event Q P R)) → MightHappen after reply start charter events
         → IsLawful after reply start charter (system_after events) }
     ensures overtaken { (after : S → Q → S) (reply : S → Q → R) (start : S) (charter : Charter Q P)
         (later earlier : List (Event Q P R)) → MightHappen after reply start charter (later ++ earlier)

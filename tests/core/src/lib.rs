@@ -1,8 +1,10 @@
-//! Tests of ranges, ownership, words and the store's keys.
+//! Tests of ranges, ownership and words, and of steps over a shared store.
 #![tactic(auto)]
 
 #[cfg(test)]
 mod histories;
+#[cfg(test)]
+mod lead;
 #[cfg(test)]
 mod ownership;
 #[cfg(test)]
@@ -10,6 +12,10 @@ mod ranges;
 #[cfg(test)]
 mod refused;
 #[cfg(test)]
+mod shard;
+#[cfg(test)]
 mod store;
+#[cfg(test)]
+mod sum;
 #[cfg(test)]
 mod word;

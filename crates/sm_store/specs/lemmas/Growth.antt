@@ -154,7 +154,7 @@ module _ {Q P : Type 0} (charter : Charter Q P) where
       let none : times client number grown.0 ≡ 0 = passed client number (made shard log) grown.0 next (omega arith) in
       ap (times client number) grown.1 ∙ times-append client number (made shard log) grown.0 ∙ omega arith
 
-module _ {Q P R S : Type 0} (after : S → Q → S) (reply : S → Q → R) (start : S) (charter : Charter Q P) where
+module _ {Q P R S : Type 0} (after : S → Q → S) (reply : S → Q → R) (start : S) where
   -- what is so stays so
   pub so_grows : (more log : List (Transaction Q P)) (claim : Claim Q R) → IsSo after reply start log claim
       → IsSo after reply start (more ++ log) claim

@@ -23,7 +23,7 @@ use Rattle.sm_store.specs.lemmas.Views.{head_view, leader_view, log_view, record
 
 module _ {Q P : Type 0} where
   -- one compare of a transaction held, or both
-  first_held : (log : List (Transaction Q P)) (a : StoreKey) (m : ℕ) (rest : List Compare)
+  pub first_held : (log : List (Transaction Q P)) (a : StoreKey) (m : ℕ) (rest : List Compare)
       → all_hold log (at a m ∷ rest) ≡ true → (revision_of a log ≡ m) × (all_hold log rest ≡ true)
   first_held log a m rest held =
       let parts = and_parts (revision_of a log == m) (all_hold log rest) held in

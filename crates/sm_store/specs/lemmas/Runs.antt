@@ -11,8 +11,7 @@ use Rattle.sm_store.specs.Store.{Transaction, Write, all_hold, head_key, made, r
 use Rattle.sm_store.specs.Deeds.{AreRight, Charter, IsHonest, MaySend}
 use Rattle.sm_store.specs.System.{Ask, Claim, Replies, Overtaken, Reads, Event, Comes, Sends, Reaches, Claims, Carried}
 use Rattle.sm_store.specs.System.{SentTransaction, System, IsLawful, IsSo, May, MayClaim, MayRead, MightHappen}
-use Rattle.sm_store.specs.System.{StaysOvertaken}
-use Rattle.sm_store.specs.System.{extended, happens, after_reaching, system_after}
+use Rattle.sm_store.specs.System.{StaysOvertaken, extended, happens, after_reaching, system_after}
 use Rattle.sm_store.specs.lemmas.Growth.{made_next, overtaken_grows, send_grows, so_grows}
 use Rattle.sm_store.specs.lemmas.Heart.{stood_then}
 use Rattle.sm_store.specs.lemmas.Numbers.{once}
@@ -106,7 +105,7 @@ module _ {Q P R S : Type 0} (after : S → Q → S) (reply : S → Q → R) (sta
         system.held sound.held;
     claims = all_map (IsSo after reply start system.log) (IsSo after reply start new)
         (λ one so. subst (λ (log : List (Transaction Q P)). IsSo after reply start log one) (sym is)
-        (so_grows after reply start charter more system.log one so))
+        (so_grows after reply start more system.log one so))
         system.claims sound.claims;
   }
 

@@ -1,0 +1,22 @@
+ghost use Rattle.std.specs.Prelude.{◌≡◌, ◌<◌, ◌↔◌, IsSome, IfSome};
+
+/// A control that was elected, and the revision of its election.
+#[derive(Clone, Copy, Debug, Drop)]
+pub struct Leadership {
+    pub process: u64,
+    pub elected: u64,
+}
+
+impl Leadership {
+    /// The control that was elected at this revision. None for revision 0, at which nobody is.
+    pub fn new(process: u64, elected: u64) -> Option<Leadership>
+        ensures exact { IsSome result ↔ 0 < elected }
+        ensures values { IfSome result (λ lead. (lead.process ≡ process) × (lead.elected ≡ elected)) }
+    {
+        if elected > 0 {
+            Some(Leadership { process, elected })
+        } else {
+            None
+        }
+    }
+}

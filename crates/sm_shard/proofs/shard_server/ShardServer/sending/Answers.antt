@@ -1,0 +1,25 @@
+use Rattle.std.proofs.Common.{List, ◌<◌, refl, sym, subst}
+use Rattle.sm_store.specs.declared.item.Item.{Item}
+use Rattle.sm_store.specs.Deeds.{Executing, MaySend, transaction_of}
+use Rattle.sm_shard.proofs.ShardServers.{known_of, may_send}
+use Rattle.sm_shard.proofs.shard_server.ShardServer.sending.Goals as goal
+
+pub returns-in-Some-clause-may : goal.returns-in-Some-clause-may
+returns-in-Some-clause-may g c = λ charter log count placed known.
+    let me = c.args.self.now.me in
+    let shard = c.args.self.now.shard in
+    let ready = c.in-Some.ready in
+    let after = g.M.StoreMachine.after in
+    let reply = g.M.StoreMachine.reply in
+    let start = g.M.StoreMachine.start in
+    let within : shard < charter.count = subst (λ n. shard < n) (sym count) placed.0 in
+    subst
+    (λ (items : List (Item g.row.Q.Denot)).
+    MaySend charter log (transaction_of (Executing shard me items ready.head ready.stood ready.logged)))
+    (sym c.deref.ensures.value)
+    (record {
+      deed = Executing shard me ready.sent.items ready.head ready.stood ready.logged;
+      is = refl;
+      may = may_send after reply start charter log me shard ready within placed.1
+          (known_of after reply start log me shard c.args.self.now.ready ready c.in-Some.is known);
+    })

@@ -1,0 +1,31 @@
+use Rattle.std.proofs.Common.{refl, sym, ◌∙◌, ap}
+use Rattle.sm_store.specs.Clients.{last_of}
+use Rattle.sm_shard.proofs.ShardServers.{ready_push}
+use Rattle.sm_shard.proofs.shard_state.take.Goals as goal
+
+pub returns-in-Some-clause-decided : goal.returns-in-Some-clause-decided
+returns-in-Some-clause-decided g c = λ before ready. c.in-Some.ensures.known c.args.ready.now.state c.args.me before
+    ready.replica
+
+pub returns-clause-kept : goal.returns-clause-kept
+returns-clause-kept g c = λ before ready.
+    ready_push g.M.StoreMachine.after g.M.StoreMachine.reply g.M.StoreMachine.start c.args.me before c.args.item
+    c.args.ready.now
+    (record {
+      state = c.args.ready.now.state;
+      stood = c.args.ready.now.stood;
+      replica =
+          c.args.ready.now.replica;
+      head = c.args.ready.now.head;
+      logged = c.args.ready.now.logged;
+      sent =
+          c.args.ready.now.sent;
+      waiting = c.push.new.self;
+    })
+    refl refl refl c.in_ok-push.ensures.items
+    (sym c.accepts.ensures ∙ c.if-not-accepts.false)
+    (ap (last_of c.args.item.client) (sym c.deref.ensures.value) ∙ c.has_client.ensures.none c.if-has_client.false)
+    (ap (last_of c.args.item.client) (sym c.deref-else-has_client.ensures.value)
+    ∙ c.has_client-else-has_client.ensures.none c.if-has_client-2.false)
+    (c.in_default.ensures.next before)
+    ready

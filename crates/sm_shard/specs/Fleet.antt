@@ -1,0 +1,77 @@
+-- Any number of servers and the store together: each step of a server is one of the code.
+use Rattle.std.specs.Prelude.{ℕ, Some, None, Result, ◌≡◌, List, [], ◌∷◌, ◌++◌, length, map, slice_get, slice_set}
+use Rattle.sm_store.specs.Store.{Transaction}
+use Rattle.sm_store.specs.Deeds.{Charter}
+use Rattle.sm_store.specs.System.{Event, May, SentTransaction, System, happens}
+use Rattle.sm_shard.specs.declared.replica.ReplayFault.{ReplayFault}
+use Rattle.sm_shard.specs.declared.shard_server.ShardServer.{ShardServer}
+use Rattle.sm_shard.specs.declared.steps.ShardInput.{ShardInput}
+use Rattle.sm_shard.specs.declared.steps.ShardOutput.{ShardOutput}
+use Rattle.sm_shard.specs.ShardServers.{IsStationed}
+use Rattle.sm_shard.specs.Steps.{IsInput, IsStepOf, step_claims, step_sends}
+
+-- the system, and all servers that run in it
+pub record Fleet (M Q R : Type 0) : Type 0 where
+  pub system : System Q (List ℕ) R
+  pub servers : List (ShardServer M Q R)
+
+-- what servers do, and the world around them
+pub data Act (M Q R : Type 0) : Type 0 where
+  -- a server starts, or starts again and has forgotten everything
+  Starts : (server : ShardServer M Q R) → Act M Q R
+  -- one of the servers makes a step
+  Steps : (which : ℕ) (input : ShardInput M Q R) (result : Result (ShardOutput Q R) ReplayFault)
+      (new : ShardServer M Q R) → Act M Q R
+  -- anything else: a control sends, a message reaches the store, someone is elected
+  Otherwise : (event : Event Q (List ℕ) R) → Act M Q R
+
+-- a transaction that is sent at a log of this length
+abbrev pub sent_since : {Q P : Type 0} → ℕ → Transaction Q P → SentTransaction Q P
+sent_since since txn = record { txn = txn; since = since }
+
+-- the fleet after an act
+abbrev pub fleet_acted : {M Q R : Type 0} → Fleet M Q R → Act M Q R → Fleet M Q R
+fleet_acted fleet (Starts server) = record { system = fleet.system; servers = server ∷ fleet.servers }
+fleet_acted fleet (Steps which input result new) =
+    record {
+      system = record {
+        log = fleet.system.log;
+        asked = fleet.system.asked;
+        sent = map (sent_since (length fleet.system.log)) (step_sends result new) ++ fleet.system.sent;
+        held = fleet.system.held;
+        claims = step_claims new.shard input result ++ fleet.system.claims;
+      };
+      servers = slice_set fleet.servers which new;
+    }
+fleet_acted fleet (Otherwise event) = record { system = happens fleet.system event; servers = fleet.servers }
+
+-- the step is one of the code, on an input that is so in the store
+pub record IsFleetStep {M Q R : Type 0} (after : M → Q → M) (reply : M → Q → R) (start : M) (fleet : Fleet M Q R)
+    (old : ShardServer M Q R) (input : ShardInput M Q R) (result : Result (ShardOutput Q R) ReplayFault)
+    (new : ShardServer M Q R) : Type 0 where
+  pub call : IsStepOf after reply start old input result new
+  pub input_is : IsInput after reply start fleet.system.log old input
+  pub me : new.me ≡ old.me
+  pub shard : new.shard ≡ old.shard
+  pub count : new.count ≡ old.count
+
+-- an act may happen: a server starts with nothing read, or makes a step as its contract says, on what is so
+abbrev pub MayAct : {M Q R : Type 0} → (M → Q → M) → (M → Q → R) → M → Charter Q (List ℕ) → Fleet M Q R → Act M Q R
+    → Type 0
+MayAct after reply start charter fleet (Starts server) =
+    IsStationed server × (server.ready ≡ None) × (charter.count ≡ server.count)
+MayAct {M = M} {Q = Q} {R = R} after reply start charter fleet (Steps which input result new) =
+    (old : ShardServer M Q R) × (slice_get fleet.servers which ≡ Some old)
+    × IsFleetStep after reply start fleet old input result new
+MayAct after reply start charter fleet (Otherwise event) = May after reply start charter fleet.system event
+
+-- the fleet after these acts, the latest first
+abbrev pub fleet_after : {M Q R : Type 0} → List (Act M Q R) → Fleet M Q R
+fleet_after [] = record { system = record { log = []; asked = []; sent = []; held = []; claims = [] }; servers = [] }
+fleet_after (act ∷ earlier) = fleet_acted (fleet_after earlier) act
+
+-- each act was one that might be made
+abbrev pub MightAct : {M Q R : Type 0} → (M → Q → M) → (M → Q → R) → M → Charter Q (List ℕ) → List (Act M Q R) → Type 0
+MightAct after reply start charter [] = Unit {0}
+MightAct after reply start charter (act ∷ earlier) =
+    MayAct after reply start charter (fleet_after earlier) act × MightAct after reply start charter earlier

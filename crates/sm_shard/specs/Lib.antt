@@ -1,0 +1,5 @@
+pub mod Fleet
+pub mod Replicas
+pub mod ShardServers
+pub mod Steps
+pub mod lemmas

@@ -1,0 +1,28 @@
+//! What one server knows of one shard in a shared store, and what it does at each event, with no input or output of
+//! its own.
+//!
+//! ```rust
+//! let started = ShardServer::new(one, shard, 8);
+//! let mut server: ShardServer<Sum, u64, u64> = started.expect(&rt, "one of 8 shards");
+//! let base = empty(rt.alloc());
+//! let read = server.on_read(rt.alloc(), state, 3, head, base, &[], 0);
+//! assert!(rt; read.is_ok());
+//! assert!(rt; matches!(server.on_request(item), Ok(Decision::Waits)));
+//! assert!(rt; server.flush());
+//! let replies = server.on_made(rt.alloc(), 4).ok().expect(&rt, "replies");
+//! assert!(rt; replies[0].reply == 5);
+//! ```
+#![tactic(auto)]
+
+pub mod laws;
+pub mod replica;
+pub mod shard_server;
+pub mod shard_state;
+pub mod steps;
+pub mod store_machine;
+
+pub use replica::{LastRequest, MadeReply, ReplayFault, Replica};
+pub use shard_server::{BatchSending, ShardServer, Undecided};
+pub use shard_state::{Decision, ShardState};
+pub use steps::{ShardInput, ShardOutput, step};
+pub use store_machine::StoreMachine;

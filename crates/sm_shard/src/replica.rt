@@ -1,0 +1,156 @@
+ghost use Rattle.std.specs.Prelude.{◌≡◌, ◌<◌, ◌++◌, List, [], ◌∷◌, IfOk, OnOk};
+ghost use Rattle.std.specs.BTreeMap.{get};
+ghost use Rattle.std.specs.Ordering.{nat_cmp};
+ghost use Rattle.sm_store.specs.declared.item.Item.{Item as ItemValue};
+ghost use Rattle.sm_store.specs.Clients.{last_of, AreNext, state_after};
+ghost use Rattle.sm_shard.specs.Replicas.{IsReplica, last_number, replies_of};
+
+use crate::store_machine::StoreMachine;
+use sm_store::item::Item;
+use std::alloc::{AllocError, AllocFailed, Global};
+use std::collections::BTreeMap;
+
+/// Why a shard's requests can't be followed.
+#[derive(Clone, Copy, Debug, PartialEq, Eq, Drop)]
+pub enum ReplayFault {
+    /// Memory was refused.
+    Memory,
+    /// The number of a request isn't above those of its client before it.
+    OutOfOrder,
+    /// There are as many batches as a head can count.
+    TooMany,
+}
+
+impl From<AllocError> for ReplayFault {
+    ghost use Rattle.sm_shard.specs.declared.replica.ReplayFault.TheVariants.{Memory};
+
+    ghost from_gives = { λ _ e. e ≡ Memory };
+
+    fn from(_: AllocError) -> ReplayFault {
+        ReplayFault::Memory
+    }
+}
+
+/// A client's last request: its number and its reply.
+#[derive(Clone, Copy, Debug, Drop)]
+pub struct LastRequest<R> {
+    pub number: u64,
+    pub reply: R,
+}
+
+/// The reply to a client's request.
+#[derive(Clone, Copy, Debug, Drop)]
+pub struct MadeReply<R> {
+    pub client: u64,
+    pub number: u64,
+    pub reply: R,
+}
+
+impl<T: Drop> From<AllocFailed<T>> for ReplayFault {
+    ghost use Rattle.sm_shard.specs.declared.replica.ReplayFault.TheVariants.{Memory};
+
+    ghost from_gives = { λ _ e. e ≡ Memory };
+
+    fn from(_: AllocFailed<T>) -> ReplayFault {
+        ReplayFault::Memory
+    }
+}
+
+/// The machine after a shard's requests, and the last request of each client.
+#[derive(Drop)]
+pub struct Replica<M, R> {
+    pub machine: M,
+    pub lasts: BTreeMap<u64, LastRequest<R>>,
+}
+
+/// The replica of no requests.
+pub fn empty<Q: Drop, R: Copy + Drop, M: StoreMachine<Q, R>>(alloc: Global) -> Replica<M, R>
+    ensures { IsReplica M.after M.reply M.start [] result }
+{
+    Replica {
+        machine: M::new(alloc),
+        lasts: BTreeMap::new(alloc),
+    }
+}
+
+/// The client's last request, if it has one.
+pub fn last_request<R: Copy + Drop>(
+    lasts: &BTreeMap<u64, LastRequest<R>>,
+    client: u64,
+) -> Option<LastRequest<R>>
+    ensures { result ≡ get nat_cmp lasts.now client }
+{
+    lasts.get(&client).copied()
+}
+
+// The number of the client's last request, 0 where it has none.
+fn last_number<R: Copy + Drop>(lasts: &BTreeMap<u64, LastRequest<R>>, client: u64) -> u64
+    ensures { result ≡ last_number (get nat_cmp lasts.now client) }
+{
+    match last_request(lasts, client) {
+        Some(last) => last.number,
+        None => 0,
+    }
+}
+
+/// Makes the next request, or says why it can't be followed; then nothing is said of the replica.
+pub fn make<Q: Drop, R: Copy + Drop, M: StoreMachine<Q, R>>(
+    alloc: Global,
+    replica: &mut Replica<M, R>,
+    item: &Item<Q>,
+) -> Result<R, ReplayFault>
+    ensures answer { IfOk result (λ answer. answer ≡ M.reply replica.old.machine item.now.request) }
+    ensures machine { OnOk result (replica.new.machine ≡ M.after replica.old.machine item.now.request) }
+    ensures replica { OnOk result ((before : List (ItemValue Q)) → IsReplica M.after M.reply M.start before replica.old
+        → IsReplica M.after M.reply M.start (before ++ item.now ∷ []) replica.new
+        × (last_of item.now.client before < item.now.number)) }
+{
+    if item.number <= last_number(&replica.lasts, item.client) {
+        return Err(ReplayFault::OutOfOrder);
+    }
+    let reply = replica.machine.answer(alloc, &item.request)?;
+    let next = LastRequest {
+        number: item.number,
+        reply,
+    };
+    match replica.lasts.insert(item.client, next) {
+        Ok(_) => Ok(reply),
+        Err(_) => Err(ReplayFault::Memory),
+    }
+}
+
+/// Makes requests one after the other, and answers them.
+pub fn make_all<Q: Drop, R: Copy + Drop, M: StoreMachine<Q, R>>(
+    alloc: Global,
+    replica: &mut Replica<M, R>,
+    items: &[Item<Q>],
+) -> Result<Vec<MadeReply<R>>, ReplayFault>
+    ensures answers { IfOk result (λ answers. answers.items
+        ≡ replies_of M.after M.reply replica.old.machine items.now) }
+    ensures machine { OnOk result (replica.new.machine ≡ state_after M.after replica.old.machine items.now) }
+    ensures replica { OnOk result ((before : List (ItemValue Q)) → IsReplica M.after M.reply M.start before replica.old
+        → IsReplica M.after M.reply M.start (before ++ items.now) replica.new × AreNext before items.now) }
+{
+    let mut answers = Vec::new(alloc);
+    for item in items {
+        let reply = make(alloc, replica, item)?;
+        answers.push(MadeReply {
+            client: item.client,
+            number: item.number,
+            reply,
+        })?;
+    }
+    Ok(answers)
+}
+
+/// The replica of a shard's requests, from the first one on.
+pub fn replay<Q: Drop, R: Copy + Drop, M: StoreMachine<Q, R>>(
+    alloc: Global,
+    items: &[Item<Q>],
+) -> Result<Replica<M, R>, ReplayFault>
+    ensures { IfOk result (λ replica. IsReplica M.after M.reply M.start items.now replica) }
+{
+    let mut replica = empty(alloc);
+    make_all(alloc, &mut replica, items)?;
+    Ok(replica)
+}

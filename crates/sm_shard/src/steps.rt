@@ -1,0 +1,100 @@
+ghost use Rattle.std.specs.Prelude.{◌≡◌};
+ghost use Rattle.sm_shard.specs.Steps.{IsStepOf};
+
+use crate::replica::{MadeReply, ReplayFault, Replica};
+use crate::shard_server::{ShardServer, Undecided};
+use crate::shard_state::Decision;
+use crate::store_machine::StoreMachine;
+use sm_ownership::record::Record;
+use sm_store::head::Head;
+use sm_store::item::Item;
+use std::alloc::Global;
+
+/// What comes to a server.
+#[derive(Drop)]
+pub enum ShardInput<'a, M, Q, R> {
+    /// The shard's record and its log were read, and the revision of each. Of the log a replica of its first requests,
+    /// which was kept, and the requests after them.
+    Read {
+        state: Record,
+        stood: u64,
+        head: Head,
+        base: Replica<M, R>,
+        items: &'a [Item<Q>],
+        logged: u64,
+    },
+    /// The shard's record alone was read, or seen by the watch.
+    Record {
+        state: Record,
+        stood: u64,
+    },
+    /// A request came, from a client or forwarded.
+    Request(Item<Q>),
+    /// It is time to send what waits.
+    Flush,
+    /// The transaction that was sent was made, at this revision.
+    Made(u64),
+    /// Its compares didn't hold, or what became of it isn't known.
+    Lost,
+}
+
+/// What a server does.
+#[derive(Drop)]
+pub enum ShardOutput<Q, R> {
+    Nothing,
+    /// It sends its transaction.
+    Sends,
+    /// It has decided on the request.
+    Decided(Decision<R>),
+    /// It tells these answers.
+    Answers(Vec<MadeReply<R>>),
+    /// These requests are to be decided again.
+    Decides(Undecided<Q>),
+}
+
+/// One step of a server.
+pub fn step<Q: Drop, R: Copy + Drop, M: StoreMachine<Q, R>>(
+    alloc: Global,
+    server: &mut ShardServer<M, Q, R>,
+    input: ShardInput<'_, M, Q, R>,
+) -> Result<ShardOutput<Q, R>, ReplayFault>
+    ensures me { server.new.me ≡ server.old.me }
+    ensures shard { server.new.shard ≡ server.old.shard }
+    ensures count { server.new.count ≡ server.old.count }
+    ensures call { IsStepOf M.after M.reply M.start server.old input.entry result server.new }
+{
+    match input {
+        ShardInput::Read {
+            state,
+            stood,
+            head,
+            base,
+            items,
+            logged,
+        } => {
+            server.on_read(alloc, state, stood, head, base, items, logged)?;
+            Ok(ShardOutput::Nothing)
+        }
+        ShardInput::Record { state, stood } => {
+            let again = server.on_record(alloc, state, stood);
+            Ok(ShardOutput::Decides(again))
+        }
+        ShardInput::Request(item) => {
+            let decision = server.on_request(item)?;
+            Ok(ShardOutput::Decided(decision))
+        }
+        ShardInput::Flush => if server.flush() {
+            Ok(ShardOutput::Sends)
+        } else {
+            Ok(ShardOutput::Nothing)
+        },
+        ShardInput::Made(revision) => {
+            let answers = server.on_made(alloc, revision)?;
+            Ok(ShardOutput::Answers(answers))
+        }
+        ShardInput::Lost => {
+            let again = server.on_lost(alloc);
+            Ok(ShardOutput::Decides(again))
+        }
+    }
+}
