@@ -12,7 +12,7 @@ use sm_ranges::server_id::ServerId;
 use sm_ranges::shard_id::ShardId;
 use sm_ranges::stand::Stand;
 use sm_script::{
-    LineAnswer, Call, LineFault, LoadClients, MAX_LINE, ParseFault, Refused, long_line_fault, parse,
+    Call, LineAnswer, LineFault, LoadClients, MAX_LINE, ParseFault, Refused, forms, long_line_fault, parse,
 };
 use sm_service::bytes::Bytes;
 use sm_service::reply::Reply;
@@ -375,6 +375,16 @@ fn calls_of_lines(rt: HostRuntime) {
     calls_of_the_control(&rt, rt.alloc());
     calls_of_requests(&rt, rt.alloc());
     calls_of_requests_sent(&rt, rt.alloc());
+}
+
+// The example of each line makes the call that the line is for.
+#[test]
+fn examples_of_lines(rt: HostRuntime) {
+    for form in forms() {
+        let found = shown(&rt, rt.alloc(), form.example.as_bytes());
+        assert!(rt; found.starts_with(form.name));
+    }
+    assert!(rt; forms().len() == 31);
 }
 
 // The fault of a line of so many bytes, whose word is unknown.
