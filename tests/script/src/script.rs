@@ -12,7 +12,8 @@ use sm_ranges::server_id::ServerId;
 use sm_ranges::shard_id::ShardId;
 use sm_ranges::stand::Stand;
 use sm_script::{
-    Call, LineAnswer, LineFault, LoadClients, MAX_LINE, ParseFault, Refused, forms, long_line_fault, parse,
+    Call, LineAnswer, LineFault, LoadClients, MAX_LINE, ParseFault, Refused, forms,
+    long_line_fault, parse,
 };
 use sm_service::bytes::Bytes;
 use sm_service::reply::Reply;
@@ -473,7 +474,10 @@ fn texts_of_records(rt: &impl Abort, alloc: Global, owner: ServerId, next: Serve
         ),
     ];
     for (record, text) in &records {
-        assert!(rt; is_text(rt, alloc, &LineAnswer::Seen(*record), text), "{text}");
+        assert!(rt;
+            is_text(rt, alloc, &LineAnswer::Seen(*record), text),
+            "{text}"
+        );
     }
 }
 
