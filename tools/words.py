@@ -1,7 +1,7 @@
 """What the words of scripts and the names of answers mean: tools/help, tools/shell and tools/check tell it.
 
-The program has how each word is written, and why a line is refused; both are read from its sources, so they
-stand there alone. What to do about a name is TO_DO, below.
+How each word is written is read from docs/SCRIPT.md, where the program prints it (tools/doc-forms), and why a line is
+refused from the program's sources, so both stand there alone. What to do about a name is TO_DO, below.
 
     help_lines(WORD)        what the program's help says of a word, or None
     meaning_of(NAME)        why a line or settings are answered by this name, or None
@@ -10,18 +10,21 @@ stand there alone. What to do about a name is TO_DO, below.
 """
 import collections
 import difflib
+import itertools
 import re
 
+import forms
 import runs
+from forms import FORMS, REQUESTS, SENDING
 
 SCRIPTS = runs.loaded("random-scripts")
-REQUESTS = SCRIPTS.REQUESTS
-ALL = {**SCRIPTS.COMMANDS, **REQUESTS, b"at": "A REQUEST", b"client": "REQUEST"}
+ALL = {**forms.COMMANDS, **REQUESTS, **SENDING}
+FORM = {it.word: it for it in FORMS}
 WORDS = sorted(it.decode() for it in ALL)
 # The words of tools/shell, which are none of scripts.
 SHELL_WORDS = ["help", "shards", "migrate", "place!", "drain!", "restart", "sent", "save", "quit"]
 ENTRY = re.compile(r'\(\s*"(\w+)",\s*"((?:[^"\\]|\\.)*)",?\s*\)')
-COLUMN = 20
+WIDTH = 17
 
 # What to do about a name: K is the shard in question, A the server, N the number in the answer.
 TO_DO = {
@@ -51,10 +54,10 @@ TO_DO = {
     "DomainLimit": "name a server of another domain, or give the group a greater limit in the settings",
     "NotUp": "back {A} ends a restart, or a failure",
     "NotAsked": "ask {A}, and then approve {A}",
-    "GlobalCap": "bring a server up that is away, by back; or settings with greater ops (./sm settings --ops N)",
+    "GlobalCap": "bring a server up that is leaving, by back; or settings with greater ops (./sm settings --ops N)",
     "ShardCap": "move shard {N} away first: drain {A} plans where to, and drain! {A} does it in the shell",
     "GroupCap": "move shards of group {N} away first: drain {A} plans where to, and drain! {A} does it in the shell",
-    "DomainCap": "bring the server of domain {N} up that is away, by back; or a greater down of it in the settings",
+    "DomainCap": "bring a server of domain {N} up that is leaving, by back; or a greater down of it in the settings",
     "NotApproved": "ask {A}, and then approve {A}",
     "StillServing": "move shard {N} away (drain {A} plans where to), or pause {N}",
     "AlreadyUp": "leave it as it is",
@@ -78,10 +81,19 @@ def source(path):
     return (runs.TOP / "crates" / path).read_text(encoding="utf-8")
 
 
+def help_line(form):
+    """The line of the program's help on a line of scripts."""
+    return f"  {form.word} {form.arguments:{max(0, WIDTH - len(form.word))}} {form.does} ({form.example})"
+
+
 def script_help():
     """Returns the help on scripts that the program has."""
-    text = re.search(r'const SCRIPT_HELP: &str = "\\\n(.*?)";\n', source("sm_cli/src/main.rt"), re.S)[1]
-    return text.replace('\\"', '"')
+    texts = re.findall(r'const (?:HEAD|TAIL): &str = "\\?\n(.*?)";\n', source("sm_cli/src/help.rt"), re.S)
+    head, tail = (it.replace('\\"', '"').replace("\\\n", "") for it in texts)
+    lines = [head]
+    for topic, group in itertools.groupby(FORMS, lambda it: it.topic):
+        lines += [f"{topic}:", *map(help_line, group), ""]
+    return "\n".join([*lines, tail])
 
 
 def table(name):
@@ -92,17 +104,17 @@ def table(name):
 
 def help_lines(word):
     """Returns the heading and the line of the program's help in which a word of scripts stands, or None."""
-    heading = ""
-    for line in script_help().partition("\nExample:")[0].split("\n"):
-        if line.endswith(":"):
-            heading = line
-        elif line.startswith("  ") and word in [it.split()[0] for it in line[:COLUMN].split(",") if it.strip()]:
-            return [heading, line]
-    return [table("FORMS")[word]] if word in table("FORMS") else None
+    form = FORM.get(word)
+    return form and [f"{form.topic}:", help_line(form)]
+
+
+def form_told(word):
+    """What is said where too few or too many words follow this one."""
+    return f"too few or too many words: {forms.written(FORM[word.decode()])}"
 
 
 def meaning_of(name):
-    if name == "BadLine":  # the program tells the word's form
+    if name == "BadLine":  # the program tells how the line is written
         return "too few or too many words"
     return table("REFUSALS").get(name) or table("SETTINGS").get(name)
 
@@ -161,8 +173,8 @@ def value_told(name, word, kind):
 
 def values_told(word, rest):
     """What is wrong with the first of the words behind this one that isn't as it has to be."""
-    names = table("FORMS")[word.decode()].partition(": ")[2].split()[1:]
-    kinds = ALL[word].split()
+    names = FORM[word.decode()].arguments.split()
+    kinds = ALL[word]
     told = map(value_told, names, SCRIPTS.words_of(rest, kinds), kinds)
     return next(filter(None, told), None)
 
@@ -177,8 +189,8 @@ def told_in_request(line, name):
         requests = ", ".join(it.decode() for it in REQUESTS)
         return told + f", as a request after {word.decode()}{' A' if server is not None else ''}: {requests}"
     if name == "BadLine":
-        return table("FORMS")[asked.decode()]
-    is_bad = server is not None and value_told("A", server, "A")
+        return form_told(asked)
+    is_bad = server is not None and value_told("A", server, "server")
     return is_bad or values_told(asked, after if blank else None)
 
 
@@ -186,11 +198,11 @@ def told_of(line, name):
     word, blank, rest = line.partition(b" ")
     if name == "UnknownWord" and word not in ALL:
         return unknown_told(word, ALL)
-    is_short = len(line.split(b" ")) < {b"at": 3, b"client": 2}.get(word, 0)
-    if word in (b"at", b"client") and not is_short:
+    is_short = len(line.split(b" ")) < len(SENDING[word]) + 2 if word in SENDING else False
+    if word in SENDING and not is_short:
         return told_in_request(line, name)
     if name == "BadLine":
-        return table("FORMS")[word.decode()]
+        return form_told(word)
     return values_told(word, rest if blank else None)
 
 

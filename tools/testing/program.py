@@ -82,6 +82,7 @@ class Program:
         """The program's other ends: no or unknown words, input that can't be read, output that can't be written."""
         model = [self.path, "model"]
         yield Verdict("the version", fault_of([self.path, "--version"], 0, b"sm_cli 0.1\n"))
+        yield tool("doc-forms", self.path)
         yield Verdict("no arguments", fault_of([self.path], 2, b"", "sm_cli"))
         yield Verdict("an unknown word", fault_of([self.path, "unknown"], 2, b"", "unknown"))
         silent = fault_of(["sh", "-c", 'exec "$0" unknown 2>/dev/full', self.path], 2, b"")

@@ -7,8 +7,10 @@ ghost use Rattle.sm_model.specs.Runs.{WroteScript};
 ghost use Rattle.sm_threads.specs.Runs.{WroteAnswers};
 
 mod counts_table;
+mod help;
 
 use crate::counts_table::CountsTable;
+use crate::help::{line_tables, script_help};
 use clap::error::ErrorKind;
 use clap::{Arg, ArgAction, ArgMatches, Command};
 use sm_cluster::Open;
@@ -28,67 +30,6 @@ use std::{env, io};
 /// What `--version` prints after the program's name; docs and CHANGELOG.md tell it too.
 const VERSION: &str = "0.1";
 
-const SCRIPT_HELP: &str = "\
-The script comes on standard input: a line of settings, and then a command a line.
-K is a shard's number, and A and B are servers' numbers.
-
-Migrations, as prepare_add 0 2, prepare_drop 0, add 0, drop 0:
-  assign K A        the vacant shard K gets the owner A
-  prepare_add K B   a migration of shard K to server B begins
-  prepare_drop K    the owner forwards what comes to it to server B
-  add K             server B becomes the owner, and the one before it forwards to B
-  drop K            the one before it drops the shard
-  cancel K          the migration is given up
-  pause K           nobody executes on shard K
-  resume K          its owner does again
-  reassign K B      the paused shard K gets the owner B
-
-Requests, as put m hello, and at 1 get m:
-  get KEY           what the key holds
-  put KEY TEXT      the key holds the text
-  append KEY TEXT   the key holds its text followed by this one
-  inc KEY N         adds N to the count that the key holds
-  del KEY           the key holds nothing
-  scan LOW HIGH MAX the first MAX pairs of LOW's shard with keys from LOW on and below HIGH, at most 100
-  at A REQUEST      a request to server A, where the others go to the owner
-
-Looking, holding and checkpoints, as look 0:
-  look K            the record of shard K
-  hold K A, free K  server A is admitted to shard K without a request; its end
-  checkpoint K A    server A makes what shard K holds its base: it has room for requests again
-
-Published routes, as publish 0, and client get m:
-  publish K         the owner of shard K at its generation becomes the route of its keys
-  route KEY         the published route of the key's shard
-  client REQUEST    a request by that route, which may be old
-
-Restarts, failures and plans, as ask 1, approve 1, drain 1:
-  ask A, approve A  a restart of server A is asked for; it is approved
-  stopped A, back A server A was stopped; it is up again
-  fail A            server A has failed
-  place             where the vacant shards would go
-  drain A           where the shards that server A serves would go
-
-Clients at the same time, as load a 4 25, under threads alone:
-  load KEY C N      C clients, each in a thread of its own, add 1 to the count of KEY N times each
-
-Each command has one answer line. An empty line and a line that begins with # have none.
-
-Example:
-
-  {\"version\":1,\"bounds\":[\"\",\"m\"],\"servers\":[{\"id\":1,\"domain\":0,\"capacity\":2}],\"groups\":[{\"limit\":2,\"down\":1}],\"shards\":[{\"group\":0,\"load\":1,\"cap\":0},{\"group\":0,\"load\":1,\"cap\":1}],\"ops\":1,\"kept\":100,\"ceiling\":1000,\"workers\":2}
-  assign 1 1
-  put m hello
-  get m
-
-answers
-
-  ok
-  done @1#0
-  text 5:hello @1#1
-
-docs/SCRIPT.md of the repository has all settings, commands and answers.";
-
 /// The exit status where the command line isn't accepted, also where that can't be told.
 const REFUSED: u8 = 2;
 
@@ -105,11 +46,21 @@ enum Runner {
 }
 
 /// What the command line asks for: a script on this runner, and whether sentences about lines that are refused go to
-/// standard error.
+/// standard
+/// error.
 #[derive(Clone, Copy, Drop)]
 struct Choice {
     runner: Runner,
     explains: bool,
+}
+
+/// What the program is to do.
+#[derive(Clone, Copy, Drop)]
+enum Task {
+    /// To run the script of standard input.
+    Run(Choice),
+    /// To print how the lines of scripts are written.
+    Lines,
 }
 
 /// The words of the command line, the program's name first; an error is a word that is not UTF-8, or want of memory.
@@ -123,6 +74,7 @@ fn runner_command<'a>(
     alloc: Global,
     name: &'a str,
     about: &'a str,
+    help: &'a str,
 ) -> Result<Command<'a>, clap::Error> {
     let explain = Arg::new(alloc, "explain")
         .long("explain")
@@ -133,7 +85,7 @@ fn runner_command<'a>(
     Ok(
         Command::new(alloc, name)
             .about(about)
-            .after_help(SCRIPT_HELP)
+            .after_help(help)
             .arg(explain)?,
     )
 }
@@ -146,34 +98,50 @@ fn explains(matches: &ArgMatches, name: &str) -> Option<bool> {
     }
 }
 
-/// The choice that the words name; an error is a refusal, help that was asked for, or want of memory.
-fn choose(alloc: Global, words: &[String]) -> Result<Choice, clap::Error> {
+/// The task that the words name, where this is the help on scripts; an error is a refusal, help that was asked for,
+/// or want
+/// of memory.
+fn choose(alloc: Global, words: &[String], help: &str) -> Result<Task, clap::Error> {
     let model = runner_command(
         alloc,
         "model",
         "Runs the script of standard input on the model, on one thread: each answer is what docs/SCRIPT.md says",
+        help,
     )?;
     let threads = runner_command(
         alloc,
         "threads",
         "Runs it on a cluster whose servers are threads, a command at a time; load has clients in threads of their own",
+        help,
     )?;
+    let lines = Command::new(alloc, "lines").about(
+        "Prints how the lines of scripts are written, as docs/SCRIPT.md has them",
+    );
     let command = Command::new(alloc, "sm_cli")
         .about("Runs a script of a shard manager")
         .version(VERSION)
-        .after_help(SCRIPT_HELP)
+        .after_help(help)
         .subcommand_required(true)
         .subcommand(model)?
-        .subcommand(threads)?;
+        .subcommand(threads)?
+        .subcommand(lines)?;
     let matches = command.try_get_matches_from(words)?;
-    match explains(&matches, "threads") {
-        Some(explains) => Ok(Choice {
+    Ok(task_of(&matches))
+}
+
+/// The task of a command line that is accepted.
+fn task_of(matches: &ArgMatches) -> Task {
+    if matches.subcommand_matches("lines").is_some() {
+        return Task::Lines;
+    }
+    match explains(matches, "threads") {
+        Some(explains) => Task::Run(Choice {
             runner: Runner::Threads,
             explains,
         }),
-        None => Ok(Choice {
+        None => Task::Run(Choice {
             runner: Runner::Model,
-            explains: explains(&matches, "model") == Some(true),
+            explains: explains(matches, "model") == Some(true),
         }),
     }
 }
@@ -193,9 +161,10 @@ fn end_plain<R: Runtime>(rt: &R, ended: Result<Status, RunFault>) -> anyhow::Res
     }
 }
 
-/// Runs the script of the reader, and writes its answers, on any streams alike. Of streams that tell their bytes, as a
-/// buffer in memory does, what was written is what the runner's definition says. Standard input and output, which
-/// `main` hands over, tell none.
+/// Runs the script of the reader, and writes its answers, on any streams alike. Of streams that tell their bytes, as
+/// a buffer in
+/// memory does, what was written is what the runner's definition says. Standard input and output, which `main` hands
+/// over, tell none.
 fn run_on<I: Read, W: Write, R: Threads + Wait + Clone + Send + Sync + Drop + 'static>(
     rt: &R,
     alloc: Global,
@@ -227,8 +196,8 @@ fn run_plain<R: Runtime + Threads + Wait + Send + Sync + 'static>(
     end_plain(rt, ended)
 }
 
-/// Runs the script of standard input, and tells on standard error why lines or settings are refused, and what a cluster
-/// counted.
+/// Runs the script of standard input, and tells on standard error why lines or settings are refused, and what a
+/// cluster counted.
 fn run_explained<R: Runtime + Threads + Wait + Send + Sync + 'static>(
     rt: &R,
     alloc: Global,
@@ -260,7 +229,18 @@ fn run_explained<R: Runtime + Threads + Wait + Send + Sync + 'static>(
     }
 }
 
-/// Does what the command line asks for.
+/// Prints how the lines of scripts are written.
+fn print_lines<R: Runtime>(rt: &R, alloc: Global) -> anyhow::Result<ExitCode> {
+    match line_tables(alloc) {
+        Ok(text) => {
+            print!(rt; "{text}")?;
+            Ok(ExitCode::SUCCESS)
+        }
+        Err(_) => end_early(rt, RunFault::NoMemory),
+    }
+}
+
+/// Runs a script as the command line asks for.
 fn run_choice<R: Runtime + Threads + Wait + Send + Sync + 'static>(
     rt: &R,
     alloc: Global,
@@ -284,8 +264,12 @@ fn main(rt: HostRuntime) -> anyhow::Result<ExitCode> {
             return Ok(ExitCode::from(REFUSED));
         }
     };
-    match choose(rt.alloc(), &words) {
-        Ok(choice) => run_choice(&rt, rt.alloc(), choice),
+    let Ok(help) = script_help(rt.alloc()) else {
+        return end_early(&rt, RunFault::NoMemory);
+    };
+    match choose(rt.alloc(), &words, &help) {
+        Ok(Task::Run(choice)) => run_choice(&rt, rt.alloc(), choice),
+        Ok(Task::Lines) => print_lines(&rt, rt.alloc()),
         Err(error) if error.kind() == ErrorKind::OutOfMemory => {
             end_early(&rt, RunFault::NoMemory)
         }

@@ -1,5 +1,7 @@
 use crate::listener::Listener;
+use crate::sentence::Sentence;
 use crate::sentences::settings_sentence;
+use sm_script::Form;
 use std::cell::Cell;
 use std::io::Eprint;
 
@@ -26,6 +28,15 @@ impl<'a, R> Console<'a, R> {
 }
 
 impl<'a, R: Eprint> Console<'a, R> {
+    /// Writes how the line is to be written.
+    fn tell_form(&self, line: u64, answer: &str, form: Form) {
+        let (name, arguments) = (form.name, form.arguments);
+        let space = if arguments.is_empty() { "" } else { " " };
+        let _told = eprintln!(self.rt;
+            "line {line}: {answer}: too few or too many words: {name}{space}{arguments}"
+        ).is_ok();
+    }
+
     /// Writes why settings are answered by this name.
     pub fn tell_settings(&self, name: &str) {
         let sentence = settings_sentence(name);
@@ -34,10 +45,15 @@ impl<'a, R: Eprint> Console<'a, R> {
 }
 
 impl<'a, R: Eprint> Listener for Console<'a, R> {
-    fn hear(&self, line: u64, answer: &str, sentence: &str) {
+    fn hear(&self, line: u64, answer: &str, sentence: Sentence) {
         if answer.starts_with("error ") {
             self.has_heard_error.set(true);
         }
-        let _told = eprintln!(self.rt; "line {line}: {answer}: {sentence}").is_ok();
+        match sentence {
+            Sentence::Text(text) => {
+                let _told = eprintln!(self.rt; "line {line}: {answer}: {text}").is_ok();
+            }
+            Sentence::Written(form) => self.tell_form(line, answer, form),
+        }
     }
 }

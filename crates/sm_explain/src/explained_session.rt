@@ -1,4 +1,5 @@
 use crate::listener::Listener;
+use crate::sentence::Sentence;
 use crate::sentences::{refusal_of, sentence_of};
 use sm_lines::Responder;
 use std::alloc::AllocError;
@@ -6,7 +7,8 @@ use std::cell::Cell;
 use std::marker::Model;
 
 /// A session that answers as another does, and tells a listener why lines were refused, each with its number: the
-/// settings are line 1. Contracts see it as that other session.
+/// settings are
+/// line 1. Contracts see it as that other session.
 pub struct ExplainedSession<S, L> {
     inner: S,
     listener: L,
@@ -64,7 +66,7 @@ impl<S, L: Listener> ExplainedSession<S, L> {
             self.listener.hear(
                 number,
                 "carriage return",
-                "the line ends with one, which is a byte of its last word",
+                Sentence::Text("the line ends with one, which is a byte of its last word"),
             );
         }
     }

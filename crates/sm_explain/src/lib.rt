@@ -1,5 +1,6 @@
-//! Tells beside a run why lines were answered by `error` or `refused`, and why settings weren't accepted. What the run
-//! reads and writes stays what it is.
+//! Tells beside a run why lines were answered by `error` or `refused`, and why settings weren't accepted. What the
+//! run reads and
+//! writes stays what it is.
 //!
 //! ```rust
 //! let console = Console::new(&rt);
@@ -15,6 +16,7 @@ mod console;
 mod explained;
 mod explained_session;
 mod listener;
+mod sentence;
 mod sentences;
 
 pub use beginning::Beginning;
@@ -22,3 +24,4 @@ pub use console::Console;
 pub use explained::Explained;
 pub use explained_session::ExplainedSession;
 pub use listener::Listener;
+pub use sentence::Sentence;

@@ -1,46 +1,8 @@
-/// A name, or the word that a line begins with, and what is said of it.
-type Entry = (&'static str, &'static str);
+use crate::sentence::Sentence;
+use sm_script::{Form, Word, form_of};
 
-/// How each command is written.
-const FORMS: [Entry; 31] = [
-    ("get", "get takes one word: get KEY"),
-    ("put", "put takes a key and a text: put KEY TEXT"),
-    ("append", "append takes a key and a text: append KEY TEXT"),
-    ("inc", "inc takes two words: inc KEY N"),
-    ("del", "del takes one word: del KEY"),
-    ("scan", "scan takes three words: scan LOW HIGH MAX"),
-    ("look", "look takes one word: look K"),
-    ("assign", "assign takes two words: assign K A"),
-    (
-        "prepare_add",
-        "prepare_add takes two words: prepare_add K B",
-    ),
-    (
-        "prepare_drop",
-        "prepare_drop takes one word: prepare_drop K",
-    ),
-    ("add", "add takes one word: add K"),
-    ("drop", "drop takes one word: drop K"),
-    ("cancel", "cancel takes one word: cancel K"),
-    ("pause", "pause takes one word: pause K"),
-    ("resume", "resume takes one word: resume K"),
-    ("reassign", "reassign takes two words: reassign K B"),
-    ("hold", "hold takes two words: hold K A"),
-    ("free", "free takes one word: free K"),
-    ("checkpoint", "checkpoint takes two words: checkpoint K A"),
-    ("ask", "ask takes one word: ask A"),
-    ("approve", "approve takes one word: approve A"),
-    ("stopped", "stopped takes one word: stopped A"),
-    ("back", "back takes one word: back A"),
-    ("fail", "fail takes one word: fail A"),
-    ("place", "place takes no word: place"),
-    ("drain", "drain takes one word: drain A"),
-    ("publish", "publish takes one word: publish K"),
-    ("route", "route takes one word: route KEY"),
-    ("load", "load takes three words: load KEY C N"),
-    ("at", "at takes a server and a request: at A REQUEST"),
-    ("client", "client takes a request: client REQUEST"),
-];
+/// A name, and what is said of it.
+type Entry = (&'static str, &'static str);
 
 /// Why a line is answered by these names.
 const REFUSALS: [Entry; 38] = [
@@ -116,7 +78,7 @@ const REFUSALS: [Entry; 38] = [
     ("NotAsked", "no restart of the server is asked for"),
     (
         "GlobalCap",
-        "as many servers are away as ops of the settings allows",
+        "as many servers are approved, stopped or failed as ops of the settings allows",
     ),
     (
         "ShardCap",
@@ -128,7 +90,7 @@ const REFUSALS: [Entry; 38] = [
     ),
     (
         "DomainCap",
-        "more servers of the domain would be away than its down allows",
+        "more servers of the domain would be approved, stopped or failed than its down allows",
     ),
     ("NotApproved", "the server's restart isn't approved"),
     (
@@ -213,29 +175,30 @@ pub(crate) fn refusal_of(answer: &[u8]) -> Option<&str> {
 }
 
 /// Why a line was refused so.
-pub(crate) fn sentence_of(refusal: &str, line: &[u8]) -> &'static str {
-    let said = match refusal.as_bytes().split(|byte| *byte == b' ').nth(1) {
-        Some(b"BadLine") => form_of(line),
-        Some(name) => entry(&REFUSALS, name),
-        None => None,
-    };
-    said.unwrap_or(UNTOLD)
+pub(crate) fn sentence_of(refusal: &str, line: &[u8]) -> Sentence {
+    match refusal.as_bytes().split(|byte| *byte == b' ').nth(1) {
+        Some(b"BadLine") => match form_in(line) {
+            Some(form) => Sentence::Written(form),
+            None => Sentence::Text(UNTOLD),
+        },
+        Some(name) => Sentence::Text(entry(&REFUSALS, name).unwrap_or(UNTOLD)),
+        None => Sentence::Text(UNTOLD),
+    }
 }
 
-/// How the command of this line is written: the request of a line of `at` or `client`, where it has one.
-fn form_of(line: &[u8]) -> Option<&'static str> {
+/// How this line is to be written: the request of a line of `at` or `client`, where it has one.
+fn form_in(line: &[u8]) -> Option<Form> {
     let mut words = line.split(|byte| *byte == b' ');
-    let first = words.next()?;
-    let request = match first {
-        b"at" => words.nth(1),
-        b"client" => words.next(),
+    let form = form_of(words.next()?)?;
+    let request = match form.word {
+        Word::At => words.nth(1),
+        Word::Client => words.next(),
         _ => None,
     };
-    let form = match request {
-        Some(word) => entry(&FORMS, word),
-        None => None,
-    };
-    form.or(entry(&FORMS, first))
+    match request {
+        Some(word) => form_of(word).or(Some(form)),
+        None => Some(form),
+    }
 }
 
 /// Why settings were refused by this name.

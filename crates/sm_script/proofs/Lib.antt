@@ -1,3 +1,4 @@
+pub mod FormLemmas
 pub mod WordLemmas
 pub mod NumberLemmas
 pub mod LineLemmas

@@ -1,4 +1,5 @@
 pub mod Answers
+pub mod Forms
 pub mod Grammar
 pub mod Lines
 pub mod LoadClients

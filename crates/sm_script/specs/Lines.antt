@@ -1,13 +1,13 @@
 -- What a line of a script asks for.
-use Rattle.std.specs.Prelude.{◌≡◌, ℕ, ℤ, Bool, true, false, ◌==◌, IsOk, IsOkAnd, IsSomeAnd, IsTrue, if◌then◌else◌, List}
-use Rattle.std.specs.Prelude.{[], ◌∷◌, length, nat_lt, codes, Option, None, Some, Result, Ok, Err}
+use Rattle.std.specs.Prelude.{◌≡◌, ℕ, ℤ, Bool, true, false, ◌==◌, IsOk, IsOkAnd, IsSomeAnd, IsTrue, if◌then◌else◌}
+use Rattle.std.specs.Prelude.{List, [], ◌∷◌, length, nat_lt, codes, Option, None, Some, Result, Ok, Err}
 use Rattle.std.specs.List.{join_with_byte}
 use Rattle.std.specs.Option.{option_map_or}
-use Rattle.std.specs.Str.{bytes_eq}
 use Rattle.sm_script.specs.Answers.{line_fault_name}
 use Rattle.sm_script.specs.Words.{words_of}
 use Rattle.sm_script.specs.Numbers.{number, increment_of}
-use Rattle.sm_script.specs.Grammar.{word_among, first_words, request_words, shapes_of, arguments_fault}
+use Rattle.sm_script.specs.Forms.{FormRow, form_named, is_request, request_form_named}
+use Rattle.sm_script.specs.Grammar.{arguments_fault}
 use Rattle.sm_desk.specs.declared.command.Command.TheVariants as command
 use Rattle.sm_ownership.specs.declared.change.Change.{Change}
 use Rattle.sm_ownership.specs.declared.change.Change.TheVariants as change
@@ -18,12 +18,13 @@ use Rattle.sm_script.specs.declared.fault.LineFault.TheVariants.{LineTooLong, Un
 use Rattle.sm_script.specs.declared.fault.ParseFault.{ParseFault}
 use Rattle.sm_script.specs.declared.fault.ParseFault.TheVariants.{Line, NoMemory}
 use Rattle.sm_script.specs.declared.line.TheConstants.{MAX_LINE}
-use Rattle.sm_script.specs.declared.shape.Shape.TheVariants.{Server}
+use Rattle.sm_script.specs.declared.shape.Shape.{Shape}
+use Rattle.sm_script.specs.declared.shape.Shape.TheVariants.{Shard, Server, Key, Text, Increment, Limit, Clients, Each}
 use Rattle.sm_script.specs.declared.word.Word.{Word}
-use Rattle.sm_script.specs.declared.word.Word.TheVariants.{Assign, PrepareAdd, PrepareDrop, Add, Drop, Cancel, Pause}
-use Rattle.sm_script.specs.declared.word.Word.TheVariants.{Resume, Reassign, Ask, Approve, Stopped, Back, Fail, Place}
-use Rattle.sm_script.specs.declared.word.Word.TheVariants.{Drain, Hold, Free, Checkpoint, Publish, Route, Load, Look}
-use Rattle.sm_script.specs.declared.word.Word.TheVariants.{Get, Put, Append, Inc, Del, Scan}
+use Rattle.sm_script.specs.declared.word.Word.TheVariants.{Get, Put, Append, Inc, Del, Scan, At, Client, Look, Assign}
+use Rattle.sm_script.specs.declared.word.Word.TheVariants.{PrepareAdd, PrepareDrop, Add, Drop, Cancel, Pause, Resume}
+use Rattle.sm_script.specs.declared.word.Word.TheVariants.{Reassign, Hold, Free, Checkpoint, Publish, Route, Ask}
+use Rattle.sm_script.specs.declared.word.Word.TheVariants.{Approve, Stopped, Back, Fail, Place, Drain, Load}
 use Rattle.sm_service.specs.declared.request.Request.{Request}
 use Rattle.sm_service.specs.declared.request.Request.TheVariants.{Get as GetRequest, Put as PutRequest}
 use Rattle.sm_service.specs.declared.request.Request.TheVariants.{Append as AppendRequest}
@@ -35,15 +36,35 @@ abbrev pub inc_request : List ℕ → Option ℤ → Result Request LineFault
 inc_request key (Some amount) = Ok (IncRequest key amount)
 inc_request key None = Err BadNumber
 
--- the request of a word and the words after it, where nothing is wrong with them; the other words don't run here
-abbrev pub request_with : Word → List (List ℕ) → Result Request LineFault
-request_with Get (key ∷ []) = Ok (GetRequest key)
-request_with Put (key ∷ text) = Ok (PutRequest key (join_with_byte 32 text))
-request_with Append (key ∷ tail) = Ok (AppendRequest key (join_with_byte 32 tail))
-request_with Inc (key ∷ amount ∷ []) = inc_request key (increment_of amount)
-request_with Del (key ∷ []) = Ok (DelRequest key)
-request_with Scan (low ∷ high ∷ most ∷ []) = Ok (ScanRequest low high (number most))
-request_with _ _ = Err NotHere
+-- the request of a word and a key; here and below, other words don't run with such words after them
+abbrev pub key_request : Word → List ℕ → Result Request LineFault
+key_request Get key = Ok (GetRequest key)
+key_request Del key = Ok (DelRequest key)
+key_request _ key = Err NotHere
+
+-- of a key and a text
+abbrev pub text_request : Word → List ℕ → List ℕ → Result Request LineFault
+text_request Put key text = Ok (PutRequest key text)
+text_request Append key tail = Ok (AppendRequest key tail)
+text_request _ key text = Err NotHere
+
+-- of a key and a number
+abbrev pub number_request : Word → List ℕ → List ℕ → Result Request LineFault
+number_request Inc key amount = inc_request key (increment_of amount)
+number_request _ key amount = Err NotHere
+
+-- of two keys and a limit
+abbrev pub range_request : Word → List ℕ → List ℕ → ℕ → Result Request LineFault
+range_request Scan low high most = Ok (ScanRequest low high most)
+range_request _ low high most = Err NotHere
+
+-- the request of a word and the words after it, of these shapes, where nothing is wrong with them
+abbrev pub request_with : List Shape → Word → List (List ℕ) → Result Request LineFault
+request_with (Key ∷ []) word (key ∷ []) = key_request word key
+request_with (Key ∷ Text ∷ []) word (key ∷ text) = text_request word key (join_with_byte 32 text)
+request_with (Key ∷ Increment ∷ []) word (key ∷ amount ∷ []) = number_request word key amount
+request_with (Key ∷ Key ∷ Limit ∷ []) word (low ∷ high ∷ most ∷ []) = range_request word low high (number most)
+request_with _ _ _ = Err NotHere
 
 -- a change of the shard
 abbrev pub change_call : ℕ → Change → Call
@@ -54,73 +75,108 @@ abbrev pub with_request : (Request → Call) → Result Request LineFault → Re
 with_request made (Ok request) = Ok (made request)
 with_request made (Err fault) = Err fault
 
--- the call of a word and the words after it, where nothing is wrong with them
-abbrev pub call_with : Word → List (List ℕ) → Result Call LineFault
-call_with Assign (shard ∷ server ∷ []) = Ok (change_call (number shard) (change.Assign (number server)))
-call_with PrepareAdd (shard ∷ server ∷ []) = Ok (change_call (number shard) (change.PrepareAddShard (number server)))
-call_with PrepareDrop (shard ∷ []) = Ok (change_call (number shard) change.PrepareDropShard)
-call_with Add (shard ∷ []) = Ok (change_call (number shard) change.AddShard)
-call_with Drop (shard ∷ []) = Ok (change_call (number shard) change.DropShard)
-call_with Cancel (shard ∷ []) = Ok (change_call (number shard) change.Cancel)
-call_with Pause (shard ∷ []) = Ok (change_call (number shard) change.Pause)
-call_with Resume (shard ∷ []) = Ok (change_call (number shard) change.Resume)
-call_with Reassign (shard ∷ server ∷ []) = Ok (change_call (number shard) (change.Reassign (number server)))
-call_with Hold (shard ∷ server ∷ []) = Ok (call.Hold (number shard) (number server))
-call_with Free (shard ∷ []) = Ok (call.Free (number shard))
-call_with Checkpoint (shard ∷ server ∷ []) = Ok (call.Checkpoint (number shard) (number server))
-call_with Publish (shard ∷ []) = Ok (call.Publish (number shard))
-call_with Route (key ∷ []) = Ok (call.Route key)
-call_with Load (key ∷ clients ∷ each ∷ []) = Ok (call.Load key (number clients) (number each))
-call_with Look (shard ∷ []) = Ok (call.Look (number shard))
-call_with Ask (server ∷ []) = Ok (call.Control (command.Ask (number server)))
-call_with Approve (server ∷ []) = Ok (call.Control (command.Approve (number server)))
-call_with Stopped (server ∷ []) = Ok (call.Control (command.Stopped (number server)))
-call_with Back (server ∷ []) = Ok (call.Control (command.Back (number server)))
-call_with Fail (server ∷ []) = Ok (call.Control (command.Fail (number server)))
-call_with Place [] = Ok call.Place
-call_with Drain (server ∷ []) = Ok (call.Drain (number server))
-call_with word words = with_request call.Request (request_with word words)
+-- the call of a word with no word after it
+abbrev pub bare_call : Word → Result Call LineFault
+bare_call Place = Ok call.Place
+bare_call _ = Err NotHere
+
+-- of a shard
+abbrev pub shard_call : Word → ℕ → Result Call LineFault
+shard_call PrepareDrop shard = Ok (change_call shard change.PrepareDropShard)
+shard_call Add shard = Ok (change_call shard change.AddShard)
+shard_call Drop shard = Ok (change_call shard change.DropShard)
+shard_call Cancel shard = Ok (change_call shard change.Cancel)
+shard_call Pause shard = Ok (change_call shard change.Pause)
+shard_call Resume shard = Ok (change_call shard change.Resume)
+shard_call Free shard = Ok (call.Free shard)
+shard_call Publish shard = Ok (call.Publish shard)
+shard_call Look shard = Ok (call.Look shard)
+shard_call _ shard = Err NotHere
+
+-- of a server
+abbrev pub server_call : Word → ℕ → Result Call LineFault
+server_call Ask server = Ok (call.Control (command.Ask server))
+server_call Approve server = Ok (call.Control (command.Approve server))
+server_call Stopped server = Ok (call.Control (command.Stopped server))
+server_call Back server = Ok (call.Control (command.Back server))
+server_call Fail server = Ok (call.Control (command.Fail server))
+server_call Drain server = Ok (call.Drain server)
+server_call _ server = Err NotHere
+
+-- of a shard and a server
+abbrev pub shard_and_server_call : Word → ℕ → ℕ → Result Call LineFault
+shard_and_server_call Assign shard server = Ok (change_call shard (change.Assign server))
+shard_and_server_call PrepareAdd shard server = Ok (change_call shard (change.PrepareAddShard server))
+shard_and_server_call Reassign shard server = Ok (change_call shard (change.Reassign server))
+shard_and_server_call Hold shard server = Ok (call.Hold shard server)
+shard_and_server_call Checkpoint shard server = Ok (call.Checkpoint shard server)
+shard_and_server_call _ shard server = Err NotHere
+
+-- of a key
+abbrev pub key_call : Word → List ℕ → Result Call LineFault
+key_call Route key = Ok (call.Route key)
+key_call _ key = Err NotHere
+
+-- of a key, a number of clients and how many requests each makes
+abbrev pub load_call : Word → List ℕ → ℕ → ℕ → Result Call LineFault
+load_call Load key clients each = Ok (call.Load key clients each)
+load_call _ key clients each = Err NotHere
+
+-- the call of a word that is no request, and of the words after it, of these shapes, where nothing is wrong with them
+abbrev pub call_with : List Shape → Word → List (List ℕ) → Result Call LineFault
+call_with [] word [] = bare_call word
+call_with (Shard ∷ []) word (shard ∷ []) = shard_call word (number shard)
+call_with (Server ∷ []) word (server ∷ []) = server_call word (number server)
+call_with (Shard ∷ Server ∷ []) word (shard ∷ server ∷ []) = shard_and_server_call word (number shard) (number server)
+call_with (Key ∷ []) word (key ∷ []) = key_call word key
+call_with (Key ∷ Clients ∷ Each ∷ []) word (key ∷ clients ∷ each ∷ []) =
+    load_call word key (number clients) (number each)
+call_with _ _ _ = Err NotHere
 
 -- the fault, or else the call
 abbrev pub unless_fault : Option LineFault → Result Call LineFault → Result Call LineFault
 unless_fault None asked = asked
 unless_fault (Some fault) asked = Err fault
 
--- a word and the words after it
-abbrev pub plain_call : Option Word → List (List ℕ) → Result Call LineFault
-plain_call None words = Err UnknownWord
-plain_call (Some word) words = unless_fault (arguments_fault (shapes_of word) words) (call_with word words)
+-- the request of a row and the words after its own, made into a call
+abbrev pub request_call : (Request → Call) → FormRow → List (List ℕ) → Result Call LineFault
+request_call made row words =
+    unless_fault (arguments_fault row.shapes words) (with_request made (request_with row.shapes row.word words))
 
--- the request of a word and the words after it, to the server
-abbrev pub at_server : List ℕ → Word → List (List ℕ) → Result Call LineFault
-at_server server word words =
-    unless_fault (arguments_fault (Server ∷ shapes_of word) (server ∷ words))
-    (with_request (call.RequestAt (number server)) (request_with word words))
+-- the call of a row and the words after its own
+abbrev pub plain_call : FormRow → List (List ℕ) → Result Call LineFault
+plain_call row words =
+    if is_request row.topic then request_call call.Request row words
+    else unless_fault (arguments_fault row.shapes words) (call_with row.shapes row.word words)
+
+-- the request of a row and the words after its own, to the server
+abbrev pub at_server : List ℕ → FormRow → List (List ℕ) → Result Call LineFault
+at_server server row words =
+    unless_fault (arguments_fault (Server ∷ row.shapes) (server ∷ words))
+    (with_request (call.RequestAt (number server)) (request_with row.shapes row.word words))
 
 -- the words after `at`: a server, and a request; whether there is such a request is seen first
 abbrev pub at_call : List (List ℕ) → Result Call LineFault
 at_call (server ∷ request ∷ words) =
-    option_map_or (λ word. at_server server word words) (word_among request_words request) (Err UnknownWord)
+    option_map_or (λ row. at_server server row words) (request_form_named request) (Err UnknownWord)
 at_call _ = Err BadLine
-
--- the request of a word and the words after it, by the published route
-abbrev pub client_request : Word → List (List ℕ) → Result Call LineFault
-client_request word words =
-    unless_fault (arguments_fault (shapes_of word) words) (with_request call.RequestByRoute (request_with word words))
 
 -- the words after `client`: a request
 abbrev pub client_call : List (List ℕ) → Result Call LineFault
 client_call (request ∷ words) =
-    option_map_or (λ word. client_request word words) (word_among request_words request) (Err UnknownWord)
+    option_map_or (λ row. request_call call.RequestByRoute row words) (request_form_named request) (Err UnknownWord)
 client_call [] = Err BadLine
+
+-- the call of what a line becomes, its row and the words after its own
+abbrev pub call_as : Word → FormRow → List (List ℕ) → Result Call LineFault
+call_as At row words = at_call words
+call_as Client row words = client_call words
+call_as _ row words = plain_call row words
 
 -- the words of a line, of which the first says how the others are read
 abbrev pub call_of_words : List (List ℕ) → Result Call LineFault
 call_of_words [] = Err UnknownWord
-call_of_words (first ∷ words) =
-    if bytes_eq first (codes "at") then at_call words
-    else (if bytes_eq first (codes "client") then client_call words
-    else plain_call (word_among first_words first) words)
+call_of_words (first ∷ words) = option_map_or (λ row. call_as row.word row words) (form_named first) (Err UnknownWord)
 
 -- an empty line and a comment ask for nothing, and have no answer
 abbrev pub has_no_answer : List ℕ → Bool

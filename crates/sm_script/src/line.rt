@@ -1,51 +1,46 @@
 ghost use Rattle.std.specs.Prelude.{◌≡◌, ◌<◌, ℕ, List, [], ◌∷◌, ◌++◌, length, IfOk, IfErr, IfNone, IsTrue};
-ghost use Rattle.sm_script.specs.Grammar.{takes_word, arguments_fault, shapes_of, word_among, first_words};
-ghost use Rattle.sm_script.specs.Lines.{call_with, at_server, at_call, client_call, client_request, plain_call};
-ghost use Rattle.sm_script.specs.Lines.{call_of_words, has_no_answer, call_of_line, IsFaultIn, IsFaultOf};
-ghost use Rattle.sm_script.specs.Lines.{meaning_if_long};
-ghost use Rattle.sm_script.specs.declared.shape.Shape.TheVariants.{Shard, Server};
-ghost use Rattle.sm_script.specs.declared.word.Word.TheVariants.{Load, Route};
+ghost use Rattle.sm_script.specs.Forms.{row_of_form};
+ghost use Rattle.sm_script.specs.Grammar.{takes_word, arguments_fault};
+ghost use Rattle.sm_script.specs.Lines.{bare_call, shard_call, server_call, call_with};
+ghost use Rattle.sm_script.specs.Lines.{at_server, at_call, client_call, request_call, plain_call, call_as};
+ghost use Rattle.sm_script.specs.Lines.{call_of_words};
+ghost use Rattle.sm_script.specs.Lines.{has_no_answer, call_of_line, IsFaultIn, IsFaultOf, meaning_if_long};
+ghost use Rattle.sm_script.specs.declared.call.Call.TheVariants.{Request, RequestByRoute};
+ghost use Rattle.sm_script.specs.declared.shape.Shape.TheVariants.{Shard, Server, Key, Clients, Each};
 
 use crate::argument::{clients, key, server, shard};
 use crate::call::Call;
 use crate::fault::{LineFault, ParseFault};
+use crate::form::{Form, form_of, request_form_of};
 use crate::number::number_between;
 use crate::request::request_with;
 use crate::shape::{MAX_EACH, Shape, arguments_fault, first_fault, takes_as_many};
+use crate::topic::Topic;
 use crate::word::Word;
 use crate::words::Words;
 use sm_desk::command::Command;
 use sm_ownership::change::Change;
-use std::alloc::{AllocError, Global};
+use sm_ranges::server_id::ServerId;
+use sm_ranges::shard_id::ShardId;
+use std::alloc::Global;
 
 /// The most bytes that a line may have without its line feed; a comment may have more.
 pub const MAX_LINE: usize = 70_000;
 
-// A line of a shard and a server.
-fn shard_and_server_call(word: Word, mut words: Words) -> Result<Call, LineFault>
-    requires shapes { shapes_of word ≡ Shard ∷ Server ∷ [] }
-    requires right { arguments_fault (Shard ∷ Server ∷ []) words ≡ None }
-    ensures { result ≡ call_with word words.entry }
+// The call of a word with no word after it.
+fn bare_call(word: Word) -> Result<Call, LineFault>
+    ensures { result ≡ bare_call word }
 {
-    let shard = shard(words.next().unwrap());
-    let server = server(words.next().unwrap());
     match word {
-        Word::Assign => Ok(Call::change(shard, Change::Assign(server))),
-        Word::PrepareAdd => Ok(Call::change(shard, Change::PrepareAddShard(server))),
-        Word::Reassign => Ok(Call::change(shard, Change::Reassign(server))),
-        Word::Hold => Ok(Call::Hold(shard, server)),
-        Word::Checkpoint => Ok(Call::Checkpoint(shard, server)),
+        Word::Place => Ok(Call::Place),
         _ => Err(LineFault::NotHere),
     }
 }
 
-// A line of a shard alone.
-fn shard_call(word: Word, mut words: Words) -> Result<Call, LineFault>
-    requires shapes { shapes_of word ≡ Shard ∷ [] }
-    requires right { arguments_fault (Shard ∷ []) words ≡ None }
-    ensures { result ≡ call_with word words.entry }
+// The call of a shard.
+fn shard_call(word: Word, shard: ShardId) -> Result<Call, LineFault>
+    ensures { result ≡ shard_call word shard }
 {
-    let shard = shard(words.next().unwrap());
     match word {
         Word::PrepareDrop => Ok(Call::change(shard, Change::PrepareDropShard)),
         Word::Add => Ok(Call::change(shard, Change::AddShard)),
@@ -60,13 +55,10 @@ fn shard_call(word: Word, mut words: Words) -> Result<Call, LineFault>
     }
 }
 
-// A line of a server alone.
-fn server_call(word: Word, mut words: Words) -> Result<Call, LineFault>
-    requires shapes { shapes_of word ≡ Server ∷ [] }
-    requires right { arguments_fault (Server ∷ []) words ≡ None }
-    ensures { result ≡ call_with word words.entry }
+// The call of a server.
+fn server_call(word: Word, server: ServerId) -> Result<Call, LineFault>
+    ensures { result ≡ server_call word server }
 {
-    let server = server(words.next().unwrap());
     match word {
         Word::Ask => Ok(Call::Control(Command::Ask(server))),
         Word::Approve => Ok(Call::Control(Command::Approve(server))),
@@ -78,84 +70,104 @@ fn server_call(word: Word, mut words: Words) -> Result<Call, LineFault>
     }
 }
 
-// `route KEY`.
-fn route_call(alloc: Global, mut words: Words) -> Result<Call, AllocError>
-    requires { arguments_fault (shapes_of Route) words ≡ None }
-    ensures { IfOk result (λ call. call_with Route words.entry ≡ Ok call) }
+// The call of a shard and a server.
+fn shard_and_server_call(word: Word, mut words: Words) -> Result<Call, LineFault>
+    requires { arguments_fault (Shard ∷ Server ∷ []) words ≡ None }
+    ensures { result ≡ call_with (Shard ∷ Server ∷ []) word words.entry }
 {
-    let key = key(alloc, words.next().unwrap())?;
-    Ok(Call::Route(key))
-}
-
-// `load KEY C N`.
-fn load_call(alloc: Global, mut words: Words) -> Result<Call, AllocError>
-    requires { arguments_fault (shapes_of Load) words ≡ None }
-    ensures { IfOk result (λ call. call_with Load words.entry ≡ Ok call) }
-{
-    let key = key(alloc, words.next().unwrap())?;
-    let clients = clients(words.next().unwrap());
-    let each = number_between(words.next().unwrap(), 1, MAX_EACH).unwrap();
-    Ok(Call::Load {
-        key,
-        clients,
-        each: each as u16,
-    })
-}
-
-// The call of a word and the words after it, which are right.
-fn call_with(alloc: Global, word: Word, words: Words) -> Result<Call, ParseFault>
-    requires { arguments_fault (shapes_of word) words ≡ None }
-    ensures ok { IfOk result (λ call. call_with word words.entry ≡ Ok call) }
-    ensures err { IfErr result (λ fault. IsFaultIn fault (call_with word words.entry)) }
-{
+    let shard = shard(words.next().unwrap());
+    let server = server(words.next().unwrap());
     match word {
-        Word::Assign | Word::PrepareAdd | Word::Reassign | Word::Hold | Word::Checkpoint => {
-            Ok(shard_and_server_call(word, words)?)
-        }
-        Word::PrepareDrop
-        | Word::Add
-        | Word::Drop
-        | Word::Cancel
-        | Word::Pause
-        | Word::Resume
-        | Word::Free
-        | Word::Publish
-        | Word::Look => Ok(shard_call(word, words)?),
-        Word::Ask | Word::Approve | Word::Stopped | Word::Back | Word::Fail | Word::Drain => Ok(
-            server_call(word, words)?,
-        ),
-        Word::Place => Ok(Call::Place),
-        Word::Route => Ok(route_call(alloc, words)?),
-        Word::Load => Ok(load_call(alloc, words)?),
-        _ => Ok(Call::Request(request_with(alloc, word, words)?)),
+        Word::Assign => Ok(Call::change(shard, Change::Assign(server))),
+        Word::PrepareAdd => Ok(Call::change(shard, Change::PrepareAddShard(server))),
+        Word::Reassign => Ok(Call::change(shard, Change::Reassign(server))),
+        Word::Hold => Ok(Call::Hold(shard, server)),
+        Word::Checkpoint => Ok(Call::Checkpoint(shard, server)),
+        _ => Err(LineFault::NotHere),
     }
 }
 
-// What is wrong with a server and the words after a request's.
-fn at_fault(server: &[u8], word: Word, words: &Words) -> Option<LineFault>
-    ensures fault { result ≡ arguments_fault (Server ∷ shapes_of word) (server.now ∷ words.now) }
-    ensures right { IfNone result (IsTrue (takes_word Server server.now)
-        × (arguments_fault (shapes_of word) words.now ≡ None)) }
+// The call of a key.
+fn key_call(alloc: Global, word: Word, mut words: Words) -> Result<Call, ParseFault>
+    requires { arguments_fault (Key ∷ []) words ≡ None }
+    ensures ok { IfOk result (λ call. call_with (Key ∷ []) word words.entry ≡ Ok call) }
+    ensures err { IfErr result (λ fault. IsFaultIn fault (call_with (Key ∷ []) word words.entry)) }
 {
-    if !takes_as_many(word.shapes(), words.again()) {
+    let name = words.next().unwrap();
+    match word {
+        Word::Route => Ok(Call::Route(key(alloc, name)?)),
+        _ => Err(ParseFault::Line(LineFault::NotHere)),
+    }
+}
+
+// The call of a key, a number of clients and how many requests each makes.
+fn load_call(alloc: Global, word: Word, mut words: Words) -> Result<Call, ParseFault>
+    requires { arguments_fault (Key ∷ Clients ∷ Each ∷ []) words ≡ None }
+    ensures ok { IfOk result (λ call.
+        call_with (Key ∷ Clients ∷ Each ∷ []) word words.entry ≡ Ok call) }
+    ensures err { IfErr result (λ fault.
+        IsFaultIn fault (call_with (Key ∷ Clients ∷ Each ∷ []) word words.entry)) }
+{
+    let name = words.next().unwrap();
+    let clients = clients(words.next().unwrap());
+    let each = number_between(words.next().unwrap(), 1, MAX_EACH).unwrap() as u16;
+    match word {
+        Word::Load => {
+            let key = key(alloc, name)?;
+            Ok(Call::Load { key, clients, each })
+        }
+        _ => Err(ParseFault::Line(LineFault::NotHere)),
+    }
+}
+
+// The call of a word that is no request, and of the words after it, which are of these shapes.
+fn call_with(
+    alloc: Global,
+    shapes: &[Shape],
+    word: Word,
+    mut words: Words,
+) -> Result<Call, ParseFault>
+    requires { arguments_fault shapes.now words ≡ None }
+    ensures ok { IfOk result (λ call. call_with shapes.now word words.entry ≡ Ok call) }
+    ensures err { IfErr result (λ fault. IsFaultIn fault (call_with shapes.now word words.entry)) }
+{
+    match shapes {
+        [] => Ok(bare_call(word)?),
+        [Shape::Shard] => Ok(shard_call(word, shard(words.next().unwrap()))?),
+        [Shape::Server] => Ok(server_call(word, server(words.next().unwrap()))?),
+        [Shape::Shard, Shape::Server] => Ok(shard_and_server_call(word, words)?),
+        [Shape::Key] => key_call(alloc, word, words),
+        [Shape::Key, Shape::Clients, Shape::Each] => load_call(alloc, word, words),
+        _ => Err(ParseFault::Line(LineFault::NotHere)),
+    }
+}
+
+// What is wrong with a server and the words after a request's, which are to be of these shapes.
+fn at_fault(server: &[u8], shapes: &[Shape], words: &Words) -> Option<LineFault>
+    ensures fault { result ≡ arguments_fault (Server ∷ shapes.now) (server.now ∷ words.now) }
+    ensures right { IfNone result (IsTrue (takes_word Server server.now)
+        × (arguments_fault shapes.now words.now ≡ None)) }
+{
+    if !takes_as_many(shapes, words.again()) {
         return Some(LineFault::BadLine);
     }
     match Shape::Server.fault(server) {
         Some(fault) => Some(fault),
-        None => first_fault(word.shapes(), words.again()),
+        None => first_fault(shapes, words.again()),
     }
 }
 
 // A request to a server.
-fn at_server(alloc: Global, to: &[u8], word: Word, words: Words) -> Result<Call, ParseFault>
-    ensures ok { IfOk result (λ call. at_server to.now word words.entry ≡ Ok call) }
-    ensures err { IfErr result (λ fault. IsFaultIn fault (at_server to.now word words.entry)) }
+fn at_server(alloc: Global, to: &[u8], form: Form, words: Words) -> Result<Call, ParseFault>
+    ensures ok { IfOk result (λ call. at_server to.now (row_of_form form.entry) words.entry ≡ Ok call) }
+    ensures err { IfErr result (λ fault.
+        IsFaultIn fault (at_server to.now (row_of_form form.entry) words.entry)) }
 {
-    if let Some(fault) = at_fault(to, word, &words) {
+    if let Some(fault) = at_fault(to, form.shapes, &words) {
         return Err(ParseFault::Line(fault));
     }
     let server = server(to);
-    Ok(Call::RequestAt(server, request_with(alloc, word, words)?))
+    Ok(Call::RequestAt(server, request_with(alloc, form.shapes, form.word, words)?))
 }
 
 // The call of the words after `at`.
@@ -166,21 +178,26 @@ fn at_call(alloc: Global, mut words: Words) -> Result<Call, ParseFault>
     let (Some(server), Some(request)) = (words.next(), words.next()) else {
         return Err(ParseFault::Line(LineFault::BadLine));
     };
-    match Word::of_request(request) {
+    match request_form_of(request) {
         None => Err(ParseFault::Line(LineFault::UnknownWord)),
-        Some(word) => at_server(alloc, server, word, words),
+        Some(form) => at_server(alloc, server, form, words),
     }
 }
 
 // A request by the published route.
-fn client_request(alloc: Global, word: Word, words: Words) -> Result<Call, ParseFault>
-    ensures ok { IfOk result (λ call. client_request word words.entry ≡ Ok call) }
-    ensures err { IfErr result (λ fault. IsFaultIn fault (client_request word words.entry)) }
+fn client_request(alloc: Global, form: Form, words: Words) -> Result<Call, ParseFault>
+    ensures ok { IfOk result (λ call.
+        request_call RequestByRoute (row_of_form form.entry) words.entry ≡ Ok call) }
+    ensures err { IfErr result (λ fault.
+        IsFaultIn fault (request_call RequestByRoute (row_of_form form.entry) words.entry)) }
 {
-    if let Some(fault) = arguments_fault(word.shapes(), &words) {
-        return Err(ParseFault::Line(fault));
+    match arguments_fault(form.shapes, &words) {
+        Some(fault) => Err(ParseFault::Line(fault)),
+        None => match request_with(alloc, form.shapes, form.word, words) {
+            Ok(request) => Ok(Call::RequestByRoute(request)),
+            Err(fault) => Err(fault),
+        },
     }
-    Ok(Call::RequestByRoute(request_with(alloc, word, words)?))
 }
 
 // The call of the words after `client`.
@@ -191,25 +208,52 @@ fn client_call(alloc: Global, mut words: Words) -> Result<Call, ParseFault>
     let Some(name) = words.next() else {
         return Err(ParseFault::Line(LineFault::BadLine));
     };
-    match Word::of_request(name) {
+    match request_form_of(name) {
         None => Err(ParseFault::Line(LineFault::UnknownWord)),
-        Some(word) => client_request(alloc, word, words),
+        Some(form) => client_request(alloc, form, words),
     }
 }
 
-// The call of a line that begins with a word of its own.
-fn plain_call(alloc: Global, first: &[u8], words: Words) -> Result<Call, ParseFault>
-    ensures ok { IfOk result (λ call.
-        plain_call (word_among first_words first.now) words.entry ≡ Ok call) }
+// A request to the owner.
+fn owner_request(alloc: Global, form: Form, words: Words) -> Result<Call, ParseFault>
+    ensures ok { IfOk result (λ call. request_call Request (row_of_form form.entry) words.entry ≡ Ok call) }
     ensures err { IfErr result (λ fault.
-        IsFaultIn fault (plain_call (word_among first_words first.now) words.entry)) }
+        IsFaultIn fault (request_call Request (row_of_form form.entry) words.entry)) }
 {
-    match Word::of_line(first) {
-        None => Err(ParseFault::Line(LineFault::UnknownWord)),
-        Some(word) => match arguments_fault(word.shapes(), &words) {
-            Some(fault) => Err(ParseFault::Line(fault)),
-            None => call_with(alloc, word, words),
+    match arguments_fault(form.shapes, &words) {
+        Some(fault) => Err(ParseFault::Line(fault)),
+        None => match request_with(alloc, form.shapes, form.word, words) {
+            Ok(request) => Ok(Call::Request(request)),
+            Err(fault) => Err(fault),
         },
+    }
+}
+
+// The call of a line that is neither one of `at` nor of `client`.
+fn plain_call(alloc: Global, form: Form, words: Words) -> Result<Call, ParseFault>
+    ensures ok { IfOk result (λ call. plain_call (row_of_form form.entry) words.entry ≡ Ok call) }
+    ensures err { IfErr result (λ fault.
+        IsFaultIn fault (plain_call (row_of_form form.entry) words.entry)) }
+{
+    if form.topic == Topic::Requests {
+        return owner_request(alloc, form, words);
+    }
+    match arguments_fault(form.shapes, &words) {
+        Some(fault) => Err(ParseFault::Line(fault)),
+        None => call_with(alloc, form.shapes, form.word, words),
+    }
+}
+
+// The call of a form and the words after its own.
+fn call_as(alloc: Global, form: Form, words: Words) -> Result<Call, ParseFault>
+    ensures ok { IfOk result (λ call. call_as form.entry.word (row_of_form form.entry) words.entry ≡ Ok call) }
+    ensures err { IfErr result (λ fault.
+        IsFaultIn fault (call_as form.entry.word (row_of_form form.entry) words.entry)) }
+{
+    match form.word {
+        Word::At => at_call(alloc, words),
+        Word::Client => client_call(alloc, words),
+        _ => plain_call(alloc, form, words),
     }
 }
 
@@ -218,17 +262,12 @@ fn call_of(alloc: Global, mut words: Words) -> Result<Call, ParseFault>
     ensures ok { IfOk result (λ call. call_of_words words.entry ≡ Ok call) }
     ensures err { IfErr result (λ fault. IsFaultIn fault (call_of_words words.entry)) }
 {
-    match words.next() {
+    let Some(first) = words.next() else {
+        return Err(ParseFault::Line(LineFault::UnknownWord));
+    };
+    match form_of(first) {
         None => Err(ParseFault::Line(LineFault::UnknownWord)),
-        Some(first) => {
-            if first == b"at".as_slice() {
-                at_call(alloc, words)
-            } else if first == b"client".as_slice() {
-                client_call(alloc, words)
-            } else {
-                plain_call(alloc, first, words)
-            }
-        }
+        Some(form) => call_as(alloc, form, words),
     }
 }
 

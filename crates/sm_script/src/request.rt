@@ -1,90 +1,101 @@
-ghost use Rattle.std.specs.Prelude.{◌≡◌, IfOk, IfErr};
-ghost use Rattle.sm_script.specs.Grammar.{arguments_fault, shapes_of};
+ghost use Rattle.std.specs.Prelude.{◌≡◌, [], ◌∷◌, IfOk, IfErr};
+ghost use Rattle.sm_script.specs.Grammar.{arguments_fault};
 ghost use Rattle.sm_script.specs.Lines.{request_with, IsRequestFault};
-ghost use Rattle.sm_script.specs.declared.word.Word.TheVariants.{Get, Put, Append, Inc, Del, Scan};
+ghost use Rattle.sm_script.specs.declared.shape.Shape.TheVariants.{Key as KeyShape, Text};
+ghost use Rattle.sm_script.specs.declared.shape.Shape.TheVariants.{Increment as IncrementShape, Limit};
 
 use crate::argument::key;
 use crate::fault::{LineFault, ParseFault};
 use crate::number::{increment, number_between};
-use crate::shape::MAX_PAIRS;
+use crate::shape::{MAX_PAIRS, Shape};
 use crate::word::Word;
 use crate::words::Words;
 use sm_service::bytes::Bytes;
 use sm_service::request::Request;
-use std::alloc::{AllocError, Global};
+use std::alloc::Global;
 
-// `get KEY`.
-fn get(alloc: Global, mut words: Words) -> Result<Request, AllocError>
-    requires { arguments_fault (shapes_of Get) words ≡ None }
-    ensures { IfOk result (λ request. request_with Get words.entry ≡ Ok request) }
+// The request of a key.
+fn key_request(alloc: Global, word: Word, mut words: Words) -> Result<Request, ParseFault>
+    requires { arguments_fault (KeyShape ∷ []) words ≡ None }
+    ensures ok { IfOk result (λ request. request_with (KeyShape ∷ []) word words.entry ≡ Ok request) }
+    ensures err { IfErr result (λ fault.
+        IsRequestFault fault (request_with (KeyShape ∷ []) word words.entry)) }
 {
-    let key = key(alloc, words.next().unwrap())?;
-    Ok(Request::Get(key))
-}
-
-// `put KEY TEXT`.
-fn put(alloc: Global, mut words: Words) -> Result<Request, AllocError>
-    requires { arguments_fault (shapes_of Put) words ≡ None }
-    ensures { IfOk result (λ request. request_with Put words.entry ≡ Ok request) }
-{
-    let key = key(alloc, words.next().unwrap())?;
-    let text = Bytes::new(alloc, words.text())?;
-    Ok(Request::Put(key, text))
-}
-
-// `append KEY TEXT`.
-fn append(alloc: Global, mut words: Words) -> Result<Request, AllocError>
-    requires { arguments_fault (shapes_of Append) words ≡ None }
-    ensures { IfOk result (λ request. request_with Append words.entry ≡ Ok request) }
-{
-    let key = key(alloc, words.next().unwrap())?;
-    let tail = Bytes::new(alloc, words.text())?;
-    Ok(Request::Append(key, tail))
-}
-
-// `inc KEY N`.
-fn inc(alloc: Global, mut words: Words) -> Result<Request, AllocError>
-    requires { arguments_fault (shapes_of Inc) words ≡ None }
-    ensures { IfOk result (λ request. request_with Inc words.entry ≡ Ok request) }
-{
-    let key = key(alloc, words.next().unwrap())?;
-    let amount = increment(words.next().unwrap()).unwrap();
-    Ok(Request::Inc(key, amount))
-}
-
-// `del KEY`.
-fn del(alloc: Global, mut words: Words) -> Result<Request, AllocError>
-    requires { arguments_fault (shapes_of Del) words ≡ None }
-    ensures { IfOk result (λ request. request_with Del words.entry ≡ Ok request) }
-{
-    let key = key(alloc, words.next().unwrap())?;
-    Ok(Request::Del(key))
-}
-
-// `scan LOW HIGH MAX`.
-fn scan(alloc: Global, mut words: Words) -> Result<Request, AllocError>
-    requires { arguments_fault (shapes_of Scan) words ≡ None }
-    ensures { IfOk result (λ request. request_with Scan words.entry ≡ Ok request) }
-{
-    let low = key(alloc, words.next().unwrap())?;
-    let high = key(alloc, words.next().unwrap())?;
-    let most = number_between(words.next().unwrap(), 0, MAX_PAIRS).unwrap();
-    Ok(Request::Scan(low, high, most as u32))
-}
-
-/// The request of a word and the words after it, which are right.
-pub(crate) fn request_with(alloc: Global, word: Word, words: Words) -> Result<Request, ParseFault>
-    requires { arguments_fault (shapes_of word) words ≡ None }
-    ensures ok { IfOk result (λ request. request_with word words.entry ≡ Ok request) }
-    ensures err { IfErr result (λ fault. IsRequestFault fault (request_with word words.entry)) }
-{
+    let name = words.next().unwrap();
     match word {
-        Word::Get => Ok(get(alloc, words)?),
-        Word::Put => Ok(put(alloc, words)?),
-        Word::Append => Ok(append(alloc, words)?),
-        Word::Inc => Ok(inc(alloc, words)?),
-        Word::Del => Ok(del(alloc, words)?),
-        Word::Scan => Ok(scan(alloc, words)?),
+        Word::Get => Ok(Request::Get(key(alloc, name)?)),
+        Word::Del => Ok(Request::Del(key(alloc, name)?)),
+        _ => Err(ParseFault::Line(LineFault::NotHere)),
+    }
+}
+
+// The request of a key and a text.
+fn text_request(alloc: Global, word: Word, mut words: Words) -> Result<Request, ParseFault>
+    requires { arguments_fault (KeyShape ∷ Text ∷ []) words ≡ None }
+    ensures ok { IfOk result (λ request.
+        request_with (KeyShape ∷ Text ∷ []) word words.entry ≡ Ok request) }
+    ensures err { IfErr result (λ fault.
+        IsRequestFault fault (request_with (KeyShape ∷ Text ∷ []) word words.entry)) }
+{
+    let name = words.next().unwrap();
+    let text = words.text();
+    match word {
+        Word::Put => Ok(Request::Put(key(alloc, name)?, Bytes::new(alloc, text)?)),
+        Word::Append => Ok(Request::Append(key(alloc, name)?, Bytes::new(alloc, text)?)),
+        _ => Err(ParseFault::Line(LineFault::NotHere)),
+    }
+}
+
+// The request of a key and a number.
+fn number_request(alloc: Global, word: Word, mut words: Words) -> Result<Request, ParseFault>
+    requires { arguments_fault (KeyShape ∷ IncrementShape ∷ []) words ≡ None }
+    ensures ok { IfOk result (λ request.
+        request_with (KeyShape ∷ IncrementShape ∷ []) word words.entry ≡ Ok request) }
+    ensures err { IfErr result (λ fault.
+        IsRequestFault fault (request_with (KeyShape ∷ IncrementShape ∷ []) word words.entry)) }
+{
+    let name = words.next().unwrap();
+    let amount = increment(words.next().unwrap()).unwrap();
+    match word {
+        Word::Inc => Ok(Request::Inc(key(alloc, name)?, amount)),
+        _ => Err(ParseFault::Line(LineFault::NotHere)),
+    }
+}
+
+// The request of two keys and a limit.
+fn range_request(alloc: Global, word: Word, mut words: Words) -> Result<Request, ParseFault>
+    requires { arguments_fault (KeyShape ∷ KeyShape ∷ Limit ∷ []) words ≡ None }
+    ensures ok { IfOk result (λ request.
+        request_with (KeyShape ∷ KeyShape ∷ Limit ∷ []) word words.entry ≡ Ok request) }
+    ensures err { IfErr result (λ fault.
+        IsRequestFault fault (request_with (KeyShape ∷ KeyShape ∷ Limit ∷ []) word words.entry)) }
+{
+    let low = words.next().unwrap();
+    let high = words.next().unwrap();
+    let most = number_between(words.next().unwrap(), 0, MAX_PAIRS).unwrap();
+    match word {
+        Word::Scan => Ok(Request::Scan(key(alloc, low)?, key(alloc, high)?, most as u32)),
+        _ => Err(ParseFault::Line(LineFault::NotHere)),
+    }
+}
+
+/// The request of a word and the words after it, which are of these shapes.
+pub(crate) fn request_with(
+    alloc: Global,
+    shapes: &[Shape],
+    word: Word,
+    words: Words,
+) -> Result<Request, ParseFault>
+    requires { arguments_fault shapes.now words ≡ None }
+    ensures ok { IfOk result (λ request. request_with shapes.now word words.entry ≡ Ok request) }
+    ensures err { IfErr result (λ fault.
+        IsRequestFault fault (request_with shapes.now word words.entry)) }
+{
+    match shapes {
+        [Shape::Key] => key_request(alloc, word, words),
+        [Shape::Key, Shape::Text] => text_request(alloc, word, words),
+        [Shape::Key, Shape::Increment] => number_request(alloc, word, words),
+        [Shape::Key, Shape::Key, Shape::Limit] => range_request(alloc, word, words),
         _ => Err(ParseFault::Line(LineFault::NotHere)),
     }
 }

@@ -17,7 +17,7 @@ pub(crate) const MAX_EACH: u64 = 10_000;
 
 /// What a word of a line has to be.
 #[derive(Clone, Copy, PartialEq, Eq, Drop)]
-pub(crate) enum Shape {
+pub enum Shape {
     /// The number of a shard, 0 to 4,095.
     Shard,
     /// The number of a server, 1 to 4,095.

@@ -1,198 +1,355 @@
-ghost use Rattle.std.specs.Prelude.{◌≡◌};
-
+use crate::form::{Form, FormOf};
 use crate::shape::Shape;
+use crate::topic::Topic;
 
-/// The word that a line begins with, or that follows `at A` or `client`.
+/// What a line that begins with a word becomes, or the request that follows `at A` or `client`.
 #[derive(Clone, Copy, PartialEq, Eq, Drop)]
-pub(crate) enum Word {
-    /// `get KEY`: what the key holds.
+pub enum Word {
+    /// What the key holds.
     Get,
-    /// `put KEY TEXT`: a text for the key.
+    /// A text for the key.
     Put,
-    /// `append KEY TEXT`: the text after the one that the key holds.
+    /// The text after the one that the key holds.
     Append,
-    /// `inc KEY N`: the number added to the key's count.
+    /// The number added to the key's count.
     Inc,
-    /// `del KEY`: the key is to hold nothing.
+    /// The key is to hold nothing.
     Del,
-    /// `scan LOW HIGH MAX`: the pairs of the shard from one key up to another.
+    /// The pairs of the shard from one key up to another.
     Scan,
-    /// `look K`: the shard's record.
+    /// A request to the server.
+    At,
+    /// A request by the published route of its key's shard.
+    Client,
+    /// The shard's record.
     Look,
-    /// `assign K A`: the first owner of the shard.
+    /// The first owner of the shard.
     Assign,
-    /// `prepare_add K B`: a migration of the shard to the server begins.
+    /// A migration of the shard to the server begins.
     PrepareAdd,
-    /// `prepare_drop K`: the owner forwards to the next owner.
+    /// The owner forwards to the next owner.
     PrepareDrop,
-    /// `add K`: the next owner becomes the owner.
+    /// The next owner becomes the owner.
     Add,
-    /// `drop K`: the previous owner drops the shard.
+    /// The previous owner drops the shard.
     Drop,
-    /// `cancel K`: the migration is given up.
+    /// The migration is given up.
     Cancel,
-    /// `pause K`: nobody executes the shard's requests.
+    /// Nobody executes the shard's requests.
     Pause,
-    /// `resume K`: the owner of the paused shard executes again.
+    /// The owner of the paused shard executes again.
     Resume,
-    /// `reassign K B`: another owner for the paused shard.
+    /// Another owner for the paused shard.
     Reassign,
-    /// `ask A`: a restart of the server is asked for.
+    /// A restart of the server is asked for.
     Ask,
-    /// `approve A`: the restart of the server is approved.
+    /// The restart of the server is approved.
     Approve,
-    /// `stopped A`: the server was stopped for its restart.
+    /// The server was stopped for its restart.
     Stopped,
-    /// `back A`: the server is back.
+    /// The server is back.
     Back,
-    /// `fail A`: the server has failed.
+    /// The server has failed.
     Fail,
-    /// `place`: a plan for the shards without an owner.
+    /// A plan for the shards without an owner.
     Place,
-    /// `drain A`: a plan for the server's shards.
+    /// A plan for the server's shards.
     Drain,
-    /// `publish K`: the shard's owner becomes its published route.
+    /// The shard's owner becomes its published route.
     Publish,
-    /// `route KEY`: the published route of the key's shard.
+    /// The published route of the key's shard.
     Route,
-    /// `hold K A`: an admission without a request.
+    /// An admission without a request.
     Hold,
-    /// `free K`: the end of such an admission.
+    /// The end of such an admission.
     Free,
-    /// `checkpoint K A`: the shard's present state becomes its base.
+    /// The shard's present state becomes its base.
     Checkpoint,
-    /// `load KEY C N`: clients that add to one count at the same time.
+    /// Clients that add to one count at the same time.
     Load,
 }
 
-impl Word {
-    ghost use Rattle.sm_script.specs.Grammar.{first_words, name_of, request_words, shapes_of, word_among};
-
-    // The words that a line may begin with, beside `at` and `client`. Those of requests come
-    // first, since most lines are requests.
-    const FIRST: [Word; 29] = [
-        Word::Get,
-        Word::Put,
-        Word::Append,
-        Word::Inc,
-        Word::Del,
-        Word::Scan,
-        Word::Look,
-        Word::Assign,
-        Word::PrepareAdd,
-        Word::PrepareDrop,
-        Word::Add,
-        Word::Drop,
-        Word::Cancel,
-        Word::Pause,
-        Word::Resume,
-        Word::Reassign,
-        Word::Ask,
-        Word::Approve,
-        Word::Stopped,
-        Word::Back,
-        Word::Fail,
-        Word::Place,
-        Word::Drain,
-        Word::Publish,
-        Word::Route,
-        Word::Hold,
-        Word::Free,
-        Word::Checkpoint,
-        Word::Load,
-    ];
-
-    /// The word as a line has it.
-    fn name(self) -> &'static str
-        ensures { result.now ≡ name_of self }
-    {
-        match self {
-            Word::Get => "get",
-            Word::Put => "put",
-            Word::Append => "append",
-            Word::Inc => "inc",
-            Word::Del => "del",
-            Word::Scan => "scan",
-            Word::Look => "look",
-            Word::Assign => "assign",
-            Word::PrepareAdd => "prepare_add",
-            Word::PrepareDrop => "prepare_drop",
-            Word::Add => "add",
-            Word::Drop => "drop",
-            Word::Cancel => "cancel",
-            Word::Pause => "pause",
-            Word::Resume => "resume",
-            Word::Reassign => "reassign",
-            Word::Ask => "ask",
-            Word::Approve => "approve",
-            Word::Stopped => "stopped",
-            Word::Back => "back",
-            Word::Fail => "fail",
-            Word::Place => "place",
-            Word::Drain => "drain",
-            Word::Publish => "publish",
-            Word::Route => "route",
-            Word::Hold => "hold",
-            Word::Free => "free",
-            Word::Checkpoint => "checkpoint",
-            Word::Load => "load",
-        }
-    }
-
-    // How many of those are words of requests.
-    const REQUESTS: usize = 6;
-
-    /// The word that a line may begin with, where it has these bytes.
-    pub(crate) fn of_line(bytes: &[u8]) -> Option<Word>
-        ensures { result ≡ word_among first_words bytes.now }
-    {
-        Word::among(&Word::FIRST, bytes)
-    }
-
-    /// The word of a request, where it has these bytes.
-    pub(crate) fn of_request(bytes: &[u8]) -> Option<Word>
-        ensures { result ≡ word_among request_words bytes.now }
-    {
-        Word::among(&Word::FIRST[..Word::REQUESTS], bytes)
-    }
-
-    // The one of these words that has these bytes.
-    fn among(words: &[Word], bytes: &[u8]) -> Option<Word>
-        ensures { result ≡ word_among words.now bytes.now }
-    {
-        words
-            .iter()
-            .copied()
-            .find(|word| word.name().as_bytes() == bytes)
-    }
-
-    /// What the words after it have to be.
-    pub(crate) fn shapes(self) -> &'static [Shape]
-        ensures { result.now ≡ shapes_of self }
-    {
-        match self {
-            Word::Get | Word::Del | Word::Route => &[Shape::Key],
-            Word::Put | Word::Append => &[Shape::Key, Shape::Text],
-            Word::Inc => &[Shape::Key, Shape::Increment],
-            Word::Scan => &[Shape::Key, Shape::Key, Shape::Limit],
-            Word::Place => &[],
-            Word::Look
-            | Word::PrepareDrop
-            | Word::Add
-            | Word::Drop
-            | Word::Cancel
-            | Word::Pause
-            | Word::Resume
-            | Word::Publish
-            | Word::Free => &[Shape::Shard],
-            Word::Assign | Word::PrepareAdd | Word::Reassign | Word::Hold | Word::Checkpoint => &[
-                Shape::Shard,
-                Shape::Server,
-            ],
-            Word::Ask | Word::Approve | Word::Stopped | Word::Back | Word::Fail | Word::Drain => &[
-                Shape::Server,
-            ],
-            Word::Load => &[Shape::Key, Shape::Clients, Shape::Each],
-        }
-    }
-}
+/// How all lines are written and what they become. Here alone stands how a word is spelled.
+pub const FORMS: [Form; 31] = [
+    FormOf {
+        word: Word::Get,
+        name: "get",
+        arguments: "KEY",
+        shapes: &[Shape::Key],
+        topic: Topic::Requests,
+        help: "what the key holds: nothing, a text or a count",
+        example: "get m",
+    },
+    FormOf {
+        word: Word::Put,
+        name: "put",
+        arguments: "KEY TEXT",
+        shapes: &[Shape::Key, Shape::Text],
+        topic: Topic::Requests,
+        help: "the key holds the text",
+        example: "put m hello",
+    },
+    FormOf {
+        word: Word::Append,
+        name: "append",
+        arguments: "KEY TEXT",
+        shapes: &[Shape::Key, Shape::Text],
+        topic: Topic::Requests,
+        help: "adds TEXT after the text that the key holds, or does as put where it holds nothing",
+        example: "append m , world",
+    },
+    FormOf {
+        word: Word::Inc,
+        name: "inc",
+        arguments: "KEY N",
+        shapes: &[Shape::Key, Shape::Increment],
+        topic: Topic::Requests,
+        help: "adds N to the count that the key holds, from 0 where it holds nothing",
+        example: "inc a -7",
+    },
+    FormOf {
+        word: Word::Del,
+        name: "del",
+        arguments: "KEY",
+        shapes: &[Shape::Key],
+        topic: Topic::Requests,
+        help: "the key holds nothing",
+        example: "del m",
+    },
+    FormOf {
+        word: Word::Scan,
+        name: "scan",
+        arguments: "LOW HIGH MAX",
+        shapes: &[Shape::Key, Shape::Key, Shape::Limit],
+        topic: Topic::Requests,
+        help: "the pairs of LOW's shard alone with keys from LOW on and below HIGH, the first MAX, at most 100; \
+none where LOW isn't below HIGH",
+        example: "scan a m 10",
+    },
+    FormOf {
+        word: Word::At,
+        name: "at",
+        arguments: "A REQUEST",
+        shapes: &[Shape::Server],
+        topic: Topic::Sending,
+        help: "sends a request to server A",
+        example: "at 1 get m",
+    },
+    FormOf {
+        word: Word::Client,
+        name: "client",
+        arguments: "REQUEST",
+        shapes: &[],
+        topic: Topic::Sending,
+        help: "sends a request by the published route of its key's shard, which may be old",
+        example: "client get m",
+    },
+    FormOf {
+        word: Word::Look,
+        name: "look",
+        arguments: "K",
+        shapes: &[Shape::Shard],
+        topic: Topic::Records,
+        help: "reads the record of shard K",
+        example: "look 0",
+    },
+    FormOf {
+        word: Word::Assign,
+        name: "assign",
+        arguments: "K A",
+        shapes: &[Shape::Shard, Shape::Server],
+        topic: Topic::Migrations,
+        help: "the vacant shard K gets the owner A",
+        example: "assign 0 1",
+    },
+    FormOf {
+        word: Word::PrepareAdd,
+        name: "prepare_add",
+        arguments: "K B",
+        shapes: &[Shape::Shard, Shape::Server],
+        topic: Topic::Migrations,
+        help: "a migration of shard K from its owner to server B begins",
+        example: "prepare_add 0 2",
+    },
+    FormOf {
+        word: Word::PrepareDrop,
+        name: "prepare_drop",
+        arguments: "K",
+        shapes: &[Shape::Shard],
+        topic: Topic::Migrations,
+        help: "the owner stops executing, and forwards what comes to it to B, which executes that alone",
+        example: "prepare_drop 0",
+    },
+    FormOf {
+        word: Word::Add,
+        name: "add",
+        arguments: "K",
+        shapes: &[Shape::Shard],
+        topic: Topic::Migrations,
+        help: "B becomes the owner, and executes what comes to it directly too; the previous owner still forwards",
+        example: "add 0",
+    },
+    FormOf {
+        word: Word::Drop,
+        name: "drop",
+        arguments: "K",
+        shapes: &[Shape::Shard],
+        topic: Topic::Migrations,
+        help: "the previous owner drops the shard: the migration has ended",
+        example: "drop 0",
+    },
+    FormOf {
+        word: Word::Cancel,
+        name: "cancel",
+        arguments: "K",
+        shapes: &[Shape::Shard],
+        topic: Topic::Migrations,
+        help: "before add: the migration is given up, and what B executed stays",
+        example: "cancel 0",
+    },
+    FormOf {
+        word: Word::Pause,
+        name: "pause",
+        arguments: "K",
+        shapes: &[Shape::Shard],
+        topic: Topic::Migrations,
+        help: "nobody executes on shard K",
+        example: "pause 0",
+    },
+    FormOf {
+        word: Word::Resume,
+        name: "resume",
+        arguments: "K",
+        shapes: &[Shape::Shard],
+        topic: Topic::Migrations,
+        help: "the owner of the paused shard K executes again",
+        example: "resume 0",
+    },
+    FormOf {
+        word: Word::Reassign,
+        name: "reassign",
+        arguments: "K B",
+        shapes: &[Shape::Shard, Shape::Server],
+        topic: Topic::Migrations,
+        help: "the paused shard K gets the owner B",
+        example: "reassign 0 2",
+    },
+    FormOf {
+        word: Word::Hold,
+        name: "hold",
+        arguments: "K A",
+        shapes: &[Shape::Shard, Shape::Server],
+        topic: Topic::Records,
+        help: "server A is admitted to shard K without a request, as if it were slow",
+        example: "hold 0 1",
+    },
+    FormOf {
+        word: Word::Free,
+        name: "free",
+        arguments: "K",
+        shapes: &[Shape::Shard],
+        topic: Topic::Records,
+        help: "that admission ends",
+        example: "free 0",
+    },
+    FormOf {
+        word: Word::Checkpoint,
+        name: "checkpoint",
+        arguments: "K A",
+        shapes: &[Shape::Shard, Shape::Server],
+        topic: Topic::Records,
+        help: "server A makes the present state of shard K its base: the shard keeps no request then, and has room \
+for them again",
+        example: "checkpoint 0 1",
+    },
+    FormOf {
+        word: Word::Publish,
+        name: "publish",
+        arguments: "K",
+        shapes: &[Shape::Shard],
+        topic: Topic::Records,
+        help: "the owner of shard K at its generation becomes the shard's published route",
+        example: "publish 0",
+    },
+    FormOf {
+        word: Word::Route,
+        name: "route",
+        arguments: "KEY",
+        shapes: &[Shape::Key],
+        topic: Topic::Records,
+        help: "reads the published route of the key's shard",
+        example: "route m",
+    },
+    FormOf {
+        word: Word::Ask,
+        name: "ask",
+        arguments: "A",
+        shapes: &[Shape::Server],
+        topic: Topic::Restarts,
+        help: "a restart of server A, which is up, is asked for",
+        example: "ask 1",
+    },
+    FormOf {
+        word: Word::Approve,
+        name: "approve",
+        arguments: "A",
+        shapes: &[Shape::Server],
+        topic: Topic::Restarts,
+        help: "it is approved, where the caps allow it: A takes no further shards",
+        example: "approve 1",
+    },
+    FormOf {
+        word: Word::Stopped,
+        name: "stopped",
+        arguments: "A",
+        shapes: &[Shape::Server],
+        topic: Topic::Restarts,
+        help: "A was stopped: each shard that names it is paused, and no request reaches it",
+        example: "stopped 1",
+    },
+    FormOf {
+        word: Word::Back,
+        name: "back",
+        arguments: "A",
+        shapes: &[Shape::Server],
+        topic: Topic::Restarts,
+        help: "A is up again",
+        example: "back 1",
+    },
+    FormOf {
+        word: Word::Fail,
+        name: "fail",
+        arguments: "A",
+        shapes: &[Shape::Server],
+        topic: Topic::Restarts,
+        help: "A has failed, and no request reaches it",
+        example: "fail 1",
+    },
+    FormOf {
+        word: Word::Place,
+        name: "place",
+        arguments: "",
+        shapes: &[],
+        topic: Topic::Restarts,
+        help: "a plan for the vacant shards",
+        example: "place",
+    },
+    FormOf {
+        word: Word::Drain,
+        name: "drain",
+        arguments: "A",
+        shapes: &[Shape::Server],
+        topic: Topic::Restarts,
+        help: "a plan for the shards whose stand is Serving at A, over the other servers",
+        example: "drain 1",
+    },
+    FormOf {
+        word: Word::Load,
+        name: "load",
+        arguments: "KEY C N",
+        shapes: &[Shape::Key, Shape::Clients, Shape::Each],
+        topic: Topic::Load,
+        help: "under threads alone: C clients, each in a thread of its own, add 1 to the count of KEY N times each",
+        example: "load a 4 25",
+    },
+];

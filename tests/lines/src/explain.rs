@@ -2,7 +2,7 @@
 
 // It answers each line by itself, so that a line may say what it is answered.
 use crate::run::{EchoEngine as Repeating, script_of};
-use sm_explain::{Beginning, Console, Explained, Listener};
+use sm_explain::{Beginning, Console, Explained, Listener, Sentence};
 use sm_lines::Watched;
 use sm_run::{Status, run};
 use std::alloc::Global;
@@ -17,7 +17,7 @@ struct LastLine {
 }
 
 impl Listener for LastLine {
-    fn hear(&self, line: u64, _answer: &str, _sentence: &str) {
+    fn hear(&self, line: u64, _answer: &str, _sentence: Sentence) {
         self.number.set(line);
     }
 }

@@ -1,7 +1,7 @@
 //! Lines and answers where memory is refused: the same call made again does its work.
 use sm_model::beginning::write_long_line;
 use sm_ranges::ServerId;
-use sm_script::{LineAnswer, Call, ParseFault, parse};
+use sm_script::{Call, LineAnswer, ParseFault, parse};
 use sm_service::{Bytes, Reply, Request};
 use std::alloc::Global;
 use std::process::Abort;

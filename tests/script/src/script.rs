@@ -12,7 +12,8 @@ use sm_ranges::server_id::ServerId;
 use sm_ranges::shard_id::ShardId;
 use sm_ranges::stand::Stand;
 use sm_script::{
-    LineAnswer, Call, LineFault, LoadClients, MAX_LINE, ParseFault, Refused, long_line_fault, parse,
+    Call, LineAnswer, LineFault, LoadClients, MAX_LINE, ParseFault, Refused, forms,
+    long_line_fault, parse,
 };
 use sm_service::bytes::Bytes;
 use sm_service::reply::Reply;
@@ -377,6 +378,16 @@ fn calls_of_lines(rt: HostRuntime) {
     calls_of_requests_sent(&rt, rt.alloc());
 }
 
+// The example of each line makes the call that the line is for.
+#[test]
+fn examples_of_lines(rt: HostRuntime) {
+    for form in forms() {
+        let found = shown(&rt, rt.alloc(), form.example.as_bytes());
+        assert!(rt; found.starts_with(form.name));
+    }
+    assert!(rt; forms().len() == 31);
+}
+
 // The fault of a line of so many bytes, whose word is unknown.
 fn fault_of_length(rt: &impl Abort, alloc: Global, length: usize) -> Option<ParseFault> {
     let line = vec![in alloc; b'x'; length].ok().expect(rt, "memory");
@@ -463,7 +474,10 @@ fn texts_of_records(rt: &impl Abort, alloc: Global, owner: ServerId, next: Serve
         ),
     ];
     for (record, text) in &records {
-        assert!(rt; is_text(rt, alloc, &LineAnswer::Seen(*record), text), "{text}");
+        assert!(rt;
+            is_text(rt, alloc, &LineAnswer::Seen(*record), text),
+            "{text}"
+        );
     }
 }
 

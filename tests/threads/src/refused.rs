@@ -1,7 +1,7 @@
 //! Scripts on a cluster where memory is refused: the answers to whole lines are written, and the same run once more writes all.
 
 use sm_cluster::{Counting, Counts, Open};
-use sm_explain::Listener;
+use sm_explain::{Listener, Sentence};
 use sm_lines::Watched;
 use sm_ranges::Key;
 use sm_run::{RunFault, Status};
@@ -31,7 +31,7 @@ struct Told<'a, R> {
 struct Ear;
 
 impl Listener for Ear {
-    fn hear(&self, _line: u64, _answer: &str, _sentence: &str) {}
+    fn hear(&self, _line: u64, _answer: &str, _sentence: Sentence) {}
 }
 
 impl CountsListener for Ear {

@@ -1,0 +1,10 @@
+use sm_script::Form;
+
+/// What is said of a line.
+#[derive(Clone, Copy, Drop)]
+pub enum Sentence {
+    /// This.
+    Text(&'static str),
+    /// It has too few or too many words, and is written so.
+    Written(Form),
+}
