@@ -4,7 +4,7 @@ import shutil
 
 import beside
 import sources
-from testing import front, layout, tests
+from testing import front, layout, library, tests
 from testing.part import Part, verdict
 from testing.program import EXAMPLES, Program, opens_nothing, tool
 
@@ -154,6 +154,7 @@ def proved(say):
         Part("pictures, proved", program.pictures),
         Part("the shell, proved", program.shell),
         Part("./sm", front.words),
+        Part("library", library.passed),
         *faults(say),
     ]
     return [

@@ -1,5 +1,5 @@
 -- What calls on handles say.
-use Rattle.std.specs.Prelude.{ℕ, ◌≡◌, ◌⊎◌, Option, Ok}
+use Rattle.std.specs.Prelude.{ℕ, ◌≡◌, ◌⊎◌, Option, Ok, Err}
 use Rattle.sm_ownership.specs.declared.change.Change.{Change}
 use Rattle.sm_ownership.specs.declared.mode.Mode.{Mode}
 use Rattle.sm_ownership.specs.declared.record.Record.{Record}
@@ -40,7 +40,20 @@ abbrev pub ChangesBoard : Option HandleState → Option HandleState → ℕ → 
 ChangesBoard before after shard kind server =
     (change : Change) × IsOfKind kind server change × CommandsHandle before after (ChangeOf shard change) (Ok tt)
 
+-- nothing was done, or the control refused a change of this kind and server, and its desk is as it was
+abbrev pub RefusesChange : Option HandleState → Option HandleState → ℕ → ℕ → ℕ → Type 0
+RefusesChange before after shard kind server =
+    (after ≡ before)
+    ⊎ ((change : Change) × (fault : ActFault) × IsOfKind kind server change
+    × CommandsHandle before after (ChangeOf shard change) (Err fault))
+
 -- the control made the step of this kind of the server's restart
 abbrev pub Restarts : Option HandleState → Option HandleState → ℕ → ℕ → Type 0
 Restarts before after kind server =
     (step : Command) × IsStep kind server step × CommandsHandle before after step (Ok tt)
+
+-- nothing was done, or the control refused a step of this kind
+abbrev pub RefusesRestart : Option HandleState → Option HandleState → ℕ → ℕ → Type 0
+RefusesRestart before after kind server =
+    (after ≡ before)
+    ⊎ ((step : Command) × (fault : ActFault) × IsStep kind server step × CommandsHandle before after step (Err fault))

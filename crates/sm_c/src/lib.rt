@@ -11,7 +11,7 @@ ghost use Rattle.sm_ownership.specs.Rules.{executor, forward_to};
 ghost use Rattle.sm_handle.specs.Acts.{EndsHandle, IsOpened, IsPassOf};
 ghost use Rattle.sm_ranges.specs.ServerId.{IsServer};
 ghost use Rattle.sm_word.specs.Word.{IsWellFormed, word_of};
-ghost use Rattle.sm_c.specs.Calls.{AdmitsFrom, ChangesBoard, LooksAt, RefusesFrom, Restarts};
+ghost use Rattle.sm_c.specs.Calls.{AdmitsFrom, ChangesBoard, LooksAt, RefusesChange, RefusesFrom, RefusesRestart, Restarts};
 ghost use Rattle.sm_c.specs.Words.{AdmitsWord, ArePartsOf, ChangesWord, EndsWord};
 
 mod codes;
@@ -270,6 +270,7 @@ pub extern "C" fn durkenzo_change(
     read: &mut RecordParts,
 ) -> u32
     ensures made { result ≡ 0 → ChangesBoard chief.old.owned.state chief.new.owned.state shard kind server }
+    ensures refused { result ≢ 0 → RefusesChange chief.old.owned.state chief.new.owned.state shard kind server }
 {
     let Some(k) = ShardId::new(shard) else {
         return UNKNOWN_SHARD;
@@ -292,6 +293,7 @@ pub extern "C" fn durkenzo_change(
 #[unsafe(no_mangle)]
 pub extern "C" fn durkenzo_restart(alloc: Global, chief: &mut Handle, kind: u8, server: u16) -> u32
     ensures made { result ≡ 0 → Restarts chief.old.owned.state chief.new.owned.state kind server }
+    ensures refused { result ≢ 0 → RefusesRestart chief.old.owned.state chief.new.owned.state kind server }
 {
     let Some(step) = step_of(kind, server) else {
         return BAD_ARGUMENT;

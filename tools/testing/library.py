@@ -1,0 +1,90 @@
+"""What the library passes, over the static library that the proofs built: its Rust crate, its C example and its Python
+module, each with what this machine has for it."""
+import os
+import pathlib
+import re
+import shutil
+import subprocess
+
+import sources
+from testing.part import Verdict, verdict
+
+FOLDER = sources.TOP / "library"
+CRATE = FOLDER / "rust/durkenzo"
+PAGE = sources.TOP / "docs/LIBRARY.md"
+# A block of the page, below the file that it is a part of.
+BLOCK = re.compile(r"^<!-- (\S+) -->\n```\w+\n(.*?)^```$", re.S | re.M)
+PROVED = sources.CRATES / "sm_c/out/libsm_c.a"
+COUNTED = "every admission was counted\n"
+SECONDS = 170
+
+
+def ran(name, command, folder, wanted=None, **env):
+    """Whether the command ends well, and writes what is wanted."""
+    try:
+        done = subprocess.run(
+            list(map(str, command)),
+            cwd=folder,
+            env={**os.environ, **{key: str(it) for key, it in env.items()}},
+            capture_output=True,
+            text=True,
+            timeout=SECONDS,
+        )
+    except subprocess.TimeoutExpired:
+        return Verdict(name, f"it hadn't ended after {SECONDS} s")
+    is_well = done.returncode == 0 and wanted in (None, done.stdout)
+    return verdict(name, is_well, f"exit status {done.returncode}\n{done.stdout[-2000:]}{done.stderr[-2000:]}")
+
+
+def blocks():
+    """Each block of the page is a part of the file that it names, which is compiled and run."""
+    for file, text in BLOCK.findall(PAGE.read_text(encoding="utf-8")):
+        path = sources.TOP / file
+        is_well = path.is_file() and text in path.read_text(encoding="utf-8")
+        yield verdict(f"docs/LIBRARY.md has {file}", is_well)
+
+
+def in_rust(room):
+    env = {"CARGO_TARGET_DIR": room / "target"}
+    run = ["cargo", "run", "--quiet", "--offline", "--example", "counters"]
+    yield ran("the crate's tests", ["cargo", "test", "--offline"], CRATE, **env)
+    yield ran("the crate's example", run, CRATE, COUNTED, **env)
+
+
+def in_c(room):
+    """The prefix is what `make install` fills, and the compiler finds it as a user's does."""
+    prefix, example = room / "prefix", room / "example"
+    yield ran("make install", ["make", "install", f"BUILD={room}/build", f"PREFIX={prefix}"], FOLDER)
+    if shutil.which("pkg-config"):
+        found = ["pkg-config", "--cflags", "--libs", "durkenzo"]
+        flags = subprocess.run(
+            found, env={**os.environ, "PKG_CONFIG_PATH": f"{prefix}/lib/pkgconfig"}, capture_output=True, text=True
+        ).stdout.split()
+    else:
+        flags = [f"-I{prefix}/include", f"-L{prefix}/lib", "-ldurkenzo"]
+    strict = ["gcc", "-std=c11", "-Wall", "-Wextra", "-Werror", FOLDER / "c/example.c", "-o", example]
+    yield ran("the C example compiles", [*strict, *flags, "-pthread"], room)
+    if example.exists():
+        yield ran("the C example", [example], room, COUNTED, LD_LIBRARY_PATH=prefix / "lib")
+    if example.exists() and shutil.which("valgrind"):
+        watched = ["valgrind", "--quiet", "--leak-check=full", "--error-exitcode=9", example]
+        yield ran("the C example under valgrind", watched, room, COUNTED, LD_LIBRARY_PATH=prefix / "lib")
+
+
+def in_python(room):
+    env = {"DURKENZO_SO": room / "prefix/lib", "PYTHONDONTWRITEBYTECODE": "1"}
+    yield ran("the Python module's tests", ["python3", "-m", "unittest"], FOLDER / "python", **env)
+    yield ran("the Python example", ["python3", "example.py"], FOLDER / "python", **env)
+
+
+def passed(room):
+    """All of it; nothing where the library wasn't built: that it has to be is the proofs' part."""
+    room = pathlib.Path(room)
+    yield from blocks()
+    if not PROVED.is_file():
+        return
+    if shutil.which("cargo"):
+        yield from in_rust(room)
+    if shutil.which("gcc") and shutil.which("make"):
+        yield from in_c(room)
+        yield from in_python(room)
