@@ -11,7 +11,8 @@ ghost use Rattle.sm_ownership.specs.Rules.{executor, forward_to};
 ghost use Rattle.sm_handle.specs.Acts.{EndsHandle, IsOpened, IsPassOf};
 ghost use Rattle.sm_ranges.specs.ServerId.{IsServer};
 ghost use Rattle.sm_word.specs.Word.{IsWellFormed, word_of};
-ghost use Rattle.sm_c.specs.Calls.{AdmitsFrom, ChangesBoard, LooksAt, RefusesChange, RefusesFrom, RefusesRestart, Restarts};
+ghost use Rattle.sm_c.specs.Calls.{AdmitsFrom, ChangesBoard, LooksAt, RefusesChange, RefusesFrom, RefusesRestart};
+ghost use Rattle.sm_c.specs.Calls.{Restarts};
 ghost use Rattle.sm_c.specs.Words.{AdmitsWord, ArePartsOf, ChangesWord, EndsWord};
 
 mod codes;
