@@ -3,8 +3,8 @@ use std::alloc::AllocError;
 use std::error::Error;
 use std::fmt;
 
-/// Why a run ended early. The answers to all lines before the one at which it did were written whole; of that line's answer a
-/// front may have been written where writing failed, and nothing otherwise.
+/// Why a run ended early. The answers to all lines before the one at which it did were written whole; of that line's
+/// answer a front may have been written where writing failed, and nothing otherwise.
 #[derive(Clone, Copy, Debug, PartialEq, Eq, Drop)]
 pub enum RunFault {
     /// The reader failed, or [`COUNT_LIMIT`](sm_lines::COUNT_LIMIT) of its calls or of the lines were counted.
