@@ -66,6 +66,13 @@ TO_DO = {
     "Closed": "look what the key holds before the line is sent again",
 }  # fmt: skip
 
+# What to do about a fault of settings.
+SETTINGS_TO_DO = {
+    "BadJson": "./sm check FILE tells where; ./sm settings makes a line",
+    "BadShape": "./sm check FILE names the member; ./sm settings makes a line",
+    "TooManyWorkers": "settings with fewer servers, or with fewer workers each: 64 in all",
+}
+
 
 def source(path):
     return (runs.TOP / "crates" / path).read_text(encoding="utf-8")
@@ -108,7 +115,8 @@ class Named(collections.defaultdict):
 
 
 def to_do(name, values=()):
-    return TO_DO[name].format_map(Named(None, values)) if name in TO_DO else None
+    told = {**TO_DO, **SETTINGS_TO_DO}.get(name)
+    return told and told.format_map(Named(None, values))
 
 
 def shown(text):
@@ -166,7 +174,8 @@ def told_in_request(line, name):
     asked, blank, after = request.partition(b" ")
     if name == "UnknownWord":
         told = unknown_told(asked, REQUESTS)
-        return told + f", as a request after {word.decode()}{' A' if server is not None else ''}"
+        requests = ", ".join(it.decode() for it in REQUESTS)
+        return told + f", as a request after {word.decode()}{' A' if server is not None else ''}: {requests}"
     if name == "BadLine":
         return table("FORMS")[asked.decode()]
     is_bad = server is not None and value_told("A", server, "A")
@@ -195,5 +204,7 @@ def fault_in(line):
         SCRIPTS.call_of(line)
     except SCRIPTS.LineError as fault:
         told = told_of(line, str(fault))
+        is_spaced = str(fault) == "BadLine" and b"  " in line
+        told += "; two spaces enclose an empty word" if is_spaced else ""
         return str(fault), told + ("; the line ends with a carriage return" if line.endswith(b"\r") else "")
     return None

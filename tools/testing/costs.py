@@ -1,17 +1,21 @@
-"""What the parts of the last whole run cost: the table of docs/GATE.md, from which ./test estimates how long it still
+"""What the parts of the last whole run cost: the table of costs.md, from which ./test estimates how long it still
 takes.
 
 A row of a crate has the processor seconds of its proof and of its must-fail edits, with the number of their checks; a
-row of another part has the seconds that it took. `write` puts the rows of a run in their place.
+row of another part has the seconds that it took, if they were LEAST_SECONDS. `write` puts the rows of a run in their
+place.
 """
 import collections
 import pathlib
 import re
 import textwrap
 
-PAGE = pathlib.Path(__file__).resolve().parents[2] / "docs/GATE.md"
+PAGE = pathlib.Path(__file__).resolve().parent / "costs.md"
 HEAD = "| crate or part | proof, s | edits, s (checks) | all, s | most memory, GB |\n|---|---|---|---|---|\n"
 ROW = re.compile(r"^\| `?([^`|]+?)`? \| (\d*) \| (?:(\d+) \((\d+)\))? ?\| (\d+) \|", re.M)
+
+# A part that took less has no row.
+LEAST_SECONDS = 10
 
 # Seconds of a crate's proof and of its edits, the number of their checks, and of all; a part that is no crate has the
 # last alone.
@@ -58,7 +62,8 @@ def table(checks, parts):
         row(name, it["proof"], it["edits"], it["tried"], it["proof"] + it["tests"] + it["edits"], it["memory"])
         for name, it in sums_of(checks)
     ]
-    rows += [row(name, 0, 0, 0, seconds, 0) for name, seconds in sorted(parts.items(), key=lambda it: -it[1])]
+    long = [(name, seconds) for name, seconds in parts.items() if seconds >= LEAST_SECONDS]
+    rows += [row(name, 0, 0, 0, seconds, 0) for name, seconds in sorted(long, key=lambda it: -it[1])]
     return HEAD + "".join(rows)
 
 

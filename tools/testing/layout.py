@@ -1,4 +1,5 @@
-"""Sees whether each crate is as `rt fmt` lays it out. `rt` has no way to ask, but the program behind it has."""
+"""Sees whether each crate is as `rt fmt` lays it out, and its lines within their columns. `rt` has no way to ask, but the
+program behind it has."""
 import pathlib
 import shutil
 import subprocess
@@ -6,6 +7,7 @@ import subprocess
 import beside
 import sources
 from testing.part import verdict
+from testing.program import tool
 
 RATTLE = pathlib.Path(shutil.which("rt") or "rt").resolve().with_name("rattle")
 ENDINGS = (".rt", ".antt")
@@ -25,7 +27,9 @@ def of_benches(room):
 
 
 def laid_out(room):
-    """Each crate of crates.txt, and each that a bench times, is laid out. Those of tests are looked at by their tool."""
+    """Each crate of crates.txt, and each that a bench times, is laid out, those of crates.txt within 120 columns. Those
+    of tests are looked at by their tool."""
+    yield tool("long-lines")
     for folder in [*(sources.CRATES / it for it in sources.crates()), *of_benches(room)]:
         command = [RATTLE, "fmt", "--check", *files_of(folder)]
         ran = subprocess.run(command, cwd=folder, capture_output=True, text=True, errors="replace")

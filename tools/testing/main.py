@@ -47,7 +47,9 @@ def arguments():
     parser.add_argument(
         "--proved-tests", action="store_true", help="proves the tests too, which takes some 70 processor minutes more"
     )
-    parser.add_argument("--write-costs", action="store_true", help="writes what a whole run took into docs/GATE.md")
+    parser.add_argument(
+        "--write-costs", action="store_true", help="writes what a whole run took into tools/testing/costs.md"
+    )
     given = parser.parse_args()
     if given.cached and os.environ.get("CI") == "true":
         parser.error("in CI all is proved from nothing, so --cached is not for it")

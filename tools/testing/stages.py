@@ -8,7 +8,16 @@ from testing import front, layout, tests
 from testing.part import Part, verdict
 from testing.program import EXAMPLES, Program, opens_nothing, tool
 
-DOCS = ("definitions", "doc-crates", "doc-examples", "doc-paths", "edits", "reading-list")
+DOCS = (
+    "doc-crates",
+    "doc-examples",
+    "doc-figures",
+    "doc-paths",
+    "doc-words",
+    "edits",
+    "headline",
+    "names",
+)
 PROVED = sources.CRATES / "sm_cli/out/sm_cli"
 BY_RATTLE = sources.CRATES / "sm_cli/out/sm_cli.by-rattle"
 SOAK = sources.CRATES / "bench_cluster/out/bench_cluster"

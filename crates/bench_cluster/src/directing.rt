@@ -16,7 +16,8 @@ use std::thread;
 /// How often a change is tried whose shard is admitted for a request.
 const TRIES: u32 = 10_000_000;
 
-/// Does what the plan says, and answers the nanoseconds that each migration took, or how many steps by chance were made.
+/// Does what the plan says, and answers the nanoseconds that each migration took, or how many steps by chance were
+/// made.
 pub(crate) fn direct<R: Wait + Clock>(
     rt: &R,
     alloc: Global,

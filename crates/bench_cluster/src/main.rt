@@ -1,5 +1,5 @@
-//! Measures a cluster of the sample service: calls, loads, migrations beside calls, start and stop; and runs it by chance for a
-//! while. Without arguments it makes 100 calls beside three migrations.
+//! Measures a cluster of the sample service: calls, loads, migrations beside calls, start and stop; and runs it by
+//! chance for a while. Without arguments it makes 100 calls beside three migrations.
 #![tactic(auto)]
 
 mod calling;
@@ -21,7 +21,8 @@ use std::time::Instant;
 use std::{env, io};
 
 const USAGE: &str =
-    "usage: bench_cluster rest|load|graceful|abrupt SERVERS WORKERS SHARDS CLIENTS CALLS MIGRATIONS, or soak SECONDS SEED";
+    "usage: bench_cluster rest|load|graceful|abrupt SERVERS WORKERS SHARDS CLIENTS CALLS MIGRATIONS, \
+     or soak SECONDS SEED";
 
 fn main(rt: HostRuntime) -> anyhow::Result<()> {
     let alloc = rt.alloc();
@@ -108,7 +109,8 @@ fn measure<R: Threads + Wait + Clock + Print + Clone + Send + Sync + Drop + 'sta
     print_outcome(rt, &outcome)
 }
 
-// Prints what clients were told, what was applied, and when each part of the run had ended; and the time of each migration.
+// Prints what clients were told, what was applied, and when each part of the run had ended; and the time of each
+// migration.
 fn print_outcome<R: Print>(rt: &R, outcome: &Outcome) -> io::Result<()> {
     let tally = &outcome.tally;
     println!(rt;

@@ -18,8 +18,8 @@ pub(crate) struct Outcome {
     pub(crate) tally: Tally,
     /// How many requests the bodies have applied.
     pub(crate) applied: u64,
-    /// The nanoseconds from the run's start until the cluster was started, all shards were published, all clients had left, and the
-    /// cluster was stopped.
+    /// The nanoseconds from the run's start until the cluster was started, all shards were published, all clients had
+    /// left, and the cluster was stopped.
     pub(crate) marks: [u64; 4],
     /// The nanoseconds of each migration, or how many steps by chance were made.
     pub(crate) figures: Vec<u64>,

@@ -1,5 +1,6 @@
 -- Chunks of bytes, which are the blocks' bytes, and the writing of a piece into one of them.
-use Rattle.std.specs.Prelude.{◌≡◌, ◌+◌, ◌<◌, ◌≤◌, ◌++◌, ℕ, List, [], map, length, take, drop, replicate, slice_index_or, slice_set}
+use Rattle.std.specs.Prelude.{◌≡◌, ◌+◌, ◌<◌, ◌≤◌, ◌++◌, ℕ, List, [], map, length, take, drop, replicate, slice_index_or}
+use Rattle.std.specs.Prelude.{slice_set}
 use Rattle.std.specs.List.{sum_by}
 use Rattle.sm_arena.specs.declared.span.Span.{Span}
 use Rattle.sm_arena.specs.declared.owned_chunk.OwnedChunk.{OwnedChunk}
@@ -46,7 +47,8 @@ pub record IsWriting (old : List (List ℕ)) (piece : List ℕ) (span : Span) (n
   pub total : total new ≡ total old + length piece
 
 -- new is old with both pieces written, one after the other, each where nothing was written before
-pub record IsWritingPair (old : List (List ℕ)) (first second : List ℕ) (spans : Span × Span) (new : List (List ℕ)) : Type 0 where
+pub record IsWritingPair (old : List (List ℕ)) (first second : List ℕ) (spans : Span × Span)
+    (new : List (List ℕ)) : Type 0 where
   pub middle : List (List ℕ)
   pub one : IsWriting old first spans.0 middle
   pub other : IsWriting middle second spans.1 new

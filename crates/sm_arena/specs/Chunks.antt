@@ -4,8 +4,10 @@ use Rattle.sm_arena.specs.declared.blocks.Blocks.{Blocks}
 use Rattle.sm_arena.specs.Blocks.{chunks_in}
 use Rattle.sm_arena.specs.Sizes.{sizes_in}
 
+-- the bytes of each chunk
 abbrev pub chunks_of : Blocks → List (List ℕ)
 chunks_of b = chunks_in b.blocks.items
 
+-- the sizes of the chunks
 abbrev pub sizes_of : Blocks → List ℕ
 sizes_of b = sizes_in b.blocks.items

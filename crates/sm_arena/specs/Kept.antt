@@ -15,6 +15,7 @@ pieces_in chunks spans = map (λ s. (s, bytes_at chunks s)) spans
 abbrev pub lying : List (List ℕ) → List ℕ → List Span → List Span → ArenaValue
 lying chunks sizes placed forgotten = record { placed = pieces_in chunks placed; forgotten = forgotten; sizes = sizes }
 
+-- an arena as contracts see it
 abbrev pub arena_value : Inside → ArenaValue
 arena_value a = lying (chunks_of a.blocks) (sizes_of a.blocks) a.placed.items a.forgotten.items
 

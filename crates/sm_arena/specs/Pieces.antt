@@ -3,6 +3,7 @@ use Rattle.std.specs.Prelude.{ℕ, Bool, ◌&&◌, ◌==◌, List, [], Option, I
 use Rattle.std.specs.Option.{option_map}
 use Rattle.sm_arena.specs.declared.span.Span.{Span}
 
+-- the spans are one
 abbrev pub same_span : Span → Span → Bool
 same_span s t = (s.chunk == t.chunk) && ((s.start == t.start) && (s.length == t.length))
 
@@ -14,6 +15,7 @@ Places = List (Span × List ℕ)
 abbrev pub piece_of : Places → Span → Option (List ℕ)
 piece_of places s = option_map (λ place. place.1) (find (λ place. same_span place.0 s) places)
 
+-- a piece was placed at the span
 abbrev pub IsPlaced : Places → Span → Type 0
 IsPlaced places s = IsSome (piece_of places s)
 

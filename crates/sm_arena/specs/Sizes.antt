@@ -1,8 +1,10 @@
 -- The sizes of chunks: each is twice the one before, from 1,024 to 65,536 bytes.
-use Rattle.std.specs.Prelude.{◌≡◌, ◌*◌, ◌<◌, ◌++◌, ◌⊎◌, ℕ, nat_le, List, None, [], ◌∷◌, filter, find, map, unwrap_or, cond, min, max}
+use Rattle.std.specs.Prelude.{◌≡◌, ◌*◌, ◌<◌, ◌++◌, ◌⊎◌, ℕ, nat_le, List, None, [], ◌∷◌, filter, find, map, unwrap_or}
+use Rattle.std.specs.Prelude.{cond, min, max}
 use Rattle.std.specs.List.{last_or}
 use Rattle.sm_arena.specs.declared.owned_chunk.OwnedChunk.{OwnedChunk}
 
+-- the sizes of chunks for pieces that fit one of them
 abbrev pub chunk_sizes : List ℕ
 chunk_sizes = 1024 ∷ 2048 ∷ 4096 ∷ 8192 ∷ 16384 ∷ 32768 ∷ 65536 ∷ []
 

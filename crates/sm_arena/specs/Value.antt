@@ -4,7 +4,8 @@ use Rattle.std.specs.List.{sum_by}
 use Rattle.sm_arena.specs.declared.span.Span.{Span}
 use Rattle.sm_arena.specs.Pieces.{Places, same_span, piece_of, bytes_of}
 
--- the pieces with their spans, in the order of their placing, the spans that were forgotten, and the sizes of the chunks
+-- the pieces with their spans, in the order of their placing, the spans that were forgotten, and the sizes of the
+-- chunks
 pub record ArenaValue : Type 0 where
   pub placed : Places
   pub forgotten : List Span
@@ -18,7 +19,8 @@ pub record IsPlacing (old : ArenaValue) (piece : List ℕ) (span : Span) (new : 
   pub fresh : 0 < length piece → piece_of old.placed span ≡ None
 
 -- new is old with both pieces placed, one after the other
-pub record IsPlacingPair (old : ArenaValue) (first second : List ℕ) (spans : Span × Span) (new : ArenaValue) : Type 0 where
+pub record IsPlacingPair (old : ArenaValue) (first second : List ℕ) (spans : Span × Span)
+    (new : ArenaValue) : Type 0 where
   pub middle : ArenaValue
   pub one : IsPlacing old first spans.0 middle
   pub other : IsPlacing middle second spans.1 new
@@ -30,7 +32,8 @@ times_forgotten v s = count_by (λ t. same_span t s) v.forgotten
 -- the arena once the span is forgotten; that of an empty piece is never on the list
 abbrev pub forgetting : ArenaValue → Span → ArenaValue
 forgetting v s =
-    cond (length (bytes_of v.placed s) == 0) v (record { placed = v.placed; forgotten = v.forgotten ++ s ∷ []; sizes = v.sizes })
+    cond (length (bytes_of v.placed s) == 0) v
+    (record { placed = v.placed; forgotten = v.forgotten ++ s ∷ []; sizes = v.sizes })
 
 -- the sum of the lengths on the list
 abbrev pub dead_of : ArenaValue → ℕ

@@ -11,10 +11,10 @@ use std::marker::Model;
 
 /// Memory for pieces of bytes: a piece stays where it was placed, and reads the same, until the arena is dropped.
 ///
-/// Contracts see an arena as the pieces that were placed, by their spans, the list of the spans that were forgotten, and the
-/// sizes of its chunks. The first chunk has 1,024 bytes, and each next one twice as many, up to 65,536; a size that doesn't hold
-/// the piece, or the pair, is skipped. A piece or a pair of more than 65,536 bytes has a chunk of just its size. What would need a
-/// chunk of 2^32 bytes or more, or more than 2^32 chunks, is refused as memory is.
+/// Contracts see an arena as the pieces that were placed, by their spans, the list of the spans that were forgotten,
+/// and the sizes of its chunks. The first chunk has 1,024 bytes, and each next one twice as many, up to 65,536; a size
+/// that doesn't hold the piece, or the pair, is skipped. A piece or a pair of more than 65,536 bytes has a chunk of
+/// just its size. What would need a chunk of 2^32 bytes or more, or more than 2^32 chunks, is refused as memory is.
 #[derive(Drop)]
 pub struct Arena {
     blocks: Blocks,
@@ -86,16 +86,18 @@ impl Arena {
         Ok((first_span, second_span))
     }
 
-    /// Places a copy of the piece at the span followed by the tail, as one piece, and answers the span that reads it from
-    /// now on. The span of a piece that isn't empty is a new one, and the piece at the old one stays.
+    /// Places a copy of the piece at the span followed by the tail, as one piece, and answers the span that reads it
+    /// from now on. The span of a piece that isn't empty is a new one, and the piece at the old one stays.
     ///
     /// # Errors
     ///
     /// `AllocError` where memory is refused, or the whole has 2^32 bytes or more; the arena is then as it was.
     pub fn concat(&mut self, head: Span, tail: &[u8]) -> Result<Span, AllocError>
         requires { IsPlaced self.old.placed head }
-        ensures placed { IfOk result (λ span. IsPlacing self.old (bytes_of self.old.placed head ++ tail.now) span self.new) }
-        ensures sizes { OnOk result (HasGrown self.old.sizes (length (bytes_of self.old.placed head ++ tail.now)) self.new.sizes) }
+        ensures placed { IfOk result
+            (λ span. IsPlacing self.old (bytes_of self.old.placed head ++ tail.now) span self.new) }
+        ensures sizes { OnOk result
+            (HasGrown self.old.sizes (length (bytes_of self.old.placed head ++ tail.now)) self.new.sizes) }
         ensures err { OnErr result (self.new ≡ self.old) }
     {
         let span = self.blocks.write_joined(head, tail)?;
@@ -112,7 +114,8 @@ impl Arena {
         self.blocks.piece(span)
     }
 
-    /// Counts the piece at the span, which wasn't forgotten before, as dead; its bytes stay. An empty piece is never dead.
+    /// Counts the piece at the span, which wasn't forgotten before, as dead; its bytes stay. An empty piece is never
+    /// dead.
     pub fn forget(&mut self, span: Span)
         requires placed { IsPlaced self.old.placed span }
         requires kept { 0 < length (bytes_of self.old.placed span) → times_forgotten self.old span ≡ 0 }

@@ -1,5 +1,7 @@
-ghost use Rattle.std.specs.Prelude.{◌≡◌, ◌+◌, ◌<◌, ◌≤◌, ◌^◌, ◌++◌, ◌∷◌, [], length, max, replicate, sum, slice_index_or, IfOk, OnOk, OnErr, IsTrue};
-ghost use Rattle.sm_arena.specs.Blocks.{chunks_in, bytes_at, next_span, IsWriting, IsWritingPair, IsGrown, IsFilled, HasSpace};
+ghost use Rattle.std.specs.Prelude.{◌≡◌, ◌+◌, ◌<◌, ◌≤◌, ◌^◌, ◌++◌, ◌∷◌, [], length, max, replicate, sum};
+ghost use Rattle.std.specs.Prelude.{slice_index_or, IfOk, OnOk, OnErr, IsTrue};
+ghost use Rattle.sm_arena.specs.Blocks.{chunks_in, bytes_at, next_span, IsWriting, IsWritingPair, IsGrown, IsFilled};
+ghost use Rattle.sm_arena.specs.Blocks.{HasSpace};
 ghost use Rattle.sm_arena.specs.Sizes.{sizes_in, next_size, size_holding, least_after, HasGrown};
 
 use crate::owned_chunk::OwnedChunk;
@@ -60,7 +62,8 @@ impl Blocks {
     pub(crate) fn write(&mut self, piece: &[u8]) -> Result<Span, AllocError>
         ensures written { IfOk result (λ span.
             IsWriting (chunks_in self.old.blocks.items) piece.now span (chunks_in self.new.blocks.items)) }
-        ensures sizes { OnOk result (HasGrown (sizes_in self.old.blocks.items) (length piece.now) (sizes_in self.new.blocks.items)) }
+        ensures sizes { OnOk result
+            (HasGrown (sizes_in self.old.blocks.items) (length piece.now) (sizes_in self.new.blocks.items)) }
         ensures err { OnErr result ((chunks_in self.new.blocks.items ≡ chunks_in self.old.blocks.items)
             × (sizes_in self.new.blocks.items ≡ sizes_in self.old.blocks.items)) }
     {
@@ -71,16 +74,19 @@ impl Blocks {
         Ok(self.fill(chunk, piece))
     }
 
-    /// Writes both pieces, or neither, where nothing was written yet, and answers where they lie. Empty ones take no block.
+    /// Writes both pieces, or neither, where nothing was written yet, and answers where they lie. Empty ones take no
+    /// block.
     pub(crate) fn write_pair(
         &mut self,
         first: &[u8],
         second: &[u8],
     ) -> Result<(Span, Span), AllocError>
         ensures written { IfOk result (λ spans.
-            IsWritingPair (chunks_in self.old.blocks.items) first.now second.now spans (chunks_in self.new.blocks.items)) }
+            IsWritingPair (chunks_in self.old.blocks.items) first.now second.now spans
+            (chunks_in self.new.blocks.items)) }
         ensures sizes { OnOk result
-            (HasGrown (sizes_in self.old.blocks.items) (length first.now + length second.now) (sizes_in self.new.blocks.items)) }
+            (HasGrown (sizes_in self.old.blocks.items) (length first.now + length second.now)
+            (sizes_in self.new.blocks.items)) }
         ensures err { OnErr result ((chunks_in self.new.blocks.items ≡ chunks_in self.old.blocks.items)
             × (sizes_in self.new.blocks.items ≡ sizes_in self.old.blocks.items)) }
     {
@@ -94,15 +100,16 @@ impl Blocks {
         Ok((first_span, second_span))
     }
 
-    /// Writes the bytes at the span and then the tail, as one piece, where nothing was written yet, and answers where it
-    /// lies.
+    /// Writes the bytes at the span and then the tail, as one piece, where nothing was written yet, and answers where
+    /// it lies.
     pub(crate) fn write_joined(&mut self, head: Span, tail: &[u8]) -> Result<Span, AllocError>
         requires { length (bytes_at (chunks_in self.old.blocks.items) head) ≡ head.length }
         ensures written { IfOk result (λ span.
             IsWriting (chunks_in self.old.blocks.items) (bytes_at (chunks_in self.old.blocks.items) head ++ tail.now)
             span (chunks_in self.new.blocks.items)) }
         ensures sizes { OnOk result
-            (HasGrown (sizes_in self.old.blocks.items) (length (bytes_at (chunks_in self.old.blocks.items) head ++ tail.now))
+            (HasGrown (sizes_in self.old.blocks.items)
+            (length (bytes_at (chunks_in self.old.blocks.items) head ++ tail.now))
             (sizes_in self.new.blocks.items)) }
         ensures err { OnErr result ((chunks_in self.new.blocks.items ≡ chunks_in self.old.blocks.items)
             × (sizes_in self.new.blocks.items ≡ sizes_in self.old.blocks.items)) }
@@ -156,12 +163,13 @@ impl Blocks {
         }
     }
 
-    // Writes the bytes at a span once more, into a block that has room for them: at once from an earlier block, and else part
-    // by part, as the span may lie in that very block.
+    // Writes the bytes at a span once more, into a block that has room for them: at once from an earlier block, and
+    // else part by part, as the span may lie in that very block.
     fn copy(&mut self, span: Span, place: u32)
         requires inside { length (bytes_at (chunks_in self.old.blocks.items) span) ≡ span.length }
         requires room { HasSpace self.old.blocks.items place span.length }
-        ensures { IsFilled self.old.blocks.items place (bytes_at (chunks_in self.old.blocks.items) span) self.new.blocks.items }
+        ensures { IsFilled self.old.blocks.items place
+            (bytes_at (chunks_in self.old.blocks.items) span) self.new.blocks.items }
     {
         if span.chunk < place {
             copy_up(&mut self.blocks, span, place);
@@ -184,7 +192,8 @@ impl Blocks {
         requires inside { length (bytes_at (chunks_in self.old.blocks.items) part) ≡ part.length }
         requires room { HasSpace self.old.blocks.items place part.length }
         requires short { part.length ≤ 1024 }
-        ensures { IsFilled self.old.blocks.items place (bytes_at (chunks_in self.old.blocks.items) part) self.new.blocks.items }
+        ensures { IsFilled self.old.blocks.items place
+            (bytes_at (chunks_in self.old.blocks.items) part) self.new.blocks.items }
     {
         let mut buffer = [0; PART_BYTES];
         let bytes = &mut buffer[..part.length as usize];
@@ -229,7 +238,8 @@ impl Blocks {
     // Makes one more block, of so many bytes.
     fn grow(&mut self, size: u32) -> Result<(), AllocError>
         ensures room { OnOk result (HasSpace self.new.blocks.items (length self.old.blocks.items) size) }
-        ensures chunks { OnOk result (chunks_in self.new.blocks.items ≡ chunks_in self.old.blocks.items ++ replicate 1 []) }
+        ensures chunks { OnOk result
+            (chunks_in self.new.blocks.items ≡ chunks_in self.old.blocks.items ++ replicate 1 []) }
         ensures sizes { OnOk result (sizes_in self.new.blocks.items ≡ sizes_in self.old.blocks.items ++ size ∷ []) }
         ensures err { OnErr result ((chunks_in self.new.blocks.items ≡ chunks_in self.old.blocks.items)
             × (sizes_in self.new.blocks.items ≡ sizes_in self.old.blocks.items)) }

@@ -53,8 +53,8 @@ impl<A: Allocator> Chunk<A> {
         unsafe {
             let from = piece.as_ptr();
             let to = self.at.add(used);
-            // LLVM widens this loop to many bytes a turn. `copy_nonoverlapping` moves values out of its source, and this piece
-            // is only lent.
+            // LLVM widens this loop to many bytes a turn. `copy_nonoverlapping` moves values out of its source, and
+            // this piece is only lent.
             while i < count {
                 to.add(i).write(from.add(i).read());
                 i += 1;

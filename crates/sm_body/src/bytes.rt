@@ -3,8 +3,8 @@ ghost use Rattle.std.specs.Prelude.{◌≡◌, IfOk};
 use std::alloc::{AllocError, Global};
 use std::marker::Model;
 
-/// Bytes in memory of their own, such as a text. They need not be UTF-8. Contracts see the list of them, so what holds them is
-/// told by what they say, and not by where they lie.
+/// Bytes in memory of their own, such as a text. They need not be UTF-8. Contracts see the list of them, so what holds
+/// them is told by what they say, and not by where they lie.
 #[derive(Clone, Drop)]
 pub struct Bytes {
     bytes: Vec<u8>,

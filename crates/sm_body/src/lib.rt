@@ -1,5 +1,5 @@
-//! What a shard's body is: a service that answers requests in turn and keeps each of them. `Machine` is what a user writes,
-//! and `Logged` makes the service of it.
+//! What a shard's body is: a service that answers requests in turn and keeps each of them. `Machine` is what a user
+//! writes, and `Logged` makes the service of it.
 //!
 //! A body at its limit hands the request back:
 //! ```rust

@@ -8,8 +8,8 @@ use sm_trace::trace::Trace;
 use std::alloc::{AllocError, Global};
 use std::marker::Model;
 
-/// The service of a machine: the body that applies requests to it. No call reads a request again once it is applied, so of
-/// the list only the length is in memory; the list itself and the base are values that proofs alone read.
+/// The service of a machine: the body that applies requests to it. No call reads a request again once it is applied, so
+/// of the list only the length is in memory; the list itself and the base are values that proofs alone read.
 #[derive(Drop)]
 pub struct Logged<M: Machine> {
     alloc: Global,
@@ -28,7 +28,12 @@ impl<M: Machine> Model for Logged<M> {
 
     ghost Value = { Log M M.Request };
 
-    ghost view = { λ body. record { base = body.base.value; before = body.first; requests = body.requests.items; limit = body.limit } };
+    ghost view = { λ body. record {
+      base = body.base.value;
+      before = body.first;
+      requests = body.requests.items;
+      limit = body.limit;
+    } };
 
     ghost invariant = { λ body. (body.machine ≡ fold M.after body.base.value body.requests.items)
         × (body.kept ≡ length body.requests.items) };

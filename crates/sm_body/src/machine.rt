@@ -2,11 +2,13 @@ ghost use Rattle.std.specs.Prelude.{◌≡◌, List, ℕ, IfOk, OnOk, OnErr};
 
 use std::alloc::{AllocError, Global};
 
-/// What a user of the manager writes: a state that answers requests one at a time. It knows nothing of the requests before,
-/// of limits, places or servers.
+/// What a user of the manager writes: a state that answers requests one at a time. It knows nothing of the requests
+/// before, of limits, places or servers.
 pub trait Machine: Drop + Send {
+    /// What a client asks.
     type Request: Drop + Send;
 
+    /// What it is answered.
     type Reply: Drop + Send;
 
     /// The machine before any request.
@@ -35,8 +37,8 @@ pub trait Machine: Drop + Send {
         ensures after { OnOk result (self.new ≡ after self.old request.now) }
         ensures err { OnErr result (self.new ≡ self.old) };
 
-    /// Is to move the machine into fresh memory, or to leave it in the old where a growth is refused. In both cases its value
-    /// stays the same, and that alone is proved.
+    /// Is to move the machine into fresh memory, or to leave it in the old where a growth is refused. In both cases its
+    /// value stays the same, and that alone is proved.
     fn rebuild(&mut self, alloc: Global) -> Result<(), AllocError>
         ensures { self.new ≡ self.old };
 }

@@ -1,4 +1,5 @@
-ghost use Rattle.std.specs.Prelude.{◌≡◌, ◌+◌, ◌^◌, ◌++◌, ◌∷◌, [], List, ℕ, fold, length, IfOk, IfErr, OnErr, OnOk, ◌≤◌, ◌<◌};
+ghost use Rattle.std.specs.Prelude.{◌≡◌, ◌+◌, ◌^◌, ◌++◌, ◌∷◌, [], List, ℕ, fold, length, IfOk, IfErr, OnErr, OnOk, ◌≤◌};
+ghost use Rattle.std.specs.Prelude.{◌<◌};
 
 use sm_ranges::server_id::ServerId;
 use std::alloc::AllocError;
@@ -28,8 +29,10 @@ impl Error for ApplyFault {}
 /// The body of a shard: a state machine with the list of the requests that it applied since a state, its base. Bodies,
 /// requests and replies pass between threads. `Logged` makes one of any `Machine`.
 pub trait Service: Drop + Send {
+    /// What a client asks.
     type Request: Drop + Send;
 
+    /// What it is answered.
     type Reply: Drop + Send;
 
     /// What replies depend on.
@@ -93,16 +96,16 @@ pub trait Service: Drop + Send {
         ensures before { before self.new ≡ before self.old }
         ensures limit { limit self.new ≡ limit self.old };
 
-    /// Is to move the body into fresh memory, where the server isn't the one that it was moved for last and no growth is refused.
-    /// What it keeps stays the same, and that alone is proved.
+    /// Is to move the body into fresh memory, where the server isn't the one that it was moved for last and no growth
+    /// is refused. What it keeps stays the same, and that alone is proved.
     fn settle(&mut self, server: ServerId)
         ensures base { base self.new ≡ base self.old }
         ensures before { before self.new ≡ before self.old }
         ensures kept { requests self.new ≡ requests self.old }
         ensures limit { limit self.new ≡ limit self.old };
 
-    /// Makes the present state the base, and keeps no request; or changes nothing, where memory is refused. It asks that the
-    /// body has applied fewer than 2^36 requests in all.
+    /// Makes the present state the base, and keeps no request; or changes nothing, where memory is refused. It asks
+    /// that the body has applied fewer than 2^36 requests in all.
     fn checkpoint(&mut self) -> Result<(), AllocError>
         requires { before self.old + length (requests self.old) < 2 ^ 36 }
         ensures base { OnOk result (base self.new ≡ fold next (base self.old) (requests self.old)) }

@@ -20,7 +20,8 @@ BasesOrRefuses before shard after (Err refusal) = ⊥
 
 -- a new pass of the server, which had seen all that the cluster told, made the checkpoint or was refused; the cluster
 -- then tells all that it has seen
-pub record IsBasedBy {Q : Type 0} (cluster : ClusterValue Q) (shard server : ℕ) (result : Result Front CheckpointRefusal) (later : ClusterValue Q) : Type 0 where
+pub record IsBasedBy {Q : Type 0} (cluster : ClusterValue Q) (shard server : ℕ)
+    (result : Result Front CheckpointRefusal) (later : ClusterValue Q) : Type 0 where
   pub before : PassValue Q
   pub after : PassValue Q
   pub new : IsNewPass cluster.control.chair.board server cluster.told before

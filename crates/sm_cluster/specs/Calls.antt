@@ -24,15 +24,18 @@ pub record ClientValue (Q : Type 0) : Type 0 where
   pub router : RouterView
   pub bounds : List (List ℕ)
 
+-- a client with a pass that has seen this
 abbrev pub client_seeing : {Q : Type 0} → ClientValue Q → PassValue Q → ClientValue Q
 client_seeing client pass = record client { pass = pass }
 
+-- a client with a router that has seen this
 abbrev pub client_reading : {Q : Type 0} → ClientValue Q → RouterView → ClientValue Q
 client_reading client router = record client { router = router }
 
 -- an answer for a caller: to the request of this number for the shard, in a history that extends all that the caller
 -- had seen, by the entries by which the request was executed among others
-pub record IsAnswerFor {Q R : Type 0} (service : Service Q R) (caller : PassValue Q) (shard number : ℕ) (request : Q) (answer : AnswerValue Q R) : Type 0 where
+pub record IsAnswerFor {Q R : Type 0} (service : Service Q R) (caller : PassValue Q) (shard number : ℕ) (request : Q)
+    (answer : AnswerValue Q R) : Type 0 where
   pub number_is : answer.number ≡ number
   pub board : answer.note.board ≡ caller.board
   pub seen : Begins caller.seen answer.note.seen
@@ -46,19 +49,22 @@ shard_asked service client request = shard_of client.bounds (service.key_of requ
 
 -- what a call of a client gives: an answer for its pass, from the shard of the request's key
 abbrev pub Gives : {Q R : Type 0} → Service Q R → ClientValue Q → ℕ → Q → AnswerValue Q R → Type 0
-Gives service client number request answer = IsAnswerFor service client.pass (shard_asked service client request) number request answer
+Gives service client number request answer =
+    IsAnswerFor service client.pass (shard_asked service client request) number request answer
 
 -- the request of a call that was not answered comes back, but where no reply will come
 abbrev pub handed_back : {Q : Type 0} → CallFault → Q → Option Q
 handed_back Closed request = None
 handed_back fault request = Some request
 
+-- the request of a call that was not answered comes back, or doesn't, as its fault says
 abbrev pub HandsBack : {Q : Type 0} → Q → CallRefused Q → Type 0
 HandsBack request refused = refused.back ≡ handed_back refused.fault request
 
 -- an envelope of a call: with its number, shard and request, and with a note of the caller's board that has seen all
 -- that the caller had
-pub record IsEnvelopeOf {Q : Type 0} (caller : PassValue Q) (shard number : ℕ) (request : Q) (envelope : Sent Q) : Type 0 where
+pub record IsEnvelopeOf {Q : Type 0} (caller : PassValue Q) (shard number : ℕ) (request : Q)
+    (envelope : Sent Q) : Type 0 where
   pub number_is : envelope.number ≡ number
   pub shard_is : envelope.shard ≡ shard
   pub request_is : envelope.request ≡ request
@@ -67,7 +73,8 @@ pub record IsEnvelopeOf {Q : Type 0} (caller : PassValue Q) (shard number : ℕ)
 
 -- a server's step on an envelope of the client's call refused it for this reason: by a new pass of the server, which
 -- had seen what the client had. What the pass then has seen, and the note that the step gave back, is told
-pub record WasRefused {Q R : Type 0} (service : Service Q R) (client : ClientValue Q) (number : ℕ) (request : Q) (refusal : Refusal) (told : List (Entry Q)) : Type 0 where
+pub record WasRefused {Q R : Type 0} (service : Service Q R) (client : ClientValue Q) (number : ℕ) (request : Q)
+    (refusal : Refusal) (told : List (Entry Q)) : Type 0 where
   pub envelope : Sent Q
   pub back : Sent Q
   pub server : ℕ
@@ -76,7 +83,8 @@ pub record WasRefused {Q R : Type 0} (service : Service Q R) (client : ClientVal
   pub is_its : IsEnvelopeOf client.pass (shard_asked service client request) number request envelope
   pub new : IsNewPass client.pass.board server client.pass.seen before
   pub looks : PassLooks before after
-  pub served : Served service (is_here service client.bounds client.pass.board.limits.count envelope) before after envelope (outcome.Refused refusal back)
+  pub served : Served service (is_here service client.bounds client.pass.board.limits.count envelope) before after
+      envelope (outcome.Refused refusal back)
   pub read : Begins after.seen told
   pub given : Begins back.note.seen told
 
@@ -97,5 +105,7 @@ ReadsNoRoute before after shard = (routes_of after.seen shard ≡ None) ⊎ (aft
 -- at a server
 abbrev pub FaultByRoute : {Q R : Type 0} → Service Q R → ClientValue Q → ClientValue Q → ℕ → Q → CallFault → Type 0
 FaultByRoute service before after number request NoRoute =
-    ReadsNoRoute before.router after.router (shard_asked service before request) × (after ≡ client_reading before after.router)
-FaultByRoute service before after number request fault = FaultAt service (client_reading before after.router) after number request fault
+    ReadsNoRoute before.router after.router (shard_asked service before request)
+    × (after ≡ client_reading before after.router)
+FaultByRoute service before after number request fault =
+    FaultAt service (client_reading before after.router) after number request fault

@@ -28,15 +28,19 @@ pub record ClusterValue (Q : Type 0) : Type 0 where
   pub holds : List (Option (PassValue Q))
   pub told : List (Entry Q)
 
+-- a cluster with a control that is now this
 abbrev pub cluster_commanded : {Q : Type 0} → ClusterValue Q → ControlValue Q → ClusterValue Q
 cluster_commanded cluster control = record cluster { control = control }
 
+-- a cluster with a control and a map that are now these
 abbrev pub cluster_publishing : {Q : Type 0} → ClusterValue Q → ControlValue Q → PublisherView → ClusterValue Q
 cluster_publishing cluster control map = record cluster { control = control; map = map }
 
+-- a cluster whose hold of a shard is now this
 abbrev pub cluster_holding : {Q : Type 0} → ClusterValue Q → ℕ → Option (PassValue Q) → ClusterValue Q
 cluster_holding cluster shard hold = record cluster { holds = slice_set cluster.holds shard hold }
 
+-- a cluster that tells this history
 abbrev pub cluster_telling : {Q : Type 0} → ClusterValue Q → List (Entry Q) → ClusterValue Q
 cluster_telling cluster told = record cluster { told = told }
 
@@ -54,18 +58,22 @@ KnowsBoth cluster shard server =
 abbrev pub HasHeld : {Q : Type 0} → ClusterValue Q → ℕ → ℕ → ClusterValue Q → Type 0
 HasHeld {Q} before shard server after =
     KnowsBoth before shard server
-    × (pass : PassValue Q) × IsHold before.control.chair.board before.told shard server pass × Begins pass.seen after.told
+    × (pass : PassValue Q) × IsHold before.control.chair.board before.told shard server pass
+    × Begins pass.seen after.told
     × TellsMore (cluster_holding before shard (Some pass)) after
 
 -- why a shard isn't held, the first fault that applies, and the cluster that this leaves: a new pass that had seen all
 -- that the cluster told is refused by the record that it read, which the cluster then tells
 abbrev pub HoldRefused : {Q : Type 0} → ClusterValue Q → ℕ → ℕ → HoldFault → ClusterValue Q → Type 0
-HoldRefused before shard server hold.UnknownShard after = (before.control.chair.board.limits.count ≤ shard) × (after ≡ before)
+HoldRefused before shard server hold.UnknownShard after =
+    (before.control.chair.board.limits.count ≤ shard) × (after ≡ before)
 HoldRefused before shard server hold.UnknownServer after =
-    (shard < before.control.chair.board.limits.count) × (is_known before.control.desk.books.servers server ≡ false) × (after ≡ before)
+    (shard < before.control.chair.board.limits.count) × (is_known before.control.desk.books.servers server ≡ false)
+    × (after ≡ before)
 HoldRefused {Q} before shard server (hold.Admit refusal) after =
     KnowsBoth before shard server
-    × (pass : PassValue Q) × IsNewPass before.control.chair.board server before.told pass × IsTurnedAway pass shard refusal after.told
+    × (pass : PassValue Q) × IsNewPass before.control.chair.board server before.told pass
+    × IsTurnedAway pass shard refusal after.told
     × TellsMore before after
 
 -- the pass that held the shard has ended its admission with nothing, which the cluster tells, and nothing else has
@@ -73,7 +81,8 @@ HoldRefused {Q} before shard server (hold.Admit refusal) after =
 abbrev pub HasFreed : {Q : Type 0} → ClusterValue Q → ℕ → ClusterValue Q → Type 0
 HasFreed {Q} before shard after =
     (pass : PassValue Q) × (ended : PassValue Q) × (hold_at before.holds shard ≡ Some pass)
-    × PassAdds pass shard (Done Nothing) ended × Begins ended.seen after.told × TellsMore (cluster_holding before shard None) after
+    × PassAdds pass shard (Done Nothing) ended × Begins ended.seen after.told
+    × TellsMore (cluster_holding before shard None) after
 
 -- why a shard isn't freed: the first fault that applies
 abbrev pub FreeRefused : {Q : Type 0} → ClusterValue Q → ℕ → FreeFault → Type 0
@@ -88,7 +97,8 @@ IsClientOf cluster client = (client.pass.board ≡ cluster.control.chair.board) 
 -- the rows are those of all shards after one legal history, to which passes alone have added since the chair last
 -- looked, which extends what each client that came back had seen, in which each hold was ended, and which extends what
 -- the cluster told
-abbrev pub WasStopped : {S Q : Type 0} → (S → ℕ → List Q → Type 0) → (S → ℕ) → ClusterValue Q → List (ClientValue Q) → List (Record × Option S) → Type 0
+abbrev pub WasStopped : {S Q : Type 0} → (S → ℕ → List Q → Type 0) → (S → ℕ) → ClusterValue Q → List (ClientValue Q)
+    → List (Record × Option S) → Type 0
 WasStopped {S} {Q} keeps limit cluster clients rows =
     let chair = cluster.control.chair in
     (later : List (Entry Q))

@@ -14,7 +14,8 @@ use Rattle.sm_cluster.specs.Calls.{ClientValue, IsEnvelopeOf, client_seeing, sha
 use Rattle.sm_cluster.specs.Replies.{CallValue}
 
 -- a call of the client: by its bounds, and with an envelope of its number and request
-pub record IsCallOf {Q R : Type 0} (service : Service Q R) (client : ClientValue Q) (number : ℕ) (request : Q) (asked : CallValue Q) : Type 0 where
+pub record IsCallOf {Q R : Type 0} (service : Service Q R) (client : ClientValue Q) (number : ℕ) (request : Q)
+    (asked : CallValue Q) : Type 0 where
   pub bounds : asked.bounds ≡ client.bounds
   pub sent : IsEnvelopeOf client.pass (shard_asked service client request) number request asked.sent
 

@@ -23,17 +23,20 @@ HoldsShard pass shard = (state : Record) × (held_admission pass ≡ Some (shard
 -- there is a place for each shard of the board, and the pass in it is one of the board that is admitted to the shard
 pub record AreHoldsOn {Q : Type 0} (board : BoardValue) (holds : List (Option (PassValue Q))) : Type 0 where
   pub many : length holds ≡ board.limits.count
-  pub each : (shard : ℕ) (pass : PassValue Q) → hold_at holds shard ≡ Some pass → (pass.board ≡ board) × HoldsShard pass shard
+  pub each : (shard : ℕ) (pass : PassValue Q) → hold_at holds shard ≡ Some pass
+      → (pass.board ≡ board) × HoldsShard pass shard
 
 -- the pass has seen more, and isn't admitted for a direct request to the shard by the record that it has then seen,
 -- which is told
 abbrev pub IsTurnedAway : {Q : Type 0} → PassValue Q → ℕ → AdmitRefusal → List (Entry Q) → Type 0
 IsTurnedAway {Q} before shard refusal told =
-    (after : PassValue Q) × PassLooks before after × RefusedBy before after shard Direct refusal × Begins after.seen told
+    (after : PassValue Q) × PassLooks before after × RefusedBy before after shard Direct refusal
+    × Begins after.seen told
 
 -- a new pass of the server that had seen all that was told was admitted to the shard, for a direct request
 abbrev pub IsHold : {Q : Type 0} → BoardValue → List (Entry Q) → ℕ → ℕ → PassValue Q → Type 0
-IsHold {Q} board told shard server pass = (before : PassValue Q) × IsNewPass board server told before × PassAdmitted before shard Direct pass
+IsHold {Q} board told shard server pass =
+    (before : PassValue Q) × IsNewPass board server told before × PassAdmitted before shard Direct pass
 
 -- the admission of a pass has ended with nothing
 abbrev pub HasEnded : {Q : Type 0} → PassValue Q → PassValue Q → Type 0
@@ -45,4 +48,5 @@ HasEndedIn {Q} history pass = (ended : PassValue Q) × HasEnded pass ended × Be
 
 -- that of each hold did
 abbrev pub AreEndedIn : {Q : Type 0} → List (Entry Q) → List (Option (PassValue Q)) → Type 0
-AreEndedIn {Q} history holds = (shard : ℕ) (pass : PassValue Q) → hold_at holds shard ≡ Some pass → HasEndedIn history pass
+AreEndedIn {Q} history holds =
+    (shard : ℕ) (pass : PassValue Q) → hold_at holds shard ≡ Some pass → HasEndedIn history pass

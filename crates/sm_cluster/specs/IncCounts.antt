@@ -15,4 +15,5 @@ module _ {F T : Type 0} (calls : Shared F (MutBor T × Unit {0}) (IncCounts × (
 
   -- each call of f counts so many in all
   abbrev pub CountsAll : ℕ → Type 0
-  CountsAll each = (before : T) (acked refused : ℕ) (after : T) → MayCount before acked refused after → acked + refused ≡ each
+  CountsAll each =
+      (before : T) (acked refused : ℕ) (after : T) → MayCount before acked refused after → acked + refused ≡ each

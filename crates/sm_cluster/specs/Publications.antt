@@ -8,7 +8,8 @@ use Rattle.sm_publish.specs.declared.publish_fault.PublishFault.TheVariants.{NoM
 use Rattle.sm_publish.specs.Publishing.{publish_fault, with_route}
 use Rattle.sm_rule.specs.Changes.{ChairLooks}
 use Rattle.sm_cluster.specs.declared.publish_refusal.PublishRefusal.{PublishRefusal}
-use Rattle.sm_cluster.specs.declared.publish_refusal.PublishRefusal.TheVariants.{Publish as Unpublished, Route as Unrouted}
+use Rattle.sm_cluster.specs.declared.publish_refusal.PublishRefusal.TheVariants.{Publish as Unpublished}
+use Rattle.sm_cluster.specs.declared.publish_refusal.PublishRefusal.TheVariants.{Route as Unrouted}
 use Rattle.sm_cluster.specs.Clusters.{ClusterValue, TellsMore, cluster_publishing}
 
 -- the chair has looked, and this is the shard's route; the desk stays, and all but the control and the map, and that
@@ -24,10 +25,13 @@ IsMapFault (Some first) fault = fault ≡ first
 IsMapFault None fault = fault ≡ NoMemory
 
 -- what a publication leaves and answers of a shard that has no route for this reason, or has one
-abbrev pub Published : {Q : Type 0} → Option RouteFault → ClusterValue Q → ClusterValue Q → ℕ → Result Route PublishRefusal → Type 0
+abbrev pub Published : {Q : Type 0} → Option RouteFault → ClusterValue Q → ClusterValue Q → ℕ
+    → Result Route PublishRefusal → Type 0
 Published (Some fault) before after shard result = (result ≡ Err (Unrouted fault)) × (after ≡ before)
 Published None before after shard (Ok route) =
-    ReadsRoute before after shard route × (publish_fault before.map.map route ≡ None) × (after.map.map ≡ with_route before.map.map route)
+    ReadsRoute before after shard route × (publish_fault before.map.map route ≡ None)
+    × (after.map.map ≡ with_route before.map.map route)
 Published None before after shard (Err (Unpublished fault)) =
-    (route : Route) × ReadsRoute before after shard route × IsMapFault (publish_fault before.map.map route) fault × (after.map ≡ before.map)
+    (route : Route) × ReadsRoute before after shard route × IsMapFault (publish_fault before.map.map route) fault
+    × (after.map ≡ before.map)
 Published None before after shard (Err (Unrouted fault)) = ⊥

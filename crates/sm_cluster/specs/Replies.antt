@@ -45,7 +45,8 @@ pub record IsOnTheWay {Q : Type 0} (sent envelope : Sent Q) : Type 0 where
 -- a server's step on the envelope of that call, on its way, refused it for this reason: by a new pass of the server,
 -- which had seen what the call's first note had. What the pass then has seen, and the note that the step gave back, is
 -- told
-pub record IsRefusalTo {Q R : Type 0} (service : Service Q R) (asked : CallValue Q) (refusal : Refusal) (told : List (Entry Q)) : Type 0 where
+pub record IsRefusalTo {Q R : Type 0} (service : Service Q R) (asked : CallValue Q) (refusal : Refusal)
+    (told : List (Entry Q)) : Type 0 where
   pub envelope : Sent Q
   pub back : Sent Q
   pub server : ℕ
@@ -54,7 +55,8 @@ pub record IsRefusalTo {Q R : Type 0} (service : Service Q R) (asked : CallValue
   pub way : IsOnTheWay asked.sent envelope
   pub new : IsNewPass asked.sent.note.board server asked.sent.note.seen before
   pub looks : PassLooks before after
-  pub served : Served service (is_here service asked.bounds asked.sent.note.board.limits.count envelope) before after envelope (outcome.Refused refusal back)
+  pub served : Served service (is_here service asked.bounds asked.sent.note.board.limits.count envelope) before after
+      envelope (outcome.Refused refusal back)
   pub read : Begins after.seen told
   pub given : Begins back.note.seen told
 
@@ -73,7 +75,8 @@ ComesBackFor service asked fault back = IsOfTheWay fault
 abbrev pub Fits : {Q R : Type 0} → Service Q R → Option (CallValue Q) → CallReply (AnswerValue Q R) (Sent Q) → Type 0
 Fits service None reply = ⊥
 Fits service (Some asked) (Answered answer) = IsAnswerTo service asked.sent answer
-Fits service (Some asked) (Refused fault envelope) = IsOnTheWay asked.sent envelope × ComesBackFor service asked fault envelope
+Fits service (Some asked) (Refused fault envelope) =
+    IsOnTheWay asked.sent envelope × ComesBackFor service asked fault envelope
 
 abbrev pub AllFit : {T : Type 0} → (T → Type 0) → List T → Type 0
 AllFit Fit [] = Unit {0}
@@ -81,7 +84,8 @@ AllFit Fit (reply ∷ replies) = Fit reply × AllFit Fit replies
 
 -- the rule of a reply's channel: each pass knows the same call, and each reply fits it; before the call is known there
 -- is one pass
-pub record HoldsReplies {Q R : Type 0} (service : Service Q R) (replies : List (CallReply (AnswerValue Q R) (Sent Q))) (views : List (Option (CallValue Q))) : Type 0 where
+pub record HoldsReplies {Q R : Type 0} (service : Service Q R) (replies : List (CallReply (AnswerValue Q R) (Sent Q)))
+    (views : List (Option (CallValue Q))) : Type 0 where
   pub asked : Option (CallValue Q)
   pub agree : (pass : ℕ) (view : Option (CallValue Q)) → get_elem? views pass ≡ some view → view ≡ asked
   pub fit : AllFit (Fits service asked) replies

@@ -20,9 +20,11 @@ pub record IsNotedAgain {Q : Type 0} (envelope again : Sent Q) : Type 0 where
 abbrev pub IsToldOf : {Q R : Type 0} → Service Q R → CallValue Q → Outcome (AnswerValue Q R) (Sent Q) → Type 0
 IsToldOf service asked (Answered answer) = IsAnswerTo service asked.sent answer
 IsToldOf service asked (Forward to back) = IsOnTheWay asked.sent back
-IsToldOf service asked (Refused refusal back) = IsOnTheWay asked.sent back × IsRefusalTo service asked refusal back.note.seen
+IsToldOf service asked (Refused refusal back) =
+    IsOnTheWay asked.sent back × IsRefusalTo service asked refusal back.note.seen
 
 -- a step on an envelope by some bounds tells every call with these bounds whose envelope it is
 abbrev pub Tells : {Q R : Type 0} → Service Q R → CallValue Q → Outcome (AnswerValue Q R) (Sent Q) → Type 0
 Tells {Q} service stepped outcome =
-    (asked : CallValue Q) → asked.bounds ≡ stepped.bounds → IsOnTheWay asked.sent stepped.sent → IsToldOf service asked outcome
+    (asked : CallValue Q) → asked.bounds ≡ stepped.bounds → IsOnTheWay asked.sent stepped.sent
+    → IsToldOf service asked outcome

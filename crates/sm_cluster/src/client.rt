@@ -50,7 +50,11 @@ impl<S: Service> Model for Client<S> {
 
     ghost Value = { ClientValue S.Request };
 
-    ghost view = { λ client. record { pass = client.pass; router = client.router; bounds = (arc_value client.ground).layout } };
+    ghost view = { λ client. record {
+      pass = client.pass;
+      router = client.router;
+      bounds = (arc_value client.ground).layout;
+    } };
 
     ghost invariant = { λ client. (client.pass.board ≡ (arc_value client.ground).board) × (client.pass.held ≡ None) };
 }
@@ -75,10 +79,10 @@ impl<S: Service> Client<S> {
         }
     }
 
-    /// Has a server answer the request: the one of the route that the client's router gives of the key. The answer's history
-    /// extends all that the client had seen. A request that was not answered comes back, but after `Closed`. `NoRoute` comes only where
-    /// the router gives no route, and `Refused` where a server's step on an envelope of this call gave that reason; the client then
-    /// has seen the record by which it did.
+    /// Has a server answer the request: the one of the route that the client's router gives of the key. The answer's
+    /// history extends all that the client had seen. A request that was not answered comes back, but after `Closed`.
+    /// `NoRoute` comes only where the router gives no route, and `Refused` where a server's step on an envelope of this
+    /// call gave that reason; the client then has seen the record by which it did.
     pub fn call<R: Wait>(
         &mut self,
         rt: &R,
@@ -86,10 +90,12 @@ impl<S: Service> Client<S> {
         number: u64,
         request: S::Request,
     ) -> Result<Answer<S>, CallRefused<S::Request>>
-        ensures answer { IfOk result (λ answer. Gives (meaning_of S.initial S.next S.answer S.key_of) self.old number request answer) }
+        ensures answer { IfOk result
+            (λ answer. Gives (meaning_of S.initial S.next S.answer S.key_of) self.old number request answer) }
         ensures answered { OnOk result (self.new ≡ client_reading self.old self.new.router) }
         ensures back { IfErr result (λ refused. HandsBack request refused) }
-        ensures fault { IfErr result (λ refused. FaultByRoute (meaning_of S.initial S.next S.answer S.key_of) self.old self.new number request refused.fault) }
+        ensures fault { IfErr result (λ refused. FaultByRoute
+            (meaning_of S.initial S.next S.answer S.key_of) self.old self.new number request refused.fault) }
         ensures since { IsClientSince self.old self.new }
     {
         let Some(route) = self.route(S::key(&request)) else {
@@ -101,9 +107,10 @@ impl<S: Service> Client<S> {
         self.call_at(rt, alloc, route.server, number, request)
     }
 
-    /// Has this server answer the request, or one that it forwards it to. The answer's history extends all that the client had
-    /// seen. A request that was not answered comes back, but after `Closed`. `NoRoute` never comes, and `Refused` only where a server's
-    /// step on an envelope of this call gave that reason; the client then has seen the record by which it did.
+    /// Has this server answer the request, or one that it forwards it to. The answer's history extends all that the
+    /// client had seen. A request that was not answered comes back, but after `Closed`. `NoRoute` never comes, and
+    /// `Refused` only where a server's step on an envelope of this call gave that reason; the client then has seen the
+    /// record by which it did.
     pub fn call_at<R: Wait>(
         &mut self,
         rt: &R,
@@ -112,10 +119,12 @@ impl<S: Service> Client<S> {
         number: u64,
         request: S::Request,
     ) -> Result<Answer<S>, CallRefused<S::Request>>
-        ensures answer { IfOk result (λ answer. Gives (meaning_of S.initial S.next S.answer S.key_of) self.old number request answer) }
+        ensures answer { IfOk result
+            (λ answer. Gives (meaning_of S.initial S.next S.answer S.key_of) self.old number request answer) }
         ensures answered { OnOk result (self.new ≡ self.old) }
         ensures back { IfErr result (λ refused. HandsBack request refused) }
-        ensures fault { IfErr result (λ refused. FaultAt (meaning_of S.initial S.next S.answer S.key_of) self.old self.new number request refused.fault) }
+        ensures fault { IfErr result (λ refused. FaultAt
+            (meaning_of S.initial S.next S.answer S.key_of) self.old self.new number request refused.fault) }
         ensures since { IsClientSince self.old self.new }
     {
         match self.message(alloc, number, request) {
@@ -130,14 +139,16 @@ impl<S: Service> Client<S> {
         }
     }
 
-    // The message of a new call, and the end on which its reply is received. The request comes back where memory is refused.
+    // The message of a new call, and the end on which its reply is received. The request comes back where memory is
+    // refused.
     fn message(
         &mut self,
         alloc: Global,
         number: u64,
         request: S::Request,
     ) -> Result<(Message<S>, ReplyReceiver<S>), S::Request>
-        ensures message { IfOk result (λ made. IsCallOf (meaning_of S.initial S.next S.answer S.key_of) self.old number request made.0) }
+        ensures message { IfOk result
+            (λ made. IsCallOf (meaning_of S.initial S.next S.answer S.key_of) self.old number request made.0) }
         ensures receiver { IfOk result (λ made. made.1 ≡ Some made.0) }
         ensures back { IfErr result (λ back. back ≡ request) }
         ensures unchanged { self.new ≡ self.old }
@@ -212,8 +223,8 @@ impl<S: Service> Client<S> {
         self.ground.board.look(&mut self.pass, k)
     }
 
-    /// The route of the key's shard that was published last of those that the client's router has then seen, or none where it
-    /// has seen none, or the read is refused.
+    /// The route of the key's shard that was published last of those that the client's router has then seen, or none
+    /// where it has seen none, or the read is refused.
     pub fn route(&mut self, key: &[u8]) -> Option<Route>
         ensures later { Extends self.new.router.seen self.old.router.seen }
         ensures route { (result ≡ routes_of self.new.router.seen (shard_of self.old.bounds key.now))
@@ -226,7 +237,12 @@ impl<S: Service> Client<S> {
     /// Learns an answer: the client then has seen the history that the answer's note tells.
     pub fn learn(&mut self, answer: Answer<S>) -> Told<S::Reply>
         requires { answer.note.board ≡ self.old.pass.board }
-        ensures told { result ≡ record { number = answer.number; server = answer.server; reply = answer.reply; place = answer.place } }
+        ensures told { result ≡ record {
+          number = answer.number;
+          server = answer.server;
+          reply = answer.reply;
+          place = answer.place;
+        } }
         ensures seen { PassLooks self.old.pass self.new.pass }
         ensures met { IsMet answer.note.number answer.note.seen self.new.pass.seen }
         ensures unchanged { self.new ≡ client_seeing self.old self.new.pass }

@@ -24,7 +24,8 @@ use std::sync::Arc;
 
 /// Servers as threads over one board, its control and the published map. It has to be stopped: it can't be dropped.
 ///
-/// Its calls take it by `&mut`, so that contracts say what each did. Who calls from several threads puts it under a lock.
+/// Its calls take it by `&mut`, so that contracts say what each did. Who calls from several threads puts it under a
+/// lock.
 pub struct Cluster<S: Service> {
     ground: Arc<Ground<S>>,
     network: Arc<Network<Message<S>>>,
@@ -45,7 +46,13 @@ impl<S: Service> Model for Cluster<S> {
 
     ghost Value = { ClusterValue S.Request };
 
-    ghost view = { λ cluster. record { control = cluster.control; map = cluster.publisher; bounds = (arc_value cluster.ground).layout; holds = cluster.holds; told = cluster.teller.seen } };
+    ghost view = { λ cluster. record {
+      control = cluster.control;
+      map = cluster.publisher;
+      bounds = (arc_value cluster.ground).layout;
+      holds = cluster.holds;
+      told = cluster.teller.seen;
+    } };
 
     ghost invariant = { λ cluster. (cluster.control.chair.board ≡ (arc_value cluster.ground).board)
         × AreHoldsOn (arc_value cluster.ground).board cluster.holds

@@ -35,11 +35,13 @@ impl<S: Service> Model for Hold<S> {
 
     ghost invariant = { λ hold. HoldsPermit hold.pass hold.permit
         × (S.limit hold.permit.body ≡ limit_at hold.pass.board.limits hold.permit.shard)
-        × Keeps S.initial S.next S.base S.before S.requests hold.permit.body (first_held hold.pass.held) (all_held hold.pass.held) };
+        × Keeps S.initial S.next S.base S.before S.requests hold.permit.body (first_held hold.pass.held)
+        (all_held hold.pass.held) };
 }
 
 impl<S: Service> Hold<S> {
-    /// Admits the pass to the shard for a direct request, or answers why not, and tells another pass what this one then has seen.
+    /// Admits the pass to the shard for a direct request, or answers why not, and tells another pass what this one then
+    /// has seen.
     pub(crate) fn begin(
         board: &Board<S>,
         mut pass: Pass<S>,

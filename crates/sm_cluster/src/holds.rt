@@ -10,8 +10,8 @@ use sm_rule::pass::Pass;
 use std::alloc::{AllocError, Global};
 use std::marker::Model;
 
-/// The admissions without a request of all shards, at most one each. They have to be ended: they can't be dropped. Contracts
-/// see the pass of each.
+/// The admissions without a request of all shards, at most one each. They have to be ended: they can't be dropped.
+/// Contracts see the pass of each.
 pub(crate) struct Holds<S: Service> {
     slots: Vec<Option<Hold<S>>>,
 }

@@ -94,8 +94,8 @@ impl<M: Drop> Door<M> {
         self.is_open.store(is_open, Ordering::SeqCst);
     }
 
-    /// Puts the message into the inbox, or gives it back: `Unreachable` where nobody has the inbox, `NoMemory` where memory was
-    /// refused. Whether the door is open isn't asked.
+    /// Puts the message into the inbox, or gives it back: `Unreachable` where nobody has the inbox, `NoMemory` where
+    /// memory was refused. Whether the door is open isn't asked.
     pub(crate) fn send<R: Wait>(&self, rt: &R, message: M) -> Result<(), Unsent<M>>
         ensures message { IfErr result (λ unsent. unsent.message ≡ message) }
         ensures fault { IfErr result (λ unsent. IsOfTheWay unsent.fault) }
@@ -114,8 +114,8 @@ impl<M: Drop> Door<M> {
         }
     }
 
-    /// Puts a word to stop into the inbox. Where memory for it is refused, it waits until a worker has made room, for which the inbox
-    /// has enough for all.
+    /// Puts a word to stop into the inbox. Where memory for it is refused, it waits until a worker has made room, for
+    /// which the inbox has enough for all.
     pub(crate) fn tell_to_stop<R: Wait>(&self, rt: &R) {
         for _ in rt.forever() {
             match self.inbox.send(rt, Parcel::Stop) {

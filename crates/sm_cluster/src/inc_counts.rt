@@ -39,7 +39,8 @@ impl IncCounts {
 
 /// Calls `f` at each item, in so many threads at most, and adds up what the calls count.
 ///
-/// The list is halved, and the halves go to threads, so what a call counts comes back as its result, and no counter is shared.
+/// The list is halved, and the halves go to threads, so what a call counts comes back as its result, and no counter is
+/// shared.
 #[cycle(halves)]
 pub(crate) fn count_all<R: Threads + Sync, T: Send, F: Fn(&mut T) -> IncCounts + Sync>(
     rt: &R,
@@ -84,11 +85,13 @@ fn count_halves<R: Threads + Sync, T: Send, F: Fn(&mut T) -> IncCounts + Sync>(
     ensures back { AddUp (MayCount F.Fn f.now) back.old result.1.acked result.1.refused back.new }
 {
     let mut one = || -> IncCounts
-        requires { IsSync R.row × IsSync F.row × IsSend T.row × (length front.now < 2 ^ 32) × F.IsAlwaysCallable f.now × CountsAll F.Fn f.now each }
+        requires { IsSync R.row × IsSync F.row × IsSend T.row × (length front.now < 2 ^ 32) × F.IsAlwaysCallable f.now
+            × CountsAll F.Fn f.now each }
         ensures { AddUp (MayCount F.Fn f.entry.now) front.entry.now result.acked result.refused front.exit.now }
     { count_all(rt, f, each, threads, front) };
     let mut two = || -> IncCounts
-        requires { IsSync R.row × IsSync F.row × IsSend T.row × (length back.now < 2 ^ 32) × F.IsAlwaysCallable f.now × CountsAll F.Fn f.now each }
+        requires { IsSync R.row × IsSync F.row × IsSend T.row × (length back.now < 2 ^ 32) × F.IsAlwaysCallable f.now
+            × CountsAll F.Fn f.now each }
         ensures { AddUp (MayCount F.Fn f.entry.now) back.entry.now result.acked result.refused back.exit.now }
     { count_all(rt, f, each, threads, back) };
     join_mut(rt, &mut one, &mut two)

@@ -16,36 +16,43 @@ ghost use Rattle.sm_cluster.specs.Clusters.{ClusterValue, WasStopped};
 
 use sm_body::service::Service;
 
-/// A client that learned an answer gets a later place at that shard, and reads its own writes: the reply is that after requests of
-/// which the learned one is at its place, across every migration.
+/// A client that learned an answer gets a later place at that shard, and reads its own writes: the reply is that after
+/// requests of which the learned one is at its place, across every migration.
 pub fn answers_come_in_order<Q, R>()
-    ensures { (service : Meaning Q R) (earlier later : ClientValue Q) (number next_number : ℕ) (request next : Q) (learned answer : AnswerValue Q R)
+    ensures { (service : Meaning Q R) (earlier later : ClientValue Q) (number next_number : ℕ) (request next : Q)
+        (learned answer : AnswerValue Q R)
         → Gives service earlier number request learned → Begins learned.note.seen later.pass.seen
         → Gives service later next_number next answer
         → shard_of later.bounds (service.key_of next) ≡ shard_of earlier.bounds (service.key_of request)
         → let shard = shard_of later.bounds (service.key_of next) in
         let before = take answer.place (all_of answer.note.seen shard) in
-        (learned.place < answer.place) × (slice_get before learned.place ≡ Some request) × (answer.reply ≡ service.reply_of before next) }
+        (learned.place < answer.place) × (slice_get before learned.place ≡ Some request)
+        × (answer.reply ≡ service.reply_of before next) }
 {}
 
-/// Two answers of one shard at one place, whose notes one history extends, are to the same request with the same reply, whoever
-/// got them.
+/// Two answers of one shard at one place, whose notes one history extends, are to the same request with the same reply,
+/// whoever got them.
 pub fn answers_agree<Q, R>()
-    ensures { (service : Meaning Q R) (shard : ℕ) (mode other_mode : Mode) (request other_request : Q) (answer other : AnswerValue Q R) (history : List (Entry Q))
+    ensures { (service : Meaning Q R) (shard : ℕ) (mode other_mode : Mode) (request other_request : Q)
+        (answer other : AnswerValue Q R) (history : List (Entry Q))
         → IsAnswer service shard mode request answer → IsAnswer service shard other_mode other_request other
         → Begins answer.note.seen history → Begins other.note.seen history
         → answer.place ≡ other.place
         → (request ≡ other_request) × (answer.reply ≡ other.reply) }
 {}
 
-/// Nothing acknowledged is lost: what a client that came back had learned is among the requests on which the body rests that the
-/// stop gives for its shard.
+/// Nothing acknowledged is lost: what a client that came back had learned is among the requests on which the body rests
+/// that the stop gives for its shard.
 pub fn answers_last<S: Service>()
-    ensures { (cluster : ClusterValue S.Request) (clients : List (ClientValue S.Request)) (rows : List (Record × Option S))
-        (client : ClientValue S.Request) (at shard : ℕ) (mode : Mode) (request : S.Request) (answer : AnswerValue S.Request S.Reply) (row : Record × Option S)
+    ensures { (cluster : ClusterValue S.Request) (clients : List (ClientValue S.Request))
+        (rows : List (Record × Option S))
+        (client : ClientValue S.Request) (at shard : ℕ) (mode : Mode) (request : S.Request)
+        (answer : AnswerValue S.Request S.Reply) (row : Record × Option S)
         → let keeps = Keeps S.initial S.next S.base S.before S.requests in
         WasStopped keeps S.limit cluster clients rows → slice_get clients at ≡ Some client
-        → IsAnswer (meaning_of S.initial S.next S.answer S.key_of) shard mode request answer → Begins answer.note.seen client.pass.seen
+        → IsAnswer (meaning_of S.initial S.next S.answer S.key_of) shard mode request answer
+        → Begins answer.note.seen client.pass.seen
         → get_elem? rows shard ≡ some row → row.0.admitted ≡ false
-        → (body : S) × (first : ℕ) × (all : List S.Request) × (row.1 ≡ Some body) × keeps body first all × (slice_get all answer.place ≡ Some request) }
+        → (body : S) × (first : ℕ) × (all : List S.Request) × (row.1 ≡ Some body) × keeps body first all
+        × (slice_get all answer.place ≡ Some request) }
 {}

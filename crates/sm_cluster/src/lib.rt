@@ -1,4 +1,5 @@
-//! Servers as threads: each request travels in a message through inboxes, and its reply brings home the history that has it.
+//! Servers as threads: each request travels in a message through inboxes, and its reply brings home the history that
+//! has it.
 //!
 //! Two shards are assigned and published, and a client calls by the route that it reads:
 //!
@@ -61,6 +62,7 @@ pub use told::Told;
 /// How many workers a cluster has at most.
 pub const MAX_WORKERS: u32 = 64;
 
-// How often a worker looks into an empty inbox, and a client for its reply, before it sleeps: a message that comes in that time
-// costs nobody a wake-up. More looks gave no shorter round trips, and would take a processor from workers that have work.
+// How often a worker looks into an empty inbox, and a client for its reply, before it sleeps: a message that comes in
+// that time costs nobody a wake-up. More looks gave no shorter round trips, and would take a processor from workers
+// that have work.
 pub(crate) const LOOKS: u32 = 200;

@@ -2,7 +2,8 @@
 ghost use Rattle.std.specs.Prelude.{◌≡◌, ◌+◌, ◌-◌, ◌*◌, ◌<◌, ◌^◌, ◌⊎◌, IfErr, IfOk, IfSome, MatchBool, None, length};
 ghost use Rattle.sm_body.specs.Service.{meaning_of};
 ghost use Rattle.sm_cluster.specs.Calls.{HandsBack};
-ghost use Rattle.sm_cluster.specs.Loads.{AreClientsSince, HasAdded, HasLearnedCount, HasLearnedReply, HaveAdded, HaveLoaded, IsClientSince, WasTold, WasToldTwice};
+ghost use Rattle.sm_cluster.specs.Loads.{AreClientsSince, HasAdded, HasLearnedCount, HasLearnedReply, HaveAdded};
+ghost use Rattle.sm_cluster.specs.Loads.{HaveLoaded, IsClientSince, WasTold, WasToldTwice};
 
 use crate::call_refused::{CallFault, CallRefused};
 use crate::client::Client;
@@ -35,9 +36,10 @@ pub struct LoadReport {
     pub after: Option<i64>,
 }
 
-/// The first client asks for the count, each of the others makes so many incs, in a thread of its own where one can be had, and
-/// the first asks again. An inc that finds its shard admitted for another request is made anew, at most 1,000 times. Each client
-/// learns what it is answered, and counts which of its incs were answered by a count and which were not.
+/// The first client asks for the count, each of the others makes so many incs, in a thread of its own where one can be
+/// had, and the first asks again. An inc that finds its shard admitted for another request is made anew, at most 1,000
+/// times. Each client learns what it is answered, and counts which of its incs were answered by a count and which were
+/// not.
 pub fn load<S: Service, C: Counting<S> + Sync, R: Threads + Wait + Sync>(
     rt: &R,
     alloc: Global,
@@ -172,7 +174,8 @@ fn count<S: Service, C: Counting<S>, R: Wait>(
     }
 }
 
-// The reply to the request, which is made anew where its shard was admitted for another one; or nothing where it is refused.
+// The reply to the request, which is made anew where its shard was admitted for another one; or nothing where it is
+// refused.
 #[tactic(auto, using(crate::proofs::Acking::since_same, crate::proofs::Acking::since_since))]
 fn ask<S: Service, R: Wait>(
     rt: &R,
@@ -181,7 +184,8 @@ fn ask<S: Service, R: Wait>(
     mut request: S::Request,
     client: &mut Client<S>,
 ) -> Option<S::Reply>
-    ensures learned { IfSome result (HasLearnedReply (meaning_of S.initial S.next S.answer S.key_of) request client.old client.new) }
+    ensures learned { IfSome result
+        (HasLearnedReply (meaning_of S.initial S.next S.answer S.key_of) request client.old client.new) }
     ensures since { IsClientSince client.old client.new }
 {
     for retry in 0..=MOST_RETRIES {
@@ -207,7 +211,8 @@ fn learn<S: Service, R: Wait>(
     request: S::Request,
     client: &mut Client<S>,
 ) -> Result<S::Reply, CallRefused<S::Request>>
-    ensures learned { IfOk result (HasLearnedReply (meaning_of S.initial S.next S.answer S.key_of) request client.old client.new) }
+    ensures learned { IfOk result
+        (HasLearnedReply (meaning_of S.initial S.next S.answer S.key_of) request client.old client.new) }
     ensures back { IfErr result (HandsBack request) }
     ensures since { IsClientSince client.old client.new }
 {

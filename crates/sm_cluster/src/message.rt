@@ -23,9 +23,9 @@ use sm_server::{Answer, Outcome, Refusal, serve};
 use std::marker::Model;
 use std::sync::{Arc, Wait};
 
-/// A request on its way, with its board and layout, and the end on which its reply is sent. Contracts see the bounds by which it is
-/// served, and its envelope. By its type the note is of the board, and the bounds and the envelope are those of the call to which
-/// the reply goes.
+/// A request on its way, with its board and layout, and the end on which its reply is sent. Contracts see the bounds by
+/// which it is served, and its envelope. By its type the note is of the board, and the bounds and the envelope are
+/// those of the call to which the reply goes.
 #[derive(Drop)]
 pub(crate) struct Message<S: Service> {
     ground: Arc<Ground<S>>,
@@ -39,7 +39,8 @@ impl<S: Service> Model for Message<S> {
     ghost view = { λ message. record { bounds = (arc_value message.ground).layout; sent = message.envelope } };
 
     ghost invariant = { λ message. (message.envelope.note.board ≡ (arc_value message.ground).board)
-        × (asked : CallValue S.Request) × (message.sender ≡ Some asked) × (asked.bounds ≡ (arc_value message.ground).layout)
+        × (asked : CallValue S.Request) × (message.sender ≡ Some asked)
+        × (asked.bounds ≡ (arc_value message.ground).layout)
         × IsOnTheWay asked.sent message.envelope };
 }
 
@@ -87,9 +88,9 @@ impl<S: Service> Message<S> {
         sender.send(rt, CallReply::Refused(fault, envelope));
     }
 
-    /// Has the server serve it by a new pass, which its tally counts, and sends the reply, or the message on to the server that it
-    /// goes to. Where another actor was quicker between the server's look and its admission, nothing was done, and the message goes
-    /// into the server's own inbox again.
+    /// Has the server serve it by a new pass, which its tally counts, and sends the reply, or the message on to the
+    /// server that it goes to. Where another actor was quicker between the server's look and its admission, nothing was
+    /// done, and the message goes into the server's own inbox again.
     pub(crate) fn serve<R: Wait>(
         self,
         rt: &R,
@@ -147,15 +148,16 @@ fn is_overtaken(refusal: &Refusal) -> bool {
     matches!(refusal, Refusal::Admit(AdmitRefusal::Raced { .. }))
 }
 
-// What a server makes of an envelope by a new pass, which is first told what the envelope's note had seen. A refused envelope comes back
-// with a note of all by which it was refused.
+// What a server makes of an envelope by a new pass, which is first told what the envelope's note had seen. A refused
+// envelope comes back with a note of all by which it was refused.
 fn serve_anew<S: Service>(
     ground: &Ground<S>,
     server: ServerId,
     envelope: Envelope<S::Request, Note<S>>,
 ) -> Outcome<Answer<S>, Envelope<S::Request, Note<S>>>
     requires { envelope.note.board ≡ ground.now.board }
-    ensures { Tells (meaning_of S.initial S.next S.answer S.key_of) (record { bounds = ground.now.layout; sent = envelope }) result }
+    ensures { Tells (meaning_of S.initial S.next S.answer S.key_of)
+        (record { bounds = ground.now.layout; sent = envelope }) result }
 {
     let (mut pass, envelope) = pass_for(ground, server, envelope);
     match serve(&ground.board, &ground.layout, &mut pass, envelope) {

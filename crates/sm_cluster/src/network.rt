@@ -21,8 +21,8 @@ pub(crate) struct Network<M: Drop> {
     pub(crate) counters: Counters,
 }
 
-/// The doors of these servers, all open, and their inboxes, each with room for as many parcels as its server has workers, and counters
-/// for so many shards. The rows stand by rising numbers.
+/// The doors of these servers, all open, and their inboxes, each with room for as many parcels as its server has
+/// workers, and counters for so many shards. The rows stand by rising numbers.
 pub(crate) fn network_of<M: Drop, R: Wait>(
     rt: &R,
     alloc: Global,
@@ -59,8 +59,8 @@ impl<M: Drop> Network<M> {
         Ok(inboxes)
     }
 
-    /// Puts the message into the server's inbox, or gives it back: `Unreachable` where the door is shut, `NoMemory` where memory
-    /// was refused.
+    /// Puts the message into the server's inbox, or gives it back: `Unreachable` where the door is shut, `NoMemory`
+    /// where memory was refused.
     pub(crate) fn send<R: Wait>(&self, rt: &R, to: ServerId, message: M) -> Result<(), Unsent<M>>
         ensures message { IfErr result (λ unsent. unsent.message ≡ message) }
         ensures fault { IfErr result (λ unsent. IsOfTheWay unsent.fault) }

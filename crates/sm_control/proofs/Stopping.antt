@@ -5,7 +5,7 @@ use Rattle.std.proofs.lemmas.Bool.{true≢false, cases_lt, or_right}
 use Rattle.std.proofs.lemmas.List.{get_or_past}
 use Rattle.sm_ranges.specs.declared.stand.Stand.{Stand}
 use Rattle.sm_ranges.specs.declared.stand.Stand.TheVariants.{Vacant, Serving, Prepared, Forwarding, Taken, Paused}
-use Rattle.sm_ranges.specs.Stand.{names_one}
+use Rattle.sm_ranges.specs.Stand.{names_one, is_paused}
 use Rattle.sm_ownership.specs.declared.entry.Entry.{Entry}
 use Rattle.sm_ownership.specs.declared.entry.Kind.TheVariants.{Admit}
 use Rattle.sm_ownership.specs.declared.mode.Mode.{Mode}
@@ -14,7 +14,7 @@ use Rattle.sm_ownership.specs.Rules.{executor, executor_of}
 use Rattle.sm_place.specs.declared.shard.Shard.{Shard}
 use Rattle.sm_place.specs.Books.{BooksView, no_shard, shard_at, state_of}
 use Rattle.sm_tasks.specs.Caps.{MeetsCaps}
-use Rattle.sm_tasks.specs.States.{is_paused, is_stopped}
+use Rattle.sm_place.specs.ServerState.{is_stopped}
 use Rattle.sm_rule.specs.Changes.{ChairValue}
 use Rattle.sm_rule.specs.Views.{record_in}
 use Rattle.sm_control.specs.Controls.{AdmitsUnstopped, AreStandsIn, AreStandsSeen, PassesLeadTo}

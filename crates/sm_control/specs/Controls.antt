@@ -7,7 +7,7 @@ use Rattle.sm_ownership.specs.declared.entry.Kind.TheVariants.{Admit}
 use Rattle.sm_ownership.specs.declared.mode.Mode.{Mode}
 use Rattle.sm_ownership.specs.History.{IsLegal, NoneBy}
 use Rattle.sm_place.specs.Books.{BooksView, shard_at, state_of}
-use Rattle.sm_tasks.specs.States.{is_stopped}
+use Rattle.sm_place.specs.ServerState.{is_stopped}
 use Rattle.sm_rule.specs.declared.change_refusal.ChangeRefusal.{ChangeRefusal}
 use Rattle.sm_rule.specs.declared.change_refusal.ChangeRefusal.TheVariants.{Spent, Busy, Raced}
 use Rattle.sm_rule.specs.declared.limits.Limits.{Limits}
@@ -19,7 +19,8 @@ use Rattle.sm_desk.specs.declared.command.CommandFault.{CommandFault}
 use Rattle.sm_desk.specs.declared.command.CommandFault.TheVariants.{Change as ChangeRefused}
 use Rattle.sm_desk.specs.Desk.{DeskView, commanded}
 use Rattle.sm_control.specs.declared.control_fault.ControlFault.{ControlFault}
-use Rattle.sm_control.specs.declared.control_fault.ControlFault.TheVariants.{Command as CommandRefused, Raced as Overtaken}
+use Rattle.sm_control.specs.declared.control_fault.ControlFault.TheVariants.{Command as CommandRefused}
+use Rattle.sm_control.specs.declared.control_fault.ControlFault.TheVariants.{Raced as Overtaken}
 
 -- the chair of a board, and the desk that its changes are checked against
 pub record ControlValue (Q : Type 0) : Type 0 where
@@ -54,12 +55,14 @@ fault_of (Busy state) = CommandRefused (ChangeRefused (BusyRecord state))
 fault_of (Raced read found) = Overtaken read found
 
 -- what the control answers and is then, where the desk refuses the command
-abbrev pub CommandIsRefused : {Q : Type 0} → CommandFault → ControlValue Q → ControlValue Q → Result (Unit {0}) ControlFault → Type 0
+abbrev pub CommandIsRefused : {Q : Type 0} → CommandFault → ControlValue Q → ControlValue Q
+    → Result (Unit {0}) ControlFault → Type 0
 CommandIsRefused fault before after result = (result ≡ Err (CommandRefused fault)) × (after ≡ before)
 
--- what a change answers whose fault by the desk is this one, or none. Made, the chair has added it, and the desk has it too. Where
--- the board refuses it, the chair may have seen more, and the desk is as it was
-abbrev pub Changed : {Q : Type 0} → Option CommandFault → ControlValue Q → ControlValue Q → ℕ → Change → Result (Unit {0}) ControlFault → Type 0
+-- what a change answers whose fault by the desk is this one, or none. Made, the chair has added it, and the desk has it
+-- too. Where the board refuses it, the chair may have seen more, and the desk is as it was
+abbrev pub Changed : {Q : Type 0} → Option CommandFault → ControlValue Q → ControlValue Q → ℕ → Change
+    → Result (Unit {0}) ControlFault → Type 0
 Changed (Some fault) before after shard change result = CommandIsRefused fault before after result
 Changed None before after shard change (Ok made) =
     ChairAdds before.chair shard change after.chair × (after.desk ≡ commanded before.desk (ChangeOf shard change))
@@ -68,11 +71,14 @@ Changed None before after shard change (Err fault) =
     × ChairLooks before.chair after.chair × NotMade before.chair after.chair shard refusal × (after.desk ≡ before.desk)
 
 -- what a step of a restart answers whose fault by the desk is this one, or none. Made, the chair is as it was
-abbrev pub IsMadeOrRefused : {Q : Type 0} → Option CommandFault → ControlValue Q → ControlValue Q → Command → Result (Unit {0}) ControlFault → Type 0
+abbrev pub IsMadeOrRefused : {Q : Type 0} → Option CommandFault → ControlValue Q → ControlValue Q → Command
+    → Result (Unit {0}) ControlFault → Type 0
 IsMadeOrRefused (Some fault) before after step result = CommandIsRefused fault before after result
-IsMadeOrRefused None before after step result = (result ≡ Ok tt) × (after ≡ record { chair = before.chair; desk = commanded before.desk step })
+IsMadeOrRefused None before after step result =
+    (result ≡ Ok tt) × (after ≡ record { chair = before.chair; desk = commanded before.desk step })
 
 -- what a command answers whose fault by the desk is this one, or none
-abbrev pub Commanded : {Q : Type 0} → Option CommandFault → ControlValue Q → ControlValue Q → Command → Result (Unit {0}) ControlFault → Type 0
+abbrev pub Commanded : {Q : Type 0} → Option CommandFault → ControlValue Q → ControlValue Q → Command
+    → Result (Unit {0}) ControlFault → Type 0
 Commanded fault before after (ChangeOf shard change) result = Changed fault before after shard change result
 Commanded fault before after step result = IsMadeOrRefused fault before after step result

@@ -22,7 +22,8 @@ IsRouteOf chair shard route =
     × (route.generation ≡ (record_at_chair chair shard).generation)
 
 -- what the control answers, whose fault is this one, or none
-abbrev pub Routed : {Q : Type 0} → Option RouteFault → ControlValue Q → ControlValue Q → ℕ → Result Route RouteFault → Type 0
+abbrev pub Routed : {Q : Type 0} → Option RouteFault → ControlValue Q → ControlValue Q → ℕ → Result Route RouteFault
+    → Type 0
 Routed (Some fault) before after shard result = (result ≡ Err fault) × (after ≡ before)
 Routed None before after shard (Ok route) =
     ChairLooks before.chair after.chair × (after.desk ≡ before.desk) × IsRouteOf after.chair shard route

@@ -6,7 +6,7 @@ ghost use Rattle.sm_ownership.specs.Rules.{executor};
 ghost use Rattle.sm_place.specs.Books.{state_of};
 ghost use Rattle.sm_place.specs.Sound.{AreSound};
 ghost use Rattle.sm_tasks.specs.Caps.{MeetsCaps};
-ghost use Rattle.sm_tasks.specs.States.{is_stopped};
+ghost use Rattle.sm_place.specs.ServerState.{is_stopped};
 ghost use Rattle.sm_rule.specs.Views.{record_in};
 ghost use Rattle.sm_desk.specs.Desk.{desk_fault};
 ghost use Rattle.sm_control.specs.Controls.{AdmitsUnstopped, AreStandsIn, AreStandsSeen, Commanded, PassesLeadTo};
@@ -23,8 +23,8 @@ use sm_ownership::laws::executor_admitted;
 use sm_rule::{Board, Chair};
 use std::marker::Model;
 
-/// The chair of a board, and the desk that its changes are checked against. The desk's stands are at all times those of all
-/// that the chair has seen.
+/// The chair of a board, and the desk that its changes are checked against. The desk's stands are at all times those of
+/// all that the chair has seen.
 #[derive(Drop)]
 pub struct Control<S: Service> {
     chair: Chair<S>,
@@ -42,7 +42,8 @@ impl<S: Service> Model for Control<S> {
 }
 
 impl<S: Service> Control<S> {
-    /// The control of a new board: its chair has seen nothing yet, and the desk's books have a vacant row for each shard.
+    /// The control of a new board: its chair has seen nothing yet, and the desk's books have a vacant row for each
+    /// shard.
     pub fn new(chair: Chair<S>, desk: Desk) -> Control<S>
         requires seen { chair.seen ≡ [] }
         requires count { length desk.books.shards ≡ chair.board.limits.count }
@@ -68,10 +69,12 @@ impl<S: Service> Control<S> {
         (chair, desk)
     }
 
-    /// Says, for proofs alone, that what the chair has seen is a legal history, after which the desk's stands are the shards';
-    /// that the books are sound, so that there is room; and that the caps of approved restarts are kept. It does nothing.
+    /// Says, for proofs alone, that what the chair has seen is a legal history, after which the desk's stands are the
+    /// shards'; that the books are sound, so that there is room; and that the caps of approved restarts are kept. It
+    /// does nothing.
     pub fn soundness(&self)
-        ensures legal { let limits = self.now.chair.board.limits in IsLegal limits.count limits.ceiling self.now.chair.seen }
+        ensures legal { let limits = self.now.chair.board.limits in
+            IsLegal limits.count limits.ceiling self.now.chair.seen }
         ensures stands { AreStandsSeen self.now.desk.books self.now.chair }
         ensures books { AreSound self.now.desk.books }
         ensures caps { MeetsCaps self.now.desk.ops self.now.desk.books }
@@ -80,8 +83,9 @@ impl<S: Service> Control<S> {
         self.desk.soundness();
     }
 
-    /// Says, for proofs alone, that passes change nothing of that. Where they alone have added to what the chair has seen,
-    /// the desk's stands are the shards' still, and no stopped server executes a shard or is admitted to one. It does nothing.
+    /// Says, for proofs alone, that passes change nothing of that. Where they alone have added to what the chair has
+    /// seen, the desk's stands are the shards' still, and no stopped server executes a shard or is admitted to one. It
+    /// does nothing.
     pub fn stays_sound(&self)
         ensures stands { (history : List (Entry S.Request)) → PassesLeadTo self.now.chair history
             → AreStandsIn self.now.desk.books self.now.chair.board.limits history }
@@ -95,7 +99,8 @@ impl<S: Service> Control<S> {
         self.soundness();
     }
 
-    /// Gives the command to the desk, and a change to the board: the command is made, or refused by the first fault that applies.
+    /// Gives the command to the desk, and a change to the board: the command is made, or refused by the first fault
+    /// that applies.
     pub fn command(&mut self, board: &Board<S>, command: Command) -> Result<(), ControlFault>
         requires { self.old.chair.board ≡ board.now }
         ensures answer { Commanded (desk_fault self.old.desk command) self.old self.new command result }

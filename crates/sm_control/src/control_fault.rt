@@ -4,8 +4,8 @@ use sm_ownership::record::Record;
 use sm_rule::ChangeRefusal;
 use thiserror::Error;
 
-/// Why a command was refused. The first that applies is answered: what the desk refuses it for, then `Spent` or `Busy` of the
-/// record read, then `Raced`.
+/// Why a command was refused. The first that applies is answered: what the desk refuses it for, then `Spent` or `Busy`
+/// of the record read, then `Raced`.
 #[derive(Clone, Copy, Debug, PartialEq, Eq, Drop, Error)]
 pub enum ControlFault {
     /// The desk refuses the command, or the shard's record is spent or admitted.

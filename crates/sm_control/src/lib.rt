@@ -1,5 +1,5 @@
-//! The control of a running board: its chair and its desk, which one lock is to hold. Each migration call checks the books,
-//! changes the board, and then the books.
+//! The control of a running board: its chair and its desk, which one lock is to hold. Each migration call checks the
+//! books, changes the board, and then the books.
 //!
 //! A shard is assigned, and migrates:
 //! ```rust

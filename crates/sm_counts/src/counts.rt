@@ -15,6 +15,7 @@ pub struct Counts {
 /// What became of the envelopes that came to a server.
 #[derive(Clone, Copy, PartialEq, Eq, Drop)]
 pub struct ServerCounts {
+    /// The server.
     pub server: ServerId,
     /// How many it answered.
     pub answered: u64,
@@ -27,18 +28,28 @@ pub struct ServerCounts {
 /// How many envelopes a server refused, by the reason.
 #[derive(Clone, Copy, PartialEq, Eq, Drop)]
 pub struct RefusalCounts {
+    /// The board has no such shard, or the key is another shard's.
     pub wrong_shard: u64,
+    /// The request had been forwarded as often as it may be.
     pub too_many_hops: u64,
+    /// Nobody owned the shard.
     pub vacant: u64,
+    /// The shard was paused.
     pub paused: u64,
+    /// The server didn't execute the shard's requests.
     pub not_executor: u64,
+    /// The server executed so far only what the owner forwarded.
     pub not_yet: u64,
+    /// A server was admitted already.
     pub admitted: u64,
+    /// The shard's generation had no room for an admission and its end.
     pub spent: u64,
-    /// How often another actor was quicker between the server's look and its admission. Such an envelope doesn't go back: the server
-    /// serves it again, and counts it again.
+    /// How often another actor was quicker between the server's look and its admission. Such an envelope doesn't go
+    /// back: the server serves it again, and counts it again.
     pub raced: u64,
+    /// The shard kept as many requests as it may.
     pub kept_full: u64,
+    /// Memory for the request was refused.
     pub no_memory: u64,
     /// Those that found the server's door shut, and came to no worker.
     pub unreachable: u64,
@@ -47,6 +58,7 @@ pub struct RefusalCounts {
 /// What a shard went through.
 #[derive(Clone, Copy, PartialEq, Eq, Drop)]
 pub struct ShardCounts {
+    /// The shard.
     pub shard: ShardId,
     /// How often a server was admitted to it.
     pub admissions: u64,

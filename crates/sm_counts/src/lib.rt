@@ -1,5 +1,5 @@
-//! What a cluster counts: of each server the envelopes that it answered, sent on and refused, and of each shard its changes.
-//! No clause says what a count is, as a counter of threads has no value that a clause could name; tests do.
+//! What a cluster counts: of each server the envelopes that it answered, sent on and refused, and of each shard its
+//! changes. No clause says what a count is, as a counter of threads has no value that a clause could name; tests do.
 //!
 //! ```rust
 //! let counters = Counters::new(alloc, 2, 1)?;

@@ -1,18 +1,17 @@
 -- Whom a stand names after a change, and why a change that is let through keeps room and caps.
 use Rattle.std.proofs.Common.{ℕ, ◌≡◌, ◌<◌, ◌==◌, ◌⊎◌, Bool, true, false, cond, eqb, Option, Some, None, Result, Ok, Err, length, ltb, refl, ap, sym, ◌∙◌, inl, inr, subst}
-use Rattle.std.specs.Prelude.{unwrap_or, not}
+use Rattle.std.specs.Prelude.{is_some, unwrap_or, not}
 use Rattle.std.specs.Option.{option_map}
 use Rattle.std.specs.Result.{result_err}
 use Rattle.std.proofs.lemmas.Bool.{eq-eqb, ltb-true, or_right}
 use Rattle.std.proofs.lemmas.Option.{IfSome_then}
 use Rattle.sm_ranges.specs.declared.stand.Stand.{Stand}
 use Rattle.sm_ranges.specs.declared.stand.Stand.TheVariants.{Vacant, Serving, Prepared, Forwarding, Taken, Paused}
-use Rattle.sm_ranges.specs.Stand.{AllNamed, names, passes, owner_of, other_of}
+use Rattle.sm_ranges.specs.Stand.{AllNamed, names, passes, owner_of, other_of, is_paused}
 use Rattle.sm_ownership.specs.declared.change.Change.{Change}
 use Rattle.sm_ownership.specs.declared.change.Change.TheVariants.{Assign, PrepareAddShard, PrepareDropShard, AddShard, DropShard, Cancel, Pause, Resume, Reassign}
-use Rattle.sm_ownership.specs.declared.change.PhaseFault.{PhaseFault}
-use Rattle.sm_ownership.specs.declared.change.PhaseFault.TheVariants.{SameServer}
-use Rattle.sm_ownership.specs.Rules.{IsChangeResult, newly_named, phase_fault, stand_after}
+use Rattle.sm_ownership.specs.declared.change.PhaseFault.TheVariants.{SameServer, WrongPhase}
+use Rattle.sm_ownership.specs.Rules.{newly_named, phase_fault, stand_after}
 use Rattle.sm_place.specs.declared.place_fault.PlaceFault.TheVariants.{Leaving}
 use Rattle.sm_place.specs.Books.{BooksView, IsKnown, place_of, shard_at, state_of, with_stand}
 use Rattle.sm_place.specs.Room.{fit, HasRoom}
@@ -20,7 +19,6 @@ use Rattle.sm_place.specs.ServerState.{is_leaving}
 use Rattle.sm_place.specs.Sound.{AreSound}
 use Rattle.sm_place.specs.lemmas.Named.{AllNamed-at, names-owner}
 use Rattle.sm_tasks.specs.Caps.{TakesNoneLeaving}
-use Rattle.sm_tasks.specs.States.{is_paused}
 use Rattle.sm_desk.specs.declared.command.CommandFault.{CommandFault}
 use Rattle.sm_desk.specs.declared.command.CommandFault.TheVariants.{Place, UnknownServer}
 use Rattle.sm_desk.specs.Desk.{is_unknown, restart_fault, resume_fault, resumed, room_fault}
@@ -37,7 +35,8 @@ abbrev Held : Stand → Change → ℕ → Type 0
 Held stand change b = (newly_named change ≡ Some b) ⊎ ((names stand b ≡ true) × ((is_paused stand ≡ false) ⊎ (resumed stand change ≡ Some b)))
 
 -- where the new server isn't the owner, the change is made
-unless_same : (P : ℕ → Type 0) (same : Bool) (after before : Stand) → ◌≡◌ {A = Option PhaseFault} (cond same (Some SameServer) None) None
+unless_same : (P : ℕ → Type 0) (same : Bool) (after before : Stand)
+    → cond (is_some (cond same None (Some after))) None (Some (cond same SameServer WrongPhase)) ≡ None
     → AllNamed P after → AllNamed P (unwrap_or (cond same None (Some after)) before)
 unless_same P true after before e all = absurd (cc)
 unless_same P false after before e all = all
@@ -104,13 +103,10 @@ held (Paused o) (Reassign a) e = unless_same (Held (Paused o) (Reassign a)) (a =
 abbrev pub stand_of : BooksView → ℕ → Change → Stand
 stand_of books k change = unwrap_or (stand_after (shard_at books.shards k).stand change) (shard_at books.shards k).stand
 
--- it is the stand that the change was found to lead to
-pub stand_of-is : (books : BooksView) (k : ℕ) (change : Change) (stand : Stand) (answer : Result Stand PhaseFault) (after : Stand)
-    → stand ≡ (shard_at books.shards k).stand → IsChangeResult stand change answer → answer ≡ Ok after → stand_of books k change ≡ after
-stand_of-is books k change stand (Err fault) after at led is = absurd (cc)
-stand_of-is books k change stand (Ok next) after at led is =
-    let same : next ≡ after = cc in
-    ap (λ one. unwrap_or (stand_after one change) one) (sym at) ∙ ap (λ one. unwrap_or one stand) led.1 ∙ same
+-- it is the stand that the change leads to
+pub stand_of-leads : (books : BooksView) (k : ℕ) (change : Change) (stand : Stand)
+    → stand_after (shard_at books.shards k).stand change ≡ Some stand → stand_of books k change ≡ stand
+stand_of-leads books k change stand leads = ap (λ one. unwrap_or one (shard_at books.shards k).stand) leads
 
 -- what holds of the servers that were named and of the one that is newly named holds of each
 after_each : (P : ℕ → Type 0) (Q : ℕ → Type 0) (stand : Stand) → ((b : ℕ) → P b → Q b) → AllNamed P stand → AllNamed Q stand

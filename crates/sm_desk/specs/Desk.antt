@@ -1,6 +1,7 @@
 -- The desk: what the control knows when it checks a command. Rules of stands, of room and of approvals are those of the
 -- crates below; here stand their order, and what a command leaves.
-use Rattle.std.specs.Prelude.{ℕ, Bool, true, false, Option, Some, None, nat_lt, not, if◌then◌else◌, unwrap_or, List, length, map, ◌||◌}
+use Rattle.std.specs.Prelude.{ℕ, Bool, true, false, Option, Some, None, nat_lt, not, if◌then◌else◌, unwrap_or, List}
+use Rattle.std.specs.Prelude.{length, map, ◌||◌}
 use Rattle.std.specs.Option.{option_map, option_or}
 use Rattle.std.specs.Result.{result_err}
 use Rattle.sm_ranges.specs.declared.stand.Stand.{Stand}
@@ -12,25 +13,31 @@ use Rattle.sm_ownership.specs.declared.change_fault.ChangeFault.TheVariants.{Unk
 use Rattle.sm_ownership.specs.Rules.{stand_after, phase_fault, newly_named}
 use Rattle.sm_ownership.specs.Tables.{change_fault_of}
 use Rattle.sm_place.specs.declared.place_fault.PlaceFault.TheVariants.{Leaving}
-use Rattle.sm_place.specs.declared.server_state.ServerState.TheVariants.{Up as IsUp, Asked as IsAsked, Approved as IsApproved, Stopped as IsStopped, Failed as IsFailed}
+use Rattle.sm_place.specs.declared.server_state.ServerState.TheVariants.{Up as IsUp, Asked as IsAsked}
+use Rattle.sm_place.specs.declared.server_state.ServerState.TheVariants.{Approved as IsApproved, Stopped as IsStopped}
+use Rattle.sm_place.specs.declared.server_state.ServerState.TheVariants.{Failed as IsFailed}
 use Rattle.sm_place.specs.Books.{BooksView, place_of, shard_at, state_of, with_stand, with_state}
 use Rattle.sm_place.specs.Room.{fit}
-use Rattle.sm_place.specs.ServerState.{is_leaving}
-use Rattle.sm_tasks.specs.States.{is_failed, is_stopped}
+use Rattle.sm_place.specs.ServerState.{is_leaving, is_unreached}
 use Rattle.sm_tasks.specs.Approvals.{approvable, askable, failable, returnable, stoppable}
 use Rattle.sm_desk.specs.declared.command.Command.{Command}
 use Rattle.sm_desk.specs.declared.command.Command.TheVariants.{Change, Ask, Approve, Stopped, Back, Fail}
 use Rattle.sm_desk.specs.declared.command.CommandFault.{CommandFault}
-use Rattle.sm_desk.specs.declared.command.CommandFault.TheVariants.{UnknownServer, Change as ChangeRefused, Place, Ask as AskRefused, Approve as ApproveRefused, Stopped as StoppedRefused, Back as BackRefused, Fail as FailRefused}
+use Rattle.sm_desk.specs.declared.command.CommandFault.TheVariants.{UnknownServer, Change as ChangeRefused, Place}
+use Rattle.sm_desk.specs.declared.command.CommandFault.TheVariants.{Ask as AskRefused, Approve as ApproveRefused}
+use Rattle.sm_desk.specs.declared.command.CommandFault.TheVariants.{Stopped as StoppedRefused, Back as BackRefused}
+use Rattle.sm_desk.specs.declared.command.CommandFault.TheVariants.{Fail as FailRefused}
 
 -- the books, and how many servers may be leaving for an approval
 pub record DeskView : Type 0 where
   pub books : BooksView
   pub ops : ℕ
 
+-- there is a row of the server
 abbrev pub is_known : List ServerRow → ℕ → Bool
 is_known servers server = nat_lt (place_of servers server) (length servers)
 
+-- a server is named, and there is no row of it
 abbrev pub is_unknown : List ServerRow → Option ℕ → Bool
 is_unknown servers None = false
 is_unknown servers (Some server) = not (is_known servers server)
@@ -44,9 +51,9 @@ is_restart command = true
 abbrev pub stands_of : DeskView → List Stand
 stands_of desk = map (λ shard. shard.stand) desk.books.shards
 
--- whether requests reach the server: they don't where it is stopped or failed
+-- whether requests reach the server
 abbrev pub is_reached : DeskView → ℕ → Bool
-is_reached desk server = not (is_stopped (state_of desk.books server) || is_failed (state_of desk.books server))
+is_reached desk server = not (is_unreached (state_of desk.books server))
 
 -- why the shard has no room on the server that a change newly names
 abbrev pub room_fault : BooksView → ℕ → Option ℕ → Option CommandFault
@@ -79,11 +86,16 @@ restart_fault books server fault = if is_known books.servers server then fault e
 -- the first reason for which the desk refuses a command
 abbrev pub desk_fault : DeskView → Command → Option CommandFault
 desk_fault desk (Change shard change) = desk_change_fault desk.books shard change
-desk_fault desk (Ask server) = restart_fault desk.books server (option_map AskRefused (result_err (askable desk.books server)))
-desk_fault desk (Approve server) = restart_fault desk.books server (option_map ApproveRefused (result_err (approvable desk.ops desk.books server)))
-desk_fault desk (Stopped server) = restart_fault desk.books server (option_map StoppedRefused (result_err (stoppable desk.books server)))
-desk_fault desk (Back server) = restart_fault desk.books server (option_map BackRefused (result_err (returnable desk.books server)))
-desk_fault desk (Fail server) = restart_fault desk.books server (option_map FailRefused (result_err (failable desk.books server)))
+desk_fault desk (Ask server) =
+    restart_fault desk.books server (option_map AskRefused (result_err (askable desk.books server)))
+desk_fault desk (Approve server) =
+    restart_fault desk.books server (option_map ApproveRefused (result_err (approvable desk.ops desk.books server)))
+desk_fault desk (Stopped server) =
+    restart_fault desk.books server (option_map StoppedRefused (result_err (stoppable desk.books server)))
+desk_fault desk (Back server) =
+    restart_fault desk.books server (option_map BackRefused (result_err (returnable desk.books server)))
+desk_fault desk (Fail server) =
+    restart_fault desk.books server (option_map FailRefused (result_err (failable desk.books server)))
 
 -- the books after a change that isn't refused
 abbrev pub books_changed : BooksView → ℕ → AnyChange → BooksView

@@ -1,6 +1,7 @@
-ghost use Rattle.std.specs.Prelude.{◌≡◌, ◌<◌, IfSome, None, length};
+ghost use Rattle.std.specs.Prelude.{◌≡◌, ◌<◌, IfOk, IfSome, None, Some, length};
 ghost use Rattle.std.specs.Result.{result_err};
-ghost use Rattle.sm_place.specs.Books.{IsKnown};
+ghost use Rattle.sm_place.specs.Books.{IsKnown, shard_at};
+ghost use Rattle.sm_ownership.specs.Rules.{stand_after};
 ghost use Rattle.sm_desk.specs.Desk.{books_changed, desk_change_fault, resume_fault, resumed, room_fault};
 
 use crate::command::CommandFault;
@@ -12,27 +13,47 @@ use sm_ranges::server_id::ServerId;
 use sm_ranges::shard_id::ShardId;
 use sm_ranges::stand::Stand;
 
-/// Whether the books allow the change, or the first fault that applies.
-pub(crate) fn check_change(books: &Books, k: ShardId, change: &Change) -> Result<(), CommandFault>
-    ensures { result_err result ≡ desk_change_fault books.now k change.now }
+/// The stand that the change leads to, where the books allow it, or the first fault that applies.
+pub(crate) fn check_change(
+    books: &Books,
+    k: ShardId,
+    change: &Change,
+) -> Result<Stand, CommandFault>
+    ensures fault { result_err result ≡ desk_change_fault books.now k change.now }
+    ensures stand { IfOk result (λ stand. stand_after (shard_at books.now.shards k).stand change.now ≡ Some stand) }
 {
     if k.index() >= books.shards().len() {
         return Err(ChangeFault::UnknownShard.into());
     }
-    if let Some(server) = change.newly_named() {
+    let named = change.newly_named();
+    if let Some(server) = named {
         if !books.knows(server) {
             return Err(CommandFault::UnknownServer);
         }
     }
     books.soundness();
     let stand = books.stand(k);
-    if let Err(fault) = change.apply_to(stand) {
-        return Err(ChangeFault::from(fault).into());
-    }
-    if let Err(fault) = check_room(books, k, change.newly_named()) {
+    let next = match change.apply_to(stand) {
+        Ok(next) => next,
+        Err(fault) => return Err(ChangeFault::from(fault).into()),
+    };
+    if let Err(fault) = check_room(books, k, named) {
         return Err(fault);
     }
-    check_resumed(books, resumed(&stand, change))
+    match check_resumed(books, resumed(&stand, change)) {
+        Ok(()) => Ok(next),
+        Err(fault) => Err(fault),
+    }
+}
+
+/// Whether the books allow the change, or the first fault that applies.
+pub(crate) fn allows_change(books: &Books, k: ShardId, change: &Change) -> Result<(), CommandFault>
+    ensures { result_err result ≡ desk_change_fault books.now k change.now }
+{
+    match check_change(books, k, change) {
+        Ok(_) => Ok(()),
+        Err(fault) => Err(fault),
+    }
 }
 
 // Whether the shard has room on the server that a change newly names.
@@ -78,16 +99,26 @@ fn resumed(stand: &Stand, change: &Change) -> Option<ServerId>
     }
 }
 
-/// Makes a change that isn't refused.
-pub(crate) fn commit_change(books: &mut Books, k: ShardId, change: Change)
-    requires { desk_change_fault books.old k change ≡ None }
-    ensures { books.new ≡ books_changed books.old k change }
+/// Makes a change that isn't refused, and leads to this stand.
+pub(crate) fn commit_change(books: &mut Books, k: ShardId, change: &Change, stand: &Stand)
+    requires allowed { desk_change_fault books.old k change.now ≡ None }
+    requires stand { stand_after (shard_at books.old.shards k).stand change.now ≡ Some stand.now }
+    ensures { books.new ≡ books_changed books.old k change.now }
 {
     books.soundness();
     fit_leaves_room();
     fewer_names_leave_room();
+    books.set_stand(k, *stand);
+}
+
+/// Makes a change that isn't refused.
+pub(crate) fn make_change(books: &mut Books, k: ShardId, change: &Change)
+    requires { desk_change_fault books.old k change.now ≡ None }
+    ensures { books.new ≡ books_changed books.old k change.now }
+{
+    books.soundness();
     let stand = books.stand(k);
-    if let Ok(stand) = change.apply_to(stand) {
-        books.set_stand(k, stand);
+    if let Ok(next) = change.apply_to(stand) {
+        commit_change(books, k, change, &next);
     }
 }

@@ -23,8 +23,8 @@ pub enum Command {
     Fail(ServerId),
 }
 
-/// Why a command was refused. The first that applies is answered. Of a change: an unknown shard, an unknown server, the other
-/// reasons of the shard's stand, and then those of the server that the change newly names, or has execute again.
+/// Why a command was refused. The first that applies is answered. Of a change: an unknown shard, an unknown server, the
+/// other reasons of the shard's stand, and then those of the server that the change newly names, or has execute again.
 #[derive(Clone, Copy, Debug, PartialEq, Eq, Drop, Error)]
 pub enum CommandFault {
     /// There is no such server.

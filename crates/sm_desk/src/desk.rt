@@ -1,15 +1,21 @@
-ghost use Rattle.std.specs.Prelude.{◌≡◌, None};
+ghost use Rattle.std.specs.Prelude.{◌≡◌, IfOk, None, Some};
 ghost use Rattle.std.specs.Result.{result_err};
+ghost use Rattle.sm_ownership.specs.Rules.{stand_after};
+ghost use Rattle.sm_place.specs.Books.{shard_at};
 ghost use Rattle.sm_place.specs.Sound.{AreSound};
 ghost use Rattle.sm_tasks.specs.Caps.{MeetsCaps};
+ghost use Rattle.sm_desk.specs.declared.command.Command.TheVariants.{Change as ChangeOf};
 ghost use Rattle.sm_desk.specs.Desk.{commanded, desk_fault, is_known, is_reached};
 
-use crate::changes::{check_change, commit_change};
+use crate::changes::{allows_change, check_change, commit_change, make_change};
 use crate::command::{Command, CommandFault};
 use crate::laws::commands_keep_caps;
 use crate::restarts::{check_approve, check_ask, check_back, check_fail, check_stopped};
+use sm_ownership::change::Change;
 use sm_place::{Books, ServerState};
 use sm_ranges::server_id::ServerId;
+use sm_ranges::shard_id::ShardId;
+use sm_ranges::stand::Stand;
 use sm_tasks::Tasks;
 use std::marker::Model;
 
@@ -72,19 +78,37 @@ impl Desk {
         if !self.books.knows(server) {
             return true;
         }
-        !matches!(
-            self.books.state(server),
-            ServerState::Stopped | ServerState::Failed
-        )
+        !self.books.state(server).is_unreached()
     }
 
-    /// Whether books and caps allow the command, or the first fault that applies. `Spent` and `Busy` are for the ownership
-    /// table to answer.
+    /// The stand that the change leads to, where the desk allows it, or the first fault that applies. `Spent` and
+    /// `Busy` are for the ownership table to answer.
+    pub fn check_change(&self, k: ShardId, change: &Change) -> Result<Stand, CommandFault>
+        ensures fault { result_err result ≡ desk_fault self.now (ChangeOf k change.now) }
+        ensures stand { IfOk result (λ stand.
+            stand_after (shard_at self.now.books.shards k).stand change.now ≡ Some stand) }
+    {
+        check_change(&self.books, k, change)
+    }
+
+    /// Makes the change, which the desk allows, and which leads to this stand.
+    pub fn commit_change(&mut self, k: ShardId, change: &Change, stand: &Stand)
+        requires allowed { desk_fault self.old (ChangeOf k change.now) ≡ None }
+        requires stand { stand_after (shard_at self.old.books.shards k).stand change.now ≡ Some stand.now }
+        ensures { self.new ≡ commanded self.old (ChangeOf k change.now) }
+    {
+        commands_keep_caps();
+        self.books.soundness();
+        commit_change(&mut self.books, k, change, stand);
+    }
+
+    /// Whether books and caps allow the command, or the first fault that applies. `Spent` and `Busy` are for the
+    /// ownership table to answer.
     pub fn check(&self, command: &Command) -> Result<(), CommandFault>
         ensures { result_err result ≡ desk_fault self.now command.now }
     {
         match command {
-            Command::Change(k, change) => check_change(&self.books, *k, change),
+            Command::Change(k, change) => allows_change(&self.books, *k, change),
             Command::Ask(a) => check_ask(&self.tasks, &self.books, *a),
             Command::Approve(a) => check_approve(&self.tasks, &self.books, *a),
             Command::Stopped(a) => check_stopped(&self.tasks, &self.books, *a),
@@ -101,7 +125,7 @@ impl Desk {
         commands_keep_caps();
         self.books.soundness();
         match command {
-            Command::Change(k, change) => commit_change(&mut self.books, k, change),
+            Command::Change(k, change) => make_change(&mut self.books, k, &change),
             Command::Ask(a) => self.books.set_state(a, ServerState::Asked),
             Command::Approve(a) => self.books.set_state(a, ServerState::Approved),
             Command::Stopped(a) => self.books.set_state(a, ServerState::Stopped),

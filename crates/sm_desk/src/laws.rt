@@ -19,7 +19,8 @@ pub fn commands_keep_caps()
     steps_keep_caps();
 }
 
-/// A command that the desk doesn't refuse keeps the books sound: there is room, and each server that a shard names has a row.
+/// A command that the desk doesn't refuse keeps the books sound: there is room, and each server that a shard names has
+/// a row.
 pub fn commands_keep_soundness()
     ensures { (desk : DeskView) (command : Command) → AreSound desk.books → desk_fault desk command ≡ None
         → AreSound (commanded desk command).books }

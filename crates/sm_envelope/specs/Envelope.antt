@@ -22,20 +22,31 @@ pub record ShellView : Type 0 where
   pub mode : Mode
   pub hops : ℕ
 
+-- what an envelope is without its request and its note
 abbrev pub shell_of : {Q N : Type 0} → EnvelopeView Q N → ShellView
-shell_of envelope = record { number = envelope.number; shard = envelope.shard; mode = envelope.mode; hops = envelope.hops }
+shell_of envelope =
+    record { number = envelope.number; shard = envelope.shard; mode = envelope.mode; hops = envelope.hops }
 
 -- the envelope of a shell, a request and a note
 abbrev pub whole : {Q N : Type 0} → ShellView → Q → N → EnvelopeView Q N
-whole shell request note = record { number = shell.number; shard = shell.shard; mode = shell.mode; hops = shell.hops; request = request; note = note }
+whole shell request note = record {
+  number = shell.number;
+  shard = shell.shard;
+  mode = shell.mode;
+  hops = shell.hops;
+  request = request;
+  note = note;
+}
 
 -- the envelope after one more hop, from this server on
 abbrev pub one_hop_more : {Q N : Type 0} → EnvelopeView Q N → ℕ → EnvelopeView Q N
 one_hop_more envelope from = record envelope { mode = Forwarded from; hops = envelope.hops + 1 }
 
+-- an envelope that a server forwards, and to whom; it stays where nobody is named, or no hop is left
 abbrev pub sent_on : {Q N : Type 0} → EnvelopeView Q N → ℕ → Option ℕ → Result (ℕ × EnvelopeView Q N) (EnvelopeView Q N)
 sent_on envelope from None = Err envelope
-sent_on envelope from (Some to) = if nat_lt envelope.hops MOST_HOPS then Ok (to, one_hop_more envelope from) else Err envelope
+sent_on envelope from (Some to) =
+    if nat_lt envelope.hops MOST_HOPS then Ok (to, one_hop_more envelope from) else Err envelope
 
 -- what a server makes of an envelope by the shard's record: where it forwards requests and a hop is left, the server to
 -- which the envelope goes, and the envelope with that hop; else the envelope as it was

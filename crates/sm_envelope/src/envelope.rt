@@ -12,7 +12,8 @@ use std::marker::Model;
 /// How often a request is forwarded at most.
 pub const MOST_HOPS: u8 = 4;
 
-/// A request on its way to a shard: its number, its shard, how it came, how often it was forwarded, and a note that goes with it.
+/// A request on its way to a shard: its number, its shard, how it came, how often it was forwarded, and a note that
+/// goes with it.
 #[derive(Drop)]
 pub struct Envelope<Q: Drop, N: Drop> {
     shell: Shell,
@@ -31,7 +32,14 @@ impl<Q: Drop, N: Drop> Model for Envelope<Q, N> {
 impl<Q: Drop, N: Drop> Envelope<Q, N> {
     /// A direct request, not forwarded yet, with this note.
     pub fn new(number: u64, shard: ShardId, request: Q, note: N) -> Envelope<Q, N>
-        ensures { result ≡ record { number = number; shard = shard; mode = Direct; hops = 0; request = request; note = note } }
+        ensures { result ≡ record {
+          number = number;
+          shard = shard;
+          mode = Direct;
+          hops = 0;
+          request = request;
+          note = note;
+        } }
     {
         Envelope {
             shell: Shell::direct(number, shard),

@@ -1,6 +1,7 @@
 //! Requests on their way to a shard, and why one is refused.
 //!
-//! A server that forwards requests on a shard sends an envelope on to the shard's other server, up to [`MOST_HOPS`] times:
+//! A server that forwards requests on a shard sends an envelope on to the shard's other server, up to [`MOST_HOPS`]
+//! times:
 //!
 //! ```rust
 //! let envelope = Envelope::new(7, k, b'a', b'n');

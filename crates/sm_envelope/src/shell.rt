@@ -25,7 +25,12 @@ impl Model for Shell {
 
     ghost Value = { ShellView };
 
-    ghost view = { λ shell. record { number = shell.number; shard = shell.shard; mode = shell.mode; hops = shell.hops } };
+    ghost view = { λ shell. record {
+      number = shell.number;
+      shard = shell.shard;
+      mode = shell.mode;
+      hops = shell.hops;
+    } };
 
     ghost invariant = { λ shell. shell.hops ≤ MOST_HOPS };
 }

@@ -7,7 +7,8 @@ use std::io::Write;
 /// How many bytes are kept: more than any answer to settings has.
 const KEPT: usize = 64;
 
-/// A writer that passes each call on, and keeps a front of the first bytes that it is given: there the answer to settings stands.
+/// A writer that passes each call on, and keeps a front of the first bytes that it is given: there the answer to
+/// settings stands.
 #[derive(Drop)]
 pub struct Beginning<W> {
     inner: W,

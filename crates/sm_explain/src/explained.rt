@@ -4,8 +4,8 @@ use sm_run::{BeginFault, Engine};
 use sm_settings::Settings;
 use std::marker::Model;
 
-/// An engine whose sessions answer as those of another do, and tell a listener why lines were refused. Contracts see it as that
-/// other engine.
+/// An engine whose sessions answer as those of another do, and tell a listener why lines were refused. Contracts see it
+/// as that other engine.
 #[derive(Drop)]
 pub struct Explained<E, L> {
     engine: E,

@@ -1,5 +1,6 @@
 -- Lemmas on answers that are collected line by line.
-use Rattle.std.proofs.Common.{Result, Ok, Err, Contains, ◌≤◌, ◌+◌, ◌≡◌, ◌≢◌, ◌⊎◌, inl, inr, true, ℕ, List, [], ◌∷◌, ◌++◌, length, refl, ap, sym, ◌∙◌, append-nil, subst, arith}
+use Rattle.std.proofs.Common.{Result, Ok, Err, Contains, ◌≤◌, ◌+◌, ◌≡◌, ◌≢◌, ◌⊎◌, inl, inr, true, ℕ, List, [], ◌∷◌}
+use Rattle.std.proofs.Common.{◌++◌, length, refl, ap, sym, ◌∙◌, append-nil, subst, arith}
 use Rattle.std.proofs.lemmas.List.{length_push}
 use Rattle.std.proofs.lemmas.List.Elements.{All-nil}
 use Rattle.sm_lines.specs.Reading.{Reading, ReaderStopped, TookLines, TookPart, IsOrderly}

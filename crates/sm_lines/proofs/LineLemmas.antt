@@ -1,5 +1,7 @@
 -- Lemmas on a line that is read part by part.
-use Rattle.std.proofs.Common.{Contains, Bool, true, false, ◌⊎◌, ◌≡◌, ◌≢◌, ℕ, List, [], ◌∷◌, ◌++◌, All, refl, ap, subst, sym, ◌∙◌, arith, length, ◌+◌, ◌*◌, ◌<◌, ◌≤◌, take, drop, slice_index, drop-cons, append_assoc, append-nil, length-append}
+use Rattle.std.proofs.Common.{Contains, Bool, true, false, ◌⊎◌, ◌≡◌, ◌≢◌, ℕ, List, [], ◌∷◌, ◌++◌, All, refl, ap}
+use Rattle.std.proofs.Common.{subst, sym, ◌∙◌, arith, length, ◌+◌, ◌*◌, ◌<◌, ◌≤◌, take, drop, slice_index, drop-cons}
+use Rattle.std.proofs.Common.{append_assoc, append-nil, length-append}
 use Rattle.std.proofs.lemmas.Grind.{common_steps}
 use Rattle.std.proofs.lemmas.List.{take-append-drop, take_all, drop_all}
 use Rattle.std.proofs.lemmas.List.Elements.{All-contains, All-nil, All-cons, All-head, All-tail, All-append}

@@ -1,5 +1,6 @@
 -- Lemmas on bytes that are written piece by piece.
-use Rattle.std.proofs.Common.{Bool, true, Option, None, Some, ◌≡◌, ℕ, List, [], ◌++◌, ap, sym, ◌∙◌, append-nil, append_assoc, refl, subst, take, drop, ◌+◌, ◌-◌, min, length, arith}
+use Rattle.std.proofs.Common.{Bool, true, Option, None, Some, ◌≡◌, ℕ, List, [], ◌++◌, ap, sym, ◌∙◌, append-nil}
+use Rattle.std.proofs.Common.{append_assoc, refl, subst, take, drop, ◌+◌, ◌-◌, min, length, arith}
 use Rattle.std.proofs.Math.Seq.{take-add, take-append-add}
 use Rattle.std.proofs.lemmas.List.{take-append-le, take_all, take_min}
 use Rattle.std.proofs.lemmas.Grind.{common_steps}

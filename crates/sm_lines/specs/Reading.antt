@@ -1,5 +1,6 @@
 -- What callers see of a reader of lines, and what reading a line does.
-use Rattle.std.specs.Prelude.{◌≡◌, ℕ, ◌+◌, ◌*◌, ◌<◌, ◌≤◌, ◌⊎◌, List, [], ◌∷◌, ◌++◌, length, take, All, Bool, true, false, Option}
+use Rattle.std.specs.Prelude.{◌≡◌, ℕ, ◌+◌, ◌*◌, ◌<◌, ◌≤◌, ◌⊎◌, List, [], ◌∷◌, ◌++◌, length, take, All, Bool, true}
+use Rattle.std.specs.Prelude.{false, Option}
 use Rattle.std.specs.Io.KnownBytes.{prepend_known, Consumes, IsAtEnd}
 use Rattle.sm_lines.specs.Lines.{lines_of, with_feeds, IsPlain}
 use Rattle.sm_lines.specs.declared.TheConstants.{PIECE}

@@ -7,12 +7,12 @@ use Rattle.std.proofs.lemmas.List.Concat.{flat_map-append, length-flat_map, get_
 use Rattle.std.proofs.lemmas.List.Edits.{length-insert, length-between, get_or-between, insert-append_left, insert-append_right, remove-append_left, remove-append_right}
 use Rattle.std.proofs.lemmas.List.Sums.{sum-map, sum_by_more, sum_by-take-le}
 use Rattle.sm_arena.specs.Pieces.{Places}
-use Rattle.sm_map.specs.KeyMap.{Pair}
+use Rattle.sm_map.specs.KeyMap.{KeyPair}
 use Rattle.sm_map.specs.KeyEntry.{pair_of, pairs_of}
 use Rattle.sm_map.specs.Block.{BlockValue}
 use Rattle.std.proofs.lemmas.Bool.Decides.{nat_tests}
 use Rattle.sm_map.specs.Places.{precedes}
-use Rattle.sm_map.specs.Blocks.{entries_in, lengths_in, number_of, HasEntry, IsStop, IsCut}
+use Rattle.sm_map.specs.Blocks.{entries_in, lengths_in, number_of, HasEntry, IsStop, IsHalved}
 use Rattle.sm_map.specs.declared.key_entry.KeyEntry.{KeyEntry}
 use Rattle.sm_map.specs.declared.place.Place.{Place}
 
@@ -49,7 +49,7 @@ pair_parts placed blocks b d lt =
     let front = entries_in (take b blocks) in
     let part = (get_or blocks b d).entries in
     let back = entries_in (drop (suc b) blocks) in
-    ap (pairs_of placed) (parts blocks b d lt) ∙ (map-append (pair_of placed) front (part ++ back) ∙ ap (λ (l : List Pair). pairs_of placed front ++ l) (map-append (pair_of placed) part back))
+    ap (pairs_of placed) (parts blocks b d lt) ∙ (map-append (pair_of placed) front (part ++ back) ∙ ap (λ (l : List KeyPair). pairs_of placed front ++ l) (map-append (pair_of placed) part back))
 
 pub front_pairs : (placed : Places) (blocks : List BlockValue) (b : ℕ) → length (pairs_of placed (entries_in (take b blocks))) ≡ sum (take b (lengths_in blocks))
 front_pairs placed blocks b = length-map (entries_in (take b blocks)) (pair_of placed) ∙ sym (before_block blocks b)
@@ -126,7 +126,7 @@ dropped (x ∷ xs) (suc b) d lt is = ap (λ (l : List KeyEntry). x.entries ++ l)
 
 -- an entry that is put into a half of a full block
 module _ (xs : List KeyEntry) (at : ℕ) (e : KeyEntry) (lower upper : BlockValue) (full : length xs ≡ 64) where
-  pub lower_insert : at ≤ 32 → (cut : List KeyEntry) → cut ≡ take 32 xs → lower.entries ≡ insert cut at e → upper.entries ≡ drop 32 xs → IsCut (insert xs at e) lower upper
+  pub lower_insert : at ≤ 32 → (cut : List KeyEntry) → cut ≡ take 32 xs → lower.entries ≡ insert cut at e → upper.entries ≡ drop 32 xs → IsHalved (insert xs at e) lower upper
   lower_insert le cut is_cut is_lower is_upper =
       let front : length (take 32 xs) ≡ 32 = omega (arith, length-take 32 xs) in
       let low : lower.entries ≡ insert (take 32 xs) at e = is_lower ∙ ap (λ (l : List KeyEntry). insert l at e) is_cut in
@@ -137,7 +137,7 @@ module _ (xs : List KeyEntry) (at : ℕ) (e : KeyEntry) (lower upper : BlockValu
         high = (omega (arith, ap length is_upper, length-drop 32 xs), omega (arith, ap length is_upper, length-drop 32 xs));
       }
 
-  pub upper_insert : 32 < at → at ≤ 64 → (cut : List KeyEntry) → cut ≡ drop 32 xs → lower.entries ≡ take 32 xs → upper.entries ≡ insert cut (at - 32) e → IsCut (insert xs at e) lower upper
+  pub upper_insert : 32 < at → at ≤ 64 → (cut : List KeyEntry) → cut ≡ drop 32 xs → lower.entries ≡ take 32 xs → upper.entries ≡ insert cut (at - 32) e → IsHalved (insert xs at e) lower upper
   upper_insert more le cut is_cut is_lower is_upper =
       let front : length (take 32 xs) ≡ 32 = omega (arith, length-take 32 xs) in
       let high : upper.entries ≡ insert (drop 32 xs) (at - 32) e = is_upper ∙ ap (λ (l : List KeyEntry). insert l (at - 32) e) is_cut in

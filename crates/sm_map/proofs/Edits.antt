@@ -7,7 +7,7 @@ use Rattle.sm_arena.specs.declared.span.Span.{Span}
 use Rattle.sm_arena.specs.Pieces.{Places, piece_of, bytes_of}
 use Rattle.sm_arena.specs.Value.{ArenaValue, forgetting}
 use Rattle.sm_ranges.specs.Keyed.{IsKeyGap}
-use Rattle.sm_map.specs.KeyMap.{Stored, Pair, key_of, text_of, size_of}
+use Rattle.sm_map.specs.KeyMap.{KeyValue, KeyPair, key_of, text_of, size_of}
 use Rattle.sm_map.specs.KeyMap.{Text as HeldText}
 use Rattle.sm_map.specs.ArenaMap.{MapValue, IsRewrite, IsRemoval, IsAddition}
 use Rattle.sm_map.specs.Stored.{IsTidy, IsStored}
@@ -45,10 +45,10 @@ module _ (v : ArenaValue) (es : List KeyEntry) (m : IsMap v es) (at : ℕ) (with
     pub old_forgettable : IsForgettable w e.slot
     old_forgettable = may_forget w (λ s. uses_all es s + uses_slot slot s) (uses_all (set es at new)) e.slot slot_parts tidy_with
 
-    new_pairs : (d : Pair) → pairs_of (forgetting_slot w e.slot).placed (set es at new) ≡ set (pairs_of v.placed es) at (record { key = (get_or (pairs_of v.placed es) at d).key; value = held_in w.placed slot })
+    new_pairs : (d : KeyPair) → pairs_of (forgetting_slot w e.slot).placed (set es at new) ≡ set (pairs_of v.placed es) at (record { key = (get_or (pairs_of v.placed es) at d).key; value = held_in w.placed slot })
     new_pairs d =
         let f = forgets w e.slot in
-        let key : bytes_of w.placed e.key ≡ (get_or (pairs_of v.placed es) at d).key = same_key_bytes v.placed w.placed e keeps_there ∙ sym (ap (λ (pair : Pair). pair.key) (pair_there es at within e read v.placed d)) in
+        let key : bytes_of w.placed e.key ≡ (get_or (pairs_of v.placed es) at d).key = same_key_bytes v.placed w.placed e keeps_there ∙ sym (ap (λ (pair : KeyPair). pair.key) (pair_there es at within e read v.placed d)) in
         let pair : pair_of w.placed new ≡ record { key = (get_or (pairs_of v.placed es) at d).key; value = held_in w.placed slot } = λ i. record { key = key i; value = held_in w.placed slot } in
         ap (λ (p : Places). pairs_of p (set es at new)) f.placed
         ∙ (map-set (pair_of w.placed) es at new
@@ -60,20 +60,20 @@ module _ (v : ArenaValue) (es : List KeyEntry) (m : IsMap v es) (at : ℕ) (with
       tidy = tidy_forgot w (λ s. uses_all es s + uses_slot slot s) (uses_all (set es at new)) e.slot slot_parts tidy_with;
     }
 
-    pub rewritten : (ls after : List ℕ) (held : Stored) → held_in w.placed slot ≡ held → HoldsAt (λ (pair : Pair). IsRewrite (map_of v es ls) at pair held (map_of (forgetting_slot w e.slot) (set es at new) after)) (pairs_of v.placed es) at
+    pub rewritten : (ls after : List ℕ) (held : KeyValue) → held_in w.placed slot ≡ held → HoldsAt (λ (pair : KeyPair). IsRewrite (map_of v es ls) at pair held (map_of (forgetting_slot w e.slot) (set es at new) after)) (pairs_of v.placed es) at
     rewritten ls after held is d =
         let f = forgets w e.slot in
         let same : held_in w.placed e.slot ≡ held_in v.placed e.slot = same_held v.placed w.placed e.slot (λ s lt. keeps_there s (omega arith)) in
-        let there : (get_or (pairs_of v.placed es) at d).value ≡ held_in v.placed e.slot = ap (λ (pair : Pair). pair.value) (pair_there es at within e read v.placed d) in
+        let there : (get_or (pairs_of v.placed es) at d).value ≡ held_in v.placed e.slot = ap (λ (pair : KeyPair). pair.value) (pair_there es at within e read v.placed d) in
         record {
           pairs = rw (← is) (new_pairs d);
-          dead = omega (arith, f.dead, ap (λ (h : Stored). length (text_of (Some h))) same, ap (λ (h : Stored). length (text_of (Some h))) there, dead_stored v (uses_slot slot) w st (uses_all es) m.tidy);
+          dead = omega (arith, f.dead, ap (λ (h : KeyValue). length (text_of (Some h))) same, ap (λ (h : KeyValue). length (text_of (Some h))) there, dead_stored v (uses_slot slot) w st (uses_all es) m.tidy);
         }
 
-    pub lengthened : (ls after : List ℕ) (tail : List ℕ) → held_in w.placed slot ≡ HeldText (text_of (Some (held_in v.placed e.slot)) ++ tail) → HoldsAt (λ (pair : Pair). IsRewrite (map_of v es ls) at pair (HeldText (text_of (Some pair.value) ++ tail)) (map_of (forgetting_slot w e.slot) (set es at new) after)) (pairs_of v.placed es) at
+    pub lengthened : (ls after : List ℕ) (tail : List ℕ) → held_in w.placed slot ≡ HeldText (text_of (Some (held_in v.placed e.slot)) ++ tail) → HoldsAt (λ (pair : KeyPair). IsRewrite (map_of v es ls) at pair (HeldText (text_of (Some pair.value) ++ tail)) (map_of (forgetting_slot w e.slot) (set es at new) after)) (pairs_of v.placed es) at
     lengthened ls after tail is d =
-        let there : held_in v.placed e.slot ≡ (get_or (pairs_of v.placed es) at d).value = sym (ap (λ (pair : Pair). pair.value) (pair_there es at within e read v.placed d)) in
-        rewritten ls after (HeldText (text_of (Some (get_or (pairs_of v.placed es) at d).value) ++ tail)) (is ∙ ap (λ (h : Stored). HeldText (text_of (Some h) ++ tail)) there) d
+        let there : held_in v.placed e.slot ≡ (get_or (pairs_of v.placed es) at d).value = sym (ap (λ (pair : KeyPair). pair.value) (pair_there es at within e read v.placed d)) in
+        rewritten ls after (HeldText (text_of (Some (get_or (pairs_of v.placed es) at d).value) ++ tail)) (is ∙ ap (λ (h : KeyValue). HeldText (text_of (Some h) ++ tail)) there) d
 
   -- the entry goes
   removed_parts : (s : Span) → (uses_all (remove es at) s + uses_slot e.slot s) + uses_slot (Text e.key) s ≡ uses_all es s
@@ -100,7 +100,7 @@ module _ (v : ArenaValue) (es : List KeyEntry) (m : IsMap v es) (at : ℕ) (with
     tidy = tidy_forgot (forgetting v e.key) (λ s. uses_all (remove es at) s + uses_slot e.slot s) (uses_all (remove es at)) e.slot (λ s. refl) tidy_less_key;
   }
 
-  pub removed : (ls after : List ℕ) → HoldsAt (λ (pair : Pair). IsRemoval (map_of v es ls) at pair (map_of (forgetting_slot (forgetting v e.key) e.slot) (remove es at) after)) (pairs_of v.placed es) at
+  pub removed : (ls after : List ℕ) → HoldsAt (λ (pair : KeyPair). IsRemoval (map_of v es ls) at pair (map_of (forgetting_slot (forgetting v e.key) e.slot) (remove es at) after)) (pairs_of v.placed es) at
   removed ls after d =
       let f = forgets v (Text e.key) in
       let g = forgets (forgetting v e.key) e.slot in
@@ -110,7 +110,7 @@ module _ (v : ArenaValue) (es : List KeyEntry) (m : IsMap v es) (at : ℕ) (with
       }
 
 -- an entry comes in
-module _ (v : ArenaValue) (es : List KeyEntry) (m : IsMap v es) (e : KeyEntry) (w : ArenaValue) (st : IsStored v (uses_entry e) w) (pair : Pair) (is : pair_of w.placed e ≡ pair) (at : ℕ) (gap : IsKeyGap key_of (pairs_of v.placed es) pair.key at) where
+module _ (v : ArenaValue) (es : List KeyEntry) (m : IsMap v es) (e : KeyEntry) (w : ArenaValue) (st : IsStored v (uses_entry e) w) (pair : KeyPair) (is : pair_of w.placed e ≡ pair) (at : ℕ) (gap : IsKeyGap key_of (pairs_of v.placed es) pair.key at) where
   added_parts : (s : Span) → uses_all (insert es at e) s ≡ uses_all es s + uses_entry e s
   added_parts s = omega (arith, sum_by-insert (λ (x : KeyEntry). uses_entry x s) es at e)
 

@@ -12,7 +12,7 @@ use Rattle.sm_arena.specs.Value.{ArenaValue, IsPlacing, IsPlacingPair}
 use Rattle.sm_ranges.specs.KeyOrder.{key_cmp}
 use Rattle.sm_ranges.specs.Keyed.{IsKeyPlace}
 use Rattle.sm_ranges.specs.lemmas.Keyed.{below_up_to, above_from}
-use Rattle.sm_map.specs.KeyMap.{Pair, key_of, IsKeyMap}
+use Rattle.sm_map.specs.KeyMap.{KeyPair, key_of, IsKeyMap}
 use Rattle.sm_map.specs.KeyMap.{Text as HeldText, Count as HeldCount}
 use Rattle.sm_map.specs.ArenaMap.{MapValue}
 use Rattle.sm_map.specs.Stored.{IsStored}
@@ -75,7 +75,7 @@ map_sum v blocks = all_entries blocks ∙ sym (length-pairs v.placed (entries_in
 
 -- an entry that stands at a place
 module _ (es : List KeyEntry) (at : ℕ) (within : at < length es) (e : KeyEntry) (read : HoldsAt (λ (x : KeyEntry). e ≡ x) es at) where
-  pub pair_there : (placed : Places) (d : Pair) → get_or (pairs_of placed es) at d ≡ pair_of placed e
+  pub pair_there : (placed : Places) (d : KeyPair) → get_or (pairs_of placed es) at d ≡ pair_of placed e
   pair_there placed d = get_or-map (pair_of placed) es at e d within ∙ ap (pair_of placed) (sym (read e))
 
   pub used_there : (s : Span) → uses_entry e s ≤ uses_all es s
@@ -88,7 +88,7 @@ module _ (es : List KeyEntry) (at : ℕ) (within : at < length es) (e : KeyEntry
     pub slot_readable : IsReadable v.placed e.slot
     slot_readable s lt = m.tidy.placed s (omega (arith, used_there s))
 
-  pub row_there : (placed : Places) (row : Bor (List ℕ) × Val) → row.0.now ≡ bytes_of placed e.key → held_of row.1 ≡ held_in placed e.slot → HoldsAt (λ (pair : Pair). row_of row ≡ pair) (pairs_of placed es) at
+  pub row_there : (placed : Places) (row : Bor (List ℕ) × Val) → row.0.now ≡ bytes_of placed e.key → held_of row.1 ≡ held_in placed e.slot → HoldsAt (λ (pair : KeyPair). row_of row ≡ pair) (pairs_of placed es) at
   row_there placed row key value d = (λ i. record { key = key i; value = value i }) ∙ sym (pair_there placed d)
 
 -- the keys of a map are placed
@@ -100,13 +100,13 @@ module _ (placed : Places) (es : List KeyEntry) (key : List ℕ) (rising : IsKey
   in_pairs : at < length (pairs_of placed es)
   in_pairs = omega (arith, length-pairs placed es)
 
-  order_there : (o : Ordering) → o ≡ key_cmp bytes key → HoldsAt (λ (pair : Pair). key_cmp pair.key key ≡ o) (pairs_of placed es) at
-  order_there o h d = ap (λ (pair : Pair). key_cmp pair.key key) (get_or-map (pair_of placed) es at e d within) ∙ (ap (λ (k : List ℕ). key_cmp k key) (sym is) ∙ sym h)
+  order_there : (o : Ordering) → o ≡ key_cmp bytes key → HoldsAt (λ (pair : KeyPair). key_cmp pair.key key ≡ o) (pairs_of placed es) at
+  order_there o h d = ap (λ (pair : KeyPair). key_cmp pair.key key) (get_or-map (pair_of placed) es at e d within) ∙ (ap (λ (k : List ℕ). key_cmp k key) (sym is) ∙ sym h)
 
-  pub read_less : Less ≡ key_cmp bytes key → AllWithin (λ (pair : Pair). key_cmp pair.key key ≡ Less) (pairs_of placed es) 0 (at + 1)
+  pub read_less : Less ≡ key_cmp bytes key → AllWithin (λ (pair : KeyPair). key_cmp pair.key key ≡ Less) (pairs_of placed es) 0 (at + 1)
   read_less h = below_up_to key_of (pairs_of placed es) key rising at in_pairs (order_there Less h)
 
-  pub read_greater : Greater ≡ key_cmp bytes key → AllWithin (λ (pair : Pair). key_cmp pair.key key ≡ Greater) (pairs_of placed es) at (length (pairs_of placed es))
+  pub read_greater : Greater ≡ key_cmp bytes key → AllWithin (λ (pair : KeyPair). key_cmp pair.key key ≡ Greater) (pairs_of placed es) at (length (pairs_of placed es))
   read_greater h = above_from key_of (pairs_of placed es) key rising at in_pairs (order_there Greater h)
 
   pub read_equal : Equal ≡ key_cmp bytes key → IsKeyPlace key_of (pairs_of placed es) key at

@@ -7,13 +7,13 @@ use Rattle.std.proofs.lemmas.Bool.{cases_lt}
 use Rattle.std.proofs.lemmas.List.{take-take, take_all, length-take, map_push}
 use Rattle.std.proofs.lemmas.List.Edits.{between_more}
 use Rattle.sm_ranges.specs.Keyed.{comes_before}
-use Rattle.sm_map.specs.KeyMap.{Pair, key_of, within, IsEdgeOf}
+use Rattle.sm_map.specs.KeyMap.{KeyPair, key_of, within, IsEdgeOf}
 use Rattle.sm_map.specs.Val.{row_of}
 use Rattle.sm_map.specs.declared.val.Val.{Val}
 
-module _ (p : Pair → Bool) where
+module _ (p : KeyPair → Bool) where
   -- what passes stands from one place up to another
-  filter-part : (m : List Pair) (low high : ℕ) → ((k : ℕ) (d : Pair) → k < low → k < length m → p (get_or m k d) ≡ false) → ((k : ℕ) (d : Pair) → low ≤ k → k < high → k < length m → p (get_or m k d) ≡ true) → ((k : ℕ) (d : Pair) → high ≤ k → k < length m → p (get_or m k d) ≡ false) → filter p m ≡ take (high - low) (drop low m)
+  filter-part : (m : List KeyPair) (low high : ℕ) → ((k : ℕ) (d : KeyPair) → k < low → k < length m → p (get_or m k d) ≡ false) → ((k : ℕ) (d : KeyPair) → low ≤ k → k < high → k < length m → p (get_or m k d) ≡ true) → ((k : ℕ) (d : KeyPair) → high ≤ k → k < length m → p (get_or m k d) ≡ false) → filter p m ≡ take (high - low) (drop low m)
   filter-part [] zero zero before inside after = refl
   filter-part [] zero (suc high) before inside after = sym (take_all (suc high - 0) [] (omega arith))
   filter-part [] (suc low) high before inside after = sym (take_all (high - suc low) [] (omega arith))
@@ -31,9 +31,9 @@ module _ (p : Pair → Bool) where
       rw (here, ← less) (filter-part xs low (high - 1) (λ k d lt in_m. before (suc k) d (omega arith) (omega arith)) (λ k d le lt in_m. inside (suc k) d (omega arith) (omega arith) (omega arith)) (λ k d le in_m. after (suc k) d (omega arith) (omega arith)))
 
 -- the first max of the pairs within a range stand from the edge of its low key on
-pub rows_within : (m : List Pair) (low high : List ℕ) (start end max stop : ℕ) → IsEdgeOf m low start → IsEdgeOf m high end → stop - start ≡ min (end - start) max → between start stop m ≡ take max (within m low high)
+pub rows_within : (m : List KeyPair) (low high : List ℕ) (start end max stop : ℕ) → IsEdgeOf m low start → IsEdgeOf m high end → stop - start ≡ min (end - start) max → between start stop m ≡ take max (within m low high)
 rows_within m low high start end max stop first last long =
-    let part = filter-part (λ (pair : Pair). not (comes_before key_of low pair) && comes_before key_of high pair) m start end
+    let part = filter-part (λ (pair : KeyPair). not (comes_before key_of low pair) && comes_before key_of high pair) m start end
     (λ k d lt in_m. ap (λ (b : Bool). not b && comes_before key_of high (get_or m k d)) (first.apart.0 k d (omega arith) lt))
     (λ k d le lt in_m. ap (λ (b : Bool). not b && comes_before key_of high (get_or m k d)) (first.apart.1 k d le in_m) ∙ last.apart.0 k d (omega arith) lt)
     (λ k d le in_m. both_false (comes_before key_of low (get_or m k d)) (comes_before key_of high (get_or m k d)) (last.apart.1 k d le in_m)) in
@@ -52,6 +52,6 @@ rows_within m low high start end max stop first last long =
         rw n (sym (take_all max (take (end - start) (drop start m)) (omega (arith, length-take (end - start) (drop start m)))))
 
 -- the rows of a scan get the next one
-pub rows_more : (m : List Pair) (start at : ℕ) → start ≤ at → at < length m → (rows : List (Bor (List ℕ) × Val)) (row : Bor (List ℕ) × Val) → map row_of rows ≡ between start at m → HoldsAt (λ (pair : Pair). row_of row ≡ pair) m at → map row_of (rows ++ row ∷ []) ≡ between start (at + 1) m
+pub rows_more : (m : List KeyPair) (start at : ℕ) → start ≤ at → at < length m → (rows : List (Bor (List ℕ) × Val)) (row : Bor (List ℕ) × Val) → map row_of rows ≡ between start at m → HoldsAt (λ (pair : KeyPair). row_of row ≡ pair) m at → map row_of (rows ++ row ∷ []) ≡ between start (at + 1) m
 rows_more m start at le within rows row before here =
     map_push row_of rows row ∙ ((λ i. before i ++ here (row_of row) i ∷ []) ∙ sym (between_more m start at (row_of row) le within))

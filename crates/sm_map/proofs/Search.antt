@@ -6,7 +6,7 @@ use Rattle.std.proofs.lemmas.List.{take_all}
 use Rattle.sm_arena.specs.Pieces.{Places, IsPlaced, bytes_of}
 use Rattle.sm_ranges.specs.KeyOrder.{key_cmp}
 use Rattle.sm_ranges.specs.Keyed.{IsKeyPlace, IsKeyGap}
-use Rattle.sm_map.specs.KeyMap.{Pair, key_of, IsKeyMap}
+use Rattle.sm_map.specs.KeyMap.{KeyPair, key_of, IsKeyMap}
 use Rattle.sm_map.specs.KeyEntry.{pairs_of, HasKeys}
 use Rattle.sm_map.specs.Block.{BlockValue}
 use Rattle.sm_map.specs.Blocks.{entries_in, lengths_in, number_of, IsBlockGap}
@@ -17,7 +17,7 @@ use Rattle.sm_map.proofs.Parts.{part_rises, place_in_part, gap_in_part}
 use Rattle.sm_map.proofs.Blocks.{all_entries, blocks_counted, length_there, pair_parts, front_pairs, next_block, number_inside, entry_there}
 
 -- no entry stands after all blocks
-pub none_after : (placed : Places) (blocks : List BlockValue) (key : List ℕ) → AllWithin (λ (pair : Pair). key_cmp pair.key key ≡ Greater) (pairs_of placed (entries_in blocks)) (sum (take (length blocks) (lengths_in blocks))) (length (pairs_of placed (entries_in blocks)))
+pub none_after : (placed : Places) (blocks : List BlockValue) (key : List ℕ) → AllWithin (λ (pair : KeyPair). key_cmp pair.key key ≡ Greater) (pairs_of placed (entries_in blocks)) (sum (take (length blocks) (lengths_in blocks))) (length (pairs_of placed (entries_in blocks)))
 none_after placed blocks key k d more within =
     let all = ap sum (take_all (length blocks) (lengths_in blocks) (omega (arith, blocks_counted blocks))) in
     absurd (omega (arith, all, all_entries blocks, length-pairs placed (entries_in blocks)))
@@ -48,10 +48,10 @@ module _ (placed : Places) (blocks : List BlockValue) (key : List ℕ) (rising :
   spelled : bytes ≡ bytes_of placed (get_or (entries_in blocks) start e).key
   spelled = is ∙ ap (λ (x : KeyEntry). bytes_of placed x.key) (sym here)
 
-  pub first_less : Less ≡ key_cmp bytes key → AllWithin (λ (pair : Pair). key_cmp pair.key key ≡ Less) (pairs_of placed (entries_in blocks)) 0 (start + 1)
+  pub first_less : Less ≡ key_cmp bytes key → AllWithin (λ (pair : KeyPair). key_cmp pair.key key ≡ Less) (pairs_of placed (entries_in blocks)) 0 (start + 1)
   first_less = read_less placed (entries_in blocks) key rising start within e bytes spelled
 
-  pub first_greater : Greater ≡ key_cmp bytes key → AllWithin (λ (pair : Pair). key_cmp pair.key key ≡ Greater) (pairs_of placed (entries_in blocks)) start (length (pairs_of placed (entries_in blocks)))
+  pub first_greater : Greater ≡ key_cmp bytes key → AllWithin (λ (pair : KeyPair). key_cmp pair.key key ≡ Greater) (pairs_of placed (entries_in blocks)) start (length (pairs_of placed (entries_in blocks)))
   first_greater = read_greater placed (entries_in blocks) key rising start within e bytes spelled
 
   pub first_placed : HasKeys placed (entries_in blocks) → IsPlaced placed e.key
@@ -62,13 +62,13 @@ module _ (placed : Places) (blocks : List BlockValue) (key : List ℕ) (rising :
 
 -- a search in one block
 module _ (placed : Places) (blocks : List BlockValue) (b : ℕ) (lt : b < length blocks) (block : BlockValue) (read : block ≡ get_or blocks b block) where
-  abbrev front : List Pair
+  abbrev front : List KeyPair
   front = pairs_of placed (entries_in (take b blocks))
 
-  abbrev part : List Pair
+  abbrev part : List KeyPair
   part = pairs_of placed block.entries
 
-  abbrev back : List Pair
+  abbrev back : List KeyPair
   back = pairs_of placed (entries_in (drop (suc b) blocks))
 
   split : pairs_of placed (entries_in blocks) ≡ front ++ (part ++ back)
@@ -96,8 +96,8 @@ module _ (placed : Places) (blocks : List BlockValue) (b : ℕ) (lt : b < length
     pub absent_in_block : IsBlockGap (pairs_of placed (entries_in blocks)) (lengths_in blocks) key (b + 1) → IsKeyGap key_of (pairs_of placed block.entries) key offset → IsKeyGap key_of (pairs_of placed (entries_in blocks)) key (number_of (lengths_in blocks) (record { block = b; offset = offset }))
     absent_in_block between gap =
         let this : (b + 1) - 1 ≡ b = omega arith in
-        let before = subst (λ (n : ℕ). AllWithin (λ (pair : Pair). key_cmp pair.key key ≡ Less) (pairs_of placed (entries_in blocks)) 0 (sum (take n (lengths_in blocks)) + 1)) this (between.before (omega arith)) in
+        let before = subst (λ (n : ℕ). AllWithin (λ (pair : KeyPair). key_cmp pair.key key ≡ Less) (pairs_of placed (entries_in blocks)) 0 (sum (take n (lengths_in blocks)) + 1)) this (between.before (omega arith)) in
         let ends : sum (take (b + 1) (lengths_in blocks)) ≡ length front + length part = omega (arith, next_block blocks b block lt, size, front_pairs placed blocks b) in
-        let after = subst (λ (n : ℕ). AllWithin (λ (pair : Pair). key_cmp pair.key key ≡ Greater) (pairs_of placed (entries_in blocks)) n (length (pairs_of placed (entries_in blocks)))) ends between.after in
+        let after = subst (λ (n : ℕ). AllWithin (λ (pair : KeyPair). key_cmp pair.key key ≡ Greater) (pairs_of placed (entries_in blocks)) n (length (pairs_of placed (entries_in blocks)))) ends between.after in
         subst (λ (n : ℕ). IsKeyGap key_of (pairs_of placed (entries_in blocks)) key n) count
         (gap_in_part (pairs_of placed (entries_in blocks)) front part back split key offset (λ k d low high. before k d low (omega (arith, front_pairs placed blocks b))) after gap)

@@ -3,7 +3,7 @@ use Rattle.std.specs.Prelude.{◌≡◌, ◌+◌, ◌-◌, ◌<◌, ◌≤◌, �
 use Rattle.std.specs.List.{flat_map, AllWithin}
 use Rattle.std.specs.declared.cmp.Ordering.TheVariants.{Less, Greater}
 use Rattle.sm_ranges.specs.KeyOrder.{key_cmp}
-use Rattle.sm_map.specs.KeyMap.{Pair}
+use Rattle.sm_map.specs.KeyMap.{KeyPair}
 use Rattle.sm_map.specs.Block.{BlockValue}
 use Rattle.sm_map.specs.declared.block.TheConstants.{MOST_ENTRIES}
 use Rattle.sm_map.specs.declared.key_entry.KeyEntry.{KeyEntry}
@@ -21,7 +21,7 @@ abbrev pub IsSized : BlockValue → Type 0
 IsSized block = (0 < length block.entries) × (length block.entries ≤ MOST_ENTRIES)
 
 -- both blocks are filled, and hold the entries one after the other
-pub record IsCut (entries : List KeyEntry) (lower upper : BlockValue) : Type 0 where
+pub record IsHalved (entries : List KeyEntry) (lower upper : BlockValue) : Type 0 where
   pub joined : lower.entries ++ upper.entries ≡ entries
   pub low : IsSized lower
   pub high : IsSized upper
@@ -45,7 +45,7 @@ abbrev pub IsStop : List ℕ → Place → Type 0
 IsStop lengths place = HasEntry lengths place ⊎ ((place.block ≡ length lengths) × (place.offset ≡ 0))
 
 -- the first entries of so many blocks, and of no others, have keys below this one
-pub record IsBlockGap (pairs : List Pair) (lengths : List ℕ) (key : List ℕ) (count : ℕ) : Type 0 where
+pub record IsBlockGap (pairs : List KeyPair) (lengths : List ℕ) (key : List ℕ) (count : ℕ) : Type 0 where
   pub within : count ≤ length lengths
   pub before : 0 < count → AllWithin (λ pair. key_cmp pair.key key ≡ Less) pairs 0 (sum (take (count - 1) lengths) + 1)
   pub after : AllWithin (λ pair. key_cmp pair.key key ≡ Greater) pairs (sum (take count lengths)) (length pairs)

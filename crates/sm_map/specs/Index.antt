@@ -22,10 +22,12 @@ pub record IsIndex (blocks : List BlockValue) (len : ℕ) : Type 0 where
 abbrev pub IsReady : IndexValue → Place → Room → Type 0
 IsReady index place Inside =
     (place.block < length index.blocks) ×
-    HoldsAt (λ block. (place.offset ≤ length block.entries) × (length block.entries < MOST_ENTRIES) × (0 < block.room)) index.blocks place.block
+    HoldsAt (λ block. (place.offset ≤ length block.entries) × (length block.entries < MOST_ENTRIES)
+    × (0 < block.room)) index.blocks place.block
 IsReady index place (Beside upper) =
     (place.block < length index.blocks) ×
-    HoldsAt (λ block. (place.offset ≤ length block.entries) × (length block.entries ≡ MOST_ENTRIES)) index.blocks place.block ×
+    HoldsAt (λ block. (place.offset ≤ length block.entries)
+    × (length block.entries ≡ MOST_ENTRIES)) index.blocks place.block ×
     (0 < index.room) × (upper.entries ≡ []) × (MOST_ENTRIES ≤ upper.room)
 IsReady index place (Behind last) =
     (place.block ≡ length index.blocks) × (place.offset ≡ 0) × (0 < index.room) × (last.entries ≡ []) × (0 < last.room)

@@ -11,12 +11,14 @@ use Rattle.sm_map.specs.declared.arena_map.ArenaMap.TheInside.{Inside}
 
 -- the map that these entries are in an arena, in blocks of these lengths
 abbrev pub map_of : ArenaValue → List KeyEntry → List ℕ → MapValue
-map_of v entries lengths = record { pairs = pairs_of v.placed entries; bytes = live_of v; dead = dead_of v; blocks = lengths }
+map_of v entries lengths =
+    record { pairs = pairs_of v.placed entries; bytes = live_of v; dead = dead_of v; blocks = lengths }
 
 pub record IsMap (v : ArenaValue) (entries : List KeyEntry) : Type 0 where
   pub rising : IsKeyMap (pairs_of v.placed entries)
   pub tidy : IsTidy v (uses_all entries)
 
+-- a map as contracts see it
 abbrev pub value_of : Inside → MapValue
 value_of map = map_of map.arena (entries_in map.index.blocks) (lengths_in map.index.blocks)
 

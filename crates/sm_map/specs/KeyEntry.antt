@@ -3,13 +3,15 @@ use Rattle.std.specs.Prelude.{ℕ, ◌+◌, List, map, All}
 use Rattle.std.specs.List.{sum_by}
 use Rattle.sm_arena.specs.declared.span.Span.{Span}
 use Rattle.sm_arena.specs.Pieces.{Places, IsPlaced, bytes_of}
-use Rattle.sm_map.specs.KeyMap.{Pair}
+use Rattle.sm_map.specs.KeyMap.{KeyPair}
 use Rattle.sm_map.specs.Slot.{held_in, uses_piece, uses_slot}
 use Rattle.sm_map.specs.declared.key_entry.KeyEntry.{KeyEntry}
 
+-- the pair of an entry: its key's bytes, and what its slot holds
 abbrev pub pair_of : Places → KeyEntry → Pair
 pair_of placed entry = record { key = bytes_of placed entry.key; value = held_in placed entry.slot }
 
+-- the pairs of entries
 abbrev pub pairs_of : Places → List KeyEntry → List Pair
 pairs_of placed entries = map (pair_of placed) entries
 

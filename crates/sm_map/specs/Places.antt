@@ -4,4 +4,5 @@ use Rattle.sm_map.specs.declared.place.Place.{Place}
 
 -- the first place stands before the second
 abbrev pub precedes : Place → Place → Bool
-precedes first second = nat_lt first.block second.block || ((first.block == second.block) && nat_lt first.offset second.offset)
+precedes first second =
+    nat_lt first.block second.block || ((first.block == second.block) && nat_lt first.offset second.offset)

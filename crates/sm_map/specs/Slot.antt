@@ -3,13 +3,13 @@ use Rattle.std.specs.Prelude.{◌≡◌, ◌<◌, ℕ, cond, length}
 use Rattle.sm_arena.specs.declared.span.Span.{Span}
 use Rattle.sm_arena.specs.Pieces.{Places, same_span, IsPlaced, bytes_of}
 use Rattle.sm_arena.specs.Value.{ArenaValue, times_forgotten, forgetting}
-use Rattle.sm_map.specs.KeyMap.{Stored}
+use Rattle.sm_map.specs.KeyMap.{KeyValue}
 use Rattle.sm_map.specs.KeyMap.{Text as HeldText, Count as HeldCount}
 use Rattle.sm_map.specs.declared.slot.Slot.{Slot}
 use Rattle.sm_map.specs.declared.slot.Slot.TheVariants.{Text, Count}
 
 -- what the slot holds
-abbrev pub held_in : Places → Slot → Stored
+abbrev pub held_in : Places → Slot → KeyValue
 held_in placed (Text span) = HeldText (bytes_of placed span)
 held_in placed (Count count) = HeldCount count
 

@@ -1,4 +1,5 @@
-ghost use Rattle.std.specs.Prelude.{◌≡◌, ◌<◌, ◌≤◌, ◌+◌, ◌++◌, ℕ, true, [], Some, length, map, sum, slice_index, take, is_some, IfOk, IfErr, OnOk, OnErr};
+ghost use Rattle.std.specs.Prelude.{◌≡◌, ◌<◌, ◌≤◌, ◌+◌, ◌++◌, ℕ, true, [], Some, length, map, sum, slice_index, take};
+ghost use Rattle.std.specs.Prelude.{is_some, IfOk, IfErr, OnOk, OnErr};
 ghost use Rattle.std.specs.List.{HoldsAt, between};
 ghost use Rattle.std.specs.Option.{option_map};
 ghost use Rattle.sm_ranges.specs.Keyed.{IsKeyPlace, IsKeyGap};
@@ -145,8 +146,10 @@ impl ArenaMap {
     /// `AllocError` where memory is refused, or key and text have 2^32 bytes or more; the map is then as it was.
     pub fn put_at(&mut self, position: Position<'_>, value: Val<'_>) -> Result<(), AllocError>
         requires { IsPositionIn self.old position }
-        ensures ok { OnOk result (self.new.pairs ≡ holding self.old.pairs position.entry.key.now (held_of value.entry)) }
-        ensures dead { OnOk result (self.new.dead ≡ self.old.dead + length (text_at self.old.pairs position.entry.key.now)) }
+        ensures ok { OnOk result
+            (self.new.pairs ≡ holding self.old.pairs position.entry.key.now (held_of value.entry)) }
+        ensures dead { OnOk result
+            (self.new.dead ≡ self.old.dead + length (text_at self.old.pairs position.entry.key.now)) }
         ensures err { OnErr result (self.new ≡ self.old) }
     {
         match position.place {
@@ -162,7 +165,8 @@ impl ArenaMap {
     /// `AllocError` where memory is refused, or the whole text has 2^32 bytes or more; the map is then as it was.
     pub fn append(&mut self, key: &[u8], tail: &[u8]) -> Result<(), AllocError>
         requires { HoldsText self.old.pairs key.now }
-        ensures ok { OnOk result (self.new.pairs ≡ holding self.old.pairs key.now (HeldText (text_at self.old.pairs key.now ++ tail.now))) }
+        ensures ok { OnOk result
+            (self.new.pairs ≡ holding self.old.pairs key.now (HeldText (text_at self.old.pairs key.now ++ tail.now))) }
         ensures dead { OnOk result (self.new.dead ≡ self.old.dead + length (text_at self.old.pairs key.now)) }
         ensures err { OnErr result (self.new ≡ self.old) }
     {
@@ -170,7 +174,8 @@ impl ArenaMap {
         self.append_at(position, tail)
     }
 
-    /// Makes the key at the position, which holds a text, hold that text followed by the tail, as [`ArenaMap::append`] does.
+    /// Makes the key at the position, which holds a text, hold that text followed by the tail, as [`ArenaMap::append`]
+    /// does.
     ///
     /// # Errors
     ///
@@ -178,8 +183,10 @@ impl ArenaMap {
     pub fn append_at(&mut self, position: Position<'_>, tail: &[u8]) -> Result<(), AllocError>
         requires position { IsPositionIn self.old position }
         requires text { HoldsText self.old.pairs position.key.now }
-        ensures ok { OnOk result (self.new.pairs ≡ holding self.old.pairs position.entry.key.now (HeldText (text_at self.old.pairs position.entry.key.now ++ tail.now))) }
-        ensures dead { OnOk result (self.new.dead ≡ self.old.dead + length (text_at self.old.pairs position.entry.key.now)) }
+        ensures ok { OnOk result (self.new.pairs ≡ holding self.old.pairs position.entry.key.now
+            (HeldText (text_at self.old.pairs position.entry.key.now ++ tail.now))) }
+        ensures dead { OnOk result
+            (self.new.dead ≡ self.old.dead + length (text_at self.old.pairs position.entry.key.now)) }
         ensures err { OnErr result (self.new ≡ self.old) }
     {
         match position.place {
@@ -268,9 +275,11 @@ impl ArenaMap {
     fn find(&self, key: &[u8]) -> Result<Place, Place>
         ensures rising { IsKeyMap self.now.pairs }
         ensures entry { IfOk result (HasEntry self.now.blocks) }
-        ensures found { IfOk result (λ place. IsKeyPlace key_of self.now.pairs key.now (number_of self.now.blocks place)) }
+        ensures found { IfOk result
+            (λ place. IsKeyPlace key_of self.now.pairs key.now (number_of self.now.blocks place)) }
         ensures gap { IfErr result (IsGap self.now.blocks) }
-        ensures absent { IfErr result (λ place. IsKeyGap key_of self.now.pairs key.now (number_of self.now.blocks place)) }
+        ensures absent { IfErr result
+            (λ place. IsKeyGap key_of self.now.pairs key.now (number_of self.now.blocks place)) }
     {
         self.index.find(&self.arena, key)
     }
@@ -312,7 +321,8 @@ impl ArenaMap {
         ensures within { result ≤ slice_index self.now.blocks place.block }
         ensures more { place.offset < result }
         ensures most { result ≤ place.offset + most }
-        ensures before { number_of self.now.blocks (record { block = place.block; offset = result }) ≤ number_of self.now.blocks end }
+        ensures before { number_of self.now.blocks (record { block = place.block; offset = result })
+            ≤ number_of self.now.blocks end }
     {
         let high = if place.block == end.block {
             end.offset
@@ -332,7 +342,9 @@ impl ArenaMap {
         requires block { place.block < length self.now.blocks }
         requires order { (place.offset ≤ high) × (high ≤ slice_index self.now.blocks place.block) }
         ensures count { IfOk result (λ more. length more.items + place.offset ≡ length rows.entry.items + high) }
-        ensures rows { IfOk result (λ more. (start : ℕ) → start ≤ number_of self.now.blocks place → map row_of rows.entry.items ≡ between start (number_of self.now.blocks place) self.now.pairs → map row_of more.items ≡ between start (sum (take place.block self.now.blocks) + high) self.now.pairs) }
+        ensures rows { IfOk result (λ more. (start : ℕ) → start ≤ number_of self.now.blocks place
+            → map row_of rows.entry.items ≡ between start (number_of self.now.blocks place) self.now.pairs
+            → map row_of more.items ≡ between start (sum (take place.block self.now.blocks) + high) self.now.pairs) }
     {
         let mut rows = rows;
         for entry in self.index.entries(place, high) {
@@ -344,7 +356,8 @@ impl ArenaMap {
     // Writes the value over that of the pair at a place.
     fn write_at(&mut self, place: Place, value: Val<'_>) -> Result<(), AllocError>
         requires { HasEntry self.old.blocks place }
-        ensures ok { OnOk result (HoldsAt (λ pair. IsRewrite self.old (number_of self.old.blocks place) pair (held_of value.entry) self.new) self.old.pairs (number_of self.old.blocks place)) }
+        ensures ok { OnOk result (HoldsAt (λ pair. IsRewrite self.old (number_of self.old.blocks place) pair
+            (held_of value.entry) self.new) self.old.pairs (number_of self.old.blocks place)) }
         ensures err { OnErr result (self.new ≡ self.old) }
     {
         let KeyEntry { key, slot: before } = self.index.entry(place);
@@ -358,7 +371,8 @@ impl ArenaMap {
     fn lengthen_at(&mut self, place: Place, tail: &[u8]) -> Result<(), AllocError>
         requires entry { HasEntry self.old.blocks place }
         requires text { HoldsAt (λ pair. IsText pair.value) self.old.pairs (number_of self.old.blocks place) }
-        ensures ok { OnOk result (HoldsAt (λ pair. IsRewrite self.old (number_of self.old.blocks place) pair (HeldText (text_of (Some pair.value) ++ tail.now)) self.new) self.old.pairs (number_of self.old.blocks place)) }
+        ensures ok { OnOk result (HoldsAt (λ pair. IsRewrite self.old (number_of self.old.blocks place) pair (HeldText
+            (text_of (Some pair.value) ++ tail.now)) self.new) self.old.pairs (number_of self.old.blocks place)) }
         ensures err { OnErr result (self.new ≡ self.old) }
     {
         let KeyEntry { key, slot: before } = self.index.entry(place);
@@ -372,7 +386,8 @@ impl ArenaMap {
     fn insert_at(&mut self, place: Place, key: &[u8], value: Val<'_>) -> Result<(), AllocError>
         requires gap { IsGap self.old.blocks place }
         requires absent { IsKeyGap key_of self.old.pairs key.now (number_of self.old.blocks place) }
-        ensures ok { OnOk result (IsAddition self.old (number_of self.old.blocks place) (record { key = key.now; value = held_of value.entry }) self.new) }
+        ensures ok { OnOk result (IsAddition self.old (number_of self.old.blocks place)
+            (record { key = key.now; value = held_of value.entry }) self.new) }
         ensures err { OnErr result (self.new ≡ self.old) }
     {
         let room = self.index.reserve(place)?;
@@ -384,7 +399,8 @@ impl ArenaMap {
     // Removes the pair at a place.
     fn remove_at(&mut self, place: Place)
         requires { HasEntry self.old.blocks place }
-        ensures { HoldsAt (λ pair. IsRemoval self.old (number_of self.old.blocks place) pair self.new) self.old.pairs (number_of self.old.blocks place) }
+        ensures { HoldsAt (λ pair. IsRemoval self.old (number_of self.old.blocks place) pair self.new) self.old.pairs
+            (number_of self.old.blocks place) }
     {
         let KeyEntry { key, slot } = self.index.remove(place);
         self.arena.forget(key);

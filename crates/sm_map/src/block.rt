@@ -3,7 +3,7 @@ ghost use Rattle.std.specs.List.{HoldsAt, between, insert, remove};
 ghost use Rattle.sm_map.specs.KeyMap.{key_of, IsKeyMap};
 ghost use Rattle.sm_ranges.specs.Keyed.{IsKeyPlace, IsKeyGap};
 ghost use Rattle.sm_map.specs.KeyEntry.{pairs_of, HasKeys};
-ghost use Rattle.sm_map.specs.Blocks.{IsCut};
+ghost use Rattle.sm_map.specs.Blocks.{IsHalved};
 
 use crate::key_entry::KeyEntry;
 use sm_arena::arena::Arena;
@@ -31,7 +31,10 @@ impl Model for Block {
 
     ghost Value = { BlockValue };
 
-    ghost view = { λ block. record { entries = block.entries.items; room = vec_capacity block.entries - vec_len block.entries } };
+    ghost view = { λ block. record {
+      entries = block.entries.items;
+      room = vec_capacity block.entries - vec_len block.entries;
+    } };
 }
 
 impl Block {
@@ -106,7 +109,7 @@ impl Block {
         requires full { length self.old.entries ≡ MOST_ENTRIES }
         requires empty { upper.entries ≡ [] }
         requires room { MOST_ENTRIES ≤ upper.room }
-        ensures { IsCut (insert self.old.entries at entry) self.new result }
+        ensures { IsHalved (insert self.old.entries at entry) self.new result }
     {
         let mut upper = self.cut(upper);
         if at <= HALF_ENTRIES {
@@ -144,7 +147,8 @@ impl Block {
     }
 }
 
-// The place of the entry with the key, or the place where one would go: each step halves the entries between low and high.
+// The place of the entry with the key, or the place where one would go: each step halves the entries between low and
+// high.
 fn search(entries: &[KeyEntry], arena: &Arena, key: &[u8]) -> Result<usize, usize>
     requires keys { HasKeys arena.now.placed entries.now }
     requires rising { IsKeyMap (pairs_of arena.now.placed entries.now) }

@@ -1,4 +1,5 @@
-ghost use Rattle.std.specs.Prelude.{◌≡◌, ◌<◌, ◌≤◌, ◌+◌, ℕ, [], All, length, slice_index, slice_index_or, slice_set, IfOk, IfErr};
+ghost use Rattle.std.specs.Prelude.{◌≡◌, ◌<◌, ◌≤◌, ◌+◌, ℕ, [], All, length, slice_index, slice_index_or, slice_set};
+ghost use Rattle.std.specs.Prelude.{IfOk, IfErr};
 ghost use Rattle.std.specs.Vec.{vec_len, vec_capacity};
 ghost use Rattle.std.specs.List.{HoldsAt, insert, remove};
 ghost use Rattle.sm_ranges.specs.Keyed.{IsKeyPlace, IsKeyGap};
@@ -32,7 +33,10 @@ impl Model for Index {
 
     ghost Value = { IndexValue };
 
-    ghost view = { λ index. record { blocks = index.blocks.items; room = vec_capacity index.blocks - vec_len index.blocks } };
+    ghost view = { λ index. record {
+      blocks = index.blocks.items;
+      room = vec_capacity index.blocks - vec_len index.blocks;
+    } };
 
     ghost invariant = { λ index. IsIndex index.blocks.items index.len };
 }
@@ -75,9 +79,11 @@ impl Index {
         requires keys { HasKeys arena.now.placed (entries_in self.now.blocks) }
         requires rising { IsKeyMap (pairs_of arena.now.placed (entries_in self.now.blocks)) }
         ensures entry { IfOk result (HasEntry (lengths_in self.now.blocks)) }
-        ensures found { IfOk result (λ place. IsKeyPlace key_of (pairs_of arena.now.placed (entries_in self.now.blocks)) key.now (number_of (lengths_in self.now.blocks) place)) }
+        ensures found { IfOk result (λ place. IsKeyPlace key_of (pairs_of arena.now.placed (entries_in self.now.blocks))
+            key.now (number_of (lengths_in self.now.blocks) place)) }
         ensures gap { IfErr result (IsGap (lengths_in self.now.blocks)) }
-        ensures absent { IfErr result (λ place. IsKeyGap key_of (pairs_of arena.now.placed (entries_in self.now.blocks)) key.now (number_of (lengths_in self.now.blocks) place)) }
+        ensures absent { IfErr result (λ place. IsKeyGap key_of (pairs_of arena.now.placed (entries_in self.now.blocks))
+            key.now (number_of (lengths_in self.now.blocks) place)) }
     {
         match search(&self.blocks, arena, key) {
             Ok(block) => Ok(Place { block, offset: 0 }),
@@ -91,11 +97,14 @@ impl Index {
         requires within { block < length (lengths_in self.now.blocks) }
         requires keys { HasKeys arena.now.placed (entries_in self.now.blocks) }
         requires rising { IsKeyMap (pairs_of arena.now.placed (entries_in self.now.blocks)) }
-        requires between { IsBlockGap (pairs_of arena.now.placed (entries_in self.now.blocks)) (lengths_in self.now.blocks) key.now (block + 1) }
+        requires between { IsBlockGap (pairs_of arena.now.placed (entries_in self.now.blocks))
+            (lengths_in self.now.blocks) key.now (block + 1) }
         ensures entry { IfOk result (HasEntry (lengths_in self.now.blocks)) }
-        ensures found { IfOk result (λ place. IsKeyPlace key_of (pairs_of arena.now.placed (entries_in self.now.blocks)) key.now (number_of (lengths_in self.now.blocks) place)) }
+        ensures found { IfOk result (λ place. IsKeyPlace key_of (pairs_of arena.now.placed (entries_in self.now.blocks))
+            key.now (number_of (lengths_in self.now.blocks) place)) }
         ensures gap { IfErr result (IsGap (lengths_in self.now.blocks)) }
-        ensures absent { IfErr result (λ place. IsKeyGap key_of (pairs_of arena.now.placed (entries_in self.now.blocks)) key.now (number_of (lengths_in self.now.blocks) place)) }
+        ensures absent { IfErr result (λ place. IsKeyGap key_of (pairs_of arena.now.placed (entries_in self.now.blocks))
+            key.now (number_of (lengths_in self.now.blocks) place)) }
     {
         match self.blocks[block].find(arena, key) {
             Ok(offset) => Ok(Place { block, offset }),
@@ -105,7 +114,8 @@ impl Index {
 
     pub(crate) fn entry(&self, place: Place) -> KeyEntry
         requires { HasEntry (lengths_in self.now.blocks) place }
-        ensures { HoldsAt (λ entry. result ≡ entry) (entries_in self.now.blocks) (number_of (lengths_in self.now.blocks) place) }
+        ensures { HoldsAt (λ entry. result ≡ entry) (entries_in self.now.blocks)
+            (number_of (lengths_in self.now.blocks) place) }
     {
         self.blocks[place.block].entry(place.offset)
     }
@@ -115,7 +125,8 @@ impl Index {
         requires block { place.block < length (lengths_in self.now.blocks) }
         requires order { (place.offset ≤ high) × (high ≤ slice_index (lengths_in self.now.blocks) place.block) }
         ensures count { place.offset + length result.now ≡ high }
-        ensures each { (k : ℕ) → k < length result.now → HoldsAt (λ entry. slice_index_or result.now k entry ≡ entry) (entries_in self.now.blocks) (number_of (lengths_in self.now.blocks) place + k) }
+        ensures each { (k : ℕ) → k < length result.now → HoldsAt (λ entry. slice_index_or result.now k entry ≡ entry)
+            (entries_in self.now.blocks) (number_of (lengths_in self.now.blocks) place + k) }
     {
         self.blocks[place.block].entries(place.offset, high)
     }
@@ -149,7 +160,8 @@ impl Index {
     pub(crate) fn after(&self, place: Place) -> Place
         requires { HasEntry (lengths_in self.now.blocks) place }
         ensures stop { IsStop (lengths_in self.now.blocks) result }
-        ensures next { number_of (lengths_in self.now.blocks) result ≡ number_of (lengths_in self.now.blocks) place + 1 }
+        ensures next { number_of (lengths_in self.now.blocks) result ≡ number_of (lengths_in self.now.blocks) place
+            + 1 }
     {
         // No block is long: a proof knows it where a field is used.
         let _ = &self.blocks;
@@ -183,7 +195,8 @@ impl Index {
     // Writes over an entry.
     pub(crate) fn set(&mut self, place: Place, entry: KeyEntry)
         requires { HasEntry (lengths_in self.old.blocks) place }
-        ensures { entries_in self.new.blocks ≡ slice_set (entries_in self.old.blocks) (number_of (lengths_in self.old.blocks) place) entry }
+        ensures { entries_in self.new.blocks
+            ≡ slice_set (entries_in self.old.blocks) (number_of (lengths_in self.old.blocks) place) entry }
     {
         self.blocks[place.block].set(place.offset, entry);
     }
@@ -211,7 +224,8 @@ impl Index {
     // Puts an entry into the room that was made for it at the place.
     pub(crate) fn insert(&mut self, place: Place, entry: KeyEntry, room: Room)
         requires { IsReady self.old place room }
-        ensures { entries_in self.new.blocks ≡ insert (entries_in self.old.blocks) (number_of (lengths_in self.old.blocks) place) entry }
+        ensures { entries_in self.new.blocks
+            ≡ insert (entries_in self.old.blocks) (number_of (lengths_in self.old.blocks) place) entry }
     {
         self.len += 1;
         match room {
@@ -231,8 +245,10 @@ impl Index {
     // Removes an entry, and its block where it was the only one there.
     pub(crate) fn remove(&mut self, place: Place) -> KeyEntry
         requires { HasEntry (lengths_in self.old.blocks) place }
-        ensures removed { HoldsAt (λ entry. result ≡ entry) (entries_in self.old.blocks) (number_of (lengths_in self.old.blocks) place) }
-        ensures entries { entries_in self.new.blocks ≡ remove (entries_in self.old.blocks) (number_of (lengths_in self.old.blocks) place) }
+        ensures removed { HoldsAt (λ entry. result ≡ entry) (entries_in self.old.blocks)
+            (number_of (lengths_in self.old.blocks) place) }
+        ensures entries { entries_in self.new.blocks
+            ≡ remove (entries_in self.old.blocks) (number_of (lengths_in self.old.blocks) place) }
     {
         self.len -= 1;
         let entry = self.blocks[place.block].remove(place.offset);
@@ -259,8 +275,10 @@ fn search(blocks: &[Block], arena: &Arena, key: &[u8]) -> Result<usize, usize>
     requires keys { HasKeys arena.now.placed (entries_in blocks.now) }
     requires rising { IsKeyMap (pairs_of arena.now.placed (entries_in blocks.now)) }
     ensures within { IfOk result (λ block. block < length blocks.now) }
-    ensures found { IfOk result (λ block. IsKeyPlace key_of (pairs_of arena.now.placed (entries_in blocks.now)) key.now (number_of (lengths_in blocks.now) (record { block = block; offset = 0 }))) }
-    ensures absent { IfErr result (IsBlockGap (pairs_of arena.now.placed (entries_in blocks.now)) (lengths_in blocks.now) key.now) }
+    ensures found { IfOk result (λ block. IsKeyPlace key_of (pairs_of arena.now.placed (entries_in blocks.now)) key.now
+        (number_of (lengths_in blocks.now) (record { block = block; offset = 0 }))) }
+    ensures absent { IfErr result
+        (IsBlockGap (pairs_of arena.now.placed (entries_in blocks.now)) (lengths_in blocks.now) key.now) }
 {
     let mut low = 0;
     let mut high = blocks.len();

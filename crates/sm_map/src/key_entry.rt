@@ -26,7 +26,8 @@ impl KeyEntry {
         value: Val<'_>,
     ) -> Result<KeyEntry, AllocError>
         ensures stored { IfOk result (λ entry. IsStored arena.old (uses_entry entry) arena.new) }
-        ensures reads { IfOk result (λ entry. pair_of arena.new.placed entry ≡ record { key = key.now; value = held_of value.entry }) }
+        ensures reads { IfOk result
+            (λ entry. pair_of arena.new.placed entry ≡ record { key = key.now; value = held_of value.entry }) }
         ensures err { OnErr result (arena.new ≡ arena.old) }
     {
         match value {

@@ -37,7 +37,8 @@ impl Slot {
         requires readable { IsReadable arena.old.placed self }
         requires text { IsText (held_in arena.old.placed self) }
         ensures stored { IfOk result (λ slot. IsStored arena.old (uses_slot slot) arena.new) }
-        ensures reads { IfOk result (λ slot. held_in arena.new.placed slot ≡ HeldText (text_of (Some (held_in arena.old.placed self)) ++ tail.now)) }
+        ensures reads { IfOk result (λ slot. held_in arena.new.placed slot
+            ≡ HeldText (text_of (Some (held_in arena.old.placed self)) ++ tail.now)) }
         ensures err { OnErr result (arena.new ≡ arena.old) }
     {
         match self {

@@ -25,7 +25,7 @@ use Rattle.sm_table.specs.declared.world_answer.WorldAnswer.TheVariants.{Made, S
 use Rattle.sm_table.specs.declared.world_fault.WorldFault.{WorldFault}
 use Rattle.sm_table.specs.declared.world_fault.WorldFault.TheVariants as fault
 use Rattle.sm_table.specs.Standing.{Follows, GoesAs, StandsFor, WorldView}
-use Rattle.sm_table.specs.World.{WorldState, Mark, Plain, Unmade, Unserved, based, count_of, ended, is_there, mark_of, may_go, outcome, served, with_room, worked, world_record}
+use Rattle.sm_table.specs.World.{WorldState, Mark, Plain, Unmade, Unserved, count_of, ended, is_there, made_unless, mark_of, may_go, outcome, served, with_room, worked, world_record}
 use Rattle.sm_model.specs.Calls.{Stepped, after_arrival, after_hops, after_sending, answer_of, called, counter_text, is_begun, is_sent, requested, shard_for, stepped}
 use Rattle.sm_model.specs.Sessions.{Arrives, Ends, EndsAt, IsIdle, Steps}
 use Rattle.sm_model.proofs.Answering.{follows_plain}
@@ -243,17 +243,19 @@ ends_finished before between there after shard server request sent reached resul
 
 -- ---- a checkpoint, to which memory may be refused
 
-based_keeps : (w : WorldState Request) (shard server : ℕ) (there known : Bool) (why : Option AdmitFault)
-    → (if there then (if known then based {R = Reply} w shard server why else (Err fault.UnknownServer, w)) else (Err fault.UnknownShard, w)).1.in_flight ≡ w.in_flight
-based_keeps w shard server true true (Some why) = refl
-based_keeps w shard server true true None = refl
-based_keeps w shard server true false why = refl
-based_keeps w shard server false known why = refl
+admission_keeps : (w made : WorldState Request) (there known : Bool) (why : Option AdmitFault)
+    → made.in_flight ≡ w.in_flight
+    → (if there then (if known then made_unless {R = Reply} why w made else (Err fault.UnknownServer, w))
+      else (Err fault.UnknownShard, w)).1.in_flight ≡ w.in_flight
+admission_keeps w made true true (Some why) left = refl
+admission_keeps w made true true None left = left
+admission_keeps w made true false why left = refl
+admission_keeps w made false known why left = refl
 
 checkpoint_keeps : (w : WorldState Request) (mark : Mark) (shard server : ℕ) → (outcome counter_text w mark (Checkpoint shard server)).1.in_flight ≡ w.in_flight
 checkpoint_keeps w Unmade shard server = refl
-checkpoint_keeps w Plain shard server = based_keeps w shard server (nat_lt shard (count_of w)) (is_there w server) _
-checkpoint_keeps w Unserved shard server = based_keeps w shard server (nat_lt shard (count_of w)) (is_there w server) _
+checkpoint_keeps w Plain shard server = admission_keeps w _ (nat_lt shard (count_of w)) (is_there w server) _ refl
+checkpoint_keeps w Unserved shard server = admission_keeps w _ (nat_lt shard (count_of w)) (is_there w server) _ refl
 
 pub ends_checkpoint : (before after : WorldView Request) (shard server : ℕ) (result : Result (WorldAnswer Reply) WorldFault)
     → GoesAs counter_text before result after (Checkpoint shard server) → Ends before (call.Checkpoint shard server) result after

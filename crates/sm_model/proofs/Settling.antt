@@ -28,7 +28,7 @@ use Rattle.sm_desk.specs.declared.command.Command.TheVariants.{Change as ChangeO
 use Rattle.sm_desk.specs.Desk.{is_reached}
 use Rattle.sm_envelope.specs.Envelope.{EnvelopeView, one_hop_more, sent_on}
 use Rattle.sm_envelope.specs.declared.envelope.TheConstants.{MOST_HOPS}
-use Rattle.sm_table.specs.World.{WorldState, Plain, after_hop, arrived, based, controlled, count_of, ended, flight_to, freed, hand_of, held, hopped, is_there, let_go, published, reached, served, with_room, worked, world_record}
+use Rattle.sm_table.specs.World.{WorldState, Plain, after_hop, arrived, controlled, count_of, ended, flight_to, freed, hand_of, hopped, is_there, let_go, made_unless, published, reached, served, with_room, worked, world_record}
 use Rattle.sm_ownership.specs.History.{kept}
 use Rattle.sm_ownership.specs.Rules.{admit_fault, forward_to}
 use Rattle.sm_envelope.specs.declared.refusal.Refusal.TheVariants.{KeptFull, Unreachable as NotReached}
@@ -147,19 +147,14 @@ requested_settles : (w : WorldState Request) (request : Request) (owner : Option
 requested_settles w request None within rest = record { answers = refl; rest = rest }
 requested_settles w request (Some owner) within rest = requested_at_settles w request owner within rest
 
-held_settles : (w : WorldState Request) (shard server : ℕ) (there known : Bool) (fault : Option AdmitFault) → w.in_flight ≡ []
-    → Settles (if there then (if known then held w shard server fault else (Err UnknownServer, w)) else (Err UnknownShard, w))
-held_settles w shard server true true (Some fault) rest = record { answers = refl; rest = rest }
-held_settles w shard server true true None rest = record { answers = refl; rest = rest }
-held_settles w shard server true false fault rest = record { answers = refl; rest = rest }
-held_settles w shard server false known fault rest = record { answers = refl; rest = rest }
-
-based_settles : (w : WorldState Request) (shard server : ℕ) (there known : Bool) (fault : Option AdmitFault) → w.in_flight ≡ []
-    → Settles (if there then (if known then based w shard server fault else (Err UnknownServer, w)) else (Err UnknownShard, w))
-based_settles w shard server true true (Some fault) rest = record { answers = refl; rest = rest }
-based_settles w shard server true true None rest = record { answers = refl; rest = rest }
-based_settles w shard server true false fault rest = record { answers = refl; rest = rest }
-based_settles w shard server false known fault rest = record { answers = refl; rest = rest }
+-- an admission without a request, which leaves what is in flight
+admission_settles : (w made : WorldState Request) (there known : Bool) (fault : Option AdmitFault)
+    → w.in_flight ≡ [] → made.in_flight ≡ []
+    → Settles (if there then (if known then made_unless fault w made else (Err UnknownServer, w)) else (Err UnknownShard, w))
+admission_settles w made true true (Some fault) rest left = record { answers = refl; rest = rest }
+admission_settles w made true true None rest left = record { answers = refl; rest = left }
+admission_settles w made true false fault rest left = record { answers = refl; rest = rest }
+admission_settles w made false known fault rest left = record { answers = refl; rest = rest }
 
 let_go_settles : (w : WorldState Request) (shard server : ℕ) (work : Option (Work Request)) → w.in_flight ≡ [] → Settles (let_go w shard server work)
 let_go_settles w shard server None rest = record { answers = refl; rest = rest }
@@ -204,9 +199,9 @@ settles w (call.Control command) sound rest = control_settles w command _ rest
 settles w call.Place sound rest = record { answers = refl; rest = rest }
 settles w (call.Drain server) sound rest = record { answers = refl; rest = rest }
 settles w (call.Load key clients each) sound rest = record { answers = refl; rest = rest }
-settles w (call.Hold shard server) sound rest = held_settles w shard server (nat_lt shard (count_of w)) (is_there w server) _ rest
+settles w (call.Hold shard server) sound rest = admission_settles w _ (nat_lt shard (count_of w)) (is_there w server) _ rest rest
 settles w (call.Free shard) sound rest = freed_settles w shard (nat_lt shard (count_of w)) (slice_index_or w.in_hand shard None) rest
-settles w (call.Checkpoint shard server) sound rest = based_settles w shard server (nat_lt shard (count_of w)) (is_there w server) _ rest
+settles w (call.Checkpoint shard server) sound rest = admission_settles w _ (nat_lt shard (count_of w)) (is_there w server) _ rest rest
 settles w (call.Publish shard) sound rest = published_settles w (nat_lt shard (count_of w)) (record_route shard (world_record w shard)) rest
 settles w (call.Route key) sound rest = record { answers = refl; rest = rest }
 settles w (call.Look shard) sound rest = look_settles w shard (nat_lt shard (count_of w)) rest

@@ -1,5 +1,6 @@
 -- What each call of a script answers on a world, and the world that it leaves.
-use Rattle.std.specs.Prelude.{ℕ, zero, suc, Bool, true, false, Option, Some, None, Result, Ok, Err, if◌then◌else◌, List, [], ◌∷◌, length, replicate}
+use Rattle.std.specs.Prelude.{ℕ, zero, suc, Bool, true, false, Option, Some, None, Result, Ok, Err, if◌then◌else◌, List}
+use Rattle.std.specs.Prelude.{[], ◌∷◌, length, replicate}
 use Rattle.std.specs.Option.{option_or}
 use Rattle.sm_body.specs.Service.{Service}
 use Rattle.sm_envelope.specs.declared.envelope.TheConstants.{MOST_HOPS}
@@ -14,7 +15,9 @@ use Rattle.sm_ownership.specs.Routes.{routes_of}
 use Rattle.sm_ranges.specs.Ranges.{shard_of}
 use Rattle.sm_ranges.specs.Stand.{owner_of}
 use Rattle.sm_script.specs.declared.line_answer.LineAnswer.{LineAnswer}
-use Rattle.sm_script.specs.declared.line_answer.LineAnswer.TheVariants.{Made as IsMade, Refused as IsRefused, Seen as IsSeen, Executed, Planned, Way as IsWay, Error as IsError}
+use Rattle.sm_script.specs.declared.line_answer.LineAnswer.TheVariants.{Made as IsMade, Refused as IsRefused}
+use Rattle.sm_script.specs.declared.line_answer.LineAnswer.TheVariants.{Seen as IsSeen, Executed, Planned, Way as IsWay}
+use Rattle.sm_script.specs.declared.line_answer.LineAnswer.TheVariants.{Error as IsError}
 use Rattle.sm_script.specs.declared.fault.LineFault.TheVariants.{NotHere}
 use Rattle.sm_script.specs.declared.call.Call.{Call}
 use Rattle.sm_script.specs.declared.call.Call.TheVariants as call
@@ -24,9 +27,11 @@ use Rattle.sm_service.specs.declared.reply.Reply.{Reply}
 use Rattle.sm_service.specs.declared.request.Request.{Request}
 use Rattle.sm_settings.specs.SettingsLine.{SettingsValues}
 use Rattle.sm_table.specs.declared.step.Step.{Step}
-use Rattle.sm_table.specs.declared.step.Step.TheVariants.{Control, Look, Send, Deliver, Finish, Hold, Free, Checkpoint, Publish, RouteOf}
+use Rattle.sm_table.specs.declared.step.Step.TheVariants.{Control, Look, Send, Deliver, Finish, Hold, Free, Checkpoint}
+use Rattle.sm_table.specs.declared.step.Step.TheVariants.{Publish, RouteOf}
 use Rattle.sm_table.specs.declared.world_answer.WorldAnswer.{WorldAnswer}
-use Rattle.sm_table.specs.declared.world_answer.WorldAnswer.TheVariants.{Made, Seen, Sent, Began, Forwarded, Refused, Replied, Way}
+use Rattle.sm_table.specs.declared.world_answer.WorldAnswer.TheVariants.{Made, Seen, Sent, Began, Forwarded, Refused}
+use Rattle.sm_table.specs.declared.world_answer.WorldAnswer.TheVariants.{Replied, Way}
 use Rattle.sm_table.specs.declared.world_fault.WorldFault.{WorldFault}
 use Rattle.sm_table.specs.declared.world_fault.WorldFault.TheVariants as fault
 use Rattle.sm_table.specs.World.{Frame, WorldState, Plain, is_there, outcome, world_record}
@@ -77,6 +82,7 @@ answer_of _ = None
 abbrev pub Stepped : Type 0
 Stepped = Result (WorldAnswer Reply) WorldFault × WorldState Request
 
+-- what a step of the world answers and leaves, no memory refused
 abbrev pub stepped : WorldState Request → Step Request → Stepped
 stepped w step = outcome counter_text w Plain step
 
@@ -85,18 +91,22 @@ abbrev pub is_sent : Result (WorldAnswer Reply) WorldFault → Bool
 is_sent (Ok Sent) = true
 is_sent _ = false
 
+-- the step began a request at a server
 abbrev pub is_begun : Result (WorldAnswer Reply) WorldFault → Bool
 is_begun (Ok (Began server)) = true
 is_begun _ = false
 
+-- the step forwarded a request
 abbrev pub is_forwarded : Result (WorldAnswer Reply) WorldFault → Bool
 is_forwarded (Ok (Forwarded server)) = true
 is_forwarded _ = false
 
--- one request at a time is under way, so its envelope is the first in flight: it is delivered, and again after each of so many hops
+-- one request at a time is under way, so its envelope is the first in flight: it is delivered, and again after each of
+-- so many hops
 abbrev pub after_hops : ℕ → WorldState Request → Stepped
 after_hops zero w = stepped w (Deliver 0)
-after_hops (suc hops) w = let reached = stepped w (Deliver 0) in if is_forwarded reached.0 then after_hops hops reached.1 else reached
+after_hops (suc hops) w = let reached = stepped w (Deliver 0) in
+    if is_forwarded reached.0 then after_hops hops reached.1 else reached
 
 -- a request that a server began is finished
 abbrev pub after_arrival : ℕ → Result (WorldAnswer Reply) WorldFault → WorldState Request → Stepped
@@ -104,7 +114,8 @@ after_arrival shard result w = if is_begun result then stepped w (Finish shard) 
 
 -- a request that was sent arrives, and is finished where a server began it
 abbrev pub after_sending : ℕ → Result (WorldAnswer Reply) WorldFault → WorldState Request → Stepped
-after_sending shard result w = if is_sent result then (let reached = after_hops MOST_HOPS w in after_arrival shard reached.0 reached.1) else (result, w)
+after_sending shard result w = if is_sent result
+    then (let reached = after_hops MOST_HOPS w in after_arrival shard reached.0 reached.1) else (result, w)
 
 -- a request goes to this server
 abbrev pub requested_at : WorldState Request → Request → ℕ → ℕ → Stepped
@@ -134,7 +145,8 @@ ends_in_step asked = true
 
 -- the plan for the server's shards, where the server exists
 abbrev pub drained : WorldState Request → ℕ → LineAnswer
-drained w server = if is_there w server then Planned (drain_plan w.desk.books server) else IsRefused refused.UnknownServer
+drained w server =
+    if is_there w server then Planned (drain_plan w.desk.books server) else IsRefused refused.UnknownServer
 
 -- the last published route of a request's shard
 abbrev pub route_for : WorldState Request → Request → Option Route
@@ -145,8 +157,8 @@ abbrev pub unless_route : Option Route → Option LineAnswer
 unless_route None = Some (IsRefused refused.NoRoute)
 unless_route (Some route) = None
 
--- the answer to a call that makes no step here: a plan by the books of the world, that a client has no route, or that clients at the
--- same time don't run here
+-- the answer to a call that makes no step here: a plan by the books of the world, that a client has no route, or that
+-- clients at the same time don't run here
 abbrev pub answer_without_steps : WorldState Request → Call → Option LineAnswer
 answer_without_steps w call.Place = Some (Planned (assign_plan w.desk.books))
 answer_without_steps w (call.Drain server) = Some (drained w server)
@@ -163,7 +175,8 @@ called w (call.Checkpoint shard server) = stepped w (Checkpoint shard server)
 called w (call.Publish shard) = stepped w (Publish shard)
 called w (call.Route key) = stepped w (RouteOf key)
 called w (call.Look shard) = stepped w (Look shard)
-called w (call.Request request) = requested w request (shard_for w request) (owner_of (world_record w (shard_for w request)).stand)
+called w (call.Request request) =
+    requested w request (shard_for w request) (owner_of (world_record w (shard_for w request)).stand)
 called w (call.RequestAt server request) = requested_at w request (shard_for w request) server
 called w (call.RequestByRoute request) = requested_by w request (shard_for w request) (route_for w request)
 called w asked = (Ok Made, w)

@@ -14,9 +14,11 @@ use Rattle.sm_settings.specs.SettingsLine.{SettingsValues}
 abbrev pub WroteScript : Transcript → Transcript → Type 0
 WroteScript was now = IfKnown (to_come was.reading) (λ bytes. Wrote was.writing now.writing (script bytes))
 
+-- the input, where it is known, begins with settings that are accepted
 abbrev pub AcceptsSettings : Transcript → Type 0
 AcceptsSettings was = IfKnown (to_come was.reading) (λ bytes. IsOk (settings_in (lines_of bytes)))
 
+-- the input, where it is known, begins with settings that are refused
 abbrev pub RefusesSettings : Transcript → Type 0
 RefusesSettings was = IfKnown (to_come was.reading) (λ bytes. IsErr (settings_in (lines_of bytes)))
 

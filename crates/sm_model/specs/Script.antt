@@ -19,7 +19,8 @@ use Rattle.sm_model.specs.Calls.{answered, called, settings_frame}
 abbrev pub answer_line : LineAnswer → List ℕ
 answer_line answer = answer_text answer ++ 10 ∷ []
 
--- what is written for a line that was read so, and the world that it leaves. Each call has an answer, as the law `every_call_answered` says
+-- what is written for a line that was read so, and the world that it leaves. Each call has an answer, as the law
+-- `every_call_answered` says
 abbrev pub responded : WorldState Request → Result (Option Call) LineFault → List ℕ × WorldState Request
 responded w (Err fault) = (answer_line (Error fault), w)
 responded w (Ok None) = ([], w)
@@ -34,7 +35,8 @@ abbrev pub responses : WorldState Request → List (List ℕ) → List ℕ
 responses w [] = []
 responses w (line ∷ lines) = let first = line_response w line in first.0 ++ responses first.1 lines
 
--- what is written where the settings in front were read so: their fault, or the answers to the other lines on the world that they ask for
+-- what is written where the settings in front were read so: their fault, or the answers to the other lines on the world
+-- that they ask for
 abbrev pub script_with : Result SettingsValues SettingsFault → List (List ℕ) → List ℕ
 script_with (Err fault) lines = settings_line fault
 script_with (Ok settings) lines = responses (empty_world (settings_frame settings)) lines

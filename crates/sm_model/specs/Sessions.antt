@@ -38,7 +38,8 @@ GivesAnswer before call answer after =
 -- at every world the line has this response
 abbrev pub RespondsAsWorld : WorldView Request → List ℕ → List ℕ → WorldView Request → Type 0
 RespondsAsWorld before line text after =
-    (w : WorldState Request) → IsAt before w → (text ≡ (responded w (call_of_line line)).0) × IsAt after (responded w (call_of_line line)).1
+    (w : WorldState Request) → IsAt before w
+    → (text ≡ (responded w (call_of_line line)).0) × IsAt after (responded w (call_of_line line)).1
 
 -- ---- the steps of a call
 
@@ -52,10 +53,12 @@ Steps before step result after = (w : WorldState Request) → StandsFor before w
 
 -- at every world the first envelope in flight arrived as it should
 abbrev pub Arrives : WorldView Request → Result (WorldAnswer Reply) WorldFault → WorldView Request → Type 0
-Arrives before result after = (w : WorldState Request) → StandsFor before w → Follows after result (after_hops MOST_HOPS w)
+Arrives before result after =
+    (w : WorldState Request) → StandsFor before w → Follows after result (after_hops MOST_HOPS w)
 
 -- the call ended in this step, which has an answer, and the session is at the world that it leaves
-pub record EndsAt (view : WorldView Request) (result : Result (WorldAnswer Reply) WorldFault) (ended : Stepped) : Type 0 where
+pub record EndsAt (view : WorldView Request) (result : Result (WorldAnswer Reply) WorldFault)
+    (ended : Stepped) : Type 0 where
   pub answered : result ≡ ended.0
   pub answers : is_some (answer_of result) ≡ true
   pub stands : IsAt view ended.1
@@ -63,4 +66,5 @@ pub record EndsAt (view : WorldView Request) (result : Result (WorldAnswer Reply
 -- at every world the call ended as it should, unless memory was refused; in both cases no request is under way
 abbrev pub Ends : WorldView Request → Call → Result (WorldAnswer Reply) WorldFault → WorldView Request → Type 0
 Ends before call result after =
-    (w : WorldState Request) → IsAt before w → IsIdle after × (mark_of result ≡ Plain → EndsAt after result (called w call))
+    (w : WorldState Request) → IsAt before w
+    → IsIdle after × (mark_of result ≡ Plain → EndsAt after result (called w call))

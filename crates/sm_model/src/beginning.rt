@@ -1,4 +1,5 @@
-//! What a session of either engine begins with, how it writes an answer, and what it writes for a line beyond the limit.
+//! What a session of either engine begins with, how it writes an answer, and what it writes for a line beyond the
+//! limit.
 
 ghost use Rattle.std.specs.Prelude.{◌≡◌, ◌++◌, [], IfOk, OnOk, replicate};
 ghost use Rattle.sm_settings.specs.SettingsLine.{values_of};

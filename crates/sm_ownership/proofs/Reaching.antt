@@ -1,5 +1,5 @@
 -- Who answers for a shard at each stand of a legal history.
-use Rattle.std.proofs.Common.{◌≡◌, ◌≢◌, ℕ, Bool, true, false, List, [], ◌∷◌, refl, sym, subst, ⊎_elim, inl, inr}
+use Rattle.std.proofs.Common.{◌≡◌, ◌≢◌, ℕ, Bool, true, false, not, ◌&&◌, List, [], ◌∷◌, refl, sym, ap, subst, ⊎_elim, inl, inr}
 use Rattle.std.specs.Prelude.{Some, None, ◌==◌, reverse, unwrap_or, if◌then◌else◌}
 use Rattle.std.proofs.lemmas.Bool.{and_from, cases_eq, eq-eqb, ne_eqb}
 use Rattle.sm_ranges.specs.declared.stand.Stand.{Stand}
@@ -17,7 +17,7 @@ use Rattle.sm_ownership.specs.Rules.{stand_after}
 
 unless_owner : (owner next : ℕ) (same : Bool) → (next == owner) ≡ same → IsApart (unwrap_or (if same then None else Some (Prepared owner next)) (Serving owner))
 unless_owner owner next true is = tt
-unless_owner owner next false is = λ equal. let same = eq-eqb next owner (sym equal) in absurd cc
+unless_owner owner next false is = λ equal. let other : owner ≡ next = cc in let same = eq-eqb next owner (sym other) in absurd cc
 
 serving_either : (owner next : ℕ) (same : Bool) → IsApart (unwrap_or (if same then None else Some (Serving next)) (Paused owner))
 serving_either owner next true = tt
@@ -64,17 +64,21 @@ one_of_some Holds x y same holds = let is : x ≡ y = cc in subst Holds is holds
 itself : (server : ℕ) → (server == server) ≡ true
 itself server = eq-eqb server server refl
 
+-- what reaches an executor at which nothing comes early
+executing : (executor server : ℕ) → executor ≡ server → ((executor == server) && true) ≡ true
+executing executor server same = and_from (executor == server) true (eq-eqb executor server same) refl
+
 -- the owner forwards to the next server
 forwarding : (owner next : ℕ) → owner ≢ next → ForwardsTo (Forwarding owner next) owner next
 forwarding owner next apart = record {
   forwards = rw (itself owner) refl;
   executes = refl;
-  takes = and_from (next == next) (owner == owner) (itself next) (itself owner);
+  takes = and_from (next == next) (not (not (owner == owner))) (itself next) (rw (itself owner) refl);
   keeps = rw (ne_eqb owner next apart) refl;
-  takes_when_added = λ added is. one_of_some (λ stand. AcceptsForwarded stand owner next) (Taken next owner) added is (itself next);
+  takes_when_added = λ added is. one_of_some (λ stand. AcceptsForwarded stand owner next) (Taken next owner) added is (executing next next refl);
   takes_when_dropped = λ dropped is. absurd cc;
   takes_after_both = λ added dropped is later. one_of_some (λ stand. stand_after stand DropShard ≡ Some dropped → AcceptsForwarded dropped owner next) (Taken next owner) added is
-      (λ dropped_is. one_of_some (λ stand. AcceptsForwarded stand owner next) (Serving next) dropped dropped_is (itself next)) later;
+      (λ dropped_is. one_of_some (λ stand. AcceptsForwarded stand owner next) (Serving next) dropped dropped_is (executing next next refl)) later;
 }
 
 -- the previous owner forwards to the owner
@@ -82,22 +86,22 @@ taken : (owner previous : ℕ) → owner ≢ previous → ForwardsTo (Taken owne
 taken owner previous apart = record {
   forwards = rw (itself previous) refl;
   executes = refl;
-  takes = itself owner;
+  takes = executing owner owner refl;
   keeps = rw (ne_eqb previous owner (λ same. apart (sym same))) refl;
   takes_when_added = λ added is. absurd cc;
-  takes_when_dropped = λ dropped is. one_of_some (λ stand. AcceptsForwarded stand previous owner) (Serving owner) dropped is (itself owner);
+  takes_when_dropped = λ dropped is. one_of_some (λ stand. AcceptsForwarded stand previous owner) (Serving owner) dropped is (executing owner owner refl);
   takes_after_both = λ added dropped is later. absurd cc;
 }
 
 -- what reaches the owner, or the previous one, is executed or forwarded
 pub served : (stand : Stand) (server : ℕ) → IsApart stand → IsReached stand server → IsServed stand server
 served Vacant server apart reached = absurd reached
-served (Serving owner) server apart reached = inl (eq-eqb owner server reached)
-served (Prepared owner next) server apart reached = inl (eq-eqb owner server reached)
-served (Forwarding owner next) server apart reached = subst (λ s. IsServed (Forwarding owner next) s) reached (inr (next, forwarding owner next apart))
+served (Serving owner) server apart reached = inl (executing owner server reached)
+served (Prepared owner next) server apart reached = inl (executing owner server reached)
+served (Forwarding owner next) server apart reached = subst (λ s. IsServed (Forwarding owner next) s) reached (inr (next, forwarding owner next (λ same. apart (ap Some same))))
 served (Taken owner previous) server apart reached =
     ⊎_elim
-    (λ (is : owner ≡ server). inl (eq-eqb owner server is))
-    (λ (is : previous ≡ server). subst (λ s. IsServed (Taken owner previous) s) is (inr (owner, taken owner previous apart)))
+    (λ (is : owner ≡ server). inl (executing owner server is))
+    (λ (is : previous ≡ server). subst (λ s. IsServed (Taken owner previous) s) is (inr (owner, taken owner previous (λ same. apart (ap Some same)))))
     reached
 served (Paused owner) server apart reached = absurd reached

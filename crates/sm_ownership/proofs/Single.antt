@@ -1,17 +1,16 @@
 -- A shard has one admission at most, and it is the executor's.
 use Rattle.std.proofs.Common.{◌≡◌, ◌≢◌, ℕ, ◌≤◌, ◌+◌, Bool, true, false, not, List, [], ◌∷◌, length, refl, sym, ap, subst, ◌∙◌, arith, ⊎_elim}
-use Rattle.std.specs.Prelude.{Some, All, filter, nat_le, reverse, ◌==◌, if◌then◌else◌}
+use Rattle.std.specs.Prelude.{Option, None, Some, All, filter, nat_le, reverse, ◌==◌, if◌then◌else◌}
 use Rattle.std.proofs.lemmas.Bool.{true≢false, cases_eq, and_parts, not-true, eq-eqb, eqb-true}
 use Rattle.std.proofs.lemmas.Bool.Decides.{nat_tests}
 use Rattle.std.proofs.lemmas.List.Elements.{All-nil, All-cons}
 use Rattle.sm_ranges.specs.declared.stand.Stand.{Stand}
-use Rattle.sm_ranges.specs.declared.stand.Stand.TheVariants.{Vacant, Serving, Prepared, Forwarding, Taken, Paused}
 use Rattle.sm_ownership.specs.declared.entry.Entry.{Entry}
 use Rattle.sm_ownership.specs.declared.entry.Kind.{Kind}
 use Rattle.sm_ownership.specs.declared.entry.Kind.TheVariants.{Change as Changed, Admit, Done}
 use Rattle.sm_ownership.specs.declared.mode.Mode.{Mode}
 use Rattle.sm_ownership.specs.declared.record.Record.{Record}
-use Rattle.sm_ownership.specs.Rules.{executor, executor_of, accepts, accepts_at, is_forwarded_by}
+use Rattle.sm_ownership.specs.Rules.{executor, executor_of, accepts, accepts_at, is_early, is_server}
 use Rattle.sm_ownership.specs.History.{record_at, after_kind, acts_as, latest_of, is_admit, is_admission_of, fits, kind_fits, table_of, table_of_latest, IsLegal, IsLegalLatest, without_ended, open_admissions, open_admissions_latest}
 use Rattle.sm_ownership.specs.lemmas.Growth.{record_at-empty, record_at-latest, record_at-latest_other}
 
@@ -29,13 +28,13 @@ one_or_none : (n : ℕ) (b : Bool) → n ≡ (if b then 1 else 0) → n ≤ 1
 one_or_none n true is = omega arith
 one_or_none n false is = omega arith
 
+named_server : (named : Option ℕ) (server : ℕ) → is_server named server ≡ true → named ≡ Some server
+named_server None server is = absurd (true≢false (sym is))
+named_server (Some one) server is = ap Some (eqb-true one server is)
+
 executes : (stand : Stand) (server : ℕ) (mode : Mode) → accepts_at stand server mode ≡ true → executor_of stand ≡ Some server
-executes Vacant server mode accepted = absurd (true≢false (sym accepted))
-executes (Serving owner) server mode accepted = ap Some (eqb-true owner server accepted)
-executes (Prepared owner next) server mode accepted = ap Some (eqb-true owner server accepted)
-executes (Forwarding owner next) server mode accepted = ap Some (eqb-true next server (and_parts (next == server) (is_forwarded_by owner mode) accepted).0)
-executes (Taken owner previous) server mode accepted = ap Some (eqb-true owner server accepted)
-executes (Paused owner) server mode accepted = absurd (true≢false (sym accepted))
+executes stand server mode accepted =
+    named_server (executor_of stand) server (and_parts (is_server (executor_of stand) server) (not (is_early stand mode)) accepted).0
 
 module _ {Q : Type 0} where
   other_shard : (entry : Entry Q) (earlier : List (Entry Q)) (shard : ℕ) (state : Record) (standing : List (Entry Q)) → (entry.shard == shard) ≡ false → IsSingle earlier shard state standing → IsSingle (entry ∷ earlier) shard state standing

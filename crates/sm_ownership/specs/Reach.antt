@@ -1,5 +1,6 @@
 -- Who answers for a shard's requests while it migrates.
-use Rattle.std.specs.Prelude.{ℕ, Some, None, ◌≡◌, ◌≢◌, ◌⊎◌, IsTrue}
+use Rattle.std.specs.Prelude.{ℕ, Some, None, ◌≡◌, ◌≢◌, ◌⊎◌, IfSome, IsTrue}
+use Rattle.sm_ranges.specs.Stand.{other_of, owner_of}
 use Rattle.sm_ranges.specs.declared.stand.Stand.{Stand}
 use Rattle.sm_ranges.specs.declared.stand.Stand.TheVariants.{Vacant, Serving, Prepared, Forwarding, Taken, Paused}
 use Rattle.sm_ownership.specs.declared.change.Change.TheVariants.{AddShard, DropShard}
@@ -8,13 +9,10 @@ use Rattle.sm_ownership.specs.Rules.{accepts_at, executor_of, forward_at, stand_
 
 -- the next or previous server of a stand is not its owner
 abbrev pub IsApart : Stand → Type 0
-IsApart (Prepared owner next) = owner ≢ next
-IsApart (Forwarding owner next) = owner ≢ next
-IsApart (Taken owner previous) = owner ≢ previous
-IsApart _ = Unit {0}
+IsApart stand = IfSome (other_of stand) (λ other. owner_of stand ≢ Some other)
 
--- the server is the shard's owner, or its previous owner, which hasn't dropped the shard yet; nobody executes for a shard
--- that is vacant or paused
+-- the server is the shard's owner, or its previous owner, which hasn't dropped the shard yet; nobody executes for a
+-- shard that is vacant or paused
 abbrev pub IsReached : Stand → ℕ → Type 0
 IsReached Vacant server = ⊥
 IsReached (Serving owner) server = owner ≡ server
@@ -34,9 +32,12 @@ pub record ForwardsTo (stand : Stand) (server executor : ℕ) : Type 0 where
   pub executes : executor_of stand ≡ Some executor
   pub takes : AcceptsForwarded stand server executor
   pub keeps : forward_at stand executor ≡ None
-  pub takes_when_added : (added : Stand) → stand_after stand AddShard ≡ Some added → AcceptsForwarded added server executor
-  pub takes_when_dropped : (dropped : Stand) → stand_after stand DropShard ≡ Some dropped → AcceptsForwarded dropped server executor
-  pub takes_after_both : (added dropped : Stand) → stand_after stand AddShard ≡ Some added → stand_after added DropShard ≡ Some dropped → AcceptsForwarded dropped server executor
+  pub takes_when_added : (added : Stand) → stand_after stand AddShard ≡ Some added
+      → AcceptsForwarded added server executor
+  pub takes_when_dropped : (dropped : Stand) → stand_after stand DropShard ≡ Some dropped
+      → AcceptsForwarded dropped server executor
+  pub takes_after_both : (added dropped : Stand) → stand_after stand AddShard ≡ Some added
+      → stand_after added DropShard ≡ Some dropped → AcceptsForwarded dropped server executor
 
 -- the server executes what comes to it directly, or forwards it to the executor
 abbrev pub IsServed : Stand → ℕ → Type 0

@@ -11,7 +11,8 @@ routes_of publications shard = find (λ route. route.shard == shard) (reverse pu
 
 -- the route that a shard's record makes: to its owner, where it has one, at its generation
 abbrev pub record_route : ℕ → Record → Option Route
-record_route shard state = option_map (λ owner. record { shard = shard; server = owner; generation = state.generation }) (owner_of state.stand)
+record_route shard state =
+    option_map (λ owner. record { shard = shard; server = owner; generation = state.generation }) (owner_of state.stand)
 
 -- the route isn't above the shard's last one
 abbrev pub is_old : Option Route → Route → Bool

@@ -1,16 +1,19 @@
 -- The rules of ownership: what each change does, who executes a shard's requests, and who forwards them.
-use Rattle.std.specs.Prelude.{ℕ, Bool, true, false, Option, Some, None, Result, Ok, Err, ◌≡◌, ◌==◌, ◌+◌, ◌&&◌, nat_lt, not, if◌then◌else◌}
+use Rattle.std.specs.Prelude.{ℕ, Bool, false, Option, Some, None, Result, Ok, Err, ◌≡◌, ◌==◌, ◌+◌, ◌&&◌, nat_lt, not}
+use Rattle.std.specs.Prelude.{is_some, if◌then◌else◌}
 use Rattle.sm_ranges.specs.declared.stand.Stand.{Stand}
 use Rattle.sm_ranges.specs.declared.stand.Stand.TheVariants.{Vacant, Serving, Prepared, Forwarding, Taken, Paused}
 use Rattle.sm_ownership.specs.declared.change.Change.{Change}
-use Rattle.sm_ownership.specs.declared.change.Change.TheVariants.{Assign, PrepareAddShard, PrepareDropShard, AddShard, DropShard, Cancel, Pause, Resume, Reassign}
+use Rattle.sm_ownership.specs.declared.change.Change.TheVariants.{Assign, PrepareAddShard, PrepareDropShard, AddShard}
+use Rattle.sm_ownership.specs.declared.change.Change.TheVariants.{DropShard, Cancel, Pause, Resume, Reassign}
 use Rattle.sm_ownership.specs.declared.change.PhaseFault.{PhaseFault}
 use Rattle.sm_ownership.specs.declared.change.PhaseFault.TheVariants.{WrongPhase, SameServer}
 use Rattle.sm_ownership.specs.declared.mode.Mode.{Mode}
 use Rattle.sm_ownership.specs.declared.mode.Mode.TheVariants.{Direct, Forwarded}
 use Rattle.sm_ownership.specs.declared.record.Record.{Record}
 use Rattle.sm_ownership.specs.declared.admit_fault.AdmitFault.{AdmitFault}
-use Rattle.sm_ownership.specs.declared.admit_fault.AdmitFault.TheVariants.{Vacant as IsVacant, Paused as IsPaused, NotExecutor, NotYet, Admitted, Spent}
+use Rattle.sm_ownership.specs.declared.admit_fault.AdmitFault.TheVariants.{Vacant as IsVacant, Paused as IsPaused}
+use Rattle.sm_ownership.specs.declared.admit_fault.AdmitFault.TheVariants.{NotExecutor, NotYet, Admitted, Spent}
 
 -- the stand that a change leads to from a stand, where it may be made there
 abbrev pub stand_after : Stand → Change → Option Stand
@@ -26,32 +29,17 @@ stand_after (Paused owner) Resume = Some (Serving owner)
 stand_after (Paused owner) (Reassign next) = if next == owner then None else Some (Serving next)
 stand_after _ _ = None
 
--- the change begins from stands of this kind
-abbrev pub is_phase_of : Stand → Change → Bool
-is_phase_of Vacant (Assign server) = true
-is_phase_of (Serving owner) (PrepareAddShard next) = true
-is_phase_of (Prepared owner next) PrepareDropShard = true
-is_phase_of (Forwarding owner next) AddShard = true
-is_phase_of (Taken owner previous) DropShard = true
-is_phase_of (Prepared owner next) Cancel = true
-is_phase_of (Forwarding owner next) Cancel = true
-is_phase_of (Serving owner) Pause = true
-is_phase_of (Paused owner) Resume = true
-is_phase_of (Paused owner) (Reassign next) = true
-is_phase_of _ _ = false
-
 -- the change names the shard's owner as its new server
 abbrev pub names_owner : Stand → Change → Bool
 names_owner (Serving owner) (PrepareAddShard next) = next == owner
 names_owner (Paused owner) (Reassign next) = next == owner
 names_owner _ _ = false
 
--- the first reason for which a stand doesn't allow a change
+-- the reason for which a stand doesn't allow a change, where it leads nowhere from there
 abbrev pub phase_fault : Stand → Change → Option PhaseFault
 phase_fault stand change =
-    if not (is_phase_of stand change) then Some WrongPhase
-    else if names_owner stand change then Some SameServer
-    else None
+    if is_some (stand_after stand change) then None
+    else Some (if names_owner stand change then SameServer else WrongPhase)
 
 -- what a change of a stand answers: the stand that it leads to, or the first fault
 abbrev pub IsChangeResult : Stand → Change → Result Stand PhaseFault → Type 0
@@ -74,22 +62,30 @@ executor_of (Forwarding owner next) = Some next
 executor_of (Taken owner previous) = Some owner
 executor_of (Paused owner) = None
 
+-- who executes requests on a shard of this record
 abbrev pub executor : Record → Option ℕ
 executor state = executor_of state.stand
 
+-- it came by way of this server
 abbrev pub is_forwarded_by : ℕ → Mode → Bool
 is_forwarded_by owner Direct = false
 is_forwarded_by owner (Forwarded from) = from == owner
 
--- the server executes what comes to it so: the executor does, but while the owner forwards, only what the owner forwarded
-abbrev pub accepts_at : Stand → ℕ → Mode → Bool
-accepts_at Vacant server mode = false
-accepts_at (Serving owner) server mode = owner == server
-accepts_at (Prepared owner next) server mode = owner == server
-accepts_at (Forwarding owner next) server mode = next == server && is_forwarded_by owner mode
-accepts_at (Taken owner previous) server mode = owner == server
-accepts_at (Paused owner) server mode = false
+-- the server that is named is this one
+abbrev pub is_server : Option ℕ → ℕ → Bool
+is_server None server = false
+is_server (Some named) server = named == server
 
+-- the owner forwards, and this request isn't one that it forwarded
+abbrev pub is_early : Stand → Mode → Bool
+is_early (Forwarding owner next) mode = not (is_forwarded_by owner mode)
+is_early _ mode = false
+
+-- the server executes what comes to it so: the executor does, but not what comes early
+abbrev pub accepts_at : Stand → ℕ → Mode → Bool
+accepts_at stand server mode = is_server (executor_of stand) server && not (is_early stand mode)
+
+-- the record has the server execute what comes to it so
 abbrev pub accepts : Record → ℕ → Mode → Bool
 accepts state server mode = accepts_at state.stand server mode
 
@@ -99,17 +95,9 @@ forward_at (Forwarding owner next) server = if owner == server then Some next el
 forward_at (Taken owner previous) server = if previous == server then Some owner else None
 forward_at _ server = None
 
+-- the server to which this one forwards requests on a shard of this record
 abbrev pub forward_to : Record → ℕ → Option ℕ
 forward_to state server = forward_at state.stand server
-
-abbrev pub is_server : Option ℕ → ℕ → Bool
-is_server None server = false
-is_server (Some named) server = named == server
-
--- the owner forwards, and this request isn't one that it forwarded
-abbrev pub is_early : Stand → Mode → Bool
-is_early (Forwarding owner next) mode = not (is_forwarded_by owner mode)
-is_early _ mode = false
 
 -- the faults of a record whose shard has an executor
 abbrev pub executing_fault : ℕ → Record → ℕ → Mode → Option AdmitFault
@@ -120,6 +108,7 @@ executing_fault ceiling state server mode =
     else if nat_lt ceiling (state.generation + 2) then Some Spent
     else None
 
+-- why nobody is admitted at a stand, or what else is wrong
 abbrev pub fault_at : Stand → Option AdmitFault → Option AdmitFault
 fault_at Vacant later = Some IsVacant
 fault_at (Paused owner) later = Some IsPaused

@@ -1,6 +1,7 @@
 //! Laws of the definitions: what holds of every history.
 
-ghost use Rattle.std.specs.Prelude.{◌≡◌, ◌≢◌, ℕ, ◌+◌, ◌<◌, ◌≤◌, ◌↔◌, ◌==◌, nat_lt, IsTrue, Some, None, List, [], ◌∷◌, ◌++◌, All, count_by, if◌then◌else◌, length, reverse, take};
+ghost use Rattle.std.specs.Prelude.{◌≡◌, ◌≢◌, ℕ, ◌+◌, ◌<◌, ◌≤◌, ◌↔◌, ◌==◌, nat_lt, IsTrue, Some, None, List, [], ◌∷◌};
+ghost use Rattle.std.specs.Prelude.{◌++◌, All, count_by, if◌then◌else◌, length, reverse, take};
 ghost use Rattle.sm_ownership.specs.declared.admit_fault.AdmitFault.TheVariants.{Admitted, Spent};
 ghost use Rattle.sm_ownership.specs.declared.change.Change.{Change};
 ghost use Rattle.sm_ownership.specs.declared.entry.Ending.{Ending};
@@ -9,10 +10,13 @@ ghost use Rattle.sm_ownership.specs.declared.entry.Entry.{Entry};
 ghost use Rattle.sm_ownership.specs.declared.entry.Kind.TheVariants.{Change as Changed, Admit, Done};
 ghost use Rattle.sm_ownership.specs.declared.mode.Mode.{Mode};
 ghost use Rattle.sm_ownership.specs.declared.record.Record.{Record};
-ghost use Rattle.sm_ownership.specs.History.{IsLegal, acts_as, admit_fits, open_admissions, all_of, change_fits, ending_of, first_of, is_admission_of, kept, kept_after, latest_of, record_at, table_of};
+ghost use Rattle.sm_ownership.specs.History.{IsLegal, acts_as, admit_fits, open_admissions, all_of, change_fits};
+ghost use Rattle.sm_ownership.specs.History.{ending_of, first_of, is_admission_of, kept, kept_after, latest_of};
+ghost use Rattle.sm_ownership.specs.History.{record_at, table_of};
 ghost use Rattle.sm_ownership.specs.Reach.{IsApart, IsReached, IsServed};
 ghost use Rattle.sm_ownership.specs.Rules.{accepts, admit_fault, executor, phase_fault};
-ghost use Rattle.sm_ownership.specs.Tables.{apply_fault, record_fault, table_admitted, table_changed, table_done, table_view};
+ghost use Rattle.sm_ownership.specs.Tables.{apply_fault, record_fault, table_admitted, table_changed, table_done};
+ghost use Rattle.sm_ownership.specs.Tables.{table_view};
 
 /// The control may make exactly the changes that no fault stops. Legality says it in its own words: the record is idle,
 /// below the ceiling, and at a stand from which the change leads on.
@@ -22,26 +26,28 @@ pub fn change_refused_exactly()
         ↔ ((phase_fault state.stand change ≡ None) × (record_fault ceiling state ≡ None)) }
 {}
 
-/// An actor other than the control, with this one server for good, is admitted exactly where no fault stops it. Legality
-/// says it in its own words: the record is idle, has room for the admission and its end, and accepts the server.
+/// An actor other than the control, with this one server for good, is admitted exactly where no fault stops it.
+/// Legality says it in its own words: the record is idle, has room for the admission and its end, and accepts the
+/// server.
 pub fn admission_refused_exactly<Q>()
     ensures { (ceiling : ℕ) (earlier : List (Entry Q)) (state : Record) (actor server : ℕ) (mode : Mode)
         → IsTrue (admit_fits ceiling earlier state actor server mode)
         ↔ ((actor ≢ 0) × IsTrue (acts_as earlier actor server) × (admit_fault ceiling state server mode ≡ None)) }
 {}
 
-/// A change by the control is the next entry of a legal history exactly where the history's table refuses it by no fault, and
-/// makes the table of the longer history.
+/// A change by the control is the next entry of a legal history exactly where the history's table refuses it by no
+/// fault, and makes the table of the longer history.
 pub fn change_extends_history<Q>()
-    ensures { (count ceiling : ℕ) (history : List (Entry Q)) (shard : ℕ) (change : Change) → IsLegal count ceiling history
+    ensures { (count ceiling : ℕ) (history : List (Entry Q)) (shard : ℕ) (change : Change)
+        → IsLegal count ceiling history
         → let table = table_view count ceiling history in
         let longer = history ++ record { actor = 0; shard = shard; kind = Changed change } ∷ [] in
         (IsLegal count ceiling longer ↔ (apply_fault table shard change ≡ None))
         × (IsLegal count ceiling longer → table_view count ceiling longer ≡ table_changed table shard change) }
 {}
 
-/// An admission of a server, by an actor other than the control which acts for this server alone, is the next entry of a
-/// legal history exactly where the shard's record refuses it by no fault, and makes the table of the longer history.
+/// An admission of a server, by an actor other than the control which acts for this server alone, is the next entry of
+/// a legal history exactly where the shard's record refuses it by no fault, and makes the table of the longer history.
 pub fn admission_extends_history<Q>()
     ensures { (count ceiling : ℕ) (history : List (Entry Q)) (actor shard server : ℕ) (mode : Mode)
         → IsLegal count ceiling history → shard < count → actor ≢ 0 → IsTrue (acts_as (reverse history) actor server)
@@ -59,7 +65,8 @@ pub fn end_extends_history<Q>()
         → let table = table_view count ceiling history in
         let longer = history ++ record { actor = actor; shard = shard; kind = Done ending } ∷ [] in
         (IsLegal count ceiling longer
-        ↔ (IsTrue (record_at table.records shard).admitted × IsTrue (is_admission_of actor (latest_of (reverse history) shard))))
+        ↔ (IsTrue (record_at table.records shard).admitted
+        × IsTrue (is_admission_of actor (latest_of (reverse history) shard))))
         × (IsLegal count ceiling longer → table_view count ceiling longer ≡ table_done table shard) }
 {}
 
@@ -100,7 +107,8 @@ pub fn generation_counts_entries<Q>()
 
 /// Where a shard has the same generation at two points of a legal history, it has the same record at both.
 pub fn same_generation_same_record<Q>()
-    ensures { (count ceiling : ℕ) (history later : List (Entry Q)) (shard : ℕ) → IsLegal count ceiling (history ++ later)
+    ensures { (count ceiling : ℕ) (history later : List (Entry Q)) (shard : ℕ)
+        → IsLegal count ceiling (history ++ later)
         → let before = record_at (table_of count ceiling history) shard in
         let after = record_at (table_of count ceiling (history ++ later)) shard in
         before.generation ≡ after.generation → before ≡ after }
@@ -148,19 +156,21 @@ pub fn two_servers<Q>()
         → IsApart (record_at (table_of count ceiling history) shard).stand }
 {}
 
-/// While a shard is neither vacant nor paused, no phase of a migration refuses by its stand what comes directly to the shard's
-/// owner, or to its previous owner until that one drops the shard: the stand has the server execute it, or forward it to the
-/// executor, which accepts it and forwards nothing, also after `AddShard` and `DropShard`. Of a `Cancel` meanwhile nothing is said.
+/// While a shard is neither vacant nor paused, no phase of a migration refuses by its stand what comes directly to the
+/// shard's owner, or to its previous owner until that one drops the shard: the stand has the server execute it, or
+/// forward it to the executor, which accepts it and forwards nothing, also after `AddShard` and `DropShard`. Of a
+/// `Cancel` meanwhile nothing is said.
 pub fn no_phase_refuses<Q>()
     ensures { (count ceiling : ℕ) (history : List (Entry Q)) (shard server : ℕ) → IsLegal count ceiling history
         → let stand = (record_at (table_of count ceiling history) shard).stand in
         IsReached stand server → IsServed stand server }
 {}
 
-/// A server that a record accepts, for a request that came so, is refused its admission for no other reason than that the shard
-/// is admitted, or that its generations are spent.
+/// A server that a record accepts, for a request that came so, is refused its admission for no other reason than that
+/// the shard is admitted, or that its generations are spent.
 pub fn accepted_is_admitted()
     ensures { (ceiling : ℕ) (state : Record) (server : ℕ) (mode : Mode) → IsTrue (accepts state server mode)
         → admit_fault ceiling state server mode
-        ≡ (if state.admitted then Some Admitted else if nat_lt ceiling (state.generation + 2) then Some Spent else None) }
+        ≡ (if state.admitted then Some Admitted else if nat_lt ceiling (state.generation + 2) then Some Spent
+        else None) }
 {}

@@ -41,8 +41,8 @@ impl Record {
         }
     }
 
-    /// Whether the stand has the server execute a request that came to it so. An admission for it may still be refused, by
-    /// `Admitted` or `Spent`.
+    /// Whether the stand has the server execute a request that came to it so. An admission for it may still be refused,
+    /// by `Admitted` or `Spent`.
     pub fn accepts(&self, server: ServerId, mode: Mode) -> bool
         ensures { result ≡ accepts self.now server mode }
     {

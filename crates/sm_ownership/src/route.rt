@@ -7,7 +7,8 @@ pub struct Route {
     pub shard: ShardId,
     /// The shard's owner when the route was made.
     pub server: ServerId,
-    /// The shard's generation when the route was made. A publisher takes only a greater one than that of the shard's last route.
+    /// The shard's generation when the route was made. A publisher takes only a greater one than that of the shard's
+    /// last route.
     pub generation: u64,
 }
 

@@ -73,7 +73,8 @@ impl Table {
         self.records[at]
     }
 
-    /// Changes the stand of the shard, or answers the first fault that applies. A refused change leaves the table as it was.
+    /// Changes the stand of the shard, or answers the first fault that applies. A refused change leaves the table as it
+    /// was.
     pub fn apply(&mut self, k: ShardId, change: Change) -> Result<(), ChangeFault>
         ensures fault { result_err result ≡ apply_fault self.old k change }
         ensures made { OnOk result (self.new ≡ table_changed self.old k change) }

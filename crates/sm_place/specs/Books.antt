@@ -1,5 +1,6 @@
 -- What the books hold, how a server's row is found, and which rows make books.
-use Rattle.std.specs.Prelude.{ℕ, Option, Some, None, List, ◌<◌, ◌==◌, if◌then◌else◌, length, map, replicate, slice_index_or, slice_set}
+use Rattle.std.specs.Prelude.{ℕ, Option, Some, None, List, ◌<◌, ◌==◌, if◌then◌else◌, length, map, replicate}
+use Rattle.std.specs.Prelude.{slice_index_or, slice_set}
 use Rattle.std.specs.List.{position_or_len}
 use Rattle.sm_ranges.specs.declared.stand.Stand.{Stand}
 use Rattle.sm_ranges.specs.declared.stand.Stand.TheVariants.{Vacant}
@@ -74,7 +75,8 @@ with_state books a state = record books { states = slice_set books.states (place
 -- the first fault of rows, in the order BadServers, BadGroups, BadShards, BadDomains; none where they make books
 abbrev pub first_books_fault : List ServerRow → List GroupRow → List ShardRow → List DomainRow → Option BooksFault
 first_books_fault servers groups shards domains =
-    if are_servers servers then (if are_groups groups then (if are_shards (length groups) shards then (if are_domains servers domains then None
+    if are_servers servers then (if are_groups groups
+    then (if are_shards (length groups) shards then (if are_domains servers domains then None
     else Some BadDomains) else Some BadShards) else Some BadGroups) else Some BadServers
 
 -- the shard that nobody owns yet

@@ -16,7 +16,8 @@ pub record ArePlaces (servers : List ServerRow) (stand : Stand) (x y : Option �
   pub other : y ≡ option_map (place_of servers) (other_of stand)
 
 -- x and y are the counters of the group and the domains of the servers that the stand names
-pub record AreCells (servers : List ServerRow) (ranking : Ranking) (g : ℕ) (stand : Stand) (x y : Option ℕ) : Type 0 where
+pub record AreCells (servers : List ServerRow) (ranking : Ranking) (g : ℕ) (stand : Stand)
+    (x y : Option ℕ) : Type 0 where
   pub owner : x ≡ option_map (cell_of servers ranking g) (owner_of stand)
   pub other : y ≡ option_map (cell_of servers ranking g) (other_of stand)
 

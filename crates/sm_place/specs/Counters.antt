@@ -19,7 +19,8 @@ pub record HasPlaces (servers : List ServerRow) (places : List ℕ) : Type 0 whe
   pub at : (a : ℕ) → a ≤ MAX_SERVER → slice_index places a ≡ place_of servers a
 
 -- the numbers of the servers are such, and rise, and the rows keep to their ranges
-pub record HasRanges (servers : List ServerRow) (groups : List GroupRow) (states : List ServerState) (ranking : Ranking) : Type 0 where
+pub record HasRanges (servers : List ServerRow) (groups : List GroupRow) (states : List ServerState)
+    (ranking : Ranking) : Type 0 where
   pub numbers : All (λ row. IsServer row.id) servers
   pub servers_rise : IsStrictlyIncreasing (map (λ row. row.id) servers)
   pub states_len : length states ≡ length servers
@@ -44,8 +45,10 @@ pub record HasCells (counts : List ℕ) (g : ℕ) (ranking : Ranking) : Type 0 w
   pub at : (d : ℕ) → rank_of ranking d < ranking.width → domain_cell ranking g d < length counts
 
 -- the counter of each group and domain is the count of the group's shards there
-pub record HasCounts (servers : List ServerRow) (shards : List Shard) (counts : List ℕ) (ranking : Ranking) : Type 0 where
-  pub at : (g d : ℕ) → rank_of ranking d < ranking.width → domain_cell ranking g d < length counts → slice_index counts (domain_cell ranking g d) ≡ count_in servers shards g d
+pub record HasCounts (servers : List ServerRow) (shards : List Shard) (counts : List ℕ)
+    (ranking : Ranking) : Type 0 where
+  pub at : (g d : ℕ) → rank_of ranking d < ranking.width → domain_cell ranking g d < length counts
+      → slice_index counts (domain_cell ranking g d) ≡ count_in servers shards g d
 
 -- what is true of all books: rows in their ranges, room, and counters that agree with the rows
 pub record IsTallied

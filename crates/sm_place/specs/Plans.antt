@@ -1,5 +1,6 @@
 -- Plans: each shard in turn goes to the first server that it fits, earlier moves counted as made.
-use Rattle.std.specs.Prelude.{Bool, true, false, ◌≡◌, ◌≢◌, ◌⊎◌, All, Ok, ℕ, Option, Some, None, List, [], ◌∷◌, ◌++◌, ◌==◌, is_ok, filter, find, length, map, not}
+use Rattle.std.specs.Prelude.{Bool, true, false, ◌≡◌, ◌≢◌, ◌⊎◌, All, Ok, ℕ, Option, Some, None, List, [], ◌∷◌, ◌++◌}
+use Rattle.std.specs.Prelude.{◌==◌, is_ok, filter, find, length, map, not}
 use Rattle.std.specs.List.{range_with_len}
 use Rattle.sm_ranges.specs.declared.stand.Stand.{Stand}
 use Rattle.sm_ranges.specs.declared.stand.Stand.TheVariants.{Vacant, Serving}
@@ -58,7 +59,8 @@ stands_to_move from stand = false
 
 -- the numbers of the shards that stand to be moved
 abbrev pub shards_to_move : Option ℕ → List Shard → List ℕ
-shards_to_move from shards = filter (λ k. stands_to_move from (shard_at shards k).stand) (range_with_len 0 (length shards))
+shards_to_move from shards =
+    filter (λ k. stands_to_move from (shard_at shards k).stand) (range_with_len 0 (length shards))
 
 -- the servers' numbers, but for the one that shards are moved from
 abbrev pub servers_but : Option ℕ → List ServerRow → List ℕ
@@ -72,11 +74,12 @@ assign_plan books = plan books (shards_to_move None books.shards) (servers_but N
 abbrev pub drain_plan : BooksView → ℕ → PlanView
 drain_plan books a = plan books (shards_to_move (Some a) books.shards) (servers_but (Some a) books.servers)
 
--- what each turn does: the next move is of the turn's shard to a server that it fits; or the shard is the next one left, and
--- fits none of the servers
+-- what each turn does: the next move is of the turn's shard to a server that it fits; or the shard is the next one
+-- left, and fits none of the servers
 abbrev pub KeepsRoom : BooksView → List ℕ → List ℕ → List Move → List ℕ → Type 0
 KeepsRoom books [] servers moves left = (moves ≡ []) × (left ≡ [])
 KeepsRoom books (k ∷ shards) servers moves left =
     ((a : ℕ) × (rest : List Move) × (moves ≡ record { shard = k; to = a } ∷ rest) × (fit books k a ≡ Ok tt)
     × KeepsRoom (books_after books k (Some a)) shards servers rest left)
-    ⊎ ((rest : List ℕ) × (left ≡ k ∷ rest) × All (λ a. fit books k a ≢ Ok tt) servers × KeepsRoom books shards servers moves rest)
+    ⊎ ((rest : List ℕ) × (left ≡ k ∷ rest) × All (λ a. fit books k a ≢ Ok tt) servers
+    × KeepsRoom books shards servers moves rest)

@@ -16,7 +16,8 @@ rank_of ranking d = slice_index_or ranking.ranks d NO_RANK
 -- the domain has the next rank, where it had none
 abbrev pub with_rank : Ranking → ℕ → Ranking
 with_rank ranking d =
-    if rank_of ranking d == NO_RANK then record { ranks = slice_set ranking.ranks d ranking.width; width = ranking.width + 1 }
+    if rank_of ranking d == NO_RANK
+    then record { ranks = slice_set ranking.ranks d ranking.width; width = ranking.width + 1 }
     else ranking
 
 -- the counter of the group and the domain

@@ -8,7 +8,8 @@ use Rattle.sm_ranges.specs.ServerId.{IsServer}
 use Rattle.sm_ranges.specs.Stand.{AllNamed}
 use Rattle.sm_place.specs.Room.{HasRoom}
 
--- the numbers of the servers are such, and rise, each server has a state, each shard's group and servers have rows, and there is room
+-- the numbers of the servers are such, and rise, each server has a state, each shard's group and servers have rows, and
+-- there is room
 pub record AreSound (books : BooksView) : Type 0 where
   pub numbers : All (λ row. IsServer row.id) books.servers
   pub servers_rise : IsStrictlyIncreasing (map (λ row. row.id) books.servers)

@@ -1,4 +1,5 @@
-ghost use Rattle.std.specs.Prelude.{All, ◌≡◌, ◌+◌, ◌<◌, ◌↔◌, IfOk, IfSome, IfNone, IsOkUnless, IsTrue, Err, Ok, Some, None, OnOk};
+ghost use Rattle.std.specs.Prelude.{All, ◌≡◌, ◌+◌, ◌<◌, ◌↔◌, IfOk, IfSome, IfNone, IsOkUnless, IsTrue, Err, Ok, Some};
+ghost use Rattle.std.specs.Prelude.{None, OnOk};
 ghost use Rattle.std.specs.Prelude.{length, map, nat_lt, remove, slice_index_or};
 ghost use Rattle.std.specs.List.Sorted.{IsStrictlyIncreasing};
 ghost use Rattle.sm_place.specs.Books.{first_books_fault, new_books, IsKnown};
@@ -27,7 +28,8 @@ use std::alloc::{AllocError, Global};
 use std::marker::Model;
 
 /// The rows of servers, groups, shards and fault domains, with the state of each server and the stand of each shard.
-/// At all times each server has the capacity for the shards that name it, and each group is within its limit in each domain.
+/// At all times each server has the capacity for the shards that name it, and each group is within its limit in each
+/// domain.
 #[derive(Drop)]
 pub struct Books {
     roster: Roster,
@@ -56,7 +58,8 @@ impl Model for Books {
       domains = b.domains.items;
     } };
 
-    ghost invariant = { λ b. IsTallied b.roster b.groups.items b.shards.items b.states.items b.loads.items b.counts.items b.ranks };
+    ghost invariant = { λ b. IsTallied b.roster b.groups.items b.shards.items b.states.items b.loads.items
+        b.counts.items b.ranks };
 }
 
 impl Books {
@@ -69,8 +72,10 @@ impl Books {
         domains: &[DomainRow],
     ) -> Result<Books, BooksFault>
         ensures ok { IfOk result (λ books. books ≡ new_books servers.now groups.now shards.now domains.now) }
-        ensures fault { IfSome (first_books_fault servers.now groups.now shards.now domains.now) (λ fault. result ≡ Err fault) }
-        ensures no_fault { IfNone (first_books_fault servers.now groups.now shards.now domains.now) (IsOkUnless result BooksFault.NoMemory) }
+        ensures fault { IfSome (first_books_fault servers.now groups.now shards.now domains.now)
+            (λ fault. result ≡ Err fault) }
+        ensures no_fault { IfNone (first_books_fault servers.now groups.now shards.now domains.now)
+            (IsOkUnless result BooksFault.NoMemory) }
     {
         if let Some(fault) = BooksFault::first(servers, groups, shards, domains) {
             return Err(fault);
@@ -259,7 +264,8 @@ impl Books {
         self.plan(alloc, &Some(a))
     }
 
-    // The plan for the shards that the server serves, or without a server for the Vacant ones. The moves are made in a copy.
+    // The plan for the shards that the server serves, or without a server for the Vacant ones. The moves are made in a
+    // copy.
     fn plan(&self, alloc: Global, from: &Option<ServerId>) -> Result<Plan, AllocError>
         ensures plan { IfOk result (λ found. found ≡ plan self.now (shards_to_move from.now self.now.shards)
             (servers_but from.now self.now.servers)) }

@@ -6,7 +6,8 @@ pub(crate) fn raise(loads: &mut [u32], first: Option<usize>, second: Option<usiz
     requires first { AreInside (length loads.old) first }
     requires second { AreInside (length loads.old) second }
     requires fits { (i : ℕ) → is_hit first second i ≡ true → slice_index loads.old i + load < 2 ^ 32 }
-    ensures { (i : ℕ) → i < length loads.old → slice_index loads.new i ≡ slice_index loads.old i + amount_at first second load i }
+    ensures { (i : ℕ) → i < length loads.old
+        → slice_index loads.new i ≡ slice_index loads.old i + amount_at first second load i }
 {
     if let Some(at) = first {
         loads[at] += load;
@@ -23,7 +24,8 @@ pub(crate) fn lower(loads: &mut [u32], first: Option<usize>, second: Option<usiz
     requires first { AreInside (length loads.old) first }
     requires second { AreInside (length loads.old) second }
     requires fits { (i : ℕ) → is_hit first second i ≡ true → load ≤ slice_index loads.old i }
-    ensures { (i : ℕ) → i < length loads.old → slice_index loads.new i + amount_at first second load i ≡ slice_index loads.old i }
+    ensures { (i : ℕ) → i < length loads.old
+        → slice_index loads.new i + amount_at first second load i ≡ slice_index loads.old i }
 {
     if let Some(at) = first {
         loads[at] -= load;
@@ -40,7 +42,8 @@ pub(crate) fn raise_each(counts: &mut [u16], first: Option<usize>, second: Optio
     requires first { AreInside (length counts.old) first }
     requires second { AreInside (length counts.old) second }
     requires fits { (i : ℕ) → is_hit first second i ≡ true → slice_index counts.old i + 1 < 2 ^ 16 }
-    ensures { (i : ℕ) → i < length counts.old → slice_index counts.new i ≡ slice_index counts.old i + amount_at first second 1 i }
+    ensures { (i : ℕ) → i < length counts.old
+        → slice_index counts.new i ≡ slice_index counts.old i + amount_at first second 1 i }
 {
     if let Some(at) = first {
         counts[at] += 1;
@@ -57,7 +60,8 @@ pub(crate) fn lower_each(counts: &mut [u16], first: Option<usize>, second: Optio
     requires first { AreInside (length counts.old) first }
     requires second { AreInside (length counts.old) second }
     requires fits { (i : ℕ) → is_hit first second i ≡ true → 1 ≤ slice_index counts.old i }
-    ensures { (i : ℕ) → i < length counts.old → slice_index counts.new i + amount_at first second 1 i ≡ slice_index counts.old i }
+    ensures { (i : ℕ) → i < length counts.old
+        → slice_index counts.new i + amount_at first second 1 i ≡ slice_index counts.old i }
 {
     if let Some(at) = first {
         counts[at] -= 1;

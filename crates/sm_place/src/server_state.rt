@@ -1,5 +1,5 @@
 ghost use Rattle.std.specs.Prelude.{◌≡◌};
-ghost use Rattle.sm_place.specs.ServerState.{is_leaving};
+ghost use Rattle.sm_place.specs.ServerState.{is_leaving, is_unreached};
 
 /// How far the restart of a server has come.
 #[derive(Clone, Copy, PartialEq, Eq, Drop)]
@@ -25,5 +25,12 @@ impl ServerState {
             ServerState::Up | ServerState::Asked => false,
             ServerState::Approved | ServerState::Stopped | ServerState::Failed => true,
         }
+    }
+
+    /// Whether no requests reach the server: it is stopped or failed.
+    pub fn is_unreached(&self) -> bool
+        ensures { result ≡ is_unreached self.now }
+    {
+        matches!(*self, ServerState::Stopped | ServerState::Failed)
     }
 }

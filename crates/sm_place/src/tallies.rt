@@ -77,7 +77,8 @@ pub(crate) fn other_count(
     requires domains { AreRanked roster.now ranks.now }
     requires cells { HasCells counts.now (shard_at shards.now at).row.group ranks.now }
     requires counts { HasCounts roster.now shards.now counts.now ranks.now }
-    ensures { result ≡ count_in roster.now (remove shards.now at) (shard_at shards.now at).row.group (domain_of roster.now a) }
+    ensures { result
+        ≡ count_in roster.now (remove shards.now at) (shard_at shards.now at).row.group (domain_of roster.now a) }
 {
     let shard = shard_at(shards, at);
     let group = shard.row.group;
@@ -112,7 +113,8 @@ pub(crate) fn move_count(
     requires domains { AreRanked roster.now ranks.now }
     requires cells { HasCells counts.old (shard_at shards.now at).row.group ranks.now }
     requires counts { HasCounts roster.now shards.now counts.old ranks.now }
-    requires fits { (d : ℕ) → count_in roster.now (with_stand shards.now at stand.now) (shard_at shards.now at).row.group d < 2 ^ 16 }
+    requires fits { (d : ℕ)
+        → count_in roster.now (with_stand shards.now at stand.now) (shard_at shards.now at).row.group d < 2 ^ 16 }
     ensures { HasCounts roster.now (with_stand shards.now at stand.now) counts.new ranks.now }
 {
     let shard = shard_at(shards, at);

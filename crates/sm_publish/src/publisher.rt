@@ -1,4 +1,5 @@
-ghost use Rattle.std.specs.Prelude.{◌≡◌, ◌<◌, ◌^◌, fold, [], drop, replicate, ◌≤◌, vec_capacity, IfOk, IfSome, IfNone, OnOk, OnErr, IsOkUnless, Err};
+ghost use Rattle.std.specs.Prelude.{◌≡◌, ◌<◌, ◌^◌, fold, [], drop, replicate, ◌≤◌, vec_capacity, IfOk, IfSome, IfNone};
+ghost use Rattle.std.specs.Prelude.{OnOk, OnErr, IsOkUnless, Err};
 ghost use Rattle.sm_publish.specs.Publishing.{with_route, taken, publish_fault};
 
 use crate::publish_fault::PublishFault;
@@ -24,15 +25,19 @@ impl Model for Publisher {
 
     ghost Value = { PublisherView };
 
-    ghost view = { λ publisher. record { table = publisher.writer.desk.place.table_id; map = publisher.writer.desk.shown.value } };
+    ghost view = { λ publisher. record {
+      table = publisher.writer.desk.place.table_id;
+      map = publisher.writer.desk.shown.value;
+    } };
 
     // Routers can see all that was published.
     ghost invariant = { λ publisher. drop publisher.writer.behind publisher.writer.log.items ≡ [] };
 }
 
 impl Publisher {
-    /// A publisher of routes for so many shards, and routers of its map, 1 to 2^32 - 1, which have seen nothing. The error is want
-    /// of memory, or that a router found no place at the map; then it may wait. No contract says that a new map has places enough.
+    /// A publisher of routes for so many shards, and routers of its map, 1 to 2^32 - 1, which have seen nothing. The
+    /// error is want of memory, or that a router found no place at the map; then it may wait. No contract says that a
+    /// new map has places enough.
     pub fn new<R: Wait>(
         rt: &R,
         alloc: Global,
@@ -41,7 +46,8 @@ impl Publisher {
     ) -> Result<(Publisher, Vec<Router>), AllocError>
         requires { (0 < routers) × (routers < 2 ^ 32) }
         ensures publisher { IfOk result (λ made. made.0.map ≡ record { count = count; published = [] }) }
-        ensures routers { IfOk result (λ made. made.1.items ≡ replicate routers (record { table = made.0.table; seen = [] })) }
+        ensures routers { IfOk result
+            (λ made. made.1.items ≡ replicate routers (record { table = made.0.table; seen = [] })) }
     {
         let room = Vec::with_capacity(alloc, routers)?;
         let first = RouteMap::new(alloc, count)?;
@@ -96,7 +102,8 @@ fn routers_of(
     mut made: Vec<Router>,
 ) -> Result<Vec<Router>, AllocError>
     requires { (made.items ≡ []) × (count ≤ vec_capacity made) }
-    ensures { IfOk result (λ made. made.items ≡ replicate count (record { table = writer.now.desk.place.table_id; seen = [] })) }
+    ensures { IfOk result
+        (λ made. made.items ≡ replicate count (record { table = writer.now.desk.place.table_id; seen = [] })) }
 {
     for _ in 0..count {
         let router = Router::new(writer.factory().reader()?);

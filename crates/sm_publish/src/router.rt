@@ -11,7 +11,8 @@ use sm_ranges::layout::Layout;
 use sm_ranges::shard_id::ShardId;
 use std::marker::Model;
 
-/// A reader of the published map. What it reads may be stale, and what it has seen only grows. It may move to another thread.
+/// A reader of the published map. What it reads may be stale, and what it has seen only grows. It may move to another
+/// thread.
 ///
 /// Contracts see it as the table that its map lies in, and the publications that it has seen there, in order.
 #[derive(Drop)]
@@ -35,12 +36,13 @@ impl Router {
         Router { reader }
     }
 
-    /// The route of the key's shard that was published last of those that the router has then seen, or none where it has
-    /// seen none. What it has seen begins with all that it had seen before. Where the read is refused the answer is none,
-    /// and nothing more is seen. That it goes on reading the map of the same table no clause says.
+    /// The route of the key's shard that was published last of those that the router has then seen, or none where it
+    /// has seen none. What it has seen begins with all that it had seen before. Where the read is refused the answer is
+    /// none, and nothing more is seen. That it goes on reading the map of the same table no clause says.
     pub fn route(&mut self, layout: &Layout, key: &[u8]) -> Option<Route>
         ensures later { Extends self.new.seen self.old.seen }
-        ensures route { (result ≡ routes_of self.new.seen (shard_of layout.now key.now)) ⊎ ((result ≡ None) × (self.new.seen ≡ self.old.seen)) }
+        ensures route { (result ≡ routes_of self.new.seen (shard_of layout.now key.now))
+            ⊎ ((result ≡ None) × (self.new.seen ≡ self.old.seen)) }
     {
         replace_with(&mut self.reader, layout.shard_of(key), read)
     }
@@ -49,7 +51,8 @@ impl Router {
 // Reads the shard's route.
 fn read(reader: MapReader, shard: ShardId) -> (MapReader, Option<Route>)
     ensures later { Extends (seen_by result.0.place) (seen_by reader.place) }
-    ensures route { (result.1 ≡ routes_of (seen_by result.0.place) shard) ⊎ ((result.1 ≡ None) × (seen_by result.0.place ≡ seen_by reader.place)) }
+    ensures route { (result.1 ≡ routes_of (seen_by result.0.place) shard)
+        ⊎ ((result.1 ≡ None) × (seen_by result.0.place ≡ seen_by reader.place)) }
 {
     match reader.enter_as::<Seeing>() {
         Ok(reading) => {

@@ -25,6 +25,8 @@ impl Outcome<RouteMap, LinkedList<Route>> for Seeing {
     ghost then = { Sees };
 }
 
+/// What a router reads the published map by.
 pub type MapReader = Reader<RouteMap, LinkedList<Route>, Extending>;
 
+/// What a publisher writes the published map by.
 pub type MapWriter = Writer<RouteMap, Route, LinkedList<Route>, Extending>;

@@ -4,6 +4,7 @@ use Rattle.std.specs.declared.cmp.Ordering.{Ordering}
 use Rattle.std.specs.Ordering.{nat_cmp, is_lt, is_le}
 use Rattle.std.specs.Cmp.Lexicographic.{slice_cmp}
 
+-- how two keys compare: byte by byte, a proper prefix first
 abbrev pub key_cmp : List ℕ → List ℕ → Ordering
 key_cmp = slice_cmp nat_cmp
 

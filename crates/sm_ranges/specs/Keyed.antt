@@ -14,9 +14,11 @@ IsInKeyOrder key_of xs = AllPairs (λ x later. key_cmp (key_of x) (key_of later)
 abbrev pub comes_before : {X : Type 0} → (X → List ℕ) → List ℕ → X → Bool
 comes_before key_of key x = is_lt (key_cmp (key_of x) key)
 
+-- the element's key is this one
 abbrev pub has_key : {X : Type 0} → (X → List ℕ) → List ℕ → X → Bool
 has_key key_of key x = is_eq (key_cmp (key_of x) key)
 
+-- the element's key is above this one
 abbrev pub comes_after : {X : Type 0} → (X → List ℕ) → List ℕ → X → Bool
 comes_after key_of key x = is_gt (key_cmp (key_of x) key)
 

@@ -1,5 +1,5 @@
 -- The servers that a stand names.
-use Rattle.std.specs.Prelude.{ℕ, Bool, true, false, Option, Some, None, IfSome, unwrap_or, ◌==◌, ◌||◌}
+use Rattle.std.specs.Prelude.{ℕ, Bool, true, false, Option, Some, None, IfSome, is_none, unwrap_or, ◌==◌, ◌||◌}
 use Rattle.sm_ranges.specs.declared.stand.Stand.{Stand}
 use Rattle.sm_ranges.specs.declared.stand.Stand.TheVariants.{Vacant, Serving, Prepared, Forwarding, Taken, Paused}
 
@@ -14,8 +14,12 @@ owner_of (Paused owner) = Some owner
 
 -- whether it names none
 abbrev pub is_vacant : Stand → Bool
-is_vacant Vacant = true
-is_vacant stand = false
+is_vacant stand = is_none (owner_of stand)
+
+-- whether a shard of this stand is paused
+abbrev pub is_paused : Stand → Bool
+is_paused (Paused owner) = true
+is_paused stand = false
 
 -- the next or previous server that a stand names
 abbrev pub other_of : Stand → Option ℕ
@@ -47,5 +51,6 @@ AllNamed IsSuch stand = IfSome (owner_of stand) IsSuch × IfSome (other_of stand
 abbrev pub owner_number : Stand → ℕ
 owner_number stand = unwrap_or (owner_of stand) 0
 
+-- the number of a stand's next or previous server, or 0
 abbrev pub other_number : Stand → ℕ
 other_number stand = unwrap_or (other_of stand) 0

@@ -1,4 +1,5 @@
-ghost use Rattle.std.specs.Prelude.{◌≡◌, ◌==◌, ◌+◌, ◌<◌, ℕ, IsTrue, Some, length, drop, not, position, slice_get, option_copied, IfOk, OnOk, IfSome, IfNone, IsOkUnless};
+ghost use Rattle.std.specs.Prelude.{◌≡◌, ◌==◌, ◌+◌, ◌<◌, ℕ, IsTrue, Some, length, drop, not, position, slice_get};
+ghost use Rattle.std.specs.Prelude.{option_copied, IfOk, OnOk, IfSome, IfNone, IsOkUnless};
 ghost use Rattle.std.specs.List.{zip};
 ghost use Rattle.sm_ranges.specs.KeyOrder.{is_below};
 ghost use Rattle.sm_ranges.specs.Ranges.{Covers, IsLayout, shard_of};

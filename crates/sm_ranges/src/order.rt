@@ -7,8 +7,8 @@ ghost use Rattle.sm_ranges.specs.KeyOrder.{key_cmp, is_at_most, is_below};
 use std::cmp::Ordering;
 
 /// The order of two keys: their bytes are compared as unsigned numbers, and a proper prefix comes first.
-// Eight bytes at a time as numbers; the last eight may overlap those before. `cmp` goes byte by byte through the eight that
-// differ, and the branch at which it stops is often mispredicted.
+// Eight bytes at a time as numbers; the last eight may overlap those before. `cmp` goes byte by byte through the eight
+// that differ, and the branch at which it stops is often mispredicted.
 pub fn compare(first: &[u8], second: &[u8]) -> Ordering
     ensures { result ≡ key_cmp first.now second.now }
 {

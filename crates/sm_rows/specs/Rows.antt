@@ -13,7 +13,8 @@ is_within low high n = nat_le low n && nat_le n high
 
 -- each number of a server's row is in its range
 abbrev pub is_server_row : ServerRow → Bool
-is_server_row row = is_within 1 MAX_SERVER row.id && is_within 0 MAX_DOMAIN row.domain && is_within 0 4294967295 row.capacity
+is_server_row row =
+    is_within 1 MAX_SERVER row.id && is_within 0 MAX_DOMAIN row.domain && is_within 0 4294967295 row.capacity
 
 -- the number of each server is below the next one's
 abbrev pub are_rising : List ServerRow → Bool

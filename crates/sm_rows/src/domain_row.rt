@@ -1,4 +1,5 @@
-ghost use Rattle.std.specs.Prelude.{◌≡◌, ◌≤◌, ◌<◌, ◌&&◌, ◌==◌, ℕ, All, IfOk, false, length, map, nat_lt, slice_index, slice_index_or};
+ghost use Rattle.std.specs.Prelude.{◌≡◌, ◌≤◌, ◌<◌, ◌&&◌, ◌==◌, ℕ, All, IfOk, false, length, map, nat_lt, slice_index};
+ghost use Rattle.std.specs.Prelude.{slice_index_or};
 ghost use Rattle.std.specs.List.{list_all};
 ghost use Rattle.sm_rows.specs.Domains.{are_domains, are_same, domains_of, equal_domains, is_domain_row, is_used};
 
@@ -27,7 +28,8 @@ impl DomainRow {
     }
 }
 
-/// Whether there is a row for each domain that servers are of, by rising numbers, each in its ranges. It takes no memory.
+/// Whether there is a row for each domain that servers are of, by rising numbers, each in its ranges. It takes no
+/// memory.
 pub fn are_domains(servers: &[ServerRow], rows: &[DomainRow]) -> bool
     ensures { result ≡ are_domains servers.now rows.now }
 {

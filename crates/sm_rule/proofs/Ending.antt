@@ -21,7 +21,7 @@ use Rattle.sm_rule.specs.Changes.{chair_value}
 use Rattle.sm_rule.specs.Closing.{AreLeft, AreTaken, AreWords, IsTaken, WasClosed}
 use Rattle.sm_rule.specs.Passes.{PassValue}
 use Rattle.sm_rule.specs.Views.{IsMet, Looks}
-use Rattle.sm_rule.specs.Rule.{IsTrueView, Holds, Rule, table_in}
+use Rattle.sm_rule.specs.Rule.{IsTrueView, RuleHolds, Rule, table_in}
 use Rattle.sm_rule.proofs.Keeping.{at_last, in_order, legal_all, length-table, others_all, sees, word_at}
 
 -- a word of a list, and its place
@@ -62,7 +62,7 @@ module _ {S Q : Type 0} (rests : S → ℕ → List Q → Type 0) (limit : S →
   abbrev history : List (Entry Q)
   history = last.1.0.0
 
-  abbrev holds : Holds rests limit limits last.0.words last.0.homes last.0.views history
+  abbrev holds : RuleHolds rests limit limits last.0.words last.0.homes last.0.views history
   holds = last.1.0.1
 
   -- the word of a shard is that of its record

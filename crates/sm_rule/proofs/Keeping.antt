@@ -39,7 +39,7 @@ use Rattle.sm_rule.specs.Admissions.{HoldsPermit, PermitValue}
 use Rattle.sm_rule.specs.Boards.{limit_at}
 use Rattle.sm_rule.specs.Bodies.{all_after, first_after}
 use Rattle.sm_rule.specs.Passes.{IsHeldOf, PassValue, pass_value, slots_of}
-use Rattle.sm_rule.specs.Rule.{AreHome, AreHeard, IsTrueView, Holds, IsHolding, IsCut, Rule, IsHeard, table_in}
+use Rattle.sm_rule.specs.Rule.{AreHome, AreHeard, IsTrueView, RuleHolds, IsHolding, IsCut, Rule, IsHeard, table_in}
 use Rattle.sm_rule.specs.Steps.{Entered, Exchanged, IsFree, IsWordOf, Loaded, MayAdd, Stored, TakesBody, is_end}
 use Rattle.sm_rule.specs.Views.{Adds, EndsWith, Looks, adding, all_held, entry_of, first_held, held_after, left_behind, newcomer, record_in, seeing}
 use Rattle.sm_rule.proofs.Bodies.{held_bounds, rests_after, rests_at}
@@ -175,7 +175,7 @@ word_seen limits history its shard word same is low legal known = (
 )
 
 -- a look changes the looking seat's view alone
-pub look_keeps : {S Q : Type 0} (rests : S → ℕ → List Q → Type 0) (limit : S → ℕ) (limits : Limits) (id word : ℕ) (words : List ℕ) (homes : List (math.Option (Option S))) (views : List (View Q)) (history : List (Entry Q)) (view : View Q) → Holds rests limit limits words homes views history → get_elem? views id ≡ some view → view.stage ≡ Acting → Holds rests limit limits (slice_set words word (slice_index words word)) homes (slice_set views id (seeing view (reverse history))) history
+pub look_keeps : {S Q : Type 0} (rests : S → ℕ → List Q → Type 0) (limit : S → ℕ) (limits : Limits) (id word : ℕ) (words : List ℕ) (homes : List (math.Option (Option S))) (views : List (View Q)) (history : List (Entry Q)) (view : View Q) → RuleHolds rests limit limits words homes views history → get_elem? views id ≡ some view → view.stage ≡ Acting → RuleHolds rests limit limits (slice_set words word (slice_index words word)) homes (slice_set views id (seeing view (reverse history))) history
 look_keeps rests limit limits id word words homes views history view holds at live =
     let long = length-set views id (seeing view (reverse history)) in
     record {
@@ -418,12 +418,12 @@ module _ {S Q : Type 0} (rests : S → ℕ → List Q → Type 0) (limit : S →
 
 -- the whole board after an entry
 adds_keep : {S Q : Type 0} (rests : S → ℕ → List Q → Type 0) (limit : S → ℕ) (limits : Limits) (id word new : ℕ) (words : List ℕ) (homes later : List (math.Option (Option S))) (views : List (View Q)) (history : List (Entry Q)) (view : View Q) (kind : Kind Q)
-    → Holds rests limit limits words homes views history → word < limits.count → get_elem? views id ≡ some view → view.stage ≡ Acting
+    → RuleHolds rests limit limits words homes views history → word < limits.count → get_elem? views id ≡ some view → view.stage ≡ Acting
     → length later ≡ limits.count → AreHome rests limit limits later (entry_of id word kind ∷ history)
     → IsFree view kind → ((server : ℕ) → view.server ≡ Some server → admits_only server kind ≡ true) → KnownKind kind
     → fits limits.ceiling history (table_in limits history) (entry_of id word kind) ≡ true
     → new ≡ word_of (after_kind (record_at (table_in limits history) word) kind)
-    → Holds rests limit limits (slice_set words word new) later (slice_set views id (adding view word kind (reverse (entry_of id word kind ∷ history)))) (entry_of id word kind ∷ history)
+    → RuleHolds rests limit limits (slice_set words word new) later (slice_set views id (adding view word kind (reverse (entry_of id word kind ∷ history)))) (entry_of id word kind ∷ history)
 adds_keep rests limit limits id word new words homes later views history view kind holds within at live many home free only known fit is =
     let entry = entry_of id word kind in
     let mine = adding view word kind (reverse (entry ∷ history)) in
@@ -498,7 +498,7 @@ module _ {S Q : Type 0} (rests : S → ℕ → List Q → Type 0) (limit : S →
   Leaves table n =
       (view : View Q) × (act : Act (Option S)) × Valid table.homes me.1 act × Rule rests limit limits (stepped table word n id me.1 view act) × Tells (slice_index table.words word) (view, carried_after me.1 act)
 
-  module _ (low : limits.ceiling < 2 ^ 36) (within : word < limits.count) (live : me.0.stage ≡ Acting) (table : State (Option S) (View Q)) (history : List (Entry Q)) (holds : Holds rests limit limits table.words table.homes table.views history) (at : get_elem? table.views id ≡ some me.0) where
+  module _ (low : limits.ceiling < 2 ^ 36) (within : word < limits.count) (live : me.0.stage ≡ Acting) (table : State (Option S) (View Q)) (history : List (Entry Q)) (holds : RuleHolds rests limit limits table.words table.homes table.views history) (at : get_elem? table.views id ≡ some me.0) where
     abbrev here : Record
     here = record_at (table_in limits history) word
 
@@ -582,7 +582,7 @@ pub stores : {S Q : Type 0} (rests : S → ℕ → List Q → Type 0) (limit : S
     → Allows (Rule rests limit limits) slots id (view, (word, Some body) ∷ []) word (λ _. new) (λ _. Stored (Done ending) (step {S = Option S} slots word new 0 none) (view, (word, Some body) ∷ []) new)
 stores {S} {Q} rests limit limits slots id word new view body held ending low live holding shard written gains same_limit table rule size at small =
     let history = rule.0 in
-    let holds : Holds rests limit limits table.words table.homes table.views history = rule.1 in
+    let holds : RuleHolds rests limit limits table.words table.homes table.views history = rule.1 in
     let fit = holds.fit id view at live in
     let is = fit.held held holding in
     let kind : Kind Q = Done ending in
@@ -621,7 +621,7 @@ pub enters : {S Q : Type 0} (rests : S → ℕ → List Q → Type 0) (limit : S
     → Enters {S = Option S} (Rule rests limit limits) slots word (λ n view. Entered server (step {S = Option S} slots word 0 0 none) first n (view, []))
 enters {S} {Q} rests limit limits slots word server first same table rule size small =
     let history = rule.0 in
-    let holds : Holds rests limit limits table.words table.homes table.views history = rule.1 in
+    let holds : RuleHolds rests limit limits table.words table.homes table.views history = rule.1 in
     let n = length table.views in
     let nobody : NoneBy n history = holds.unused n (le_refl n) in
     let mine : View Q = newcomer limits n server (reverse history) in

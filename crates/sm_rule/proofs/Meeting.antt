@@ -14,7 +14,7 @@ use Rattle.sm_rule.specs.declared.limits.Limits.{Limits}
 use Rattle.sm_rule.specs.declared.view.Stage.TheVariants.{Acting, Cut, Joined}
 use Rattle.sm_rule.specs.declared.view.Heard.{Heard}
 use Rattle.sm_rule.specs.declared.view.View.{View}
-use Rattle.sm_rule.specs.Rule.{AreHeard, IsTrueView, Holds, IsCut, Rule, IsHeard}
+use Rattle.sm_rule.specs.Rule.{AreHeard, IsTrueView, RuleHolds, IsCut, Rule, IsHeard}
 use Rattle.sm_rule.specs.Steps.{Met}
 use Rattle.sm_rule.specs.Views.{informed, left_behind, seeing}
 use Rattle.sm_rule.proofs.Keeping.{acting_uncut, in_order, look_keeps, looks_all, same_some, views_set}
@@ -31,7 +31,7 @@ below_end (one ∷ views) zero view at = omega arith
 below_end (one ∷ views) (suc n) view at = let below = below_end views n view at in omega arith
 
 -- a seat that acts takes in another
-module _ {S Q : Type 0} (rests : S → ℕ → List Q → Type 0) (limit : S → ℕ) (limits : Limits) (words : List ℕ) (homes : List (math.Option (Option S))) (views : List (View Q)) (history : List (Entry Q)) (holds : Holds rests limit limits words homes views history)
+module _ {S Q : Type 0} (rests : S → ℕ → List Q → Type 0) (limit : S → ℕ) (limits : Limits) (words : List ℕ) (homes : List (math.Option (Option S))) (views : List (View Q)) (history : List (Entry Q)) (holds : RuleHolds rests limit limits words homes views history)
     (id other : ℕ) (view one : View Q) (live : view.stage ≡ Acting) (alive : one.stage ≡ Acting) (at : get_elem? views id ≡ some view) (apart : other ≢ id) (there : get_elem? views other ≡ some one) where
   abbrev both : View Q
   both = informed view one
@@ -80,7 +80,7 @@ module _ {S Q : Type 0} (rests : S → ℕ → List Q → Type 0) (limit : S →
       n it at_first)
       (λ heard is. absurd (cc))
 
-  joined : Holds rests limit limits words homes last history
+  joined : RuleHolds rests limit limits words homes last history
   joined =
       let long = length-set first other left_behind ∙ length-set views id both in
       record {

@@ -161,6 +161,10 @@ may_change view shard state change known chair free idle below leads = record {
 }
 
 -- a change without a fault leads on
+-- a change that leads to a stand is allowed
+pub allowed_to : (at : Stand) (change : Change) (stand : Stand) → stand_after at change ≡ Some stand → phase_fault at change ≡ None
+allowed_to at change stand leads = rw leads refl
+
 pub leads_on : (stand : Stand) (change : Change) → phase_fault stand change ≡ None → is_some (stand_after stand change) ≡ true
 leads_on stand change none = phase_fault-none stand change ∙ ap is_none none
 
@@ -311,6 +315,12 @@ module _ {Q : Type 0} (stands : List Stand) (u w : View Q) (is : IsChairView sta
       let chair = chair_looks stands u w is looked in
       let top : read.generation < w.limits.ceiling = subst (λ (its : Limits). read.generation < its.ceiling) (sym (ap (λ (view : View Q). view.limits) looked.1)) below in
       may_change w shard read change known chair.1 chair.2 idle top (leads_on read.stand change (fits_read allowed))
+
+  -- the change leads there from the stand read
+  pub leads_read : (id : TableId) (value : ChairValue Q) (stand : Stand) → chair_value id u ≡ value
+      → stand_after (record_at_chair value shard).stand change ≡ Some stand → stand_after read.stand change ≡ Some stand
+  leads_read id value stand of_chair leads =
+      ap (λ one. stand_after one change) (stand_read ∙ ap (λ (it : ChairValue Q). (record_at_chair it shard).stand) of_chair) ∙ leads
 
   -- the same by the chair's value
   module _ (id : TableId) (value : ChairValue Q) (of_chair : chair_value id u ≡ value) (allowed : phase_fault (record_at_chair value shard).stand change ≡ None) where

@@ -11,7 +11,7 @@ use Rattle.sm_ownership.specs.lemmas.Lasting.{NoneBy-reverse, acts_as-none}
 use Rattle.sm_rule.specs.declared.limits.Limits.{Limits}
 use Rattle.sm_rule.specs.declared.view.Stage.TheVariants.{Acting, Cut, Joined}
 use Rattle.sm_rule.specs.declared.view.View.{View}
-use Rattle.sm_rule.specs.Rule.{IsTrueView, Holds, IsCut, Rule}
+use Rattle.sm_rule.specs.Rule.{IsTrueView, RuleHolds, IsCut, Rule}
 use Rattle.sm_rule.specs.Steps.{Enrolled}
 use Rattle.sm_rule.specs.Views.{cut_off, newcomer}
 use Rattle.sm_rule.proofs.Keeping.{acting_uncut, at_end, in_order, told_pushed, told_set, views_pushed, views_set}
@@ -20,7 +20,7 @@ use Rattle.sm_rule.proofs.Keeping.{acting_uncut, at_end, in_order, told_pushed, 
 pub splits : {S Q : Type 0} (rests : S → ℕ → List Q → Type 0) (limit : S → ℕ) (limits : Limits) (id : ℕ) (view : View Q) → view.stage ≡ Acting → Splits {S = Option S} (Rule rests limit limits) id view view (cut_off view)
 splits {S} {Q} rests limit limits id view live table rule at =
     let history = rule.0 in
-    let holds : Holds rests limit limits table.words table.homes table.views history = rule.1 in
+    let holds : RuleHolds rests limit limits table.words table.homes table.views history = rule.1 in
     let fit = holds.fit id view at live in
     let mine : View Q = cut_off view in
     let n = length table.views in
@@ -35,7 +35,7 @@ splits {S} {Q} rests limit limits id view live table rule at =
       seen = fit.seen;
       unused = holds.unused n (le_refl n);
     } in
-    let all : Holds rests limit limits table.words table.homes (table.views ++ mine ∷ []) history = record {
+    let all : RuleHolds rests limit limits table.words table.homes (table.views ++ mine ∷ []) history = record {
       legal = holds.legal;
       known = holds.known;
       words_are = holds.words_are;
@@ -60,7 +60,7 @@ pub enrolls : {S Q : Type 0} (rests : S → ℕ → List Q → Type 0) (limit : 
     → Allows (Rule rests limit limits) slots id me word (λ n. n) (Enrolled (step {S = Option S} slots word 0 0 none) me)
 enrolls {S} {Q} rests limit limits slots id word me off table rule size at small =
     let history = rule.0 in
-    let holds : Holds rests limit limits table.words table.homes table.views history = rule.1 in
+    let holds : RuleHolds rests limit limits table.words table.homes table.views history = rule.1 in
     let view = me.0 in
     let is = holds.cut id view at off in
     let mine : View Q = newcomer limits id view.server (reverse history) in
@@ -74,7 +74,7 @@ enrolls {S} {Q} rests limit limits slots id word me off table rule size at small
       server = λ server its. acts_as-none history id server is.unused;
       held = λ held its. absurd (cc);
     } in
-    let kept : Holds rests limit limits (slice_set table.words word (slice_index table.words word)) table.homes (slice_set table.views id mine) history = record {
+    let kept : RuleHolds rests limit limits (slice_set table.words word (slice_index table.words word)) table.homes (slice_set table.views id mine) history = record {
       legal = holds.legal;
       known = holds.known;
       words_are = set-get_or table.words word 0 ∙ holds.words_are;

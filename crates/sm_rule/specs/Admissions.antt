@@ -25,14 +25,16 @@ fault_for ceiling state (Some server) mode = admit_fault ceiling state server mo
 abbrev pub Races : {Q : Type 0} → Limits → List (Entry Q) → List (Entry Q) → ℕ → Record → Record → Type 0
 Races limits before after shard read found =
     (point : List (Entry _)) × Begins before point × Begins point after
-    × (read ≡ record_in limits point shard) × (found ≡ record_in limits after shard) × (read.generation < found.generation)
+    × (read ≡ record_in limits point shard) × (found ≡ record_in limits after shard)
+    × (read.generation < found.generation)
 
 -- the pass has seen more, and its own admission last
 abbrev pub PassAdmitted : {Q : Type 0} → PassValue Q → ℕ → Mode → PassValue Q → Type 0
 PassAdmitted before shard mode after =
     (server : ℕ) × (before.server ≡ Some server) × PassAdds before shard (Admit server mode) after
 
--- why a pass isn't admitted, by the record that it has then seen; or it was overtaken, and no fault applies to the record read
+-- why a pass isn't admitted, by the record that it has then seen; or it was overtaken, and no fault applies to the
+-- record read
 abbrev pub RefusedBy : {Q : Type 0} → PassValue Q → PassValue Q → ℕ → Mode → AdmitRefusal → Type 0
 RefusedBy before after shard mode (Refused fault state) =
     (state ≡ record_of after shard) × (fault_for before.board.limits.ceiling state before.server mode ≡ Some fault)
@@ -47,6 +49,7 @@ pub record PermitValue (S : Type 0) : Type 0 where
   pub state : Record
   pub body : S
 
+-- a permit whose body is now this
 abbrev pub with_body : {S : Type 0} → PermitValue S → S → PermitValue S
 with_body permit body = record permit { body = body }
 

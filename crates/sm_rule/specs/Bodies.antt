@@ -3,8 +3,10 @@ use Rattle.std.specs.Prelude.{ℕ, ◌≡◌, ◌≤◌, List, [], ◌∷◌, �
 use Rattle.sm_ownership.specs.declared.entry.Ending.{Ending}
 use Rattle.sm_ownership.specs.declared.entry.Ending.TheVariants.{Nothing, Request, Checkpoint}
 
--- a body rests on these requests, of which so many came before its base: that is the state after those, and it keeps the others
-abbrev pub Keeps : {S State Q : Type 0} → State → (State → Q → State) → (S → State) → (S → ℕ) → (S → List Q) → S → ℕ → List Q → Type 0
+-- a body rests on these requests, of which so many came before its base: that is the state after those, and it keeps
+-- the others
+abbrev pub Keeps : {S State Q : Type 0} → State → (State → Q → State) → (S → State) → (S → ℕ) → (S → List Q) → S → ℕ
+    → List Q → Type 0
 Keeps initial next base before requests body first all =
     (first ≤ length all)
     × (before body ≡ first)
@@ -23,15 +25,10 @@ first_after first all Nothing = first
 first_after first all (Request request) = first
 first_after first all Checkpoint = length all
 
--- how an admission ended that found a body with the first of these lists and left it with the second: with no request more, with
--- one more, or with none of those that there were
+-- how an admission ended that found a body with the first of these lists and left it with the second: with no request
+-- more, with one more, or with none of those that there were
 abbrev pub ending_between : {Q : Type 0} → List Q → List Q → Ending Q
 ending_between [] [] = Nothing
 ending_between [] (request ∷ more) = Request request
 ending_between (one ∷ list) [] = Checkpoint
 ending_between (one ∷ list) (other ∷ more) = ending_between list more
-
--- how the checkpoint of a body with this list ends an admission: one that keeps nothing stays as it was
-abbrev pub checkpoint_ending : {Q : Type 0} → List Q → Ending Q
-checkpoint_ending [] = Nothing
-checkpoint_ending (request ∷ more) = Checkpoint

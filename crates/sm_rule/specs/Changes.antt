@@ -32,7 +32,8 @@ AreStandsOf stands view =
 
 -- the view of a chair that keeps these stands
 abbrev pub IsChairView : {Q : Type 0} → List Stand → View Q → Type 0
-IsChairView stands view = (view.stage ≡ Acting) × (view.number ≡ 0) × (view.held ≡ None) × AreStandsOf stands view × HasSeenLegal view
+IsChairView stands view =
+    (view.stage ≡ Acting) × (view.number ≡ 0) × (view.held ≡ None) × AreStandsOf stands view × HasSeenLegal view
 
 -- the shard's record in all that the chair has seen
 abbrev pub record_at_chair : {Q : Type 0} → ChairValue Q → ℕ → Record
@@ -45,7 +46,8 @@ ChairLooks before after = Grows before.board.limits 0 before.seen after.seen [] 
 -- the chair has seen more, made by passes, and its own change last
 abbrev pub ChairAdds : {Q : Type 0} → ChairValue Q → ℕ → Change → ChairValue Q → Type 0
 ChairAdds before shard change after =
-    Grows before.board.limits 0 before.seen after.seen (entry_of 0 shard (Changed change) ∷ []) × (after.board ≡ before.board)
+    Grows before.board.limits 0 before.seen after.seen (entry_of 0 shard (Changed change) ∷ [])
+    × (after.board ≡ before.board)
 
 -- why a record allows no change now
 abbrev pub Forbids : ℕ → Record → ChangeRefusal → Type 0
@@ -53,7 +55,8 @@ Forbids ceiling state (Spent read) = (read ≡ state) × (state.generation ≡ c
 Forbids ceiling state (Busy read) = (read ≡ state) × (state.admitted ≡ true)
 Forbids ceiling state (Raced read found) = ⊥
 
--- why a change wasn't made, by the record that the chair has then seen; or it was overtaken, and the record read allowed it
+-- why a change wasn't made, by the record that the chair has then seen; or it was overtaken, and the record read
+-- allowed it
 abbrev pub NotMade : {Q : Type 0} → ChairValue Q → ChairValue Q → ℕ → ChangeRefusal → Type 0
 NotMade before after shard (Spent state) =
     (state ≡ record_at_chair after shard) × (state.generation ≡ before.board.limits.ceiling)

@@ -12,23 +12,28 @@ use Rattle.sm_rule.specs.Changes.{ChairValue}
 use Rattle.sm_rule.specs.Passes.{PassValue}
 use Rattle.sm_rule.specs.Views.{Begins, record_in}
 
--- what is left of a shard after a history: its record, and its body where it isn't admitted, of its limit and resting on
--- all requests that the history has for it
-abbrev pub IsLeft : {S Q : Type 0} → (S → ℕ → List Q → Type 0) → (S → ℕ) → Limits → List (Entry Q) → ℕ → Record × Option S → Type 0
+-- what is left of a shard after a history: its record, and its body where it isn't admitted, of its limit and resting
+-- on all requests that the history has for it
+abbrev pub IsLeft : {S Q : Type 0} → (S → ℕ → List Q → Type 0) → (S → ℕ) → Limits → List (Entry Q) → ℕ
+    → Record × Option S → Type 0
 IsLeft {S} keeps limit limits history shard row =
     (row.0 ≡ record_in limits history shard)
     × (row.0.admitted ≡ true → row.1 ≡ None)
-    × (row.0.admitted ≡ false → (body : S) × (row.1 ≡ Some body) × keeps body (first_of history shard) (all_of history shard) × (limit body ≡ limit_at limits shard))
+    × (row.0.admitted ≡ false → (body : S) × (row.1 ≡ Some body)
+    × keeps body (first_of history shard) (all_of history shard) × (limit body ≡ limit_at limits shard))
 
 -- the rows are those of all shards after a history
-abbrev pub AreLeft : {S Q : Type 0} → (S → ℕ → List Q → Type 0) → (S → ℕ) → Limits → List (Entry Q) → List (Record × Option S) → Type 0
+abbrev pub AreLeft : {S Q : Type 0} → (S → ℕ → List Q → Type 0) → (S → ℕ) → Limits → List (Entry Q)
+    → List (Record × Option S) → Type 0
 AreLeft {S} keeps limit limits history rows =
     (length rows ≡ limits.count)
-    × ((shard : ℕ) (row : Record × Option S) → get_elem? rows shard ≡ some row → IsLeft keeps limit limits history shard row)
+    × ((shard : ℕ) (row : Record × Option S) → get_elem? rows shard ≡ some row
+    → IsLeft keeps limit limits history shard row)
 
--- the rows are those of all shards after one legal history, to which passes alone have added since the chair last looked, and
--- which extends what the pass had seen
-abbrev pub WasClosed : {S Q : Type 0} → (S → ℕ → List Q → Type 0) → (S → ℕ) → ChairValue Q → PassValue Q → List (Record × Option S) → Type 0
+-- the rows are those of all shards after one legal history, to which passes alone have added since the chair last
+-- looked, and which extends what the pass had seen
+abbrev pub WasClosed : {S Q : Type 0} → (S → ℕ → List Q → Type 0) → (S → ℕ) → ChairValue Q → PassValue Q
+    → List (Record × Option S) → Type 0
 WasClosed {S} {Q} keeps limit chair pass rows =
     (later : List (Entry Q))
     × IsLegal chair.board.limits.count chair.board.limits.ceiling (chair.seen ++ later)
@@ -39,7 +44,8 @@ WasClosed {S} {Q} keeps limit chair pass rows =
 -- each word is that of a record
 abbrev pub AreWords : List ℕ → Type 0
 AreWords words =
-    (shard word : ℕ) → get_elem? words shard ≡ some word → (state : Record) × IsWellFormed state × (word_of state ≡ word)
+    (shard word : ℕ) → get_elem? words shard ≡ some word
+    → (state : Record) × IsWellFormed state × (word_of state ≡ word)
 
 -- a row has the record of its shard's word, and what lies in its slot where that isn't admitted
 abbrev pub IsTaken : {S : Type 0} → List ℕ → List (Option S) → ℕ → Record × Option S → Type 0
@@ -49,4 +55,5 @@ IsTaken {S} words slots shard row =
     × ((slot : Option S) × (get_elem? slots shard ≡ some slot) × (row.1 ≡ (if row.0.admitted then None else slot)))
 
 abbrev pub AreTaken : {S : Type 0} → List ℕ → List (Option S) → List (Record × Option S) → Type 0
-AreTaken {S} words slots rows = (shard : ℕ) (row : Record × Option S) → get_elem? rows shard ≡ some row → IsTaken words slots shard row
+AreTaken {S} words slots rows =
+    (shard : ℕ) (row : Record × Option S) → get_elem? rows shard ≡ some row → IsTaken words slots shard row

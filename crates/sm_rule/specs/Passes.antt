@@ -23,7 +23,13 @@ pub record PassValue (Q : Type 0) : Type 0 where
 -- the pass of a seat with this view
 abbrev pub pass_value : {Q : Type 0} → TableId → View Q → PassValue Q
 pass_value id view =
-    record { board = record { id = id; limits = view.limits }; number = view.number; server = view.server; held = view.held; seen = view.seen }
+    record {
+      board = record { id = id; limits = view.limits };
+      number = view.number;
+      server = view.server;
+      held = view.held;
+      seen = view.seen;
+    }
 
 -- the slots that a pass has: that of the shard that it holds, whose body is out with the permit
 abbrev pub slots_of : {S Q : Type 0} → Option (HeldShard Q) → List (ℕ × Option S)
@@ -52,9 +58,11 @@ HasLegalFront pass = IsLegal pass.board.limits.count pass.board.limits.ceiling p
 abbrev pub record_of : {Q : Type 0} → PassValue Q → ℕ → Record
 record_of pass shard = record_in pass.board.limits pass.seen shard
 
+-- a pass that has seen this history
 abbrev pub pass_seeing : {Q : Type 0} → PassValue Q → List (Entry Q) → PassValue Q
 pass_seeing pass history = record pass { seen = history }
 
+-- a pass that has seen this history, whose last entry is its own
 abbrev pub pass_adding : {Q : Type 0} → PassValue Q → ℕ → Kind Q → List (Entry Q) → PassValue Q
 pass_adding pass shard kind history =
     record pass { seen = history; held = held_after pass.board.limits shard kind history pass.held }

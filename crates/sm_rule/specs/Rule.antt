@@ -6,7 +6,8 @@ use lib.ListN.{get_elem?}
 use Rattle.atomic_table.specs.Table.{State}
 use Rattle.sm_ownership.specs.declared.entry.Entry.{Entry}
 use Rattle.sm_ownership.specs.declared.record.Record.{Record}
-use Rattle.sm_ownership.specs.History.{IsLegalLatest, acts_as, all_of, first_of, is_admission_of, latest_of, record_at, table_of_latest, NoneBy}
+use Rattle.sm_ownership.specs.History.{IsLegalLatest, acts_as, all_of, first_of, is_admission_of, latest_of, record_at}
+use Rattle.sm_ownership.specs.History.{table_of_latest, NoneBy}
 use Rattle.sm_word.specs.Known.{AreKnown}
 use Rattle.sm_word.specs.Word.{word_of}
 use Rattle.sm_rule.specs.Boards.{limit_at}
@@ -24,7 +25,8 @@ abbrev pub table_in : {Q : Type 0} → Limits → List (Entry Q) → List Record
 table_in limits history = table_of_latest limits.count limits.ceiling history
 
 -- a seat holds a shard: it is admitted, by this seat's number, and since then nothing happened to it
-pub record IsHolding {Q : Type 0} (limits : Limits) (number : ℕ) (held : HeldShard Q) (history : List (Entry Q)) : Type 0 where
+pub record IsHolding {Q : Type 0} (limits : Limits) (number : ℕ) (held : HeldShard Q)
+    (history : List (Entry Q)) : Type 0 where
   pub known : held.shard < limits.count
   pub state : record_at (table_in limits history) held.shard ≡ held.state
   pub admitted : held.state.admitted ≡ true
@@ -33,7 +35,8 @@ pub record IsHolding {Q : Type 0} (limits : Limits) (number : ℕ) (held : HeldS
   pub all : all_of (reverse history) held.shard ≡ held.all
 
 -- what a seat knows is so: the history begins with what it has seen, and has no more entries of its number
-pub record IsTrueView {Q : Type 0} (limits : Limits) (number : ℕ) (view : View Q) (history : List (Entry Q)) : Type 0 where
+pub record IsTrueView {Q : Type 0} (limits : Limits) (number : ℕ) (view : View Q)
+    (history : List (Entry Q)) : Type 0 where
   pub limits_are : view.limits ≡ limits
   pub number_is : view.number ≡ number
   pub later : List (Entry Q)
@@ -60,29 +63,37 @@ pub record IsHeard {Q : Type 0} (views : List (View Q)) (heard : Heard Q) (histo
 
 -- all that seats were told is so
 abbrev pub AreHeard : {Q : Type 0} → List (View Q) → List (Entry Q) → Type 0
-AreHeard views history = (number : ℕ) (view : View _) → get_elem? views number ≡ some view → (heard : Heard _) → view.heard ≡ Some heard → IsHeard views heard history
+AreHeard views history = (number : ℕ) (view : View _) → get_elem? views number ≡ some view → (heard : Heard _)
+    → view.heard ≡ Some heard → IsHeard views heard history
 
--- the bodies of the idle shards are at home: each rests on all requests that the history has for its shard, and has the shard's limit
-abbrev pub AreHome : {S Q : Type 0} → (S → ℕ → List Q → Type 0) → (S → ℕ) → Limits → List (math.Option (Option S)) → List (Entry Q) → Type 0
+-- the bodies of the idle shards are at home: each rests on all requests that the history has for its shard, and has the
+-- shard's limit
+abbrev pub AreHome : {S Q : Type 0} → (S → ℕ → List Q → Type 0) → (S → ℕ) → Limits → List (math.Option (Option S))
+    → List (Entry Q) → Type 0
 AreHome {S} keeps limit limits homes history =
     (shard : ℕ) → shard < limits.count → (record_at (table_in limits history) shard).admitted ≡ false
-    → (body : S) × (get_elem? homes shard ≡ some (some (Some body))) × keeps body (first_of (reverse history) shard) (all_of (reverse history) shard) × (limit body ≡ limit_at limits shard)
+    → (body : S) × (get_elem? homes shard ≡ some (some (Some body))) × keeps body (first_of (reverse history) shard)
+    (all_of (reverse history) shard) × (limit body ≡ limit_at limits shard)
 
--- the words are those of the table of a legal history of known servers; the bodies of its idle shards are at home; each seat
--- that acts knows it as far as it has looked, and so do those that were cut off or taken in; a number that no seat has yet has
--- no entry in it
-pub record Holds {S Q : Type 0} (keeps : S → ℕ → List Q → Type 0) (limit : S → ℕ) (limits : Limits) (words : List ℕ) (homes : List (math.Option (Option S))) (views : List (View Q)) (history : List (Entry Q)) : Type 0 where
+-- the words are those of the table of a legal history of known servers; the bodies of its idle shards are at home; each
+-- seat that acts knows it as far as it has looked, and so do those that were cut off or taken in; a number that no seat
+-- has yet has no entry in it
+pub record RuleHolds {S Q : Type 0} (keeps : S → ℕ → List Q → Type 0) (limit : S → ℕ) (limits : Limits) (words : List ℕ)
+    (homes : List (math.Option (Option S))) (views : List (View Q)) (history : List (Entry Q)) : Type 0 where
   pub legal : IsLegalLatest limits.count limits.ceiling history
   pub known : AreKnown history
   pub words_are : words ≡ map word_of (table_in limits history)
   pub slots : length homes ≡ limits.count
   pub home : AreHome keeps limit limits homes history
-  pub fit : (number : ℕ) (view : View Q) → get_elem? views number ≡ some view → view.stage ≡ Acting → IsTrueView limits number view history
-  pub cut : (number : ℕ) (view : View Q) → get_elem? views number ≡ some view → view.stage ≡ Cut → IsCut limits number view history
+  pub fit : (number : ℕ) (view : View Q) → get_elem? views number ≡ some view → view.stage ≡ Acting
+      → IsTrueView limits number view history
+  pub cut : (number : ℕ) (view : View Q) → get_elem? views number ≡ some view → view.stage ≡ Cut
+      → IsCut limits number view history
   pub heard : AreHeard views history
   pub unused : (number : ℕ) → length views ≤ number → NoneBy number history
   pub chaired : 0 < length views
 
 -- there is one history
 abbrev pub Rule : {S Q : Type 0} → (S → ℕ → List Q → Type 0) → (S → ℕ) → Limits → State (Option S) (View Q) → Type 0
-Rule keeps limit limits table = (history : List (Entry _)) × Holds keeps limit limits table.words table.homes table.views history
+Rule keeps limit limits table =
+    (history : List (Entry _)) × RuleHolds keeps limit limits table.words table.homes table.views history

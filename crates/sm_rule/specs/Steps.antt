@@ -32,8 +32,8 @@ Entered server step first found after =
     × IsLegal first.0.limits.count first.0.limits.ceiling after.0.seen
     × (after.0 ≡ newcomer first.0.limits after.0.number server after.0.seen)
 
--- the view of a seat that was cut from another one: as that of a new seat with the other's server, but for another number than
--- the other's, and for the history, which extends what the other had seen
+-- the view of a seat that was cut from another one: as that of a new seat with the other's server, but for another
+-- number than the other's, and for the history, which extends what the other had seen
 abbrev pub IsHalf : {Q : Type 0} → View Q → View Q → Type 0
 IsHalf view half =
     (half.number ≢ 0)
@@ -54,26 +54,32 @@ Met step before found after =
     × ((heard : Heard _) → before.0.heard ≡ Some heard → IsMet heard.by heard.seen after.0.seen)
     × (after.1 ≡ before.1)
 
--- an admission takes the shard's slot, with a body of its limit that rests on all requests of the shard; a change takes none
-abbrev pub TakesBody : {S Q : Type 0} → (S → ℕ → List Q → Type 0) → (S → ℕ) → Kind Q → ℕ → List (ℕ × Option S) → View Q → List (ℕ × Option S) → Type 0
+-- an admission takes the shard's slot, with a body of its limit that rests on all requests of the shard; a change takes
+-- none
+abbrev pub TakesBody : {S Q : Type 0} → (S → ℕ → List Q → Type 0) → (S → ℕ) → Kind Q → ℕ → List (ℕ × Option S) → View Q
+    → List (ℕ × Option S) → Type 0
 TakesBody {S} keeps limit (Admit server mode) shard before view after =
-    (body : S) × (after ≡ (shard, Some body) ∷ before) × keeps body (first_of view.seen shard) (all_of view.seen shard) × (limit body ≡ limit_at view.limits shard)
+    (body : S) × (after ≡ (shard, Some body) ∷ before) × keeps body (first_of view.seen shard) (all_of view.seen shard)
+    × (limit body ≡ limit_at view.limits shard)
 TakesBody keeps limit _ shard before view after = after ≡ before
 
 -- an exchange that is won adds an admission or a change to all that was seen; one that is lost is a load
-abbrev pub Exchanged : {S Q : Type 0} → (S → ℕ → List Q → Type 0) → (S → ℕ) → Kind Q → Step (Option S) → Me (Option S) (View Q) → ℕ → Me (Option S) (View Q) → Type 0
+abbrev pub Exchanged : {S Q : Type 0} → (S → ℕ → List Q → Type 0) → (S → ℕ) → Kind Q → Step (Option S)
+    → Me (Option S) (View Q) → ℕ → Me (Option S) (View Q) → Type 0
 Exchanged keeps limit kind step before found after =
-    (found ≡ step.first → Adds before.0 step.word kind after.0 × IsWordOf step.second after.0 step.word × TakesBody keeps limit kind step.word before.1 after.0 after.1)
+    (found ≡ step.first → Adds before.0 step.word kind after.0 × IsWordOf step.second after.0 step.word
+    × TakesBody keeps limit kind step.word before.1 after.0 after.1)
     × (found ≢ step.first → Loaded step before found after)
 
--- a store adds the end of an admission to all that was seen, which then has for the shard what such an end makes of its requests
--- at the admission, and gives the slot back that was taken last
+-- a store adds the end of an admission to all that was seen, which then has for the shard what such an end makes of its
+-- requests at the admission, and gives the slot back that was taken last
 abbrev pub Stored : {S Q : Type 0} → Kind Q → Step S → Me S (View Q) → ℕ → Me S (View Q) → Type 0
 Stored kind step before found after =
     Adds before.0 step.word kind after.0
     × IsWordOf found after.0 step.word
     × (all_of after.0.seen step.word ≡ all_after (all_held before.0.held) (ending_of kind))
-    × (first_of after.0.seen step.word ≡ first_after (first_held before.0.held) (all_held before.0.held) (ending_of kind))
+    × (first_of after.0.seen step.word
+    ≡ first_after (first_held before.0.held) (all_held before.0.held) (ending_of kind))
     × (after.1 ≡ rest before.1)
 
 -- the control holds nothing when it changes a stand
@@ -86,10 +92,12 @@ abbrev pub is_end : {Q : Type 0} → Kind Q → Bool
 is_end (Done ending) = true
 is_end _ = false
 
--- a seat with this view may add an entry of this kind, which ends no admission, where it finds the shard's record as it was read
+-- a seat with this view may add an entry of this kind, which ends no admission, where it finds the shard's record as it
+-- was read
 pub record MayAdd {Q : Type 0} (view : View Q) (shard : ℕ) (state : Record) (kind : Kind Q) : Type 0 where
   pub known : KnownKind kind
   pub begins : is_end kind ≡ false
   pub free : IsFree view kind
   pub own_server : (server : ℕ) → view.server ≡ Some server → admits_only server kind ≡ true
-  pub follows : (history : List (Entry Q)) → IsTrueView view.limits view.number view history → kind_fits view.limits.ceiling history state view.number shard kind ≡ true
+  pub follows : (history : List (Entry Q)) → IsTrueView view.limits view.number view history
+      → kind_fits view.limits.ceiling history state view.number shard kind ≡ true

@@ -16,6 +16,7 @@ use Rattle.sm_rule.specs.declared.view.View.{View}
 abbrev pub record_in : {Q : Type 0} → Limits → List (Entry Q) → ℕ → Record
 record_in limits history shard = record_at (table_of limits.count limits.ceiling history) shard
 
+-- an entry of this actor and kind
 abbrev pub entry_of : {Q : Type 0} → ℕ → ℕ → Kind Q → Entry Q
 entry_of actor shard kind = record { actor = actor; shard = shard; kind = kind }
 
@@ -30,13 +31,20 @@ IsMet number seen history = (others : List (Entry _)) × (history ≡ seen ++ ot
 -- what was seen grows by entries of others, and then by these
 abbrev pub Grows : {Q : Type 0} → Limits → ℕ → List (Entry Q) → List (Entry Q) → List (Entry Q) → Type 0
 Grows limits number before after added =
-    (others : List (Entry _)) × (after ≡ (before ++ others) ++ added) × NoneBy number others × IsLegal limits.count limits.ceiling after
+    (others : List (Entry _)) × (after ≡ (before ++ others) ++ added) × NoneBy number others
+    × IsLegal limits.count limits.ceiling after
 
 -- what is held after an entry of one's own, the last of a history: an admission holds its shard, and its end nothing
-abbrev pub held_after : {Q : Type 0} → Limits → ℕ → Kind Q → List (Entry Q) → Option (HeldShard Q) → Option (HeldShard Q)
+abbrev pub held_after : {Q : Type 0} → Limits → ℕ → Kind Q → List (Entry Q) → Option (HeldShard Q)
+    → Option (HeldShard Q)
 held_after limits shard (Changed change) history held = held
 held_after limits shard (Admit server mode) history held =
-    Some (record { shard = shard; state = record_in limits history shard; first = first_of history shard; all = all_of history shard })
+    Some (record {
+      shard = shard;
+      state = record_in limits history shard;
+      first = first_of history shard;
+      all = all_of history shard;
+    })
 held_after limits shard (Done ending) history held = None
 
 -- all requests of the shard that is held, at the admission
@@ -53,17 +61,26 @@ first_held (Some held) = held.first
 abbrev pub list_held : {Q : Type 0} → Option (HeldShard Q) → List Q
 list_held held = drop (first_held held) (all_held held)
 
--- what has become of the body since the admission: it rests on the same requests, on one more, or is the checkpoint of what it
--- kept, where it kept anything
+-- what has become of the body since the admission: it rests on the same requests, on one more, or is the checkpoint of
+-- what it kept, where it kept anything
 abbrev pub EndsWith : {S Q : Type 0} → (S → ℕ → List Q → Type 0) → Option (HeldShard Q) → S → Ending Q → Type 0
 EndsWith keeps held body Nothing = keeps body (first_held held) (all_held held)
 EndsWith keeps held body (Request request) = keeps body (first_held held) (all_held held ++ request ∷ [])
-EndsWith keeps held body Checkpoint = (first_held held < length (all_held held)) × keeps body (length (all_held held)) (all_held held)
+EndsWith keeps held body Checkpoint =
+    (first_held held < length (all_held held)) × keeps body (length (all_held held)) (all_held held)
 
 -- the view of a new seat
 abbrev pub newcomer : {Q : Type 0} → Limits → ℕ → Option ℕ → List (Entry Q) → View Q
 newcomer limits number server history =
-    record { limits = limits; number = number; server = server; held = None; seen = history; stage = Acting; heard = None }
+    record {
+      limits = limits;
+      number = number;
+      server = server;
+      held = None;
+      seen = history;
+      stage = Acting;
+      heard = None;
+    }
 
 -- the history that a view has seen is a legal one
 abbrev pub HasSeenLegal : {Q : Type 0} → View Q → Type 0
@@ -78,7 +95,15 @@ abbrev pub informed : {Q : Type 0} → View Q → View Q → View Q
 informed view other = record view { heard = Some (record { by = other.number; seen = other.seen }) }
 
 abbrev pub left_behind : {Q : Type 0} → View Q
-left_behind = record { limits = record { count = 0; ceiling = 0; bodies = [] }; number = 0; server = None; held = None; seen = []; stage = Joined; heard = None }
+left_behind = record {
+  limits = record { count = 0; ceiling = 0; bodies = [] };
+  number = 0;
+  server = None;
+  held = None;
+  seen = [];
+  stage = Joined;
+  heard = None;
+}
 
 -- a view that has seen this history
 abbrev pub seeing : {Q : Type 0} → View Q → List (Entry Q) → View Q
@@ -86,7 +111,8 @@ seeing view history = record view { seen = history }
 
 -- a view that has seen this history, whose last entry is its own, of this kind
 abbrev pub adding : {Q : Type 0} → View Q → ℕ → Kind Q → List (Entry Q) → View Q
-adding view shard kind history = record view { seen = history; held = held_after view.limits shard kind history view.held }
+adding view shard kind history =
+    record view { seen = history; held = held_after view.limits shard kind history view.held }
 
 -- the view has seen more, made by others alone
 abbrev pub Looks : {Q : Type 0} → View Q → View Q → Type 0
@@ -95,4 +121,5 @@ Looks before after = Grows before.limits before.number before.seen after.seen []
 -- the view has seen more, and its own entry last
 abbrev pub Adds : {Q : Type 0} → View Q → ℕ → Kind Q → View Q → Type 0
 Adds before shard kind after =
-    Grows before.limits before.number before.seen after.seen (entry_of before.number shard kind ∷ []) × (after ≡ adding before shard kind after.seen)
+    Grows before.limits before.number before.seen after.seen (entry_of before.number shard kind ∷ [])
+    × (after ≡ adding before shard kind after.seen)

@@ -29,9 +29,9 @@ use sm_word::word::{record_of_word, record_served};
 use std::alloc::Global;
 use std::marker::{Brand, Model};
 
-/// One word and one body for each shard, shared by threads. By the board's rule each word is that of the shard's record in one
-/// history that all steps make, and the body of each idle shard is in its slot, has the shard's limit and rests on all requests
-/// that the history has for it.
+/// One word and one body for each shard, shared by threads. By the board's rule each word is that of the shard's record
+/// in one history that all steps make, and the body of each idle shard is in its slot, has the shard's limit and rests
+/// on all requests that the history has for it.
 #[derive(Drop)]
 pub struct Board<S: Service> {
     table: Table<Option<S>, View<S::Request>, Origin<S>, BoardRule<Kept<S>>, Global>,
@@ -51,7 +51,8 @@ impl<S: Service> Model for Board<S> {
       limits = limits_of S.limit board.count board.ceiling board.table.shared.key.bodies.value.items;
     } };
 
-    ghost invariant = { λ board. (board.table.shared.key.count ≡ board.count) × (board.table.shared.key.ceiling ≡ board.ceiling)
+    ghost invariant = { λ board. (board.table.shared.key.count ≡ board.count)
+        × (board.table.shared.key.ceiling ≡ board.ceiling)
         × (board.count ≡ board.table.shared.table_id.words) × (board.count ≡ board.table.shared.table_id.slots)
         × (1 ≤ board.count) × (board.count ≤ MAX_SHARDS) × (board.ceiling < 2 ^ 36) };
 }
@@ -64,8 +65,8 @@ impl<S: Service> Board<S> {
         self.count as u32
     }
 
-    /// A new pass with this server, for good. Its number isn't the chair's, and has no entry in what the pass has seen; by the
-    /// board's rule no two passes have the same.
+    /// A new pass with this server, for good. Its number isn't the chair's, and has no entry in what the pass has seen;
+    /// by the board's rule no two passes have the same.
     pub fn pass(&self, server: Option<ServerId>) -> Pass<S>
         ensures board { result.board ≡ self.now }
         ensures server { result.server ≡ server }
@@ -108,8 +109,8 @@ impl<S: Service> Board<S> {
         self.load(&mut chair.seat, k, None).1
     }
 
-    // Changes the shard's word from that of the record read to that of the next one, or gives the record found in its place.
-    // A call would pass the records through memory just before the exchange, which waits for that.
+    // Changes the shard's word from that of the record read to that of the next one, or gives the record found in its
+    // place. A call would pass the records through memory just before the exchange, which waits for that.
     #[inline(always)]
     fn exchange<B: Asks<S::Request>>(
         &self,
@@ -130,11 +131,13 @@ impl<S: Service> Board<S> {
         requires may { MayAdd seat.old.me.0 k read.now B.kind }
         ensures table { seat.new.table_id ≡ seat.old.table_id }
         ensures made { OnOk result (Adds seat.old.me.0 k B.kind seat.new.me.0) }
-        ensures slots { OnOk result (TakesBody (Keeps S.initial S.next S.base S.before S.requests) S.limit B.kind k seat.old.me.1 seat.new.me.0 seat.new.me.1) }
+        ensures slots { OnOk result (TakesBody (Keeps S.initial S.next S.base S.before S.requests) S.limit B.kind k
+            seat.old.me.1 seat.new.me.0 seat.new.me.1) }
         ensures next { OnOk result (next.now ≡ record_in seat.new.me.0.limits seat.new.me.0.seen k) }
         ensures lost { OnErr result (Looks seat.old.me.0 seat.new.me.0) }
         ensures unchanged { OnErr result (seat.new.me.1 ≡ seat.old.me.1) }
-        ensures found { IfErr result (λ found. (found ≡ record_in seat.new.me.0.limits seat.new.me.0.seen k) × (found ≢ read.now)) }
+        ensures found { IfErr result
+            (λ found. (found ≡ record_in seat.new.me.0.limits seat.new.me.0.seen k) × (found ≢ read.now)) }
     {
         let found = self
             .table

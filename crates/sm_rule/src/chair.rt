@@ -42,8 +42,8 @@ impl<S: Service> Chair<S> {
         let _ = &self.room;
     }
 
-    /// The shard's stand, which nobody else changes: it is the shard's in every legal history to which the one that the chair
-    /// has seen may grow by entries of passes.
+    /// The shard's stand, which nobody else changes: it is the shard's in every legal history to which the one that the
+    /// chair has seen may grow by entries of passes.
     pub fn stand(&self, k: ShardId) -> Stand
         requires { k < self.now.board.limits.count }
         ensures seen { result ≡ (record_at_chair self.now k).stand }

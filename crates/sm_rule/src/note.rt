@@ -3,7 +3,8 @@ use atomic_table::Seat;
 use sm_body::service::Service;
 use std::marker::Model;
 
-/// What one caller tells another: a pass that holds nothing and acts no more, with all that it has seen. It has no bytes.
+/// What one caller tells another: a pass that holds nothing and acts no more, with all that it has seen. It has no
+/// bytes.
 #[derive(Drop)]
 pub struct Note<S: Service> {
     pub(crate) seat: Seat<Option<S>, View<S::Request>>,

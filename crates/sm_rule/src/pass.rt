@@ -20,7 +20,8 @@ impl<S: Service> Model for Pass<S> {
 
     ghost view = { λ pass. pass_value pass.seat.table_id pass.seat.me.0 };
 
-    ghost invariant = { λ pass. IsPassView pass.server pass.seat.me.0 × (pass.seat.me.1 ≡ slots_of pass.seat.me.0.held) };
+    ghost invariant = { λ pass. IsPassView pass.server pass.seat.me.0
+        × (pass.seat.me.1 ≡ slots_of pass.seat.me.0.held) };
 }
 
 impl<S: Service> Pass<S> {

@@ -10,8 +10,8 @@ use sm_ranges::shard_id::ShardId;
 use std::marker::Model;
 use std::snapshot::Snapshot;
 
-/// The right to execute requests of a shard, which an admission gives, with the shard's body. It must be spent by the end of
-/// the admission: it can't be dropped.
+/// The right to execute requests of a shard, which an admission gives, with the shard's body. It must be spent by the
+/// end of the admission: it can't be dropped.
 pub struct Permit<S: Service> {
     // The board that gave it, as proofs see it. It takes no memory.
     pub(crate) board: Snapshot<Board<S>>,
@@ -30,7 +30,12 @@ impl<S: Service> Model for Permit<S> {
 
     ghost Value = { PermitValue S };
 
-    ghost view = { λ permit. record { board = permit.board.value; shard = permit.shard; state = permit.state; body = permit.body } };
+    ghost view = { λ permit. record {
+      board = permit.board.value;
+      shard = permit.shard;
+      state = permit.state;
+      body = permit.body;
+    } };
 
     ghost invariant = { λ permit. IsWellFormed (after_done permit.state) × IsWellFormed permit.state
         × (permit.state.admitted ≡ true) × (permit.word ≡ word_of permit.state) };
@@ -39,7 +44,8 @@ impl<S: Service> Model for Permit<S> {
 impl<S: Service> Permit<S> {
     /// The shard's body. What is written through the loan is in the permit once the loan ends.
     pub fn body(&mut self) -> &mut S
-        ensures* writes_back { sem 𝓛 (Lends (the_row S.row S.Request.row S.Reply.row S.Service) S.row self.entry result (λ body. with_body self.old body)) }
+        ensures* writes_back { sem 𝓛 (Lends (the_row S.row S.Request.row S.Reply.row S.Service) S.row self.entry result
+            (λ body. with_body self.old body)) }
         ensures value { result.now ≡ self.old.body }
     {
         &mut self.body

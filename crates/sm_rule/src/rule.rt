@@ -6,8 +6,8 @@ use atomic_table::{Join, Play, Split, TableRule};
 use sm_body::service::Service;
 use std::marker::{Brand, PhantomData};
 
-/// What the rule asks of bodies: that each rests on the requests of its shard, so many of which came before its base, and the
-/// most that it keeps.
+/// What the rule asks of bodies: that each rests on the requests of its shard, so many of which came before its base,
+/// and the most that it keeps.
 pub trait Keeping<S, Q> {
     ghost use Rattle.std.specs.Prelude.{ℕ, List};
 
@@ -58,8 +58,8 @@ impl<S, Q> Play<Option<S>, View<Q>> for Load {
     ghost then = { Loaded };
 }
 
-// A step tells what its brand says, and a proof picks the brand at a call of which it sees the arguments alone. So `pass`,
-// `admit`, `change` and `finish` have a twin each, of the same clauses, whose call is the one that picks.
+// A step tells what its brand says, and a proof picks the brand at a call of which it sees the arguments alone. So
+// `pass`, `admit`, `change` and `finish` have a twin each, of the same clauses, whose call is the one that picks.
 
 /// The server of a new seat. Each call picks it.
 pub trait Hires {

@@ -29,7 +29,8 @@ pub enum Stage {
     Joined,
 }
 
-/// The shard that a seat is admitted to, its record since then, all its requests, and how many came before its body's base.
+/// The shard that a seat is admitted to, its record since then, all its requests, and how many came before its body's
+/// base.
 pub struct HeldShard<Q> {
     pub shard: ShardId,
     pub state: Record,

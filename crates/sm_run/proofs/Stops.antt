@@ -1,5 +1,7 @@
 -- Where a run stopped, and what it had written by then.
-use Rattle.std.proofs.Common.{◌≡◌, ◌≢◌, ◌<◌, ◌≤◌, ◌+◌, ◌-◌, ◌*◌, ◌++◌, ◌∷◌, [], Bool, true, false, ℕ, suc, List, length, take, ap, sym, ◌∙◌, subst, refl, arith, ◌⊎◌, inl, inr, append_assoc, append-nil, Result, Ok, Err}
+use Rattle.std.proofs.Common.{◌≡◌, ◌≢◌, ◌<◌, ◌≤◌, ◌+◌, ◌-◌, ◌*◌, ◌++◌, ◌∷◌, [], Bool, true, false, ℕ, suc, List}
+use Rattle.std.proofs.Common.{length, take, ap, sym, ◌∙◌, subst, refl, arith, ◌⊎◌, inl, inr, append_assoc, append-nil}
+use Rattle.std.proofs.Common.{Result, Ok, Err}
 use Rattle.std.proofs.lemmas.Bool.{cases_lt, false≢true}
 use Rattle.std.proofs.lemmas.List.{take-append-le}
 use Rattle.std.proofs.lemmas.List.Elements.{All-nil}
@@ -19,8 +21,9 @@ use Rattle.sm_run.specs.declared.opening.Opening.{Opening}
 use Rattle.sm_run.specs.declared.opening.Opening.TheVariants.{Accepted, Refused}
 use Rattle.sm_settings.specs.declared.settings_fault.SettingsFault.{SettingsFault}
 use Rattle.sm_run.specs.Faults.{status_of}
-use Rattle.sm_run.specs.Openings.{IsOpening, IsRefused, RefusesSettings, RefusedShort, TookFirst, settings_in}
-use Rattle.sm_run.specs.Runs.{IsSession, RanScript, StoppedAt, StoppedEarly, StoppedReading, StoppedWriting, WritesFor, WroteBefore}
+use Rattle.sm_run.specs.Openings.{IsOpening, IsRefused, ReadIsRefused, RefusedShort, TookFirst, settings_in}
+use Rattle.sm_run.specs.Runs.{IsSession, RanScript, StoppedAt, StoppedEarly, StoppedReading, StoppedWriting}
+use Rattle.sm_run.specs.Runs.{WritesFor, WroteBefore}
 use Rattle.sm_lines.specs.declared.answer_fault.AnswerFault.{AnswerFault}
 use Rattle.sm_lines.specs.declared.answer_fault.AnswerFault.TheVariants as answer
 use Rattle.sm_run.specs.declared.begin_fault.BeginFault.{BeginFault}
@@ -129,7 +132,7 @@ answered_after {S} {T} {answers} {answered} {begun} {ended} was mid now same a =
 pub refused_by_rules : (refuses : SettingsValues → BeginFault → Type 0) (was now : Reading) (fault : SettingsFault)
     (lines : List (List ℕ)) → TookFirst was now lines → settings_in lines ≡ Err fault → IsRefused refuses fault was now
 refused_by_rules refuses was now fault lines took is =
-    let P : Result SettingsValues SettingsFault → Type 0 = RefusesSettings refuses fault in
+    let P : Result SettingsValues SettingsFault → Type 0 = ReadIsRefused refuses fault in
     (lines, took, subst P (sym is) refl)
 
 -- the settings in front were refused
@@ -146,7 +149,7 @@ pub refused_by_engine : (refuses : SettingsValues → BeginFault → Type 0) (wa
     (settings : SettingsValues) (fault : BeginFault) (why : SettingsFault)
     → Opened was now settings → refuses settings fault → fault ≡ IsOfSettings why → IsRefused refuses why was now
 refused_by_engine refuses was now settings fault why o refused is =
-    let P : Result SettingsValues SettingsFault → Type 0 = RefusesSettings refuses why in
+    let P : Result SettingsValues SettingsFault → Type 0 = ReadIsRefused refuses why in
     let Q : BeginFault → Type 0 = refuses settings in
     (o.first ∷ [], (o.took, inl refl), subst P (sym o.accepted) (subst Q is refused))
 

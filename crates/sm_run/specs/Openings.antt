@@ -1,5 +1,6 @@
 -- The settings in front of a script.
-use Rattle.std.specs.Prelude.{◌≡◌, ◌⊎◌, true, ℕ, List, [], ◌∷◌, ◌++◌, length, ⊤, Option, None, Some, Result, Ok, Err, codes}
+use Rattle.std.specs.Prelude.{◌≡◌, ◌⊎◌, true, ℕ, List, [], ◌∷◌, ◌++◌, length, ⊤, Option, None, Some, Result, Ok, Err}
+use Rattle.std.specs.Prelude.{codes}
 use Rattle.sm_lines.specs.Reading.{Reading, TookLines}
 use Rattle.sm_lines.specs.Transcripts.{Transcript}
 use Rattle.sm_lines.specs.Writing.{Wrote, WroteShort}
@@ -44,15 +45,15 @@ ReadsAs line (Refused fault) = settings_of line ≡ Err fault
 
 -- settings that were read so are refused with this fault: by their rules, or else by the engine, where `refuses` says
 -- so
-abbrev pub RefusesSettings : (SettingsValues → BeginFault → Type 0) → SettingsFault
+abbrev pub ReadIsRefused : (SettingsValues → BeginFault → Type 0) → SettingsFault
     → Result SettingsValues SettingsFault → Type 0
-RefusesSettings refuses fault (Err found) = found ≡ fault
-RefusesSettings refuses fault (Ok settings) = refuses settings (IsOfSettings fault)
+ReadIsRefused refuses fault (Err found) = found ≡ fault
+ReadIsRefused refuses fault (Ok settings) = refuses settings (IsOfSettings fault)
 
 -- the settings in front of the input were refused with this fault
 abbrev pub IsRefused : (SettingsValues → BeginFault → Type 0) → SettingsFault → Reading → Reading → Type 0
 IsRefused refuses fault was now = (lines : List (List ℕ)) × TookFirst was now lines
-    × RefusesSettings refuses fault (settings_in lines)
+    × ReadIsRefused refuses fault (settings_in lines)
 
 -- the settings in front of the input were refused, and what was written is their fault
 pub record RefusedScript (refuses : SettingsValues → BeginFault → Type 0) (was now : Transcript) : Type 0 where

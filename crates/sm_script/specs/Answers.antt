@@ -1,12 +1,13 @@
 -- The text of a script's answers, each without its line feed.
-use Rattle.std.specs.Prelude.{ℕ, Bool, if◌then◌else◌, List, [], ◌∷◌, ◌++◌, length, codes, decimal, flat_map, Option, None, Some, unwrap_or}
+use Rattle.std.specs.Prelude.{ℕ, Bool, if◌then◌else◌, List, [], ◌∷◌, ◌++◌, length, codes, decimal, flat_map, Option}
+use Rattle.std.specs.Prelude.{None, Some, unwrap_or}
 use Rattle.std.specs.List.{join_with_byte}
 use Rattle.std.specs.Fmt.{signed_decimal}
 use Rattle.sm_desk.specs.declared.command.CommandFault.{CommandFault}
 use Rattle.sm_desk.specs.declared.command.CommandFault.TheVariants as command
 use Rattle.sm_envelope.specs.declared.refusal.Refusal.{Refusal}
 use Rattle.sm_envelope.specs.declared.refusal.Refusal.TheVariants as request
-use Rattle.sm_map.specs.KeyMap.{Held, Pair}
+use Rattle.sm_map.specs.KeyMap.{KeyPair, KeyValue}
 use Rattle.sm_map.specs.KeyMap.{Text as HeldText, Count as HeldCount}
 use Rattle.sm_ownership.specs.declared.admit_fault.AdmitFault.{AdmitFault}
 use Rattle.sm_ownership.specs.declared.admit_fault.AdmitFault.TheVariants as admit
@@ -22,15 +23,18 @@ use Rattle.sm_ranges.specs.Stand.{other_of, owner_of}
 use Rattle.sm_ranges.specs.declared.stand.Stand.{Stand}
 use Rattle.sm_ranges.specs.declared.stand.Stand.TheVariants.{Vacant, Serving, Prepared, Forwarding, Taken, Paused}
 use Rattle.sm_script.specs.declared.line_answer.LineAnswer.{LineAnswer}
-use Rattle.sm_script.specs.declared.line_answer.LineAnswer.TheVariants.{Made, Refused as IsRefused, Seen, Executed, Planned, Loaded, Way, Error}
+use Rattle.sm_script.specs.declared.line_answer.LineAnswer.TheVariants.{Made, Refused as IsRefused, Seen, Executed}
+use Rattle.sm_script.specs.declared.line_answer.LineAnswer.TheVariants.{Planned, Loaded, Way, Error}
 use Rattle.sm_script.specs.declared.fault.LineFault.{LineFault}
-use Rattle.sm_script.specs.declared.fault.LineFault.TheVariants.{LineTooLong, UnknownWord, BadLine, BadNumber, BadKey, NotHere}
+use Rattle.sm_script.specs.declared.fault.LineFault.TheVariants.{LineTooLong, UnknownWord, BadLine, BadNumber, BadKey}
+use Rattle.sm_script.specs.declared.fault.LineFault.TheVariants.{NotHere}
 use Rattle.sm_script.specs.declared.load_verdict.LoadVerdict.{LoadVerdict}
 use Rattle.sm_script.specs.declared.load_verdict.LoadVerdict.TheVariants.{Agrees, Unknown, Differs}
 use Rattle.sm_script.specs.declared.refused.Refused.{Refused}
 use Rattle.sm_script.specs.declared.refused.Refused.TheVariants as refused
 use Rattle.sm_service.specs.declared.reply.Reply.{Reply}
-use Rattle.sm_service.specs.declared.reply.Reply.TheVariants.{Nothing, Done, Text, Count, Pairs, WrongKind, Overflow, TooLong}
+use Rattle.sm_service.specs.declared.reply.Reply.TheVariants.{Nothing, Done, Text, Count, Pairs, WrongKind, Overflow}
+use Rattle.sm_service.specs.declared.reply.Reply.TheVariants.{TooLong}
 
 -- the name of a line's fault
 abbrev pub line_fault_name : LineFault → List ℕ
@@ -131,17 +135,20 @@ server_number server = unwrap_or server 0
 abbrev pub admission_name : Bool → List ℕ
 admission_name admitted = if admitted then codes "admitted" else codes "idle"
 
--- a shard's record: its stand, the owner, the next or the previous owner, the admission and the generation, between single spaces
+-- a shard's record: its stand, the owner, the next or the previous owner, the admission and the generation, between
+-- single spaces
 abbrev pub record_text : Record → List ℕ
 record_text state =
     join_with_byte 32 (
-    stand_name state.stand ∷ decimal (server_number (owner_of state.stand)) ∷ decimal (server_number (other_of state.stand)) ∷
+    stand_name state.stand ∷ decimal (server_number (owner_of state.stand))
+    ∷ decimal (server_number (other_of state.stand)) ∷
     admission_name state.admitted ∷ decimal state.generation ∷ []
     )
 
 -- a shard's route: the shard, the server and the generation, between single spaces
 abbrev pub route_text : Route → List ℕ
-route_text route = codes "route " ++ join_with_byte 32 (decimal route.shard ∷ decimal route.server ∷ decimal route.generation ∷ [])
+route_text route =
+    codes "route " ++ join_with_byte 32 (decimal route.shard ∷ decimal route.server ∷ decimal route.generation ∷ [])
 
 -- the route, where there is one
 abbrev pub way_text : Option Route → List ℕ
@@ -153,12 +160,12 @@ abbrev pub counted : List ℕ → List ℕ
 counted bytes = decimal (length bytes) ++ codes ":" ++ bytes
 
 -- what a key holds, in a scan
-abbrev pub held_text : Held → List ℕ
+abbrev pub held_text : KeyValue → List ℕ
 held_text (HeldText text) = codes " t" ++ counted text
 held_text (HeldCount count) = codes " c" ++ signed_decimal count
 
 -- a pair of a scan
-abbrev pub pair_text : Pair → List ℕ
+abbrev pub pair_text : KeyPair → List ℕ
 pair_text pair = codes " " ++ counted pair.key ++ held_text pair.value
 
 -- a reply of the service
@@ -188,9 +195,11 @@ left_text shard = codes " " ++ decimal shard
 abbrev pub moves_text : List Move → List ℕ
 moves_text moves = codes "plan" ++ flat_map move_text moves
 
+-- the shards that a plan leaves
 abbrev pub all_left_text : List ℕ → List ℕ
 all_left_text shards = codes " left" ++ flat_map left_text shards
 
+-- a plan: its moves, and what it leaves
 abbrev pub plan_text : PlanView → List ℕ
 plan_text plan = moves_text plan.moves ++ all_left_text plan.left
 

@@ -1,5 +1,6 @@
 -- The grammar of a script's lines: the word that each begins with, and what the words after it have to be.
-use Rattle.std.specs.Prelude.{ℕ, Bool, true, false, ◌&&◌, ◌||◌, nat_le, if◌then◌else◌, List, [], ◌∷◌, ◌++◌, length, codes, Option, None, Some, is_some}
+use Rattle.std.specs.Prelude.{ℕ, Bool, true, false, ◌&&◌, ◌||◌, nat_le, if◌then◌else◌, List, [], ◌∷◌, ◌++◌, length}
+use Rattle.std.specs.Prelude.{codes, Option, None, Some, is_some}
 use Rattle.std.specs.List.{find}
 use Rattle.std.specs.Str.{bytes_eq}
 use Rattle.std.specs.Option.{option_or}
@@ -12,7 +13,10 @@ use Rattle.sm_script.specs.declared.shape.TheConstants.{MAX_CLIENTS, MAX_EACH, M
 use Rattle.sm_script.specs.declared.shape.Shape.{Shape}
 use Rattle.sm_script.specs.declared.shape.Shape.TheVariants.{Shard, Server, Key, Text, Increment, Limit, Clients, Each}
 use Rattle.sm_script.specs.declared.word.Word.{Word}
-use Rattle.sm_script.specs.declared.word.Word.TheVariants.{Assign, PrepareAdd, PrepareDrop, Add, Drop, Cancel, Pause, Resume, Reassign, Ask, Approve, Stopped, Back, Fail, Place, Drain, Look, Publish, Route, Hold, Free, Checkpoint, Load, Get, Put, Append, Inc, Del, Scan}
+use Rattle.sm_script.specs.declared.word.Word.TheVariants.{Assign, PrepareAdd, PrepareDrop, Add, Drop, Cancel, Pause}
+use Rattle.sm_script.specs.declared.word.Word.TheVariants.{Resume, Reassign, Ask, Approve, Stopped, Back, Fail, Place}
+use Rattle.sm_script.specs.declared.word.Word.TheVariants.{Drain, Look, Publish, Route, Hold, Free, Checkpoint, Load}
+use Rattle.sm_script.specs.declared.word.Word.TheVariants.{Get, Put, Append, Inc, Del, Scan}
 
 -- what a word has to be, as it is written
 abbrev pub takes_word : Shape → List ℕ → Bool

@@ -1,5 +1,6 @@
 -- What a line of a script asks for.
-use Rattle.std.specs.Prelude.{◌≡◌, ℕ, ℤ, Bool, true, false, ◌==◌, IsOk, IsOkAnd, IsSomeAnd, IsTrue, if◌then◌else◌, List, [], ◌∷◌, length, nat_lt, codes, Option, None, Some, Result, Ok, Err}
+use Rattle.std.specs.Prelude.{◌≡◌, ℕ, ℤ, Bool, true, false, ◌==◌, IsOk, IsOkAnd, IsSomeAnd, IsTrue, if◌then◌else◌, List}
+use Rattle.std.specs.Prelude.{[], ◌∷◌, length, nat_lt, codes, Option, None, Some, Result, Ok, Err}
 use Rattle.std.specs.List.{join_with_byte}
 use Rattle.std.specs.Option.{option_map_or}
 use Rattle.std.specs.Str.{bytes_eq}
@@ -19,10 +20,15 @@ use Rattle.sm_script.specs.declared.fault.ParseFault.TheVariants.{Line, NoMemory
 use Rattle.sm_script.specs.declared.line.TheConstants.{MAX_LINE}
 use Rattle.sm_script.specs.declared.shape.Shape.TheVariants.{Server}
 use Rattle.sm_script.specs.declared.word.Word.{Word}
-use Rattle.sm_script.specs.declared.word.Word.TheVariants.{Assign, PrepareAdd, PrepareDrop, Add, Drop, Cancel, Pause, Resume, Reassign, Ask, Approve, Stopped, Back, Fail, Place, Drain, Hold, Free, Checkpoint, Publish, Route, Load, Look, Get, Put, Append, Inc, Del, Scan}
+use Rattle.sm_script.specs.declared.word.Word.TheVariants.{Assign, PrepareAdd, PrepareDrop, Add, Drop, Cancel, Pause}
+use Rattle.sm_script.specs.declared.word.Word.TheVariants.{Resume, Reassign, Ask, Approve, Stopped, Back, Fail, Place}
+use Rattle.sm_script.specs.declared.word.Word.TheVariants.{Drain, Hold, Free, Checkpoint, Publish, Route, Load, Look}
+use Rattle.sm_script.specs.declared.word.Word.TheVariants.{Get, Put, Append, Inc, Del, Scan}
 use Rattle.sm_service.specs.declared.request.Request.{Request}
-use Rattle.sm_service.specs.declared.request.Request.TheVariants.{Get as GetRequest, Put as PutRequest, Append as AppendRequest}
-use Rattle.sm_service.specs.declared.request.Request.TheVariants.{Inc as IncRequest, Del as DelRequest, Scan as ScanRequest}
+use Rattle.sm_service.specs.declared.request.Request.TheVariants.{Get as GetRequest, Put as PutRequest}
+use Rattle.sm_service.specs.declared.request.Request.TheVariants.{Append as AppendRequest}
+use Rattle.sm_service.specs.declared.request.Request.TheVariants.{Inc as IncRequest, Del as DelRequest}
+use Rattle.sm_service.specs.declared.request.Request.TheVariants.{Scan as ScanRequest}
 
 -- an addition to a count, where the number is one
 abbrev pub inc_request : List ℕ → Option ℤ → Result Request LineFault
@@ -88,20 +94,24 @@ plain_call (Some word) words = unless_fault (arguments_fault (shapes_of word) wo
 -- the request of a word and the words after it, to the server
 abbrev pub at_server : List ℕ → Word → List (List ℕ) → Result Call LineFault
 at_server server word words =
-    unless_fault (arguments_fault (Server ∷ shapes_of word) (server ∷ words)) (with_request (call.RequestAt (number server)) (request_with word words))
+    unless_fault (arguments_fault (Server ∷ shapes_of word) (server ∷ words))
+    (with_request (call.RequestAt (number server)) (request_with word words))
 
 -- the words after `at`: a server, and a request; whether there is such a request is seen first
 abbrev pub at_call : List (List ℕ) → Result Call LineFault
-at_call (server ∷ request ∷ words) = option_map_or (λ word. at_server server word words) (word_among request_words request) (Err UnknownWord)
+at_call (server ∷ request ∷ words) =
+    option_map_or (λ word. at_server server word words) (word_among request_words request) (Err UnknownWord)
 at_call _ = Err BadLine
 
 -- the request of a word and the words after it, by the published route
 abbrev pub client_request : Word → List (List ℕ) → Result Call LineFault
-client_request word words = unless_fault (arguments_fault (shapes_of word) words) (with_request call.RequestByRoute (request_with word words))
+client_request word words =
+    unless_fault (arguments_fault (shapes_of word) words) (with_request call.RequestByRoute (request_with word words))
 
 -- the words after `client`: a request
 abbrev pub client_call : List (List ℕ) → Result Call LineFault
-client_call (request ∷ words) = option_map_or (λ word. client_request word words) (word_among request_words request) (Err UnknownWord)
+client_call (request ∷ words) =
+    option_map_or (λ word. client_request word words) (word_among request_words request) (Err UnknownWord)
 client_call [] = Err BadLine
 
 -- the words of a line, of which the first says how the others are read

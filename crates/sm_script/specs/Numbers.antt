@@ -1,5 +1,6 @@
 -- Numbers in decimal, as a line spells them.
-use Rattle.std.specs.Prelude.{ℕ, ◌^◌, ◌-◌, ℤ, pos, Bool, true, false, not, ◌&&◌, ◌==◌, nat_le, if◌then◌else◌, List, [], ◌∷◌, Option, None, Some}
+use Rattle.std.specs.Prelude.{ℕ, ◌^◌, ◌-◌, ℤ, pos, Bool, true, false, not, ◌&&◌, ◌==◌, nat_le, if◌then◌else◌, List, []}
+use Rattle.std.specs.Prelude.{◌∷◌, Option, None, Some}
 use Rattle.std.specs.Option.{option_map}
 use Rattle.std.specs.Char.{is_ascii_digit}
 use Rattle.std.specs.List.{list_all}

@@ -9,8 +9,8 @@ use sm_service::request::Request;
 /// What a line of a script asks for.
 #[derive(Drop)]
 pub enum Call {
-    /// A command of the control: `assign K A`, `drop K` and the other changes of a shard, `ask A` and the other steps of a
-    /// server's restart.
+    /// A command of the control: `assign K A`, `drop K` and the other changes of a shard, `ask A` and the other steps
+    /// of a server's restart.
     Control(Command),
     /// `hold K A`: the server is admitted to the shard without a request.
     Hold(ShardId, ServerId),

@@ -1,6 +1,8 @@
 ghost use Rattle.std.specs.Prelude.{◌≡◌, ◌<◌, ℕ, List, [], ◌∷◌, ◌++◌, length, IfOk, IfErr, IfNone, IsTrue};
 ghost use Rattle.sm_script.specs.Grammar.{takes_word, arguments_fault, shapes_of, word_among, first_words};
-ghost use Rattle.sm_script.specs.Lines.{call_with, at_server, at_call, client_call, client_request, plain_call, call_of_words, has_no_answer, call_of_line, IsFaultIn, IsFaultOf, meaning_if_long};
+ghost use Rattle.sm_script.specs.Lines.{call_with, at_server, at_call, client_call, client_request, plain_call};
+ghost use Rattle.sm_script.specs.Lines.{call_of_words, has_no_answer, call_of_line, IsFaultIn, IsFaultOf};
+ghost use Rattle.sm_script.specs.Lines.{meaning_if_long};
 ghost use Rattle.sm_script.specs.declared.shape.Shape.TheVariants.{Shard, Server};
 ghost use Rattle.sm_script.specs.declared.word.Word.TheVariants.{Load, Route};
 

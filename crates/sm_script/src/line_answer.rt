@@ -71,7 +71,8 @@ impl LineAnswer {
 
 // Appends the refusal's name, and the number after it where there is one.
 fn append_refused(out: &mut Vec<u8>, refused: &Refused) -> Result<(), AllocError>
-    ensures ok { OnOk result (out.new.items ≡ out.old.items ++ (codes "refused " ++ numbered (refused_name refused.now) (refused_number refused.now))) }
+    ensures ok { OnOk result (out.new.items ≡ out.old.items
+        ++ (codes "refused " ++ numbered (refused_name refused.now) (refused_number refused.now))) }
     ensures err { OnErr result (out.new.items ≡ out.old.items) }
 {
     match refused.number() {

@@ -20,17 +20,22 @@ pub record AnswerValue (Q R : Type 0) : Type 0 where
 
 -- an admission of a server to a shard, for a request that came so, and its end
 abbrev pub run_of : {Q : Type 0} → ℕ → ℕ → ℕ → Mode → Ending Q → List (Entry Q)
-run_of number shard server mode ending = entry_of number shard (Admit server mode) ∷ entry_of number shard (Done ending) ∷ []
+run_of number shard server mode ending =
+    entry_of number shard (Admit server mode) ∷ entry_of number shard (Done ending) ∷ []
 
--- an answer to this request: all that its note did is one admission of the shard and the end with the request, which is the
--- last entry that it has seen; place and reply are those of the last request of the shard in that history
-pub record IsAnswer {Q R : Type 0} (service : Service Q R) (shard : ℕ) (mode : Mode) (request : Q) (answer : AnswerValue Q R) : Type 0 where
+-- an answer to this request: all that its note did is one admission of the shard and the end with the request, which is
+-- the last entry that it has seen; place and reply are those of the last request of the shard in that history
+pub record IsAnswer {Q R : Type 0} (service : Service Q R) (shard : ℕ) (mode : Mode) (request : Q)
+    (answer : AnswerValue Q R) : Type 0 where
   pub server : answer.note.server ≡ Some answer.server
-  pub ran : own answer.note.number answer.note.seen ≡ run_of answer.note.number shard answer.server mode (Request request)
-  pub last : (before : List (Entry Q)) × (answer.note.seen ≡ before ++ entry_of answer.note.number shard (Done (Request request)) ∷ [])
+  pub ran :
+      own answer.note.number answer.note.seen ≡ run_of answer.note.number shard answer.server mode (Request request)
+  pub last : (before : List (Entry Q))
+      × (answer.note.seen ≡ before ++ entry_of answer.note.number shard (Done (Request request)) ∷ [])
   pub place : answer.place + 1 ≡ length (all_of answer.note.seen shard)
   pub reply : said service.reply_of answer.note.seen shard answer.place ≡ Some answer.reply
 
 -- an answer to some request
 abbrev pub IsSomeAnswer : {Q R : Type 0} → Service Q R → AnswerValue Q R → Type 0
-IsSomeAnswer {Q} service answer = (shard : ℕ) × (mode : Mode) × (request : Q) × IsAnswer service shard mode request answer
+IsSomeAnswer {Q} service answer =
+    (shard : ℕ) × (mode : Mode) × (request : Q) × IsAnswer service shard mode request answer

@@ -49,7 +49,8 @@ refusal_of apply.KeptFull = KeptFull
 refusal_of apply.NoMemory = NoMemory
 
 -- a helper executed the request of a shell
-pub record HasRun {Q R : Type 0} (service : Service Q R) (helper : PassValue Q) (shell : ShellView) (request : Q) (answer : AnswerValue Q R) : Type 0 where
+pub record HasRun {Q R : Type 0} (service : Service Q R) (helper : PassValue Q) (shell : ShellView) (request : Q)
+    (answer : AnswerValue Q R) : Type 0 where
   pub number : answer.number ≡ shell.number
   pub server : helper.server ≡ Some answer.server
   pub board : answer.note.board ≡ helper.board
@@ -58,7 +59,8 @@ pub record HasRun {Q R : Type 0} (service : Service Q R) (helper : PassValue Q) 
   pub executed : IsAnswer service shell.shard shell.mode request answer
 
 -- a helper ended its admission with nothing
-pub record HasRefused {Q : Type 0} (helper : PassValue Q) (shell : ShellView) (request : Q) (refusal : Refusal) (back : Sent Q) : Type 0 where
+pub record HasRefused {Q : Type 0} (helper : PassValue Q) (shell : ShellView) (request : Q) (refusal : Refusal)
+    (back : Sent Q) : Type 0 where
   pub same_shell : shell_of back ≡ shell
   pub same_request : back.request ≡ request
   pub board : back.note.board ≡ helper.board
@@ -69,17 +71,20 @@ pub record HasRefused {Q : Type 0} (helper : PassValue Q) (shell : ShellView) (r
   pub room : WantsRoom refusal (limit_of helper shell.shard) (length (kept back.note.seen shell.shard))
 
 -- what came of a request under a permit that the helper was given
-abbrev pub Ran : {Q R : Type 0} → Service Q R → PassValue Q → ShellView → Q → Outcome (AnswerValue Q R) (Sent Q) → Type 0
+abbrev pub Ran : {Q R : Type 0} → Service Q R → PassValue Q → ShellView → Q → Outcome (AnswerValue Q R) (Sent Q)
+    → Type 0
 Ran service helper shell request (Answered answer) = HasRun service helper shell request answer
 Ran service helper shell request (Forward to back) = ⊥
 Ran service helper shell request (Refused refusal back) = HasRefused helper shell request refusal back
 
 -- what a refused admission makes of the envelope: it goes on where the record read has the server forward it
-abbrev pub turned_by : {A Q N : Type 0} → Option ℕ → AdmitFault → Record → ℕ → EnvelopeView Q N → Outcome A (EnvelopeView Q N)
+abbrev pub turned_by : {A Q N : Type 0} → Option ℕ → AdmitFault → Record → ℕ → EnvelopeView Q N
+    → Outcome A (EnvelopeView Q N)
 turned_by None fault state server envelope = Refused (NotAdmitted (admission.Refused fault state)) envelope
 turned_by (Some to) fault state server envelope =
     if nat_lt envelope.hops MOST_HOPS then Forward to (one_hop_more envelope server) else Refused TooManyHops envelope
 
 abbrev pub turned_away : {A Q N : Type 0} → AdmitRefusal → ℕ → EnvelopeView Q N → Outcome A (EnvelopeView Q N)
 turned_away (admission.Raced read found) server envelope = Refused (NotAdmitted (admission.Raced read found)) envelope
-turned_away (admission.Refused fault state) server envelope = turned_by (forward_to state server) fault state server envelope
+turned_away (admission.Refused fault state) server envelope =
+    turned_by (forward_to state server) fault state server envelope

@@ -1,5 +1,6 @@
 -- What a server tells of an envelope that came to it.
-use Rattle.std.specs.Prelude.{ℕ, Bool, true, false, ◌≡◌, ◌≤◌, ◌<◌, ◌⊎◌, ◌==◌, ◌&&◌, nat_lt, List, [], Option, Some, None, length}
+use Rattle.std.specs.Prelude.{ℕ, Bool, true, false, ◌≡◌, ◌≤◌, ◌<◌, ◌⊎◌, ◌==◌, ◌&&◌, nat_lt, List, [], Option, Some}
+use Rattle.std.specs.Prelude.{None, length}
 use Rattle.std.specs.List.{filter_map}
 use Rattle.sm_body.specs.Service.{Service}
 use Rattle.sm_envelope.specs.Envelope.{EnvelopeView, one_hop_more, shell_of}
@@ -18,7 +19,8 @@ use Rattle.sm_rule.specs.Views.{Begins}
 use Rattle.sm_server.specs.declared.outcome.Outcome.{Outcome}
 use Rattle.sm_server.specs.declared.outcome.Outcome.TheVariants.{Answered, Forward, Refused}
 use Rattle.sm_server.specs.declared.refusal.Refusal.{Refusal}
-use Rattle.sm_server.specs.declared.refusal.Refusal.TheVariants.{WrongShard, TooManyHops, Admit as NotAdmitted, KeptFull, NoMemory}
+use Rattle.sm_server.specs.declared.refusal.Refusal.TheVariants.{WrongShard, TooManyHops, Admit as NotAdmitted}
+use Rattle.sm_server.specs.declared.refusal.Refusal.TheVariants.{KeptFull, NoMemory}
 use Rattle.sm_server.specs.Answers.{AnswerValue, IsAnswer, run_of}
 
 -- the envelope of a request, with a note of what its sender has seen
@@ -27,15 +29,17 @@ Sent Q = EnvelopeView Q (PassValue Q)
 
 -- the envelope's shard is one of so many, and the one whose range covers the request's key
 abbrev pub is_here : {Q R N : Type 0} → Service Q R → List (List ℕ) → ℕ → EnvelopeView Q N → Bool
-is_here service bounds count envelope = nat_lt envelope.shard count && (shard_of bounds (service.key_of envelope.request) == envelope.shard)
+is_here service bounds count envelope =
+    nat_lt envelope.shard count && (shard_of bounds (service.key_of envelope.request) == envelope.shard)
 
 -- the requests that entries say were executed
 abbrev pub requests_in : {Q : Type 0} → List (Entry Q) → List Q
 requests_in entries = filter_map (λ entry. request_of (ending_of entry.kind)) entries
 
--- the request was executed once: the answer's history extends what the pass and the envelope's note had seen, and the entries by
--- which it was executed come after all of that
-pub record IsAnswered {Q R : Type 0} (service : Service Q R) (before : PassValue Q) (envelope : Sent Q) (answer : AnswerValue Q R) : Type 0 where
+-- the request was executed once: the answer's history extends what the pass and the envelope's note had seen, and the
+-- entries by which it was executed come after all of that
+pub record IsAnswered {Q R : Type 0} (service : Service Q R) (before : PassValue Q) (envelope : Sent Q)
+    (answer : AnswerValue Q R) : Type 0 where
   pub number : answer.number ≡ envelope.number
   pub server : before.server ≡ Some answer.server
   pub board : answer.note.board ≡ before.board
@@ -52,14 +56,17 @@ pub record IsHandedBack {Q : Type 0} (envelope back : Sent Q) : Type 0 where
   pub told : Begins envelope.note.seen back.note.seen
   pub idle : (back.note ≡ envelope.note) ⊎ (requests_in (own back.note.number back.note.seen) ≡ [])
 
--- the point by which an envelope comes back: what the pass has then seen, where the note is the old one, or what the new note has
-pub record IsPoint {Q : Type 0} (before after : PassValue Q) (envelope back : Sent Q) (point : PassValue Q) : Type 0 where
+-- the point by which an envelope comes back: what the pass has then seen, where the note is the old one, or what the
+-- new note has
+pub record IsPoint {Q : Type 0} (before after : PassValue Q) (envelope back : Sent Q)
+    (point : PassValue Q) : Type 0 where
   pub board : point.board ≡ before.board
   pub seen : Begins before.seen point.seen
   pub whose : ((point ≡ after) × (back.note ≡ envelope.note)) ⊎ (point ≡ back.note)
 
 -- the shard's record at a point has the pass's server forward to this one, and the envelope has gone one hop more
-pub record IsForwarded {Q : Type 0} (before after : PassValue Q) (envelope : Sent Q) (to : ℕ) (back : Sent Q) : Type 0 where
+pub record IsForwarded {Q : Type 0} (before after : PassValue Q) (envelope : Sent Q) (to : ℕ)
+    (back : Sent Q) : Type 0 where
   pub point : PassValue Q
   pub is_point : IsPoint before after envelope back point
   pub server : ℕ
@@ -84,7 +91,8 @@ NotForwarding (Some server) (admission.Refused fault state) = forward_to state s
 NotForwarding server refusal = Unit {0}
 
 -- the admission was refused by the record at a point, or overtaken
-pub record IsNotAdmitted {Q : Type 0} (before after : PassValue Q) (envelope back : Sent Q) (refusal : AdmitRefusal) : Type 0 where
+pub record IsNotAdmitted {Q : Type 0} (before after : PassValue Q) (envelope back : Sent Q)
+    (refusal : AdmitRefusal) : Type 0 where
   pub point : PassValue Q
   pub is_point : IsPoint before after envelope back point
   pub refused : RefusedBy before point envelope.shard envelope.mode refusal
@@ -111,14 +119,17 @@ RefusedFor before after envelope back KeptFull =
 RefusedFor before after envelope back NoMemory =
     IsUnserved before envelope back × (length (kept back.note.seen envelope.shard) < limit_of before envelope.shard)
 
+-- it was refused for another reason than that its key is of another shard
 abbrev pub is_of_shard : Refusal → Bool
 is_of_shard WrongShard = false
 is_of_shard _ = true
 
 -- what a server tells of an envelope that is here or not, by what its pass had seen before and has after
-abbrev pub Served : {Q R : Type 0} → Service Q R → Bool → PassValue Q → PassValue Q → Sent Q → Outcome (AnswerValue Q R) (Sent Q) → Type 0
+abbrev pub Served : {Q R : Type 0} → Service Q R → Bool → PassValue Q → PassValue Q → Sent Q
+    → Outcome (AnswerValue Q R) (Sent Q) → Type 0
 Served service here before after envelope (Answered answer) = (here ≡ true) × IsAnswered service before envelope answer
 Served service here before after envelope (Forward to back) =
     (here ≡ true) × IsHandedBack envelope back × IsForwarded before after envelope to back
 Served service here before after envelope (Refused refusal back) =
-    (here ≡ is_of_shard refusal) × IsHandedBack envelope back × (shell_of back ≡ shell_of envelope) × RefusedFor before after envelope back refusal
+    (here ≡ is_of_shard refusal) × IsHandedBack envelope back × (shell_of back ≡ shell_of envelope)
+    × RefusedFor before after envelope back refusal

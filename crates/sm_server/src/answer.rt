@@ -7,8 +7,8 @@ use sm_ranges::server_id::ServerId;
 use sm_rule::note::Note;
 use std::marker::Model;
 
-/// The reply to a request, its place among all requests of its shard, and a note of the history that has both. By its type
-/// nobody can make up an answer: the note's own entries are one admission and the end with the request.
+/// The reply to a request, its place among all requests of its shard, and a note of the history that has both. By its
+/// type nobody can make up an answer: the note's own entries are one admission and the end with the request.
 #[derive(Drop)]
 pub struct Answer<S: Service> {
     pub(crate) number: u64,
@@ -24,9 +24,22 @@ impl<S: Service> Model for Answer<S> {
 
     ghost Value = { AnswerValue S.Request S.Reply };
 
-    ghost view = { λ answer. record { number = answer.number; server = answer.server; reply = answer.reply; place = answer.place; note = answer.note } };
+    ghost view = { λ answer. record {
+      number = answer.number;
+      server = answer.server;
+      reply = answer.reply;
+      place = answer.place;
+      note = answer.note;
+    } };
 
-    ghost invariant = { λ answer. IsSomeAnswer (meaning_of S.initial S.next S.answer S.key_of) (record { number = answer.number; server = answer.server; reply = answer.reply; place = answer.place; note = answer.note }) };
+    ghost invariant = { λ answer. IsSomeAnswer (meaning_of S.initial S.next S.answer S.key_of)
+        (record {
+          number = answer.number;
+          server = answer.server;
+          reply = answer.reply;
+          place = answer.place;
+          note = answer.note;
+        }) };
 }
 
 impl<S: Service> Answer<S> {

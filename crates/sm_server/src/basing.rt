@@ -12,8 +12,8 @@ use sm_rule::board::Board;
 use sm_rule::pass::Pass;
 use sm_rule::permit::Front;
 
-/// Makes the shard's present state its base, under a direct admission of the pass, so that the shard keeps no request; or
-/// answers why not: the admission's fault, or that memory was refused and the admission ended with nothing.
+/// Makes the shard's present state its base, under a direct admission of the pass, so that the shard keeps no request;
+/// or answers why not: the admission's fault, or that memory was refused and the admission ended with nothing.
 pub fn checkpoint<S: Service>(
     board: &Board<S>,
     pass: &mut Pass<S>,

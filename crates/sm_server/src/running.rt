@@ -32,7 +32,8 @@ pub(crate) fn run<S: Service>(
     requires permit { HoldsPermit helper permit }
     requires shard { permit.shard ≡ shell.shard }
     requires begun { HasBegun helper shell.shard server shell.mode }
-    requires body { Keeps S.initial S.next S.base S.before S.requests permit.body (first_held helper.held) (all_held helper.held) }
+    requires body { Keeps S.initial S.next S.base S.before S.requests permit.body (first_held helper.held)
+        (all_held helper.held) }
     requires limit { S.limit permit.body ≡ limit_at board.now.limits permit.shard }
     ensures { Ran (meaning_of S.initial S.next S.answer S.key_of) helper shell request result }
 {

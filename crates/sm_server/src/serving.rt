@@ -21,12 +21,13 @@ use sm_rule::board::Board;
 use sm_rule::note::Note;
 use sm_rule::pass::Pass;
 
-/// What a server makes of an envelope that came to it: the answer, where its pass is admitted and the request applied; the
-/// envelope with one hop more, and the server that it goes to; or the envelope with the first reason why it is refused.
+/// What a server makes of an envelope that came to it: the answer, where its pass is admitted and the request applied;
+/// the envelope with one hop more, and the server that it goes to; or the envelope with the first reason why it is
+/// refused.
 ///
 /// An answer has executed the request once, in a history that extends what the pass and the envelope's note had seen.
-/// `Forward`, `TooManyHops` and `Admit` are by the shard's record at a point that extends what the pass had seen. `KeptFull` and
-/// `NoMemory` come with an admission that ended with nothing.
+/// `Forward`, `TooManyHops` and `Admit` are by the shard's record at a point that extends what the pass had seen.
+/// `KeptFull` and `NoMemory` come with an admission that ended with nothing.
 pub fn serve<S: Service>(
     board: &Board<S>,
     layout: &Layout,
@@ -63,7 +64,8 @@ fn has_shard<S: Service>(
     layout: &Layout,
     envelope: &Envelope<S::Request, Note<S>>,
 ) -> bool
-    ensures { result ≡ is_here (meaning_of S.initial S.next S.answer S.key_of) layout.now board.now.limits.count envelope.now }
+    ensures { result
+        ≡ is_here (meaning_of S.initial S.next S.answer S.key_of) layout.now board.now.limits.count envelope.now }
 {
     let k = envelope.shard();
     k.index() < board.count() as usize && layout.covers(k, S::key(envelope.request()))

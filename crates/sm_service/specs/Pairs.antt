@@ -1,9 +1,10 @@
 -- What a pair in memory of its own holds.
-use Rattle.sm_map.specs.KeyMap.{Held as MapHeld}
+use Rattle.sm_map.specs.KeyMap.{KeyValue}
 use Rattle.sm_map.specs.KeyMap.{Text as HeldText, Count as HeldCount}
 use Rattle.sm_service.specs.declared.held.Held.{Held}
 use Rattle.sm_service.specs.declared.held.Held.TheVariants.{Text, Count}
 
+-- what a key map holds for a text or a count
 abbrev pub stored_as : Held → MapHeld
 stored_as (Text text) = HeldText text
 stored_as (Count count) = HeldCount count

@@ -1,6 +1,7 @@
 -- What each request of the sample service replies on a key map, and changes there.
-use Rattle.std.specs.Prelude.{ℕ, ◌-◌, ◌^◌, ℤ, pos, neg_ℤ, ◌+ℤ◌, int_le, Bool, ◌&&◌, List, ◌++◌, Option, Some, None, length, min, take, nat_le, if◌then◌else◌}
-use Rattle.sm_map.specs.KeyMap.{Held, Pair, Text, Count, held_at, text_at, holding, without, within}
+use Rattle.std.specs.Prelude.{ℕ, ◌-◌, ◌^◌, ℤ, pos, neg_ℤ, ◌+ℤ◌, int_le, Bool, ◌&&◌, List, ◌++◌, Option, Some, None}
+use Rattle.std.specs.Prelude.{length, min, take, nat_le, if◌then◌else◌}
+use Rattle.sm_map.specs.KeyMap.{KeyPair, KeyValue, Text, Count, held_at, text_at, holding, without, within}
 use Rattle.sm_service.specs.declared.counter_text.TheConstants.{MAX_SCANNED, MAX_TEXT}
 use Rattle.sm_service.specs.declared.reply.Reply.{Reply}
 use Rattle.sm_service.specs.declared.reply.Reply.TheVariants.{Nothing, Done, Pairs, WrongKind, Overflow, TooLong}
@@ -9,19 +10,19 @@ use Rattle.sm_service.specs.declared.request.Request.{Request}
 use Rattle.sm_service.specs.declared.request.Request.TheVariants.{Get, Put, Inc, Append, Del, Scan}
 
 -- the reply to a Get, by what the key holds
-abbrev pub get_reply : Option Held → Reply
+abbrev pub get_reply : Option KeyValue → Reply
 get_reply None = Nothing
 get_reply (Some (Text text)) = ReplyText text
 get_reply (Some (Count count)) = ReplyCount count
 
 -- the reply to a request for a new text, by what the key holds
-abbrev pub text_reply : Option Held → List ℕ → Reply
+abbrev pub text_reply : Option KeyValue → List ℕ → Reply
 text_reply None text = if nat_le (length text) MAX_TEXT then Done else TooLong
 text_reply (Some (Text before)) text = if nat_le (length text) MAX_TEXT then Done else TooLong
 text_reply (Some (Count count)) text = WrongKind
 
 -- the map after a request for a new text, by its reply
-abbrev pub text_after : List Pair → List ℕ → List ℕ → Reply → List Pair
+abbrev pub text_after : List KeyPair → List ℕ → List ℕ → Reply → List KeyPair
 text_after m key text Done = holding m key (Text text)
 text_after m key text _ = m
 
@@ -39,31 +40,31 @@ count_reply (Some sum) = ReplyCount sum
 count_reply None = Overflow
 
 -- the reply to an Inc, by what the key holds
-abbrev pub inc_reply : Option Held → ℤ → Reply
+abbrev pub inc_reply : Option KeyValue → ℤ → Reply
 inc_reply None amount = ReplyCount amount
 inc_reply (Some (Text text)) amount = WrongKind
 inc_reply (Some (Count count)) amount = count_reply (sum_of count amount)
 
 -- the map after an Inc, by its reply
-abbrev pub inc_after : List Pair → List ℕ → Reply → List Pair
+abbrev pub inc_after : List KeyPair → List ℕ → Reply → List KeyPair
 inc_after m key (ReplyCount sum) = holding m key (Count sum)
 inc_after m key _ = m
 
 -- the text that an Append makes of the one that the key holds; a key without one counts as the empty text
-abbrev pub longer_text : List Pair → List ℕ → List ℕ → List ℕ
+abbrev pub longer_text : List KeyPair → List ℕ → List ℕ → List ℕ
 longer_text m key tail = text_at m key ++ tail
 
 -- the reply to a Del, by what the key holds
-abbrev pub del_reply : Option Held → Reply
+abbrev pub del_reply : Option KeyValue → Reply
 del_reply None = Nothing
 del_reply (Some held) = Done
 
 -- the first pairs with keys from low on and below high, as many as are asked for and a scan gives
-abbrev pub scanned : List Pair → List ℕ → List ℕ → ℕ → List Pair
+abbrev pub scanned : List KeyPair → List ℕ → List ℕ → ℕ → List KeyPair
 scanned m low high most = take (min most MAX_SCANNED) (within m low high)
 
 -- the reply to a request on the map m
-abbrev pub reply : List Pair → Request → Reply
+abbrev pub reply : List KeyPair → Request → Reply
 reply m (Get key) = get_reply (held_at m key)
 reply m (Put key text) = text_reply (held_at m key) text
 reply m (Inc key amount) = inc_reply (held_at m key) amount
@@ -72,7 +73,7 @@ reply m (Del key) = del_reply (held_at m key)
 reply m (Scan low high most) = Pairs (scanned m low high most)
 
 -- the map after a request on the map m
-abbrev pub after : List Pair → Request → List Pair
+abbrev pub after : List KeyPair → Request → List KeyPair
 after m (Get key) = m
 after m (Put key text) = text_after m key text (reply m (Put key text))
 after m (Inc key amount) = inc_after m key (reply m (Inc key amount))

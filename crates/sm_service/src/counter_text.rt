@@ -20,8 +20,8 @@ pub const MAX_TEXT: usize = 65_535;
 /// The most pairs that a scan gives.
 pub const MAX_SCANNED: usize = 100;
 
-/// Where more bytes than this are dead, and more than live, a request that may place bytes (`put`, `append`, `inc`) first moves
-/// the map into fresh memory, unless that is refused. No clause says so.
+/// Where more bytes than this are dead, and more than live, a request that may place bytes (`put`, `append`, `inc`)
+/// first moves the map into fresh memory, unless that is refused. No clause says so.
 pub const MAX_DEAD: u128 = 65_536;
 
 /// The sample service: texts and counts by key.
@@ -35,9 +35,9 @@ pub struct KeyMachine {
 
 impl Model for KeyMachine {
     ghost use Rattle.std.specs.Prelude.{List};
-    ghost use Rattle.sm_map.specs.KeyMap.{Pair};
+    ghost use Rattle.sm_map.specs.KeyMap.{KeyPair};
 
-    ghost Value = { List Pair };
+    ghost Value = { List KeyPair };
 
     ghost view = { λ machine. machine.map.pairs };
 }

@@ -15,10 +15,10 @@ pub struct Pair {
 }
 
 impl Model for Pair {
-    ghost use Rattle.sm_map.specs.KeyMap.{Pair as MapPair};
+    ghost use Rattle.sm_map.specs.KeyMap.{KeyPair};
     ghost use Rattle.sm_service.specs.Pairs.{stored_as};
 
-    ghost Value = { MapPair };
+    ghost Value = { KeyPair };
 
     ghost view = { λ pair. record { key = pair.key; value = stored_as pair.held } };
 }

@@ -14,9 +14,9 @@ pub struct PairList {
 
 impl Model for PairList {
     ghost use Rattle.std.specs.Prelude.{List};
-    ghost use Rattle.sm_map.specs.KeyMap.{Pair as MapPair};
+    ghost use Rattle.sm_map.specs.KeyMap.{KeyPair};
 
-    ghost Value = { List MapPair };
+    ghost Value = { List KeyPair };
 
     ghost view = { λ list. list.pairs.items };
 }

@@ -1,7 +1,8 @@
 -- Looking into JSON data: what an object's members hold, and tests of their types.
 -- What is missing or of another type counts as 0 or as nothing: a line with such a member breaks the rule on
 -- shapes, which comes before all rules on values.
-use Rattle.std.specs.Prelude.{ℕ, suc, ◌&&◌, ◌==◌, List, [], ◌∷◌, length, Bool, false, if◌then◌else◌, Option, None, Some, is_some, unwrap_or, option_map, option_and_then}
+use Rattle.std.specs.Prelude.{ℕ, suc, ◌&&◌, ◌==◌, List, [], ◌∷◌, length, Bool, false, if◌then◌else◌, Option, None, Some}
+use Rattle.std.specs.Prelude.{is_some, unwrap_or, option_map, option_and_then}
 use Rattle.std.specs.List.{list_all}
 use Rattle.serde_json.specs.Data.{Data, Items, no_items, item, Members, no_members, member}
 use Rattle.serde_json.specs.Find.{get, as_number, as_u64, as_array, as_object, as_str}

@@ -1,7 +1,11 @@
 -- The texts of the faults.
 use Rattle.std.specs.Prelude.{ℕ, List, codes}
 use Rattle.sm_settings.specs.declared.settings_fault.SettingsFault.{SettingsFault}
-use Rattle.sm_settings.specs.declared.settings_fault.SettingsFault.TheVariants.{TooLong, BadJson, BadVersion, BadShape, BadLayout, BadServers, BadGroups, BadShards, BadOps, BadKept, BadCeiling, BadWorkers, BadDomains, TooManyWorkers, NoMemory}
+use Rattle.sm_settings.specs.declared.settings_fault.SettingsFault.TheVariants.{TooLong, BadJson, BadVersion, BadShape}
+use Rattle.sm_settings.specs.declared.settings_fault.SettingsFault.TheVariants.{BadLayout, BadServers, BadGroups}
+use Rattle.sm_settings.specs.declared.settings_fault.SettingsFault.TheVariants.{BadShards, BadOps, BadKept, BadCeiling}
+use Rattle.sm_settings.specs.declared.settings_fault.SettingsFault.TheVariants.{BadWorkers, BadDomains, TooManyWorkers}
+use Rattle.sm_settings.specs.declared.settings_fault.SettingsFault.TheVariants.{NoMemory}
 
 -- a fault as the answer to a settings line writes it
 abbrev pub settings_fault_name : SettingsFault → List ℕ

@@ -1,5 +1,6 @@
 -- What a settings line gives: its values, or the first rule that it breaks.
-use Rattle.std.specs.Prelude.{ℕ, ◌==◌, ◌||◌, List, [], ◌∷◌, ◌++◌, length, map, is_none, Bool, nat_le, if◌then◌else◌, Option, None, Some, Result, Ok, Err, codes}
+use Rattle.std.specs.Prelude.{ℕ, ◌==◌, ◌||◌, List, [], ◌∷◌, ◌++◌, length, map, is_none, Bool, nat_le, if◌then◌else◌}
+use Rattle.std.specs.Prelude.{Option, None, Some, Result, Ok, Err, codes}
 use Rattle.std.specs.Str.{is_utf8}
 use Rattle.serde_json.specs.Data.{Data}
 use Rattle.serde_json.specs.Read.{read}
@@ -12,11 +13,17 @@ use Rattle.sm_rows.specs.declared.limits.TheConstants.{MAX_DOMAIN_DOWN}
 use Rattle.sm_rows.specs.Domains.{equal_domains}
 use Rattle.sm_rows.specs.Rows.{is_within}
 use Rattle.sm_settings.specs.declared.settings.Settings.{Settings}
-use Rattle.sm_settings.specs.declared.settings.TheConstants.{MAX_SETTINGS, MAX_OPS, MAX_KEPT, MIN_CEILING, MAX_CEILING, MAX_WORKERS}
+use Rattle.sm_settings.specs.declared.settings.TheConstants.{MAX_SETTINGS, MAX_OPS, MAX_KEPT, MIN_CEILING, MAX_CEILING}
+use Rattle.sm_settings.specs.declared.settings.TheConstants.{MAX_WORKERS}
 use Rattle.sm_settings.specs.declared.settings_fault.SettingsFault.{SettingsFault}
-use Rattle.sm_settings.specs.declared.settings_fault.SettingsFault.TheVariants.{TooLong, BadJson, BadVersion, BadShape, BadLayout, BadServers, BadGroups, BadShards, BadOps, BadKept, BadCeiling, BadWorkers, BadDomains}
+use Rattle.sm_settings.specs.declared.settings_fault.SettingsFault.TheVariants.{TooLong, BadJson, BadVersion, BadShape}
+use Rattle.sm_settings.specs.declared.settings_fault.SettingsFault.TheVariants.{BadLayout, BadServers, BadGroups}
+use Rattle.sm_settings.specs.declared.settings_fault.SettingsFault.TheVariants.{BadShards, BadOps, BadKept, BadCeiling}
+use Rattle.sm_settings.specs.declared.settings_fault.SettingsFault.TheVariants.{BadWorkers, BadDomains}
 use Rattle.sm_settings.specs.Members.{number_at, string_of, items_at, is_whole, is_string, is_array_of, is_object_of}
-use Rattle.sm_settings.specs.SettingsRows.{is_server_object, server_row_of, is_group_object, group_row_of, is_shard_object, shard_row_of, is_domain_object, domain_row_of, rule_of_servers, rule_of_groups, rule_of_shards, rule_of_domains}
+use Rattle.sm_settings.specs.SettingsRows.{is_server_object, server_row_of, is_group_object, group_row_of}
+use Rattle.sm_settings.specs.SettingsRows.{is_shard_object, shard_row_of, is_domain_object, domain_row_of}
+use Rattle.sm_settings.specs.SettingsRows.{rule_of_servers, rule_of_groups, rule_of_shards, rule_of_domains}
 
 -- whether the settings are of version 2, which has the member `domains`
 abbrev pub has_domains : Data → Bool
@@ -57,8 +64,8 @@ pub record SettingsValues : Type 0 where
   pub workers : ℕ
   pub domains : List DomainRow
 
--- the rows of domains that an object says, where these are the servers: in version 1 each domain has a row that lets all of
--- its servers be down
+-- the rows of domains that an object says, where these are the servers: in version 1 each domain has a row that lets
+-- all of its servers be down
 unfoldable pub domains_in : List ServerRow → Data → List DomainRow
 domains_in servers d =
     if has_domains d then map domain_row_of (items_at (codes "domains") d) else equal_domains MAX_DOMAIN_DOWN servers
@@ -77,7 +84,8 @@ values_in d = record {
   domains = domains_in (map server_row_of (items_at (codes "servers") d)) d;
 }
 
--- the rules of settings but for that of domains, in the order of the checks, each with the fault of a line that breaks it
+-- the rules of settings but for that of domains, in the order of the checks, each with the fault of a line that breaks
+-- it
 abbrev pub base_rules : Data → SettingsValues → List (Bool × SettingsFault)
 base_rules d v =
     (has_version d, BadVersion) ∷
@@ -108,14 +116,16 @@ with_domains v domains = record v { domains = domains }
 abbrev pub base_verdict : Data → Result SettingsValues SettingsFault
 base_verdict d = value_or_fault (base_rules d (values_in d)) (with_domains (values_in d) [])
 
--- what JSON data gives as settings: its values, or the fault of the first rule that it breaks; none was read of what is no JSON
+-- what JSON data gives as settings: its values, or the fault of the first rule that it breaks; none was read of what is
+-- no JSON
 abbrev pub verdict_of : Option Data → Result SettingsValues SettingsFault
 verdict_of None = Err BadJson
 verdict_of (Some d) = value_or_fault (rules d (values_in d)) (values_in d)
 
 -- what the bytes of a line give as settings: their values, or their first fault
 unfoldable pub settings_of : List ℕ → Result SettingsValues SettingsFault
-settings_of line = if nat_le (length line) MAX_SETTINGS then (if is_utf8 line then verdict_of (read line) else Err BadJson) else Err TooLong
+settings_of line = if nat_le (length line) MAX_SETTINGS
+    then (if is_utf8 line then verdict_of (read line) else Err BadJson) else Err TooLong
 
 -- the values that settings hold
 abbrev pub values_of : Settings → SettingsValues

@@ -11,11 +11,16 @@ use Rattle.sm_settings.specs.Members.{number_at, is_whole, is_object_of}
 
 -- an object with exactly the members of a server's row, each a number
 abbrev pub is_server_object : Data → Bool
-is_server_object = is_object_of ((codes "id", is_whole) ∷ (codes "domain", is_whole) ∷ (codes "capacity", is_whole) ∷ [])
+is_server_object =
+    is_object_of ((codes "id", is_whole) ∷ (codes "domain", is_whole) ∷ (codes "capacity", is_whole) ∷ [])
 
 -- the row that an object says
 abbrev pub server_row_of : Data → ServerRow
-server_row_of d = record { id = number_at (codes "id") d; domain = number_at (codes "domain") d; capacity = number_at (codes "capacity") d }
+server_row_of d = record {
+  id = number_at (codes "id") d;
+  domain = number_at (codes "domain") d;
+  capacity = number_at (codes "capacity") d;
+}
 
 -- an object with exactly the members of a group's row, each a number
 abbrev pub is_group_object : Data → Bool
@@ -31,7 +36,8 @@ is_shard_object = is_object_of ((codes "group", is_whole) ∷ (codes "load", is_
 
 -- the row that an object says
 abbrev pub shard_row_of : Data → ShardRow
-shard_row_of d = record { group = number_at (codes "group") d; load = number_at (codes "load") d; cap = number_at (codes "cap") d }
+shard_row_of d =
+    record { group = number_at (codes "group") d; load = number_at (codes "load") d; cap = number_at (codes "cap") d }
 
 -- an object with exactly the members of a domain's row, each a number
 abbrev pub is_domain_object : Data → Bool

@@ -2,7 +2,8 @@ ghost use Rattle.std.specs.Prelude.{◌≡◌, ◌≤◌, IfSome, map, option_ma
 ghost use Rattle.std.specs.List.{list_all};
 ghost use Rattle.serde_json.specs.Find.{get};
 ghost use Rattle.serde_json.specs.View.{view};
-ghost use Rattle.sm_settings.specs.Members.{number_at, array_of, items_at, is_whole, holds_of, has_size, is_object_of, when};
+ghost use Rattle.sm_settings.specs.Members.{number_at, array_of, items_at, is_whole, holds_of, has_size, is_object_of};
+ghost use Rattle.sm_settings.specs.Members.{when};
 ghost use Rattle.sm_rows.specs.Rows.{is_within};
 
 use serde_json::Value;
@@ -23,7 +24,8 @@ pub fn has_number(value: &Value, name: &str) -> bool
 
 /// The number at a member, where it is from `low` to `high`.
 pub fn number_within(value: &Value, name: &str, low: u64, high: u64) -> Option<u64>
-    ensures value { result ≡ when (is_within low high (number_at name.now (view value.now))) (number_at name.now (view value.now)) }
+    ensures value { result
+        ≡ when (is_within low high (number_at name.now (view value.now))) (number_at name.now (view value.now)) }
     ensures low { IfSome result (λ n. low ≤ n) }
     ensures high { IfSome result (λ n. n ≤ high) }
 {
@@ -61,7 +63,8 @@ fn have_numbers(value: &Value, names: &[&str]) -> bool
 
 /// The items of the array at a member, if there is one.
 pub fn array<'a>(value: &'a Value, name: &str) -> Option<&'a [Value]>
-    ensures { option_map (λ items. map view items.now) result ≡ option_and_then array_of (get name.now (view value.now)) }
+    ensures { option_map (λ items. map view items.now) result
+        ≡ option_and_then array_of (get name.now (view value.now)) }
 {
     let member = value.get(name)?;
     let items = member.as_array()?;

@@ -253,7 +253,8 @@ pub(crate) fn rows_from<T: Row>(
     servers: &[ServerRow],
 ) -> Result<Option<Vec<T>>, AllocError>
     ensures rows { let rows = map T.row_of (map view values.now) in
-        IfOk result (λ found. option_map (λ list. list.items) found ≡ when (T.rule bounds groups servers.now rows) rows) }
+        IfOk result
+        (λ found. option_map (λ list. list.items) found ≡ when (T.rule bounds groups servers.now rows) rows) }
     ensures few { IfOk result (λ found. IfSome found (λ list. vec_len list ≤ MAX_SHARDS)) }
 {
     let Some(rows) = rows_of::<T>(alloc, values, groups)? else {

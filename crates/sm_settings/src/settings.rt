@@ -5,7 +5,8 @@ ghost use Rattle.serde_json.specs.View.{view};
 ghost use Rattle.sm_settings.specs.Members.{holds_of, number_at, when};
 ghost use Rattle.sm_settings.specs.SettingsRows.{rule_of_domains};
 ghost use Rattle.sm_rows.specs.Rows.{is_within};
-ghost use Rattle.sm_settings.specs.SettingsLine.{base_verdict, has_domains, has_version, is_settings_object, settings_members, verdict_of, values_in, values_of, settings_of};
+ghost use Rattle.sm_settings.specs.SettingsLine.{base_verdict, has_domains, has_version, is_settings_object};
+ghost use Rattle.sm_settings.specs.SettingsLine.{settings_members, verdict_of, values_in, values_of, settings_of};
 ghost use Rattle.sm_settings.specs.SettingsRules.{KeepsRules};
 
 use crate::bounds::{has_texts, layout_from};
@@ -36,7 +37,8 @@ pub const MAX_CEILING: u64 = (1 << 36) - 1;
 /// The most workers that a server may have.
 pub const MAX_WORKERS: u64 = 8;
 
-/// What a settings line says: how the keys are cut into shards, the servers, groups and shards, and the limits of a run.
+/// What a settings line says: how the keys are cut into shards, the servers, groups and shards, and the limits of a
+/// run.
 #[derive(Drop)]
 pub struct Settings {
     pub layout: Layout,
@@ -44,7 +46,8 @@ pub struct Settings {
     pub groups: Vec<GroupRow>,
     /// A row for each shard of the layout.
     pub shards: Vec<ShardRow>,
-    /// How many servers may be approved to restart, stopped or failed, with the one whose restart is approved: 0 to 4,095.
+    /// How many servers may be approved to restart, stopped or failed, with the one whose restart is approved: 0 to
+    /// 4,095.
     pub ops: u16,
     /// How many requests a shard keeps at most: 1 to 1,048,576.
     pub kept: u32,
@@ -60,7 +63,8 @@ impl Settings {
     /// The settings that a line says, or the fault of the first rule that it breaks.
     ///
     /// The line is one JSON object, without its line feed. Of two equal members the last counts.
-    /// `NoMemory` is for refused memory, which no clause can tell; whether the line breaks a rule is then open, but for its length.
+    /// `NoMemory` is for refused memory, which no clause can tell; whether the line breaks a rule is then open, but for
+    /// its length.
     #[tactic(auto, using(crate::proofs::Lines::settings_of_decides, crate::proofs::Lines::settings_of_nothing))]
     pub fn read(alloc: Global, line: &[u8]) -> Result<Settings, SettingsFault>
         ensures ok { IfOk result (λ settings. settings_of line.now ≡ Ok (values_of settings)) }
@@ -86,7 +90,8 @@ impl Settings {
 // The settings that a JSON value says, or the fault of the first rule that it breaks.
 fn judge(alloc: Global, value: &Value) -> Result<Settings, SettingsFault>
     ensures ok { IfOk result (λ settings. verdict_of (Some (view value.now)) ≡ Ok (values_of settings)) }
-    ensures err { IfErr result (λ fault. fault ≢ SettingsFault.NoMemory → verdict_of (Some (view value.now)) ≡ Err fault) }
+    ensures err { IfErr result
+        (λ fault. fault ≢ SettingsFault.NoMemory → verdict_of (Some (view value.now)) ≡ Err fault) }
 {
     let settings = judge_base(alloc, value)?;
     add_domains(alloc, value, settings)
@@ -96,7 +101,8 @@ fn judge(alloc: Global, value: &Value) -> Result<Settings, SettingsFault>
 fn add_domains(alloc: Global, value: &Value, settings: Settings) -> Result<Settings, SettingsFault>
     requires { base_verdict (view value.now) ≡ Ok (values_of settings) }
     ensures ok { IfOk result (λ settings. verdict_of (Some (view value.now)) ≡ Ok (values_of settings)) }
-    ensures err { IfErr result (λ fault. fault ≢ SettingsFault.NoMemory → verdict_of (Some (view value.now)) ≡ Err fault) }
+    ensures err { IfErr result
+        (λ fault. fault ≢ SettingsFault.NoMemory → verdict_of (Some (view value.now)) ≡ Err fault) }
 {
     let mut whole = settings;
     match domains_from(alloc, value, &whole.servers)? {
@@ -187,7 +193,8 @@ fn domains_from(
 ) -> Result<Option<Vec<DomainRow>>, AllocError>
     requires { servers.now ≡ (values_in (view value.now)).servers }
     ensures { let v = values_in (view value.now) in
-        IfOk result (λ found. option_map (λ list. list.items) found ≡ when (rule_of_domains v.servers v.domains) v.domains) }
+        IfOk result
+        (λ found. option_map (λ list. list.items) found ≡ when (rule_of_domains v.servers v.domains) v.domains) }
 {
     if has_domains(value) {
         return rows_from::<DomainRow>(alloc, items(value, "domains"), 0, 0, servers);

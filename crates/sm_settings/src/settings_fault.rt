@@ -2,7 +2,8 @@ use std::alloc::AllocError;
 use std::error::Error;
 use std::fmt;
 
-/// Why a settings line is refused, in the order of the checks. `NoMemory` may come in place of any answer but `TooLong`.
+/// Why a settings line is refused, in the order of the checks. `NoMemory` may come in place of any answer but
+/// `TooLong`.
 #[derive(Clone, Copy, Debug, PartialEq, Eq, Drop)]
 pub enum SettingsFault {
     /// The line has more than 1,048,576 bytes.
@@ -31,7 +32,8 @@ pub enum SettingsFault {
     BadWorkers,
     /// The domains break a rule.
     BadDomains,
-    /// All servers together would have more workers than an engine runs. It is never the answer of [`Settings::read`](crate::Settings::read).
+    /// All servers together would have more workers than an engine runs. It is never the answer of
+    /// [`Settings::read`](crate::Settings::read).
     TooManyWorkers,
     /// Memory was refused: the line isn't too long, and whether it has another fault is not known.
     NoMemory,

@@ -10,7 +10,7 @@ use Rattle.sm_ownership.specs.declared.entry.Entry.{Entry}
 use Rattle.sm_ownership.specs.declared.entry.Kind.TheVariants.{Admit, Done}
 use Rattle.sm_ownership.specs.declared.mode.Mode.TheVariants.{Direct}
 use Rattle.sm_ownership.specs.declared.record.Record.{Record}
-use Rattle.sm_ownership.specs.History.{IsLegal, after_done, kept, record_at}
+use Rattle.sm_ownership.specs.History.{IsLegal, after_done, checkpoint_ending, kept, record_at}
 use Rattle.sm_ownership.specs.lemmas.Faults.{admit_fault-none}
 use Rattle.sm_ownership.specs.lemmas.Growth.{fits-push, legal_prefix, length-table_of, table_of-push}
 use Rattle.sm_ownership.specs.lemmas.Requests.{first_of-within}
@@ -24,7 +24,7 @@ use Rattle.sm_table.specs.declared.world_answer.WorldAnswer.TheVariants.{Made}
 use Rattle.sm_table.specs.declared.world_fault.WorldFault.TheVariants.{NoMemory, UnknownShard}
 use Rattle.sm_desk.specs.Desk.{is_known, DeskView}
 use Rattle.sm_body.specs.Service.{Service}
-use Rattle.sm_table.specs.World.{WorldState, Plain, Unmade, checkpoint_ending, count_of, is_there, outcome, with_entry, world_record, world_table}
+use Rattle.sm_table.specs.World.{WorldState, Plain, Unmade, count_of, is_there, outcome, with_entry, world_record, world_table}
 use Rattle.sm_table.specs.Standing.{IsSound, WorldView, view_of, StandsFor, Follows}
 use Rattle.sm_table.specs.Bodies.{BodiesView, Past, kept_in, no_past, past_after, past_at, past_of}
 use Rattle.sm_table.proofs.Holding.{past_shards}

@@ -19,7 +19,7 @@ use Rattle.sm_envelope.specs.Envelope.{EnvelopeView}
 use Rattle.sm_ownership.specs.History.{kept}
 use Rattle.sm_ownership.specs.Routes.{is_old, routes_of}
 use Rattle.sm_body.specs.Service.{Service}
-use Rattle.sm_table.specs.World.{WorldState, Mark, Plain, Unmade, Unserved, Outcome, count_of, controlled, is_there, reached, arrived, without_flight, delivered, with_room, worked, served, held, after_hold, based, after_checkpoint, let_go, freed, published, next, world_after}
+use Rattle.sm_table.specs.World.{WorldState, Mark, Plain, Unmade, Unserved, StepOutcome, count_of, controlled, is_there, reached, arrived, without_flight, delivered, with_room, worked, served, after_admission, made_unless, after_hold, after_checkpoint, let_go, freed, published, next, world_after}
 
 -- the later world has the frame of the earlier one, its history and then these entries, and its publications and then these routes
 pub record GrowsInto {Q : Type 0} (w later : WorldState Q) : Type 0 where
@@ -42,7 +42,7 @@ extends_further w middle later first second = record {
 }
 
 module _ {Q : Type 0} (R : Type 0) (w : WorldState Q) where
-  abbrev LeavesExtended : Outcome Q R → Type 0
+  abbrev LeavesExtended : StepOutcome Q R → Type 0
   LeavesExtended outcome = GrowsInto w outcome.1
 
   -- the desk knows more
@@ -89,23 +89,22 @@ module _ {Q : Type 0} (R : Type 0) (w : WorldState Q) where
   extends_served service mark shard None = extends_itself w
   extends_served service mark shard (Some hand) = extends_worked service mark shard hand.server hand.work
 
-  extends_held : (shard server : ℕ) (fault : Option AdmitFault) → LeavesExtended (held w shard server fault)
-  extends_held shard server None = record { frame = refl; added = _; history = refl; more = []; publications = sym (append-nil w.publications) }
-  extends_held shard server (Some fault) = extends_itself w
+  extends_made : (made : WorldState Q) (fault : Option AdmitFault) → GrowsInto w made → LeavesExtended (made_unless fault w made)
+  extends_made made None grows = grows
+  extends_made made (Some fault) grows = extends_itself w
+
+  extends_admission : (shard server : ℕ) (made : WorldState Q) → GrowsInto w made → LeavesExtended (after_admission w shard server made)
+  extends_admission shard server made grows = cond_both (nat_lt shard (count_of w)) _ _ LeavesExtended
+      (λ _. cond_both (is_there w server) _ _ LeavesExtended (λ _. extends_made made _ grows) (λ _. extends_itself w))
+      (λ _. extends_itself w)
 
   extends_hold : (shard server : ℕ) → LeavesExtended (after_hold w shard server)
-  extends_hold shard server = cond_both (nat_lt shard (count_of w)) _ _ LeavesExtended
-      (λ _. cond_both (is_there w server) _ _ LeavesExtended (λ _. extends_held shard server _) (λ _. extends_itself w))
-      (λ _. extends_itself w)
-
-  extends_based : (shard server : ℕ) (fault : Option AdmitFault) → LeavesExtended (based w shard server fault)
-  extends_based shard server None = record { frame = refl; added = _; history = append_assoc w.history _ _; more = []; publications = sym (append-nil w.publications) }
-  extends_based shard server (Some fault) = extends_itself w
+  extends_hold shard server = extends_admission shard server _
+      (record { frame = refl; added = _; history = refl; more = []; publications = sym (append-nil w.publications) })
 
   extends_checkpoint : (shard server : ℕ) → LeavesExtended (after_checkpoint w shard server)
-  extends_checkpoint shard server = cond_both (nat_lt shard (count_of w)) _ _ LeavesExtended
-      (λ _. cond_both (is_there w server) _ _ LeavesExtended (λ _. extends_based shard server _) (λ _. extends_itself w))
-      (λ _. extends_itself w)
+  extends_checkpoint shard server = extends_admission shard server _
+      (record { frame = refl; added = _; history = append_assoc w.history _ _; more = []; publications = sym (append-nil w.publications) })
 
   extends_let_go : (shard server : ℕ) (work : Option (Work Q)) → LeavesExtended (let_go w shard server work)
   extends_let_go shard server None = record { frame = refl; added = _; history = refl; more = []; publications = sym (append-nil w.publications) }

@@ -12,7 +12,7 @@ use Rattle.sm_desk.specs.Desk.{DeskView}
 use Rattle.sm_ownership.specs.Tables.{TableView}
 use Rattle.sm_table.specs.Bodies.{BodiesView, Past, past_at, past_of}
 use Rattle.sm_body.specs.Service.{Service}
-use Rattle.sm_table.specs.World.{WorldState, Mark, Outcome, count_of, last_routes, world_table, outcome}
+use Rattle.sm_table.specs.World.{WorldState, Mark, StepOutcome, count_of, last_routes, world_table, outcome}
 use Rattle.sm_table.specs.Standing.{IsSound, WorldView, view_of, StandsFor, Follows}
 use Rattle.sm_table.specs.lemmas.Soundness.{sound_next}
 
@@ -62,7 +62,7 @@ Follows-unchanged service w mark step view now answer stands out same = record {
 -- a step that leads to another world leads to its parts, where they are those parts if that world is sound
 pub Follows-changed : {Q R : Type 0} (service : Service Q R) (w : WorldState Q) (mark : Mark) (step : Step Q) (view : WorldView Q) (answer : Result (WorldAnswer R) WorldFault) (after : WorldState Q) (pasts : List (Past Q)) → IsSound w → outcome service w mark step ≡ (answer, after) → (IsSound after → view ≡ parts_of after pasts) → (IsSound after → Keeps after pasts) → Follows view answer (outcome service w mark step)
 Follows-changed {Q = Q} {R = R} service w mark step view answer after pasts sound out same keeps =
-    let sound_after : IsSound after = subst (λ (o : Outcome Q R). IsSound o.1) out (sound_next service w mark step sound) in
+    let sound_after : IsSound after = subst (λ (o : StepOutcome Q R). IsSound o.1) out (sound_next service w mark step sound) in
     record {
       answered = sym (ap (λ o. o.0) out);
       stands = subst (λ o. StandsFor view o.1) (sym out) (subst (λ u. StandsFor u after) (sym (same sound_after)) (StandsFor-parts_of after pasts (keeps sound_after) sound_after));

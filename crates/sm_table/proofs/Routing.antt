@@ -24,7 +24,7 @@ use Rattle.sm_table.specs.declared.world_answer.WorldAnswer.TheVariants.{Made, W
 use Rattle.sm_table.specs.declared.world_fault.WorldFault.TheVariants.{OldRoute, WrongPhase}
 use Rattle.sm_table.specs.Bodies.{BodiesView}
 use Rattle.sm_table.specs.Standing.{Follows, IsSound, StandsFor, WorldView, view_of}
-use Rattle.sm_table.specs.World.{Outcome, Plain, WorldState, count_of, last_routes, outcome, published, world_record}
+use Rattle.sm_table.specs.World.{StepOutcome, Plain, WorldState, count_of, last_routes, outcome, published, world_record}
 use Rattle.sm_table.proofs.Parts.{Follows-unchanged}
 use Rattle.sm_table.specs.lemmas.Soundness.{sound_next}
 
@@ -123,15 +123,15 @@ module _ {Q R : Type 0} (service : Service Q R) {bounds : List (List ℕ)} {desk
       pub new_route : (old : Bool) → old ≡ is_old last route → old ≡ false → (routes : List (Option Route)) → routes ≡ slice_set routes_was shard (Some route) → Follows {R = R} (record v { routes = routes }) (Ok Made) (outcome service w Plain (Publish shard))
       new_route old tells newer routes put =
           let out : outcome service w Plain (Publish shard) ≡ (Ok Made, record w { publications = w.publications ++ route ∷ [] }) = goes (Some route) is ∙ rw (ap (λ one. is_old one route) last_of ∙ (sym tells ∙ newer)) refl in
-          let sound = subst (λ (o : Outcome Q R). IsSound o.1) out (sound_next service w Plain (Publish shard) stands.sound) in
+          let sound = subst (λ (o : StepOutcome Q R). IsSound o.1) out (sound_next service w Plain (Publish shard) stands.sound) in
           let shown : routes ≡ row_of (w.publications ++ route ∷ []) (count_of w) =
           put
           ∙ ap (λ row. slice_set row shard (Some route)) stands.routes
           ∙ ap (λ at. slice_set (last_routes w) at (Some route)) (sym of_shard)
           ∙ row_of-push w.publications (count_of w) route (subst (λ at. at < count_of w) (sym of_shard) there) in
           record {
-            answered = sym (ap (λ (o : Outcome Q R). o.0) out);
-            stands = subst (λ (o : Outcome Q R). StandsFor (record v { routes = routes }) o.1) (sym out) (record {
+            answered = sym (ap (λ (o : StepOutcome Q R). o.0) out);
+            stands = subst (λ (o : StepOutcome Q R). StandsFor (record v { routes = routes }) o.1) (sym out) (record {
               bounds = stands.bounds;
               desk = stands.desk;
               records = stands.records;

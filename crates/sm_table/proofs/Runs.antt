@@ -24,7 +24,7 @@ use Rattle.sm_desk.specs.Desk.{DeskView, is_reached}
 use Rattle.sm_envelope.specs.Envelope.{EnvelopeView}
 use Rattle.sm_ownership.specs.History.{all_of, kept, said}
 use Rattle.sm_body.specs.Service.{Service}
-use Rattle.sm_table.specs.World.{Frame, WorldState, Mark, Plain, Unmade, Unserved, Outcome, count_of, world_record, controlled, is_there, reached, after_hop, hopped, arrived, without_flight, delivered, with_room, worked, served, held, after_hold, based, after_checkpoint, let_go, freed, published, empty_world, answer, next, outcome, world_after, world_of}
+use Rattle.sm_table.specs.World.{Frame, WorldState, Mark, Plain, Unmade, Unserved, StepOutcome, count_of, world_record, controlled, is_there, reached, after_hop, hopped, arrived, without_flight, delivered, with_room, worked, served, after_admission, made_unless, let_go, freed, published, empty_world, answer, next, outcome, world_after, world_of}
 use Rattle.sm_table.proofs.Extensions.{extends_after}
 use Rattle.sm_ownership.specs.lemmas.Requests.{all_of-append, all_of-push_some}
 
@@ -36,7 +36,7 @@ said_middle : {Q R : Type 0} (reply_of : List Q → Q → R) (all before : List 
 said_middle reply_of all before request after is = rw is (rw (slice_get-middle before request after, take_at before (request ∷ after) (length before) refl) refl)
 
 -- a step that replied executed a request after all those of the shard, and that is in the history
-record HasRun {Q R : Type 0} (service : Service Q R) (w : WorldState Q) (outcome : Outcome Q R) (shard : ℕ) (reply : R) (place : ℕ) : Type 0 where
+record HasRun {Q R : Type 0} (service : Service Q R) (w : WorldState Q) (outcome : StepOutcome Q R) (shard : ℕ) (reply : R) (place : ℕ) : Type 0 where
   server : ℕ
   request : Q
   at_end : place ≡ length (all_of w.history shard)
@@ -44,7 +44,7 @@ record HasRun {Q R : Type 0} (service : Service Q R) (w : WorldState Q) (outcome
   written : outcome.1.history ≡ w.history ++ record { actor = server; shard = shard; kind = Done (Request request) } ∷ []
 
 module _ {Q R : Type 0} (service : Service Q R) (w : WorldState Q) (number server : ℕ) (reply : R) (place : ℕ) where
-  abbrev RunsAt : ℕ → Outcome Q R → Type 0
+  abbrev RunsAt : ℕ → StepOutcome Q R → Type 0
   RunsAt shard outcome = outcome.0 ≡ Ok (Replied number server reply place) → HasRun service w outcome shard reply place
 
   runs_with_room : (mark : Mark) (shard by : ℕ) (work : Work Q) → RunsAt shard (with_room service w mark shard by work)
@@ -64,7 +64,7 @@ module _ {Q R : Type 0} (service : Service Q R) (w : WorldState Q) (number serve
   runs_served mark shard None answered = absurd cc
   runs_served mark shard (Some hand) answered = runs_worked mark shard hand.server hand.work answered
 
-  abbrev NeverReplied : Outcome Q R → Type 0
+  abbrev NeverReplied : StepOutcome Q R → Type 0
   NeverReplied outcome = outcome.0 ≡ Ok (Replied number server reply place) → ⊥
 
   never_controlled : (command : Command) (fault : Option CommandFault) → NeverReplied (controlled w command fault)
@@ -87,22 +87,13 @@ module _ {Q R : Type 0} (service : Service Q R) (w : WorldState Q) (number serve
   never_delivered at None answered = cc
   never_delivered at (Some flight) answered = never_arrived (without_flight w at) flight.to flight.envelope (forward_to (world_record w flight.envelope.shard) flight.to) answered
 
-  never_held : (shard by : ℕ) (fault : Option AdmitFault) → NeverReplied (held w shard by fault)
-  never_held shard by None answered = cc
-  never_held shard by (Some fault) answered = cc
+  never_made : (made : WorldState Q) (fault : Option AdmitFault) → NeverReplied (made_unless fault w made)
+  never_made made None answered = cc
+  never_made made (Some fault) answered = cc
 
-  never_hold : (shard by : ℕ) → NeverReplied (after_hold w shard by)
-  never_hold shard by = cond_both (nat_lt shard (count_of w)) _ _ NeverReplied
-      (λ _. cond_both (is_there w by) _ _ NeverReplied (λ _. never_held shard by _) (λ _ at. cc))
-      (λ _ at. cc)
-
-  never_based : (shard by : ℕ) (fault : Option AdmitFault) → NeverReplied (based w shard by fault)
-  never_based shard by None answered = cc
-  never_based shard by (Some fault) answered = cc
-
-  never_checkpoint : (shard by : ℕ) → NeverReplied (after_checkpoint w shard by)
-  never_checkpoint shard by = cond_both (nat_lt shard (count_of w)) _ _ NeverReplied
-      (λ _. cond_both (is_there w by) _ _ NeverReplied (λ _. never_based shard by _) (λ _ at. cc))
+  never_admission : (shard by : ℕ) (made : WorldState Q) → NeverReplied (after_admission w shard by made)
+  never_admission shard by made = cond_both (nat_lt shard (count_of w)) _ _ NeverReplied
+      (λ _. cond_both (is_there w by) _ _ NeverReplied (λ _. never_made made _) (λ _ at. cc))
       (λ _ at. cc)
 
   never_let_go : (shard by : ℕ) (work : Option (Work Q)) → NeverReplied (let_go w shard by work)
@@ -126,9 +117,9 @@ module _ {Q R : Type 0} (service : Service Q R) (w : WorldState Q) (number serve
   runs_step mark (Deliver at) answered = absurd (never_delivered at _ answered)
   runs_step mark (Finish shard) answered = (shard, refl, runs_served mark shard _ answered)
   runs_step mark (Lose at) answered = absurd (cond_both (nat_lt at (length w.in_flight)) _ _ NeverReplied (λ _ lost. cc) (λ _ lost. cc) answered)
-  runs_step mark (Hold shard by) answered = absurd (never_hold shard by answered)
+  runs_step mark (Hold shard by) answered = absurd (never_admission shard by _ answered)
   runs_step mark (Free shard) answered = absurd (cond_both (nat_lt shard (count_of w)) _ _ NeverReplied (λ _. never_freed shard _) (λ _ at. cc) answered)
-  runs_step mark (Checkpoint shard by) answered = absurd (never_checkpoint shard by answered)
+  runs_step mark (Checkpoint shard by) answered = absurd (never_admission shard by _ answered)
   runs_step mark (Publish shard) answered = absurd (cond_both (nat_lt shard (count_of w)) _ _ NeverReplied (λ _. never_published _) (λ _ at. cc) answered)
   runs_step mark (RouteOf key) answered = absurd cc
 

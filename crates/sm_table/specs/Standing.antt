@@ -1,5 +1,6 @@
 -- When the parts of a `World` stand for a world of the definitions.
-use Rattle.std.specs.Prelude.{ℕ, Bool, true, false, Option, Some, None, Result, ◌≡◌, ◌<◌, ◌≤◌, ◌^◌, List, [], ◌∷◌, All, length, map, replicate, reverse, slice_index_or, slice_set}
+use Rattle.std.specs.Prelude.{ℕ, Bool, true, false, Option, Some, None, Result, ◌≡◌, ◌<◌, ◌≤◌, ◌^◌, List, [], ◌∷◌, All}
+use Rattle.std.specs.Prelude.{length, map, replicate, reverse, slice_index_or, slice_set}
 use Rattle.std.specs.List.{list_all}
 use Rattle.sm_body.specs.Service.{Service}
 use Rattle.sm_ranges.specs.Ranges.{IsLayout}
@@ -22,7 +23,8 @@ use Rattle.sm_tasks.specs.Caps.{MeetsCaps}
 use Rattle.sm_ownership.specs.History.{after_admit, record_at, IsLegal, admits_only, is_admission_of, latest_of}
 use Rattle.sm_ownership.specs.Tables.{TableView}
 use Rattle.sm_table.specs.Bodies.{BodiesView, Past, past_at, past_of}
-use Rattle.sm_table.specs.World.{Frame, WorldState, Outcome, count_of, last_routes, mark_of, outcome, world_record, world_table}
+use Rattle.sm_table.specs.World.{Frame, WorldState, StepOutcome, count_of, last_routes, mark_of, outcome, world_record}
+use Rattle.sm_table.specs.World.{world_table}
 
 -- a frame that a world can be made with: bounds of a layout, and a desk whose books are sound and keep the caps, with a
 -- vacant shard for each range
@@ -40,7 +42,8 @@ desk_after desk (command ∷ earlier) = commanded (desk_after desk earlier) comm
 -- the desk refuses none of them
 abbrev pub AreLetThrough : DeskView → List Command → Type 0
 AreLetThrough desk [] = Unit {0}
-AreLetThrough desk (command ∷ earlier) = (desk_fault (desk_after desk earlier) command ≡ None) × AreLetThrough desk earlier
+AreLetThrough desk (command ∷ earlier) =
+    (desk_fault (desk_after desk earlier) command ≡ None) × AreLetThrough desk earlier
 
 -- commands that it didn't refuse have made the desk what it is
 pub record IsLedTo (start desk : DeskView) : Type 0 where
@@ -50,7 +53,8 @@ pub record IsLedTo (start desk : DeskView) : Type 0 where
 
 -- the frame of a world with this setup and with bodies of these limits
 abbrev pub setup_frame : Setup → List ℕ → Frame
-setup_frame setup limits = record { bounds = setup.layout; start = setup.desk; ceiling = setup.ceiling; limits = limits }
+setup_frame setup limits =
+    record { bounds = setup.layout; start = setup.desk; ceiling = setup.ceiling; limits = limits }
 
 -- the server exists
 abbrev pub IsThere : List ServerRow → ℕ → Type 0
@@ -64,7 +68,8 @@ pub record IsFlight {Q : Type 0} (count : ℕ) (servers : List ServerRow) (fligh
 -- a shard is admitted exactly where a server has it in hand, and then that server was admitted last
 abbrev pub AgreesWithHand : {Q : Type 0} → List (Entry Q) → Bool → ℕ → Option (InHand Q) → Type 0
 AgreesWithHand history admitted shard None = admitted ≡ false
-AgreesWithHand history admitted shard (Some hand) = (admitted ≡ true) × (is_admission_of hand.server (latest_of (reverse history) shard) ≡ true)
+AgreesWithHand history admitted shard (Some hand) =
+    (admitted ≡ true) × (is_admission_of hand.server (latest_of (reverse history) shard) ≡ true)
 
 -- what holds of each world that steps lead to
 pub record IsSound {Q : Type 0} (w : WorldState Q) : Type 0 where
@@ -76,7 +81,8 @@ pub record IsSound {Q : Type 0} (w : WorldState Q) : Type 0 where
   pub named : (shard : ℕ) → shard < count_of w → AllNamed (IsThere w.desk.books.servers) (world_record w shard).stand
   pub flights : All (IsFlight (count_of w) w.desk.books.servers) w.in_flight
   pub hands : length w.in_hand ≡ count_of w
-  pub held : (shard : ℕ) → shard < count_of w → AgreesWithHand w.history (world_record w shard).admitted shard (slice_index_or w.in_hand shard None)
+  pub held : (shard : ℕ) → shard < count_of w
+      → AgreesWithHand w.history (world_record w shard).admitted shard (slice_index_or w.in_hand shard None)
 
 -- what the parts of a `World` show
 pub record WorldView (Q : Type 0) : Type 0 where
@@ -91,7 +97,8 @@ pub record WorldView (Q : Type 0) : Type 0 where
   pub in_hand : List (Option (InHand Q))
 
 -- what these parts show
-abbrev pub view_of : {Q : Type 0} → List (List ℕ) → DeskView → TableView → BodiesView Q → List (Option Route) → List (Flight Q) → List (Option (InHand Q)) → WorldView Q
+abbrev pub view_of : {Q : Type 0} → List (List ℕ) → DeskView → TableView → BodiesView Q → List (Option Route)
+    → List (Flight Q) → List (Option (InHand Q)) → WorldView Q
 view_of bounds desk table bodies routes in_flight in_hand = record {
   bounds = bounds;
   desk = desk;
@@ -112,7 +119,8 @@ pub record IsTogether {Q : Type 0} (view : WorldView Q) : Type 0 where
   pub bodies : length view.pasts ≡ length view.in_hand
   pub routes : length view.routes ≡ length view.in_hand
   pub flights : All (λ flight. flight.envelope.shard < length view.in_hand) view.in_flight
-  pub admitted : (shard : ℕ) (hand : InHand Q) → slice_index_or view.in_hand shard None ≡ Some hand → (record_at view.records shard).admitted ≡ true
+  pub admitted : (shard : ℕ) (hand : InHand Q) → slice_index_or view.in_hand shard None ≡ Some hand
+      → (record_at view.records shard).admitted ≡ true
   pub few : (shard : ℕ) → length (past_at view.pasts shard).all ≤ (record_at view.records shard).generation
   pub low : view.ceiling < 2 ^ 36
 
@@ -131,15 +139,22 @@ pub record StandsFor {Q : Type 0} (view : WorldView Q) (w : WorldState Q) : Type
   pub sound : IsSound w
 
 -- the step answered what it should, and the parts are those of the world that it leaves
-pub record Follows {Q R : Type 0} (view : WorldView Q) (result : Result (WorldAnswer R) WorldFault) (outcome : Outcome Q R) : Type 0 where
+pub record Follows {Q R : Type 0} (view : WorldView Q) (result : Result (WorldAnswer R) WorldFault)
+    (outcome : StepOutcome Q R) : Type 0 where
   pub answered : result ≡ outcome.0
   pub stands : StandsFor view outcome.1
 
--- the step went as its answer says: where the parts stood for a world, it answered what it should, and they stand for the next
-abbrev pub GoesAs : {Q R : Type 0} → Service Q R → WorldView Q → Result (WorldAnswer R) WorldFault → WorldView Q → Step Q → Type 0
-GoesAs {Q = Q} service before result after step = (w : WorldState Q) → StandsFor before w → Follows after result (outcome service w (mark_of result) step)
+-- the step went as its answer says: where the parts stood for a world, it answered what it should, and they stand for
+-- the next
+abbrev pub GoesAs : {Q R : Type 0} → Service Q R → WorldView Q → Result (WorldAnswer R) WorldFault → WorldView Q
+    → Step Q → Type 0
+GoesAs {Q = Q} service before result after step =
+    (w : WorldState Q) → StandsFor before w → Follows after result (outcome service w (mark_of result) step)
 
 -- the parts after an admission to a shard, with what the server then has in hand
 abbrev pub with_admission : {Q : Type 0} → WorldView Q → ℕ → InHand Q → WorldView Q
 with_admission view shard hand =
-    record view { records = slice_set view.records shard (after_admit (record_at view.records shard)); in_hand = slice_set view.in_hand shard (Some hand) }
+    record view {
+      records = slice_set view.records shard (after_admit (record_at view.records shard));
+      in_hand = slice_set view.in_hand shard (Some hand);
+    }

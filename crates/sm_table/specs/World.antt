@@ -1,5 +1,7 @@
--- The world: shards, servers and requests on their way, as one thread would run them. What each step answers, and what it leaves.
-use Rattle.std.specs.Prelude.{ℕ, Bool, true, false, Option, Some, None, Result, Ok, Err, nat_lt, if◌then◌else◌, List, [], ◌∷◌, ◌++◌, length, map, remove, replicate, slice_get, slice_index_or, slice_set}
+-- The world: shards, servers and requests on their way, as one thread would run them. What each step answers, and what
+-- it leaves.
+use Rattle.std.specs.Prelude.{ℕ, Bool, true, false, Option, Some, None, Result, Ok, Err, nat_lt, if◌then◌else◌, List}
+use Rattle.std.specs.Prelude.{[], ◌∷◌, ◌++◌, length, map, remove, replicate, slice_get, slice_index_or, slice_set}
 use Rattle.std.specs.List.{range_with_len}
 use Rattle.std.specs.Option.{option_map, option_or}
 use Rattle.sm_body.specs.Service.{Service}
@@ -10,7 +12,7 @@ use Rattle.sm_desk.specs.declared.command.Command.TheVariants.{Change as ChangeO
 use Rattle.sm_desk.specs.declared.command.CommandFault.{CommandFault}
 use Rattle.sm_desk.specs.declared.command.CommandFault.TheVariants.{Change as ChangeRefused}
 use Rattle.sm_ownership.specs.declared.entry.Ending.{Ending}
-use Rattle.sm_ownership.specs.declared.entry.Ending.TheVariants.{Nothing, Request, Checkpoint}
+use Rattle.sm_ownership.specs.declared.entry.Ending.TheVariants.{Nothing, Request}
 use Rattle.sm_ownership.specs.declared.entry.Entry.{Entry}
 use Rattle.sm_ownership.specs.declared.entry.Kind.{Kind}
 use Rattle.sm_ownership.specs.declared.entry.Kind.TheVariants.{Change as Changed, Admit, Done}
@@ -20,28 +22,37 @@ use Rattle.sm_ownership.specs.declared.route.Route.{Route}
 use Rattle.sm_table.specs.declared.world.Flight.{Flight}
 use Rattle.sm_table.specs.declared.hands.InHand.{InHand}
 use Rattle.sm_table.specs.declared.hands.Work.{Work}
-use Rattle.sm_envelope.specs.declared.refusal.Refusal.TheVariants.{TooManyHops, Unreachable as NotReached, Admit as NotAdmitted, KeptFull, NoMemory as NoMemoryFor}
+use Rattle.sm_envelope.specs.declared.refusal.Refusal.TheVariants.{TooManyHops, Unreachable as NotReached}
+use Rattle.sm_envelope.specs.declared.refusal.Refusal.TheVariants.{Admit as NotAdmitted, KeptFull}
+use Rattle.sm_envelope.specs.declared.refusal.Refusal.TheVariants.{NoMemory as NoMemoryFor}
 use Rattle.sm_table.specs.declared.step.Step.{Step}
-use Rattle.sm_table.specs.declared.step.Step.TheVariants.{Control, Look, Send, Deliver, Finish, Lose, Hold, Free, Checkpoint as CheckpointAt, Publish, RouteOf}
+use Rattle.sm_table.specs.declared.step.Step.TheVariants.{Control, Look, Send, Deliver, Finish, Lose, Hold, Free}
+use Rattle.sm_table.specs.declared.step.Step.TheVariants.{Checkpoint as CheckpointAt, Publish, RouteOf}
 use Rattle.sm_table.specs.declared.world_answer.WorldAnswer.{WorldAnswer}
-use Rattle.sm_table.specs.declared.world_answer.WorldAnswer.TheVariants.{Made, Seen, Sent, Began, Forwarded, Refused, Replied, Way}
+use Rattle.sm_table.specs.declared.world_answer.WorldAnswer.TheVariants.{Made, Seen, Sent, Began, Forwarded, Refused}
+use Rattle.sm_table.specs.declared.world_answer.WorldAnswer.TheVariants.{Replied, Way}
 use Rattle.sm_table.specs.declared.world_fault.WorldFault.{WorldFault}
-use Rattle.sm_table.specs.declared.world_fault.WorldFault.TheVariants.{Command as CommandRefused, Admit as AdmitRefused, UnknownShard, UnknownServer, Unreachable, NoEnvelope, NotHeld, OldRoute, WrongPhase, NoMemory}
+use Rattle.sm_table.specs.declared.world_fault.WorldFault.TheVariants.{Command as CommandRefused, Admit as AdmitRefused}
+use Rattle.sm_table.specs.declared.world_fault.WorldFault.TheVariants.{UnknownShard, UnknownServer, Unreachable}
+use Rattle.sm_table.specs.declared.world_fault.WorldFault.TheVariants.{NoEnvelope, NotHeld, OldRoute, WrongPhase}
+use Rattle.sm_table.specs.declared.world_fault.WorldFault.TheVariants.{NoMemory}
 use Rattle.sm_desk.specs.Desk.{DeskView, commanded, desk_fault, is_known, is_reached}
 use Rattle.sm_envelope.specs.Envelope.{EnvelopeView, sent_on}
-use Rattle.sm_ownership.specs.History.{all_of, kept, record_at, table_of}
+use Rattle.sm_ownership.specs.History.{all_of, checkpoint_ending, kept, record_at, table_of}
 use Rattle.sm_ownership.specs.Routes.{is_old, record_route, routes_of}
 use Rattle.sm_ownership.specs.Rules.{admit_fault, forward_to}
 use Rattle.sm_ownership.specs.Tables.{record_fault}
 
--- what stays as it is made: the bounds of the shards, the desk at the start, the greatest generation, and how many requests each shard keeps at most
+-- what stays as it is made: the bounds of the shards, the desk at the start, the greatest generation, and how many
+-- requests each shard keeps at most
 pub record Frame : Type 0 where
   pub bounds : List (List ℕ)
   pub start : DeskView
   pub ceiling : ℕ
   pub limits : List ℕ
 
--- a world: its desk, its history, what was published in order, the envelopes in flight, and by shard what the server that is admitted to it has in hand
+-- a world: its desk, its history, what was published in order, the envelopes in flight, and by shard what the server
+-- that is admitted to it has in hand
 pub record WorldState (Q : Type 0) : Type 0 where
   pub frame : Frame
   pub desk : DeskView
@@ -50,13 +61,15 @@ pub record WorldState (Q : Type 0) : Type 0 where
   pub in_flight : List (Flight Q)
   pub in_hand : List (Option (InHand Q))
 
--- how a step went: as it should, with its memory refused and nothing changed, or as a `Finish` whose service was refused memory
+-- how a step went: as it should, with its memory refused and nothing changed, or as a `Finish` whose service was
+-- refused memory
 pub data Mark : Type 0 where
   Plain : Mark
   Unmade : Mark
   Unserved : Mark
 
--- how a step may go: a `Send` and a `Checkpoint` alone may have their memory refused, and the service at a `Finish` alone
+-- how a step may go: a `Send` and a `Checkpoint` alone may have their memory refused, and the service at a `Finish`
+-- alone
 abbrev pub may_go : {Q : Type 0} → Step Q → Mark → Bool
 may_go step Plain = true
 may_go (Send to number request) Unmade = true
@@ -64,6 +77,7 @@ may_go (CheckpointAt shard server) Unmade = true
 may_go (Finish shard) Unserved = true
 may_go step mark = false
 
+-- the number of shards
 abbrev pub count_of : {Q : Type 0} → WorldState Q → ℕ
 count_of w = length w.frame.bounds
 
@@ -71,6 +85,7 @@ count_of w = length w.frame.bounds
 abbrev pub world_table : {Q : Type 0} → WorldState Q → List Record
 world_table w = table_of (count_of w) w.frame.ceiling w.history
 
+-- the record of a shard in a world
 abbrev pub world_record : {Q : Type 0} → WorldState Q → ℕ → Record
 world_record w shard = record_at (world_table w) shard
 
@@ -78,12 +93,16 @@ world_record w shard = record_at (world_table w) shard
 abbrev pub last_routes : {Q : Type 0} → WorldState Q → List (Option Route)
 last_routes w = map (routes_of w.publications) (range_with_len 0 (count_of w))
 
-abbrev pub Outcome : Type 0 → Type 0 → Type 0
-Outcome Q R = Result (WorldAnswer R) WorldFault × WorldState Q
+-- what a step answers, and the world that it leaves
+abbrev pub StepOutcome : Type 0 → Type 0 → Type 0
+StepOutcome Q R = Result (WorldAnswer R) WorldFault × WorldState Q
 
+-- a world with one more entry
 abbrev pub with_entry : {Q : Type 0} → WorldState Q → ℕ → ℕ → Kind Q → WorldState Q
-with_entry w actor shard kind = record w { history = w.history ++ record { actor = actor; shard = shard; kind = kind } ∷ [] }
+with_entry w actor shard kind =
+    record w { history = w.history ++ record { actor = actor; shard = shard; kind = kind } ∷ [] }
 
+-- a world with this in hand for a shard
 abbrev pub with_hand : {Q : Type 0} → WorldState Q → ℕ → Option (InHand Q) → WorldState Q
 with_hand w shard hand = record w { in_hand = slice_set w.in_hand shard hand }
 
@@ -93,7 +112,8 @@ is_there w server = is_known w.desk.books.servers server
 
 -- what the table refuses of a command that the desk lets through
 abbrev pub table_fault : {Q : Type 0} → WorldState Q → Command → Option CommandFault
-table_fault w (ChangeOf shard change) = option_map (λ fault. ChangeRefused fault) (record_fault w.frame.ceiling (world_record w shard))
+table_fault w (ChangeOf shard change) =
+    option_map (λ fault. ChangeRefused fault) (record_fault w.frame.ceiling (world_record w shard))
 table_fault w command = None
 
 -- a change is an entry of the history, by actor 0; a step of a restart is none
@@ -101,23 +121,41 @@ abbrev pub with_change : {Q : Type 0} → WorldState Q → Command → WorldStat
 with_change w (ChangeOf shard change) = with_entry w 0 shard (Changed change)
 with_change w command = w
 
-abbrev pub controlled : {Q R : Type 0} → WorldState Q → Command → Option CommandFault → Outcome Q R
+-- a command, which a fault of the desk forbids
+abbrev pub controlled : {Q R : Type 0} → WorldState Q → Command → Option CommandFault → StepOutcome Q R
 controlled w command (Some fault) = (Err (CommandRefused fault), w)
 controlled w command None = (Ok Made, record (with_change w command) { desk = commanded w.desk command })
 
 -- a command is carried out where neither the desk nor the table refuses it
-abbrev pub after_control : {Q R : Type 0} → WorldState Q → Command → Outcome Q R
+abbrev pub after_control : {Q R : Type 0} → WorldState Q → Command → StepOutcome Q R
 after_control w command = controlled w command (option_or (desk_fault w.desk command) (table_fault w command))
 
-abbrev pub after_look : {Q R : Type 0} → WorldState Q → ℕ → Outcome Q R
+-- a look at a shard's record
+abbrev pub after_look : {Q R : Type 0} → WorldState Q → ℕ → StepOutcome Q R
 after_look w shard = if nat_lt shard (count_of w) then (Ok (Seen (world_record w shard)), w) else (Err UnknownShard, w)
 
--- a direct envelope is put last in flight, for the shard whose range covers the request's key, where the server is reached
-abbrev pub after_send : {Q R : Type 0} → Service Q R → WorldState Q → ℕ → ℕ → Q → Outcome Q R
+-- a direct envelope is put last in flight, for the shard whose range covers the request's key, where the server is
+-- reached
+abbrev pub after_send : {Q R : Type 0} → Service Q R → WorldState Q → ℕ → ℕ → Q → StepOutcome Q R
 after_send service w to number request =
     if is_there w to
     then (if is_reached w.desk to
-    then (Ok Sent, record w { in_flight = w.in_flight ++ record { to = to; envelope = record { number = number; shard = shard_of w.frame.bounds (service.key_of request); mode = Direct; hops = 0; request = request; note = tt } } ∷ [] })
+    then (
+      Ok Sent,
+      record w {
+        in_flight = w.in_flight ++ record {
+          to = to;
+          envelope = record {
+            number = number;
+            shard = shard_of w.frame.bounds (service.key_of request);
+            mode = Direct;
+            hops = 0;
+            request = request;
+            note = tt;
+          };
+        } ∷ [];
+      },
+    )
     else (Err Unreachable, w))
     else (Err UnknownServer, w)
 
@@ -127,123 +165,140 @@ flight_to to envelope = record { to = to; envelope = envelope }
 
 -- the request of an envelope, as the server that begins it has it in hand
 abbrev pub hand_of : {Q : Type 0} → ℕ → EnvelopeView Q (Unit {0}) → InHand Q
-hand_of server envelope = record { server = server; work = Some (record { number = envelope.number; request = envelope.request }) }
+hand_of server envelope =
+    record { server = server; work = Some (record { number = envelope.number; request = envelope.request }) }
 
 -- the server is admitted for the envelope and has its request in hand, or refuses it
-abbrev pub reached : {Q R : Type 0} → WorldState Q → ℕ → EnvelopeView Q (Unit {0}) → Option AdmitFault → Outcome Q R
+abbrev pub reached : {Q R : Type 0} → WorldState Q → ℕ → EnvelopeView Q (Unit {0}) → Option AdmitFault → StepOutcome Q R
 reached w to envelope (Some fault) = (Ok (Refused (NotAdmitted fault)), w)
-reached w to envelope None = (Ok (Began to), with_hand (with_entry w to envelope.shard (Admit to envelope.mode)) envelope.shard (Some (hand_of to envelope)))
+reached w to envelope None = (
+  Ok (Began to),
+  with_hand (with_entry w to envelope.shard (Admit to envelope.mode)) envelope.shard (Some (hand_of to envelope)),
+)
 
 -- a hop puts the envelope last in flight; where none is left, or the server isn't reached, the request is refused
-abbrev pub after_hop : {Q R : Type 0} → DeskView → List (Flight Q) → Result (ℕ × EnvelopeView Q (Unit {0})) (EnvelopeView Q (Unit {0})) → WorldAnswer R × List (Flight Q)
+abbrev pub after_hop : {Q R : Type 0} → DeskView → List (Flight Q)
+    → Result (ℕ × EnvelopeView Q (Unit {0})) (EnvelopeView Q (Unit {0})) → WorldAnswer R × List (Flight Q)
 after_hop desk in_flight (Ok hop) =
-    if is_reached desk hop.0 then (Forwarded hop.0, in_flight ++ flight_to hop.0 hop.1 ∷ []) else (Refused NotReached, in_flight)
+    if is_reached desk hop.0 then (Forwarded hop.0, in_flight ++ flight_to hop.0 hop.1 ∷ [])
+    else (Refused NotReached, in_flight)
 after_hop desk in_flight (Err envelope) = (Refused TooManyHops, in_flight)
 
-abbrev pub hopped : {Q R : Type 0} → WorldState Q → WorldAnswer R × List (Flight Q) → Outcome Q R
+-- a forwarded envelope is on its way, or was refused
+abbrev pub hopped : {Q R : Type 0} → WorldState Q → WorldAnswer R × List (Flight Q) → StepOutcome Q R
 hopped w hop = (Ok hop.0, record w { in_flight = hop.1 })
 
 -- a server that forwards requests on the shard forwards the envelope; any other begins it or refuses it
-abbrev pub arrived : {Q R : Type 0} → WorldState Q → ℕ → EnvelopeView Q (Unit {0}) → Option ℕ → Outcome Q R
-arrived w at envelope None = reached w at envelope (admit_fault w.frame.ceiling (world_record w envelope.shard) at envelope.mode)
+abbrev pub arrived : {Q R : Type 0} → WorldState Q → ℕ → EnvelopeView Q (Unit {0}) → Option ℕ → StepOutcome Q R
+arrived w at envelope None =
+    reached w at envelope (admit_fault w.frame.ceiling (world_record w envelope.shard) at envelope.mode)
 arrived w at envelope (Some to) = hopped w (after_hop w.desk w.in_flight (sent_on envelope at (Some to)))
 
+-- a world without the envelope at this place
 abbrev pub without_flight : {Q : Type 0} → WorldState Q → ℕ → WorldState Q
 without_flight w place = record w { in_flight = remove w.in_flight place }
 
-abbrev pub delivered : {Q R : Type 0} → WorldState Q → ℕ → Option (Flight Q) → Outcome Q R
+-- the delivery of an envelope, if there is one
+abbrev pub delivered : {Q R : Type 0} → WorldState Q → ℕ → Option (Flight Q) → StepOutcome Q R
 delivered w place None = (Err NoEnvelope, w)
-delivered w place (Some flight) = arrived (without_flight w place) flight.to flight.envelope (forward_to (world_record w flight.envelope.shard) flight.to)
+delivered w place (Some flight) = arrived (without_flight w place) flight.to flight.envelope
+    (forward_to (world_record w flight.envelope.shard) flight.to)
 
 -- the envelope at this place of those in flight reaches its server
-abbrev pub after_deliver : {Q R : Type 0} → WorldState Q → ℕ → Outcome Q R
+abbrev pub after_deliver : {Q R : Type 0} → WorldState Q → ℕ → StepOutcome Q R
 after_deliver w place = delivered w place (slice_get w.in_flight place)
 
 -- the envelope at this place of those in flight is lost
-abbrev pub after_lose : {Q R : Type 0} → WorldState Q → ℕ → Outcome Q R
-after_lose w place = if nat_lt place (length w.in_flight) then (Ok Made, without_flight w place) else (Err NoEnvelope, w)
+abbrev pub after_lose : {Q R : Type 0} → WorldState Q → ℕ → StepOutcome Q R
+after_lose w place =
+    if nat_lt place (length w.in_flight) then (Ok Made, without_flight w place) else (Err NoEnvelope, w)
 
 -- the admission ends so
 abbrev pub ended : {Q : Type 0} → WorldState Q → ℕ → ℕ → Ending Q → WorldState Q
 ended w shard server ending = with_hand (with_entry w server shard (Done ending)) shard None
 
 -- a shard with room keeps the request and replies, unless memory for it is refused
-abbrev pub with_room : {Q R : Type 0} → Service Q R → WorldState Q → Mark → ℕ → ℕ → Work Q → Outcome Q R
+abbrev pub with_room : {Q R : Type 0} → Service Q R → WorldState Q → Mark → ℕ → ℕ → Work Q → StepOutcome Q R
 with_room service w Unserved shard server work = (Ok (Refused NoMemoryFor), ended w shard server Nothing)
 with_room service w mark shard server work = (
-  Ok (Replied work.number server (service.reply_of (all_of w.history shard) work.request) (length (all_of w.history shard))),
+  Ok (Replied work.number server (service.reply_of (all_of w.history shard) work.request)
+      (length (all_of w.history shard))),
   ended w shard server (Request work.request),
 )
 
-abbrev pub worked : {Q R : Type 0} → Service Q R → WorldState Q → Mark → ℕ → ℕ → Option (Work Q) → Outcome Q R
+-- an admission with work ends by its request, or refused where the shard keeps as many as it may
+abbrev pub worked : {Q R : Type 0} → Service Q R → WorldState Q → Mark → ℕ → ℕ → Option (Work Q) → StepOutcome Q R
 worked service w mark shard server None = (Err NotHeld, w)
 worked service w mark shard server (Some work) =
     if nat_lt (length (kept w.history shard)) (slice_index_or w.frame.limits shard 0)
     then with_room service w mark shard server work
     else (Ok (Refused KeptFull), ended w shard server Nothing)
 
-abbrev pub served : {Q R : Type 0} → Service Q R → WorldState Q → Mark → ℕ → Option (InHand Q) → Outcome Q R
+-- the end of the admission in hand, if there is one
+abbrev pub served : {Q R : Type 0} → Service Q R → WorldState Q → Mark → ℕ → Option (InHand Q) → StepOutcome Q R
 served service w mark shard None = (Err NotHeld, w)
 served service w mark shard (Some hand) = worked service w mark shard hand.server hand.work
 
 -- the server with the shard's request in hand executes it, and its admission ends
-abbrev pub after_finish : {Q R : Type 0} → Service Q R → WorldState Q → Mark → ℕ → Outcome Q R
+abbrev pub after_finish : {Q R : Type 0} → Service Q R → WorldState Q → Mark → ℕ → StepOutcome Q R
 after_finish service w mark shard = served service w mark shard (slice_index_or w.in_hand shard None)
 
-abbrev pub held : {Q R : Type 0} → WorldState Q → ℕ → ℕ → Option AdmitFault → Outcome Q R
-held w shard server (Some fault) = (Err (AdmitRefused fault), w)
-held w shard server None = (Ok Made, with_hand (with_entry w server shard (Admit server Direct)) shard (Some (record { server = server; work = None })))
+-- what an admission makes, or its fault and nothing
+abbrev pub made_unless : {Q R : Type 0} → Option AdmitFault → WorldState Q → WorldState Q → StepOutcome Q R
+made_unless (Some fault) w made = (Err (AdmitRefused fault), w)
+made_unless None w made = (Ok Made, made)
 
--- the server is admitted to the shard, without a request
-abbrev pub after_hold : {Q R : Type 0} → WorldState Q → ℕ → ℕ → Outcome Q R
-after_hold w shard server =
+-- an admission without a request makes this of the world, or is refused by its first fault
+abbrev pub after_admission : {Q R : Type 0} → WorldState Q → ℕ → ℕ → WorldState Q → StepOutcome Q R
+after_admission w shard server made =
     if nat_lt shard (count_of w)
-    then (if is_there w server then held w shard server (admit_fault w.frame.ceiling (world_record w shard) server Direct) else (Err UnknownServer, w))
+    then (if is_there w server
+    then made_unless (admit_fault w.frame.ceiling (world_record w shard) server Direct) w made
+    else (Err UnknownServer, w))
     else (Err UnknownShard, w)
 
-abbrev pub let_go : {Q R : Type 0} → WorldState Q → ℕ → ℕ → Option (Work Q) → Outcome Q R
+-- the server is admitted to the shard, without a request
+abbrev pub after_hold : {Q R : Type 0} → WorldState Q → ℕ → ℕ → StepOutcome Q R
+after_hold w shard server =
+    after_admission w shard server
+    (with_hand (with_entry w server shard (Admit server Direct)) shard (Some (record { server = server; work = None })))
+
+-- an admission without work ends with nothing
+abbrev pub let_go : {Q R : Type 0} → WorldState Q → ℕ → ℕ → Option (Work Q) → StepOutcome Q R
 let_go w shard server None = (Ok Made, ended w shard server Nothing)
 let_go w shard server (Some work) = (Err NotHeld, w)
 
-abbrev pub freed : {Q R : Type 0} → WorldState Q → ℕ → Option (InHand Q) → Outcome Q R
+-- the end of what holds a shard, if anything does
+abbrev pub freed : {Q R : Type 0} → WorldState Q → ℕ → Option (InHand Q) → StepOutcome Q R
 freed w shard None = (Err NotHeld, w)
 freed w shard (Some hand) = let_go w shard hand.server hand.work
 
 -- the admission without a request ends
-abbrev pub after_free : {Q R : Type 0} → WorldState Q → ℕ → Outcome Q R
-after_free w shard = if nat_lt shard (count_of w) then freed w shard (slice_index_or w.in_hand shard None) else (Err UnknownShard, w)
-
--- how the admission of a checkpoint ends: as one, or with nothing where the shard keeps no request
-abbrev pub checkpoint_ending : {Q : Type 0} → List Q → Ending Q
-checkpoint_ending [] = Nothing
-checkpoint_ending (request ∷ later) = Checkpoint
-
-abbrev pub based : {Q R : Type 0} → WorldState Q → ℕ → ℕ → Option AdmitFault → Outcome Q R
-based w shard server (Some fault) = (Err (AdmitRefused fault), w)
-based w shard server None = (
-  Ok Made,
-  with_entry (with_entry w server shard (Admit server Direct)) server shard (Done (checkpoint_ending (kept w.history shard))),
-)
+abbrev pub after_free : {Q R : Type 0} → WorldState Q → ℕ → StepOutcome Q R
+after_free w shard =
+    if nat_lt shard (count_of w) then freed w shard (slice_index_or w.in_hand shard None) else (Err UnknownShard, w)
 
 -- the server is admitted to the shard, makes the shard's state its base, and its admission ends
-abbrev pub after_checkpoint : {Q R : Type 0} → WorldState Q → ℕ → ℕ → Outcome Q R
+abbrev pub after_checkpoint : {Q R : Type 0} → WorldState Q → ℕ → ℕ → StepOutcome Q R
 after_checkpoint w shard server =
-    if nat_lt shard (count_of w)
-    then (if is_there w server then based w shard server (admit_fault w.frame.ceiling (world_record w shard) server Direct) else (Err UnknownServer, w))
-    else (Err UnknownShard, w)
+    after_admission w shard server
+    (with_entry (with_entry w server shard (Admit server Direct)) server shard
+    (Done (checkpoint_ending (kept w.history shard))))
 
-abbrev pub published : {Q R : Type 0} → WorldState Q → Option Route → Outcome Q R
+-- the publication of a shard's route, if it has one
+abbrev pub published : {Q R : Type 0} → WorldState Q → Option Route → StepOutcome Q R
 published w None = (Err WrongPhase, w)
 published w (Some route) =
     if is_old (routes_of w.publications route.shard) route then (Err OldRoute, w)
     else (Ok Made, record w { publications = w.publications ++ route ∷ [] })
 
 -- the shard's owner at its generation is published, where it has one and that is above the shard's last route
-abbrev pub after_publish : {Q R : Type 0} → WorldState Q → ℕ → Outcome Q R
-after_publish w shard = if nat_lt shard (count_of w) then published w (record_route shard (world_record w shard)) else (Err UnknownShard, w)
+abbrev pub after_publish : {Q R : Type 0} → WorldState Q → ℕ → StepOutcome Q R
+after_publish w shard =
+    if nat_lt shard (count_of w) then published w (record_route shard (world_record w shard)) else (Err UnknownShard, w)
 
 -- what a step that went so answers, and the world that it leaves
-abbrev pub outcome : {Q R : Type 0} → Service Q R → WorldState Q → Mark → Step Q → Outcome Q R
+abbrev pub outcome : {Q R : Type 0} → Service Q R → WorldState Q → Mark → Step Q → StepOutcome Q R
 outcome service w Unmade step = (Err NoMemory, w)
 outcome service w mark (Control command) = after_control w command
 outcome service w mark (Look shard) = after_look w shard
@@ -257,9 +312,11 @@ outcome service w mark (CheckpointAt shard server) = after_checkpoint w shard se
 outcome service w mark (Publish shard) = after_publish w shard
 outcome service w mark (RouteOf key) = (Ok (Way (routes_of w.publications (shard_of w.frame.bounds key))), w)
 
+-- what a step answers
 abbrev pub answer : {Q R : Type 0} → Service Q R → WorldState Q → Mark → Step Q → Result (WorldAnswer R) WorldFault
 answer service w mark step = (outcome service w mark step).0
 
+-- the world that a step leaves
 abbrev pub next : {Q R : Type 0} → Service Q R → WorldState Q → Mark → Step Q → WorldState Q
 next service w mark step = (outcome service w mark step).1
 
@@ -271,7 +328,14 @@ mark_of _ = Plain
 
 -- the world in which nothing has happened
 abbrev pub empty_world : {Q : Type 0} → Frame → WorldState Q
-empty_world frame = record { frame = frame; desk = frame.start; history = []; publications = []; in_flight = []; in_hand = replicate (length frame.bounds) None }
+empty_world frame = record {
+  frame = frame;
+  desk = frame.start;
+  history = [];
+  publications = [];
+  in_flight = [];
+  in_hand = replicate (length frame.bounds) None;
+}
 
 -- the world after these steps, from this one on
 abbrev pub world_after : {Q R : Type 0} → Service Q R → WorldState Q → List (Mark × Step Q) → WorldState Q

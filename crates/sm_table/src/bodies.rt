@@ -1,4 +1,5 @@
-ghost use Rattle.std.specs.Prelude.{◌≡◌, ◌<◌, ◌≤◌, ◌^◌, [], All, fold, length, map, replicate, slice_index_or, slice_set, IfOk, IfErr, OnOk, OnErr};
+ghost use Rattle.std.specs.Prelude.{◌≡◌, ◌<◌, ◌≤◌, ◌^◌, [], All, fold, length, map, replicate, slice_index_or};
+ghost use Rattle.std.specs.Prelude.{slice_set, IfOk, IfErr, OnOk, OnErr};
 ghost use Rattle.sm_ownership.specs.declared.entry.Ending.TheVariants.{Request, Checkpoint};
 ghost use Rattle.sm_table.specs.Bodies.{kept_in, no_past, past_after, past_at};
 

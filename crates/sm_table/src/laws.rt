@@ -39,11 +39,12 @@ pub fn history_grows<Q, R>()
 pub fn publications_grow<Q, R>()
     ensures { (service : Service Q R) (frame : Frame) (steps later : List (Mark × Step Q))
         → (more : List Route)
-        × ((world_of service frame (steps ++ later)).publications ≡ (world_of service frame steps).publications ++ more) }
+        × ((world_of service frame (steps ++ later)).publications ≡ (world_of service frame steps).publications
+        ++ more) }
 {}
 
-/// Whatever the steps, a reply has the place after all requests of its shard, and is what one run of these says there. It
-/// stays so whatever steps follow.
+/// Whatever the steps, a reply has the place after all requests of its shard, and is what one run of these says there.
+/// It stays so whatever steps follow.
 pub fn one_run<Q, R>()
     ensures { (service : Service Q R) (frame : Frame) (steps later : List (Mark × Step Q)) (mark : Mark) (step : Step Q)
         (number server : ℕ) (reply : R) (place : ℕ)
@@ -55,7 +56,8 @@ pub fn one_run<Q, R>()
         × (said service.reply_of after.history shard place ≡ Some reply) }
 {}
 
-/// Whatever the steps, the desk has the stands of the table. There is room for them, and the caps of approved restarts hold.
+/// Whatever the steps, the desk has the stands of the table. There is room for them, and the caps of approved restarts
+/// hold.
 pub fn caps_and_room_hold<Q, R>()
     ensures stands { (service : Service Q R) (frame : Frame) (steps : List (Mark × Step Q)) → IsFrame frame
         → let w = world_of service frame steps in

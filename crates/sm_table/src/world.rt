@@ -1,4 +1,5 @@
-ghost use Rattle.std.specs.Prelude.{◌≡◌, ◌<◌, ◌≤◌, ◌^◌, true, [], All, None, Ok, IfOk, OnOk, OnErr, length, map, replicate, slice_index_or, vec_capacity, vec_len};
+ghost use Rattle.std.specs.Prelude.{◌≡◌, ◌<◌, ◌≤◌, ◌^◌, true, [], All, None, Ok, IfOk, OnOk, OnErr, length, map};
+ghost use Rattle.std.specs.Prelude.{replicate, slice_index_or, vec_capacity, vec_len};
 ghost use Rattle.std.specs.Result.{result_err};
 ghost use Rattle.sm_body.specs.Service.{meaning_of};
 ghost use Rattle.sm_ranges.specs.Ranges.{shard_of};
@@ -11,7 +12,11 @@ ghost use Rattle.sm_table.specs.Bodies.{no_past};
 ghost use Rattle.sm_table.specs.Standing.{StandsFor, GoesAs, setup_frame, with_admission};
 ghost use Rattle.sm_table.specs.World.{Plain, after_hop, mark_of, may_go, empty_world};
 ghost use Rattle.sm_desk.specs.declared.command.Command.TheVariants.{Change as ChangeOf};
-ghost use Rattle.sm_table.specs.declared.step.Step.TheVariants.{Control as ControlOf, Look as LookAt, Send as SendOf, Deliver as DeliverAt, Finish as FinishAt, Lose as LoseAt, Hold as HoldAt, Free as FreeAt, Checkpoint as CheckpointAt, Publish as PublishAt, RouteOf as RouteOfKey};
+ghost use Rattle.sm_table.specs.declared.step.Step.TheVariants.{Control as ControlOf, Look as LookAt, Send as SendOf};
+ghost use Rattle.sm_table.specs.declared.step.Step.TheVariants.{Deliver as DeliverAt, Finish as FinishAt};
+ghost use Rattle.sm_table.specs.declared.step.Step.TheVariants.{Lose as LoseAt, Hold as HoldAt, Free as FreeAt};
+ghost use Rattle.sm_table.specs.declared.step.Step.TheVariants.{Checkpoint as CheckpointAt, Publish as PublishAt};
+ghost use Rattle.sm_table.specs.declared.step.Step.TheVariants.{RouteOf as RouteOfKey};
 
 use crate::bodies::Bodies;
 use crate::hands::{Hands, InHand, Work};
@@ -72,10 +77,12 @@ impl<S: Service> Model for World<S> {
     ghost Value = { WorldView S.Request };
 
     ghost view = { λ world.
-        view_of world.layout world.desk world.table world.bodies world.routes.items world.in_flight.items world.in_hand };
+        view_of world.layout world.desk world.table world.bodies world.routes.items world.in_flight.items
+        world.in_hand };
 
     ghost invariant = { λ world. IsTogether
-        (view_of world.layout world.desk world.table world.bodies world.routes.items world.in_flight.items world.in_hand) };
+        (view_of world.layout world.desk world.table world.bodies world.routes.items world.in_flight.items
+        world.in_hand) };
 }
 
 impl<S: Service> World<S> {
@@ -143,8 +150,8 @@ impl<S: Service> World<S> {
         self.routes[k.index()]
     }
 
-    /// Makes a step. Where the world stands for one of the definitions, it answers as that one does, and then stands for
-    /// the next. A step that a fault refuses changes nothing. Want of memory is told of a `Send` and of a
+    /// Makes a step. Where the world stands for one of the definitions, it answers as that one does, and then stands
+    /// for the next. A step that a fault refuses changes nothing. Want of memory is told of a `Send` and of a
     /// `Checkpoint`, by `NoMemory`, and of a `Finish`, which then refuses its request; of no other step.
     pub fn step(&mut self, step: Step<S::Request>) -> Result<WorldAnswer<S::Reply>, WorldFault>
         ensures stands { GoesAs (meaning_of S.initial S.next S.answer S.key_of) self.old result self.new step }
@@ -171,7 +178,8 @@ impl<S: Service> World<S> {
 
     // Carries out a command, unless it is refused.
     fn control(&mut self, command: Command) -> Result<WorldAnswer<S::Reply>, WorldFault>
-        ensures stands { GoesAs (meaning_of S.initial S.next S.answer S.key_of) self.old result self.new (ControlOf command) }
+        ensures stands { GoesAs (meaning_of S.initial S.next S.answer S.key_of) self.old result self.new
+            (ControlOf command) }
         ensures marks { may_go {Q = S.Request} (ControlOf command) (mark_of result) ≡ true }
         ensures bounds { self.new.bounds ≡ self.old.bounds }
     {
@@ -184,7 +192,8 @@ impl<S: Service> World<S> {
     // Makes a step of a server's restart, unless the desk refuses it.
     fn restart(&mut self, command: Command) -> Result<WorldAnswer<S::Reply>, WorldFault>
         requires { is_restart command ≡ true }
-        ensures stands { GoesAs (meaning_of S.initial S.next S.answer S.key_of) self.old result self.new (ControlOf command) }
+        ensures stands { GoesAs (meaning_of S.initial S.next S.answer S.key_of) self.old result self.new
+            (ControlOf command) }
         ensures marks { may_go {Q = S.Request} (ControlOf command) (mark_of result) ≡ true }
         ensures bounds { self.new.bounds ≡ self.old.bounds }
     {
@@ -195,7 +204,8 @@ impl<S: Service> World<S> {
 
     // Changes the stand of a shard, unless the desk or the table refuses it.
     fn change(&mut self, k: ShardId, change: &Change) -> Result<WorldAnswer<S::Reply>, WorldFault>
-        ensures stands { GoesAs (meaning_of S.initial S.next S.answer S.key_of) self.old result self.new (ControlOf (ChangeOf k change.now)) }
+        ensures stands { GoesAs (meaning_of S.initial S.next S.answer S.key_of) self.old result self.new
+            (ControlOf (ChangeOf k change.now)) }
         ensures marks { may_go {Q = S.Request} (ControlOf (ChangeOf k change.now)) (mark_of result) ≡ true }
         ensures bounds { self.new.bounds ≡ self.old.bounds }
     {
@@ -220,8 +230,8 @@ impl<S: Service> World<S> {
         }
     }
 
-    /// Puts a direct request for the server in flight, as `Step::Send` does, where `k` is the shard of the request's key. It
-    /// answers `Sent`, `UnknownServer`, `Unreachable` or `NoMemory`.
+    /// Puts a direct request for the server in flight, as `Step::Send` does, where `k` is the shard of the request's
+    /// key. It answers `Sent`, `UnknownServer`, `Unreachable` or `NoMemory`.
     pub fn send(
         &mut self,
         to: ServerId,
@@ -231,7 +241,8 @@ impl<S: Service> World<S> {
     ) -> Result<WorldAnswer<S::Reply>, WorldFault>
         requires within { k < length self.old.bounds }
         requires shard { k ≡ shard_of self.old.bounds (S.key_of request) }
-        ensures stands { GoesAs (meaning_of S.initial S.next S.answer S.key_of) self.old result self.new (SendOf to number request) }
+        ensures stands { GoesAs (meaning_of S.initial S.next S.answer S.key_of) self.old result self.new
+            (SendOf to number request) }
         ensures marks { may_go (SendOf to number request) (mark_of result) ≡ true }
         ensures bounds { self.new.bounds ≡ self.old.bounds }
     {
@@ -253,7 +264,8 @@ impl<S: Service> World<S> {
 
     // An envelope in flight reaches its server, which forwards it, begins it, or refuses it.
     fn deliver(&mut self, place: usize) -> Result<WorldAnswer<S::Reply>, WorldFault>
-        ensures stands { GoesAs (meaning_of S.initial S.next S.answer S.key_of) self.old result self.new (DeliverAt place) }
+        ensures stands { GoesAs (meaning_of S.initial S.next S.answer S.key_of) self.old result self.new
+            (DeliverAt place) }
         ensures marks { may_go {Q = S.Request} (DeliverAt place) (mark_of result) ≡ true }
         ensures bounds { self.new.bounds ≡ self.old.bounds }
     {
@@ -301,7 +313,8 @@ impl<S: Service> World<S> {
 
     // An envelope in flight is lost.
     fn lose(&mut self, place: usize) -> Result<WorldAnswer<S::Reply>, WorldFault>
-        ensures stands { GoesAs (meaning_of S.initial S.next S.answer S.key_of) self.old result self.new (LoseAt place) }
+        ensures stands { GoesAs (meaning_of S.initial S.next S.answer S.key_of) self.old result self.new
+            (LoseAt place) }
         ensures marks { may_go {Q = S.Request} (LoseAt place) (mark_of result) ≡ true }
         ensures bounds { self.new.bounds ≡ self.old.bounds }
     {
@@ -314,7 +327,8 @@ impl<S: Service> World<S> {
 
     // Admits the server to the shard without a request.
     fn hold(&mut self, k: ShardId, server: ServerId) -> Result<WorldAnswer<S::Reply>, WorldFault>
-        ensures stands { GoesAs (meaning_of S.initial S.next S.answer S.key_of) self.old result self.new (HoldAt k server) }
+        ensures stands { GoesAs (meaning_of S.initial S.next S.answer S.key_of) self.old result self.new
+            (HoldAt k server) }
         ensures marks { may_go {Q = S.Request} (HoldAt k server) (mark_of result) ≡ true }
         ensures bounds { self.new.bounds ≡ self.old.bounds }
     {
@@ -352,7 +366,8 @@ impl<S: Service> World<S> {
         k: ShardId,
         server: ServerId,
     ) -> Result<WorldAnswer<S::Reply>, WorldFault>
-        ensures stands { GoesAs (meaning_of S.initial S.next S.answer S.key_of) self.old result self.new (CheckpointAt k server) }
+        ensures stands { GoesAs (meaning_of S.initial S.next S.answer S.key_of) self.old result self.new
+            (CheckpointAt k server) }
         ensures marks { may_go {Q = S.Request} (CheckpointAt k server) (mark_of result) ≡ true }
         ensures bounds { self.new.bounds ≡ self.old.bounds }
     {
@@ -398,7 +413,8 @@ impl<S: Service> World<S> {
 
     // Reads the published route of the shard whose range covers the key.
     fn route_of(&self, key: &[u8]) -> Result<WorldAnswer<S::Reply>, WorldFault>
-        ensures stands { GoesAs (meaning_of S.initial S.next S.answer S.key_of) self.now result self.now (RouteOfKey key.now) }
+        ensures stands { GoesAs (meaning_of S.initial S.next S.answer S.key_of) self.now result self.now
+            (RouteOfKey key.now) }
         ensures marks { may_go {Q = S.Request} (RouteOfKey key.now) (mark_of result) ≡ true }
     {
         let k = self.layout.shard_of(key);
@@ -426,8 +442,8 @@ impl<S: Service> World<S> {
     }
 }
 
-// What a world of so many shards has beside its layout and its desk, where nothing has happened. Each exit of `World::new` would
-// drop these two.
+// What a world of so many shards has beside its layout and its desk, where nothing has happened. Each exit of
+// `World::new` would drop these two.
 fn empty_parts<S: Service>(
     alloc: Global,
     count: usize,
@@ -468,7 +484,10 @@ fn send_on<Q: Drop, R>(
     envelope: Envelope<Q, ()>,
 ) -> WorldAnswer<R>
     requires room { vec_len in_flight.old < vec_capacity in_flight.old }
-    ensures hop { (result, in_flight.new.items) ≡ after_hop desk.now in_flight.old.items (forwarded envelope state.now at) }
+    ensures hop { (
+      result,
+      in_flight.new.items,
+    ) ≡ after_hop desk.now in_flight.old.items (forwarded envelope state.now at) }
     ensures plain { mark_of (Ok result) ≡ Plain }
 {
     match envelope.forwarded(state, at) {

@@ -18,7 +18,8 @@ pub enum WorldAnswer<R> {
     Forwarded(ServerId),
     /// The request was refused, and is gone.
     Refused(Refusal),
-    /// The request of this number was executed by the server, and has this place among all requests of the shard, from 0.
+    /// The request of this number was executed by the server, and has this place among all requests of the shard, from
+    /// 0.
     Replied {
         number: u64,
         server: ServerId,

@@ -10,15 +10,14 @@ use Rattle.sm_place.specs.declared.server_state.ServerState.{ServerState}
 use Rattle.sm_place.specs.declared.server_state.ServerState.TheVariants.{Up, Asked, Approved, Stopped, Failed}
 use Rattle.sm_place.specs.declared.shard.Shard.{Shard}
 use Rattle.sm_place.specs.Books.{BooksView, IsKnown, domain_of, place_of, row_by_id, shard_at, state_of, with_state}
-use Rattle.sm_ranges.specs.Stand.{names, names_one}
-use Rattle.sm_place.specs.ServerState.{is_leaving}
+use Rattle.sm_ranges.specs.Stand.{names, names_one, is_paused}
+use Rattle.sm_place.specs.ServerState.{is_leaving, is_away, is_stopped}
 use Rattle.sm_place.specs.lemmas.Changed.{state_of-set}
 use Rattle.sm_place.specs.lemmas.Named.{names_one-found, names_one-named}
 use Rattle.sm_tasks.specs.Approvals.{approvable, leaving_count, names_down, stoppable, would_be_down}
 use Rattle.sm_tasks.specs.Caps.{MeetsCaps, names_away}
 use Rattle.sm_tasks.specs.Groups.{group_count, down_of, is_in_group}
 use Rattle.sm_tasks.specs.Domains.{domain_count, domain_down, is_server_of}
-use Rattle.sm_tasks.specs.States.{is_away, is_paused, is_stopped}
 use Rattle.sm_tasks.proofs.Restarts.{cond_within, false_within, count_by-within, count_by-within_but}
 use Rattle.sm_tasks.proofs.Restarts.{IsApprovable-approvable, IsStoppable-stoppable, is_away-approved}
 use Rattle.sm_tasks.proofs.Restarts.{is_leaving-away}

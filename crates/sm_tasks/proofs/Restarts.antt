@@ -5,22 +5,21 @@ use Rattle.std.proofs.Common.{◌&&◌, zero-add}
 use Rattle.std.specs.Prelude.{not, nat_lt, position, count_by}
 use Rattle.std.specs.List.{position_or_len, range_with_len}
 use Rattle.std.specs.Option.{option_map, option_or}
-use Rattle.std.proofs.lemmas.Bool.{eq-eqb, ltb-false}
+use Rattle.std.proofs.lemmas.Bool.{eq-eqb, ltb-false, or_left, or_right}
 use Rattle.std.proofs.lemmas.Bool.Decides.{nat_tests}
 use Rattle.std.proofs.lemmas.List.FromFn.{length-range_with_len, get_or-range_with_len}
 use Rattle.std.proofs.lemmas.List.Sums.{fails_before_first, sum_by-cons, sum_by-le-sum_by}
 use Rattle.sm_place.specs.declared.server_state.ServerState.{ServerState}
 use Rattle.sm_place.specs.declared.server_state.ServerState.TheVariants.{Up, Asked, Approved, Stopped, Failed}
 use Rattle.sm_place.specs.Books.{BooksView, domain_of, no_shard, shard_at, state_of}
-use Rattle.sm_ranges.specs.Stand.{names}
-use Rattle.sm_place.specs.ServerState.{is_leaving}
+use Rattle.sm_ranges.specs.Stand.{names, is_paused}
+use Rattle.sm_place.specs.ServerState.{is_approved, is_asked, is_away, is_failed, is_leaving, is_stopped}
 use Rattle.sm_tasks.specs.declared.task_fault.ApproveFault.{ApproveFault}
 use Rattle.sm_tasks.specs.declared.task_fault.ApproveFault.TheVariants.{NotAsked, GlobalCap, ShardCap, GroupCap, DomainCap}
 use Rattle.sm_tasks.specs.declared.task_fault.StoppedFault.{StoppedFault}
 use Rattle.sm_tasks.specs.declared.task_fault.StoppedFault.TheVariants.{NotApproved, StillServing}
 use Rattle.sm_tasks.specs.Approvals.{approvable, capped_shard, full_domain, full_group, is_full, leaving_count, ok_unless, serving_shard, stoppable}
 use Rattle.sm_tasks.specs.Domains.{domain_count, domain_down}
-use Rattle.sm_tasks.specs.States.{is_approved, is_asked, is_away, is_paused, is_stopped}
 
 no_place : (n len : ℕ) → cond (nat_lt n len) (Some n) None ≡ None → len ≤ n
 no_place n len h = grind (arith, nat_tests)
@@ -138,22 +137,10 @@ IsStoppable-stoppable books a e =
 
 -- servers away are leaving
 pub is_leaving-away : (state : ServerState) → is_away state ≡ true → is_leaving state ≡ true
-is_leaving-away Up e = absurd (cc)
-is_leaving-away Asked e = absurd (cc)
-is_leaving-away Approved e = refl
-is_leaving-away Stopped e = refl
-is_leaving-away Failed e = absurd (cc)
+is_leaving-away state away = or_left (is_away state) (is_failed state) away
 
 pub is_away-approved : (state : ServerState) → is_approved state ≡ true → is_away state ≡ true
-is_away-approved Up e = absurd (cc)
-is_away-approved Asked e = absurd (cc)
-is_away-approved Approved e = refl
-is_away-approved Stopped e = absurd (cc)
-is_away-approved Failed e = absurd (cc)
+is_away-approved state approved = or_left (is_approved state) (is_stopped state) approved
 
 pub is_away-stopped : (state : ServerState) → is_stopped state ≡ true → is_away state ≡ true
-is_away-stopped Up e = absurd (cc)
-is_away-stopped Asked e = absurd (cc)
-is_away-stopped Approved e = absurd (cc)
-is_away-stopped Stopped e = refl
-is_away-stopped Failed e = absurd (cc)
+is_away-stopped state stopped = or_right (is_approved state) (is_stopped state) stopped

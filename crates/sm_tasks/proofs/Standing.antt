@@ -16,13 +16,12 @@ use Rattle.sm_place.specs.declared.server_state.ServerState.TheVariants.{Up}
 use Rattle.sm_place.specs.declared.shard.Shard.{Shard}
 use Rattle.sm_rows.specs.declared.shard_row.ShardRow.{ShardRow}
 use Rattle.sm_place.specs.Books.{BooksView, moved, no_shard, new_books, shard_at, state_of, vacant_shard, with_stand}
-use Rattle.sm_ranges.specs.Stand.{AllNamed, names, other_of, owner_of}
-use Rattle.sm_place.specs.ServerState.{is_leaving}
+use Rattle.sm_ranges.specs.Stand.{AllNamed, names, other_of, owner_of, is_paused}
+use Rattle.sm_place.specs.ServerState.{is_leaving, is_away, is_stopped}
 use Rattle.sm_place.specs.lemmas.Changed.{length-with_stand, shard_at-other, shard_at-same}
 use Rattle.sm_place.specs.lemmas.Named.{AllNamed-at, names_one-found, names_one-named, names-owner}
 use Rattle.sm_tasks.specs.Caps.{MeetsCaps, TakesNoneLeaving, names_away, names_stopped}
 use Rattle.sm_tasks.specs.Groups.{group_count, is_in_group}
-use Rattle.sm_tasks.specs.States.{is_away, is_paused, is_stopped}
 use Rattle.sm_tasks.specs.Domains.{domain_count, domain_down}
 use Rattle.sm_tasks.proofs.Zipped.{domain_count-none}
 use Rattle.sm_tasks.proofs.Restarts.{cond_within, false_within, is_away-stopped, is_leaving-away}

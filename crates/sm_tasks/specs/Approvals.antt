@@ -5,16 +5,16 @@ use Rattle.std.specs.List.{range_with_len}
 use Rattle.std.specs.Option.{option_map, option_or}
 use Rattle.sm_ranges.specs.declared.stand.Stand.{Stand}
 use Rattle.sm_place.specs.Books.{BooksView, domain_of, state_of}
-use Rattle.sm_ranges.specs.Stand.{names, names_one}
-use Rattle.sm_place.specs.ServerState.{is_leaving}
+use Rattle.sm_ranges.specs.Stand.{names, names_one, is_paused}
+use Rattle.sm_place.specs.ServerState.{is_leaving, is_up, is_asked, is_approved, is_failed}
 use Rattle.sm_tasks.specs.declared.task_fault.AlreadyFailed.{AlreadyFailed}
 use Rattle.sm_tasks.specs.declared.task_fault.AlreadyUp.{AlreadyUp}
 use Rattle.sm_tasks.specs.declared.task_fault.NotUp.{NotUp}
 use Rattle.sm_tasks.specs.declared.task_fault.ApproveFault.{ApproveFault}
-use Rattle.sm_tasks.specs.declared.task_fault.ApproveFault.TheVariants.{NotAsked, GlobalCap, ShardCap, GroupCap, DomainCap}
+use Rattle.sm_tasks.specs.declared.task_fault.ApproveFault.TheVariants.{NotAsked, GlobalCap, ShardCap, GroupCap}
+use Rattle.sm_tasks.specs.declared.task_fault.ApproveFault.TheVariants.{DomainCap}
 use Rattle.sm_tasks.specs.declared.task_fault.StoppedFault.{StoppedFault}
 use Rattle.sm_tasks.specs.declared.task_fault.StoppedFault.TheVariants.{NotApproved, StillServing}
-use Rattle.sm_tasks.specs.States.{is_up, is_asked, is_approved, is_failed, is_paused}
 use Rattle.sm_tasks.specs.Groups.{group_count, down_of}
 use Rattle.sm_tasks.specs.Domains.{domain_count, domain_down}
 

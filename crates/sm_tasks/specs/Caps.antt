@@ -2,9 +2,8 @@
 use Rattle.std.specs.Prelude.{◌≡◌, ℕ, ◌<◌, ◌≤◌, ◌⊎◌, Bool, true, false, length, count_by}
 use Rattle.sm_ranges.specs.declared.stand.Stand.{Stand}
 use Rattle.sm_place.specs.Books.{BooksView, shard_at, state_of}
-use Rattle.sm_ranges.specs.Stand.{AllNamed, names, names_one}
-use Rattle.sm_place.specs.ServerState.{is_leaving}
-use Rattle.sm_tasks.specs.States.{is_away, is_paused, is_stopped}
+use Rattle.sm_ranges.specs.Stand.{AllNamed, names, names_one, is_paused}
+use Rattle.sm_place.specs.ServerState.{is_leaving, is_away, is_stopped}
 use Rattle.sm_tasks.specs.Groups.{group_count, down_of}
 use Rattle.sm_tasks.specs.Domains.{domain_count, domain_down}
 
@@ -17,8 +16,8 @@ abbrev pub names_stopped : BooksView → Stand → Bool
 names_stopped books stand = names_one (λ b. is_stopped (state_of books b)) stand
 
 -- what approved restarts keep to: at most `ops` servers are away, no shard of cap 0 names one of them, of each group at
--- most `down` shards name one, each shard that names a stopped server is paused, and of each domain at most `down` servers
--- are away
+-- most `down` shards name one, each shard that names a stopped server is paused, and of each domain at most `down`
+-- servers are away
 pub record MeetsCaps (ops : ℕ) (books : BooksView) : Type 0 where
   pub servers : count_by is_away books.states ≤ ops
   pub shards : (k : ℕ) → k < length books.shards

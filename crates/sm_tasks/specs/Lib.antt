@@ -2,4 +2,3 @@ pub mod Approvals
 pub mod Caps
 pub mod Domains
 pub mod Groups
-pub mod States

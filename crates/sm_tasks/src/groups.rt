@@ -27,7 +27,8 @@ pub(crate) fn full_group(books: &Books, a: ServerId) -> Option<u16>
 
 // For each group, how many of its shards name the server.
 fn named_by_group(books: &Books, a: ServerId) -> [u16; MAX_GROUPS]
-    ensures { (g : ℕ) → g < MAX_GROUPS → slice_index result g ≡ group_count (λ stand. names stand a) books.now.shards g }
+    ensures { (g : ℕ) → g < MAX_GROUPS
+        → slice_index result g ≡ group_count (λ stand. names stand a) books.now.shards g }
 {
     books.soundness();
     let mut counts = [0; MAX_GROUPS];
@@ -41,7 +42,8 @@ fn named_by_group(books: &Books, a: ServerId) -> [u16; MAX_GROUPS]
 
 // For each group, how many of its shards name the server or one that is leaving.
 fn down_by_group(books: &Books, a: ServerId) -> [u16; MAX_GROUPS]
-    ensures { (g : ℕ) → g < MAX_GROUPS → slice_index result g ≡ group_count (names_down books.now a) books.now.shards g }
+    ensures { (g : ℕ) → g < MAX_GROUPS
+        → slice_index result g ≡ group_count (names_down books.now a) books.now.shards g }
 {
     books.soundness();
     let mut counts = [0; MAX_GROUPS];

@@ -9,18 +9,18 @@ ghost use Rattle.sm_rows.specs.declared.server_row.ServerRow.{ServerRow};
 ghost use Rattle.sm_place.specs.declared.server_state.ServerState.TheVariants.{Approved, Asked, Failed, Stopped, Up};
 ghost use Rattle.sm_rows.specs.declared.shard_row.ShardRow.{ShardRow};
 ghost use Rattle.sm_place.specs.Books.{BooksView, IsKnown, new_books, shard_at, state_of, with_stand, with_state};
-ghost use Rattle.sm_ranges.specs.Stand.{AllNamed, names};
+ghost use Rattle.sm_ranges.specs.Stand.{AllNamed, names, is_paused};
 ghost use Rattle.sm_place.specs.ServerState.{is_leaving};
 ghost use Rattle.sm_tasks.specs.Approvals.{approvable, stoppable};
 ghost use Rattle.sm_tasks.specs.Caps.{MeetsCaps, TakesNoneLeaving};
-ghost use Rattle.sm_tasks.specs.States.{is_paused};
 
 /// Books whose servers are all up and whose shards are all vacant meet the caps, and so do new books.
 pub fn all_up_meets_caps()
     ensures all_up { (ops : ℕ) (books : BooksView)
         → All (λ state. state ≡ Up) books.states → All (λ shard. shard.stand ≡ Vacant) books.shards
         → MeetsCaps ops books }
-    ensures new { (ops : ℕ) (servers : List ServerRow) (groups : List GroupRow) (shards : List ShardRow) (domains : List DomainRow)
+    ensures new { (ops : ℕ) (servers : List ServerRow) (groups : List GroupRow) (shards : List ShardRow)
+        (domains : List DomainRow)
         → MeetsCaps ops (new_books servers groups shards domains) }
 {}
 
@@ -43,9 +43,9 @@ pub fn steps_keep_caps()
         → MeetsCaps ops books → MeetsCaps ops (with_state books a Failed) }
 {}
 
-/// A new stand of a shard keeps the caps where it takes on no server that is leaving: so where a server that isn't leaving
-/// comes to serve the shard, or is prepared beside the owner, and where a shard that is not paused names no further
-/// server. A shard that is paused and keeps naming a server that is leaving has to stay paused.
+/// A new stand of a shard keeps the caps where it takes on no server that is leaving: so where a server that isn't
+/// leaving comes to serve the shard, or is prepared beside the owner, and where a shard that is not paused names no
+/// further server. A shard that is paused and keeps naming a server that is leaving has to stay paused.
 pub fn stands_keep_caps()
     ensures taken { (ops : ℕ) (books : BooksView) (k : ℕ) (stand : Stand) → k < length books.shards
         → TakesNoneLeaving books (shard_at books.shards k).stand stand

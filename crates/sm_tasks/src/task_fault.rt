@@ -18,8 +18,8 @@ pub enum ApproveFault {
     /// The lowest shard of cap 0 that names the server.
     #[error("shard {0} may not be down")]
     ShardCap(ShardId),
-    /// The lowest group, by its place from 0, of which a shard names the server, where more of its shards than its `down` name
-    /// the server or one that is leaving.
+    /// The lowest group, by its place from 0, of which a shard names the server, where more of its shards than its
+    /// `down` name the server or one that is leaving.
     #[error("too many shards of group {0} would be down")]
     GroupCap(u16),
     /// The domain of the server, of which with this server more than its `down` would be Approved, Stopped or Failed.

@@ -13,8 +13,8 @@ use sm_ranges::ServerId;
 use std::marker::Model;
 
 /// The steps of planned restarts, and what an approval keeps to.
-/// A step that is refused changes nothing, and none can be refused for want of memory. Each has a check, which says whether it
-/// would be made.
+/// A step that is refused changes nothing, and none can be refused for want of memory. Each has a check, which says
+/// whether it would be made.
 #[derive(Clone, Copy, Drop)]
 pub struct Tasks {
     ops: u16,

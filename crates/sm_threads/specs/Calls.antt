@@ -1,5 +1,6 @@
 -- What a cluster answers to each call of a script, and the session that it leaves.
-use Rattle.std.specs.Prelude.{ℕ, Bool, true, false, ◌+◌, ◌*◌, ◌≡◌, ◌<◌, ◌≤◌, ◌⊎◌, Option, Some, None, Result, Ok, Err, OnOk, OnErr, IfErr, List, [], length, if◌then◌else◌}
+use Rattle.std.specs.Prelude.{ℕ, Bool, true, false, ◌+◌, ◌*◌, ◌≡◌, ◌<◌, ◌≤◌, ◌⊎◌, Option, Some, None, Result, Ok, Err}
+use Rattle.std.specs.Prelude.{OnOk, OnErr, IfErr, List, [], length, if◌then◌else◌}
 use Rattle.std.specs.Option.{option_map}
 use Rattle.sm_cluster.specs.Basing.{IsBasedBy}
 use Rattle.sm_cluster.specs.Publications.{Published}
@@ -9,7 +10,8 @@ use Rattle.sm_cluster.specs.declared.publish_refusal.PublishRefusal.{PublishRefu
 use Rattle.sm_control.specs.Routes.{route_fault}
 use Rattle.sm_rule.specs.declared.permit.Front.{Front}
 use Rattle.sm_cluster.specs.Calls.{ClientValue, FaultAt, FaultByRoute, Gives, client_reading, client_seeing}
-use Rattle.sm_cluster.specs.Clusters.{ClusterValue, FreeRefused, HasFreed, HasHeld, HoldRefused, TellsMore, cluster_commanded}
+use Rattle.sm_cluster.specs.Clusters.{ClusterValue, FreeRefused, HasFreed, HasHeld, HoldRefused, TellsMore}
+use Rattle.sm_cluster.specs.Clusters.{cluster_commanded}
 use Rattle.sm_cluster.specs.declared.call_refused.CallFault.{CallFault}
 use Rattle.sm_cluster.specs.declared.hold_fault.FreeFault.{FreeFault}
 use Rattle.sm_cluster.specs.declared.hold_fault.HoldFault.{HoldFault}
@@ -30,7 +32,8 @@ use Rattle.sm_rule.specs.Passes.{PassLooks, PassValue, record_of}
 use Rattle.sm_rule.specs.Views.{Begins, IsMet}
 use Rattle.sm_script.specs.Lines.{call_of_line}
 use Rattle.sm_script.specs.declared.line_answer.LineAnswer.{LineAnswer}
-use Rattle.sm_script.specs.declared.line_answer.LineAnswer.TheVariants.{Made, Refused as IsRefused, Seen, Executed, Planned, Way, Loaded, Error}
+use Rattle.sm_script.specs.declared.line_answer.LineAnswer.TheVariants.{Made, Refused as IsRefused, Seen, Executed}
+use Rattle.sm_script.specs.declared.line_answer.LineAnswer.TheVariants.{Planned, Way, Loaded, Error}
 use Rattle.sm_script.specs.declared.call.Call.{Call}
 use Rattle.sm_script.specs.declared.call.Call.TheVariants as call
 use Rattle.sm_script.specs.declared.fault.LineFault.{LineFault}
@@ -43,16 +46,19 @@ use Rattle.sm_service.specs.declared.reply.Reply.{Reply}
 use Rattle.sm_service.specs.declared.request.Request.{Request}
 use Rattle.sm_threads.specs.Loads.{IsLoadOf, IsVerdictOn}
 use Rattle.sm_cluster.specs.declared.loading.LoadReport.{LoadReport}
-use Rattle.sm_threads.specs.Refusals.{call_refused, checkpoint_refused, command_refused, free_refused, hold_refused, publish_refused}
+use Rattle.sm_threads.specs.Refusals.{call_refused, checkpoint_refused, command_refused, free_refused, hold_refused}
+use Rattle.sm_threads.specs.Refusals.{publish_refused}
 use Rattle.sm_threads.specs.Sessions.{SessionValue}
 
 -- the session with this cluster, with this client, and with these clients for loads
 abbrev pub with_cluster : SessionValue → ClusterValue Request → SessionValue
 with_cluster session cluster = record session { cluster = cluster }
 
+-- a session whose client is now this
 abbrev pub with_client : SessionValue → ClientValue Request → SessionValue
 with_client session client = record session { client = client }
 
+-- a session whose other clients are now these
 abbrev pub with_loaders : SessionValue → List (ClientValue Request) → SessionValue
 with_loaders session loaders = record session { loaders = loaders }
 
@@ -68,8 +74,10 @@ may_answer refusal (Err fault) = option_map IsRefused (refusal fault)
 
 -- ---- requests
 
--- the request was executed as the cluster promises of its calls: by an answer for this client, which then has met the answer's history
-pub record WasExecuted (client : ClientValue Request) (request : Request) (reply : Reply) (server place : ℕ) (after : ClientValue Request) : Type 0 where
+-- the request was executed as the cluster promises of its calls: by an answer for this client, which then has met the
+-- answer's history
+pub record WasExecuted (client : ClientValue Request) (request : Request) (reply : Reply) (server place : ℕ)
+    (after : ClientValue Request) : Type 0 where
   pub answer : AnswerValue Request Reply
   pub given : Gives counter_text client 0 request answer
   pub reply_is : reply ≡ answer.reply
@@ -79,10 +87,13 @@ pub record WasExecuted (client : ClientValue Request) (request : Request) (reply
   pub met : IsMet answer.note.number answer.note.seen after.pass.seen
   pub others : after ≡ client_seeing client after.pass
 
--- what a request of this client is answered: it was executed, or refused for a fault that its call may have, which leaves the client
-abbrev pub WasAnswered : (ClientValue Request → CallFault → Type 0) → ClientValue Request → Request → LineAnswer → ClientValue Request → Type 0
+-- what a request of this client is answered: it was executed, or refused for a fault that its call may have, which
+-- leaves the client
+abbrev pub WasAnswered : (ClientValue Request → CallFault → Type 0) → ClientValue Request → Request → LineAnswer
+    → ClientValue Request → Type 0
 WasAnswered may client request (Executed reply server place) after = WasExecuted client request reply server place after
-WasAnswered may client request (IsRefused why) after = (fault : CallFault) × may after fault × (call_refused fault ≡ Some why)
+WasAnswered may client request (IsRefused why) after =
+    (fault : CallFault) × may after fault × (call_refused fault ≡ Some why)
 WasAnswered may client request answer after = ⊥
 
 -- the shard of a request's key
@@ -92,17 +103,20 @@ shard_for client request = shard_of client.bounds (key_of_request request)
 -- a request goes to a server that exists, or is refused
 abbrev pub AnsweredWhere : Bool → SessionValue → Request → LineAnswer → SessionValue → Type 0
 AnsweredWhere true before request answer after =
-    WasAnswered (λ client. FaultAt counter_text before.client client 0 request) before.client request answer after.client
+    WasAnswered
+    (λ client. FaultAt counter_text before.client client 0 request) before.client request answer after.client
     × (after ≡ with_client before after.client)
 AnsweredWhere false before request answer after = (answer ≡ IsRefused refused.UnknownServer) × (after ≡ before)
 
 -- a request goes to this server
 abbrev pub AnsweredAt : SessionValue → ℕ → Request → LineAnswer → SessionValue → Type 0
-AnsweredAt before server request answer after = AnsweredWhere (is_known before.cluster.control.desk.books.servers server) before request answer after
+AnsweredAt before server request answer after =
+    AnsweredWhere (is_known before.cluster.control.desk.books.servers server) before request answer after
 
 -- a request goes to the shard's owner, and is refused where there is none
 abbrev pub AnsweredByOwner : SessionValue → Option ℕ → Request → LineAnswer → SessionValue → Type 0
-AnsweredByOwner before None request answer after = (answer ≡ IsRefused (refused.Request (Admit Vacant))) × (after ≡ before)
+AnsweredByOwner before None request answer after =
+    (answer ≡ IsRefused (refused.Request (Admit Vacant))) × (after ≡ before)
 AnsweredByOwner before (Some owner) request answer after = AnsweredAt before owner request answer after
 
 -- the session whose client has seen this
@@ -114,23 +128,29 @@ looking session pass = with_client session (client_seeing session.client pass)
 -- a record is that of all that the client then has seen
 abbrev pub Looked : SessionValue → ℕ → LineAnswer → SessionValue → Type 0
 Looked before shard (Seen state) after =
-    (shard < length before.cluster.bounds) × PassLooks before.client.pass after.client.pass × (state ≡ record_of after.client.pass shard) × (after ≡ looking before after.client.pass)
-Looked before shard answer after = (length before.cluster.bounds ≤ shard) × (answer ≡ IsRefused refused.UnknownShard) × (after ≡ before)
+    (shard < length before.cluster.bounds) × PassLooks before.client.pass after.client.pass
+    × (state ≡ record_of after.client.pass shard) × (after ≡ looking before after.client.pass)
+Looked before shard answer after =
+    (length before.cluster.bounds ≤ shard) × (answer ≡ IsRefused refused.UnknownShard) × (after ≡ before)
 
--- a route is the last one of the key's shard in all publications that the client's router then has seen, or the read was refused
+-- a route is the last one of the key's shard in all publications that the client's router then has seen, or the read
+-- was refused
 abbrev pub RoutedKey : SessionValue → List ℕ → LineAnswer → SessionValue → Type 0
 RoutedKey before key (Way route) after =
     Extends after.client.router.seen before.client.router.seen
-    × ((route ≡ routes_of after.client.router.seen (shard_of before.client.bounds key)) ⊎ ((route ≡ None) × (after.client.router.seen ≡ before.client.router.seen)))
+    × ((route ≡ routes_of after.client.router.seen (shard_of before.client.bounds key))
+    ⊎ ((route ≡ None) × (after.client.router.seen ≡ before.client.router.seen)))
     × (after ≡ with_client before (client_reading before.client after.client.router))
 RoutedKey before key answer after = ⊥
 
 -- a plan for the server's shards, where the server exists
 abbrev pub drain_answer : ClusterValue Request → ℕ → LineAnswer
 drain_answer cluster server =
-    if is_known cluster.control.desk.books.servers server then Planned (drain_plan cluster.control.desk.books server) else IsRefused refused.UnknownServer
+    if is_known cluster.control.desk.books.servers server then Planned (drain_plan cluster.control.desk.books server)
+    else IsRefused refused.UnknownServer
 
--- a call leaves the session with this cluster, and its client has then seen all that the cluster tells, and all that its control has
+-- a call leaves the session with this cluster, and its client has then seen all that the cluster tells, and all that
+-- its control has
 abbrev pub TellsClient : SessionValue → SessionValue → Type 0
 TellsClient before after =
     PassLooks before.client.pass after.client.pass × Begins after.cluster.told after.client.pass.seen
@@ -141,7 +161,8 @@ TellsClient before after =
 abbrev pub WasCommanded : SessionValue → Command → LineAnswer → SessionValue → Type 0
 WasCommanded before command answer after =
     (made : Result (Unit {0}) ControlFault)
-    × Commanded (desk_fault before.cluster.control.desk command) before.cluster.control after.cluster.control command made
+    × Commanded
+    (desk_fault before.cluster.control.desk command) before.cluster.control after.cluster.control command made
     × TellsMore (cluster_commanded before.cluster after.cluster.control) after.cluster
     × (answer ≡ answer_to command_refused made) × TellsClient before after
 
@@ -153,6 +174,7 @@ WasHeld before shard server answer after =
     × IfErr made (λ fault. HoldRefused before.cluster shard server fault after.cluster)
     × (answer ≡ answer_to hold_refused made) × TellsClient before after
 
+-- how the end of a hold may be answered
 abbrev pub WasFreed : SessionValue → ℕ → LineAnswer → SessionValue → Type 0
 WasFreed before shard answer after =
     (made : Result (Unit {0}) FreeFault)
@@ -183,20 +205,24 @@ WasPublished before shard answer after =
 abbrev pub WasRequested : SessionValue → Request → LineAnswer → SessionValue → Type 0
 WasRequested before request answer after =
     (seen : PassValue Request) × PassLooks before.client.pass seen
-    × AnsweredByOwner (looking before seen) (owner_of (record_of seen (shard_for before.client request)).stand) request answer after
+    × AnsweredByOwner (looking before seen)
+    (owner_of (record_of seen (shard_for before.client request)).stand) request answer after
 
 -- a request goes by the published route
 abbrev pub WasRouted : SessionValue → Request → LineAnswer → SessionValue → Type 0
 WasRouted before request answer after =
     Extends after.client.router.seen before.client.router.seen
-    × WasAnswered (λ client. FaultByRoute counter_text before.client client 0 request) (client_reading before.client after.client.router) request answer after.client
+    × WasAnswered (λ client. FaultByRoute counter_text before.client client 0 request)
+    (client_reading before.client after.client.router) request answer after.client
     × (after ≡ with_client before after.client)
 
--- so many of the session's clients made so many additions each, of which each was acknowledged or refused, and the answer says whether
--- the counts that another one was told differ by those that were acknowledged. Nothing else in the session has changed
+-- so many of the session's clients made so many additions each, of which each was acknowledged or refused, and the
+-- answer says whether the counts that another one was told differ by those that were acknowledged. Nothing else in the
+-- session has changed
 abbrev pub WasLoaded : SessionValue → List ℕ → ℕ → ℕ → LineAnswer → SessionValue → Type 0
 WasLoaded before key clients each (Loaded verdict) after =
-    (report : LoadReport) × (report.acked + report.refused ≡ clients * each) × IsLoadOf key clients each before.loaders report after.loaders
+    (report : LoadReport) × (report.acked + report.refused ≡ clients * each)
+    × IsLoadOf key clients each before.loaders report after.loaders
     × IsVerdictOn report verdict × (after ≡ with_loaders before after.loaders)
 WasLoaded before key clients each answer after = ⊥
 
@@ -210,7 +236,8 @@ Answers before (call.Publish shard) answer after = WasPublished before shard ans
 Answers before (call.Route key) answer after = RoutedKey before key answer after
 Answers before (call.Look shard) answer after = Looked before shard answer after
 Answers before (call.Load key clients each) answer after = WasLoaded before key clients each answer after
-Answers before call.Place answer after = (answer ≡ Planned (assign_plan before.cluster.control.desk.books)) × (after ≡ before)
+Answers before call.Place answer after =
+    (answer ≡ Planned (assign_plan before.cluster.control.desk.books)) × (after ≡ before)
 Answers before (call.Drain server) answer after = (answer ≡ drain_answer before.cluster server) × (after ≡ before)
 Answers before (call.Request request) answer after = WasRequested before request answer after
 Answers before (call.RequestAt server request) answer after = AnsweredAt before server request answer after
@@ -222,7 +249,9 @@ Answers before (call.RequestByRoute request) answer after = WasRouted before req
 abbrev pub WasRead : SessionValue → Result (Option Call) LineFault → List ℕ → SessionValue → Type 0
 WasRead before (Err fault) text after = (text ≡ answer_line (Error fault)) × (after ≡ before)
 WasRead before (Ok None) text after = (text ≡ []) × (after ≡ before)
-WasRead before (Ok (Some asked)) text after = (answer : LineAnswer) × (text ≡ answer_line answer) × Answers before asked answer after
+WasRead before (Ok (Some asked)) text after =
+    (answer : LineAnswer) × (text ≡ answer_line answer) × Answers before asked answer after
 
+-- what a line may be answered, and what it leaves
 abbrev pub Responds : SessionValue → List ℕ → List ℕ → SessionValue → Type 0
 Responds before line text after = WasRead before (call_of_line line) text after

@@ -16,15 +16,20 @@ abbrev pub count_replied : Reply → Option ℤ
 count_replied (Count count) = Some count
 count_replied reply = None
 
--- the first of these clients was told the key's count twice, and so many others added one to it, so many times each; the rest made no call
-pub record IsLoadOf (key : List ℕ) (clients each : ℕ) (before : List (ClientValue Request)) (report : LoadReport) (after : List (ClientValue Request)) : Type 0 where
-  pub loaded : HaveLoaded counter_text count_replied (Get key) (Inc key (pos 1)) each (take (clients + 1) before) report (take (clients + 1) after)
+-- the first of these clients was told the key's count twice, and so many others added one to it, so many times each;
+-- the rest made no call
+pub record IsLoadOf (key : List ℕ) (clients each : ℕ) (before : List (ClientValue Request)) (report : LoadReport)
+    (after : List (ClientValue Request)) : Type 0 where
+  pub loaded : HaveLoaded counter_text count_replied (Get key) (Inc key (pos 1)) each (take (clients + 1) before) report
+      (take (clients + 1) after)
   pub rest : drop (clients + 1) after ≡ drop (clients + 1) before
   pub since : AreClientsSince before after
 
 -- what the report's counts say: the count grew by what was acknowledged; it wasn't told; or it was, and grew otherwise
 abbrev pub IsVerdictOn : LoadReport → LoadVerdict → Type 0
-IsVerdictOn report Agrees = (before : ℤ) × (report.before ≡ Some before) × (report.after ≡ Some (before +ℤ pos report.acked))
+IsVerdictOn report Agrees =
+    (before : ℤ) × (report.before ≡ Some before) × (report.after ≡ Some (before +ℤ pos report.acked))
 IsVerdictOn report Unknown = (report.before ≡ None) ⊎ (report.after ≡ None)
 IsVerdictOn report Differs =
-    (before : ℤ) × (after : ℤ) × (report.before ≡ Some before) × (report.after ≡ Some after) × (after ≢ before +ℤ pos report.acked)
+    (before : ℤ) × (after : ℤ) × (report.before ≡ Some before) × (report.after ≡ Some after)
+    × (after ≢ before +ℤ pos report.acked)

@@ -50,6 +50,7 @@ hold_refused hold.UnknownShard = refused.UnknownShard
 hold_refused hold.UnknownServer = refused.UnknownServer
 hold_refused (hold.Admit refusal) = admit_refused refusal
 
+-- why a hold isn't ended, as an answer says it
 abbrev pub free_refused : FreeFault → Refused
 free_refused free.UnknownShard = refused.UnknownShard
 free_refused free.NotHeld = refused.NotHeld

@@ -21,15 +21,17 @@ pub record SessionValue : Type 0 where
 -- the client is the cluster's, whose board has a shard for each range, and has seen all that the cluster tells
 abbrev pub IsWhole : SessionValue → Type 0
 IsWhole session =
-    IsClientOf session.cluster session.client × (session.cluster.control.chair.board.limits.count ≡ length session.cluster.bounds)
+    IsClientOf session.cluster session.client
+    × (session.cluster.control.chair.board.limits.count ≡ length session.cluster.bounds)
     × Begins session.cluster.told session.client.pass.seen
 
 -- a client of the cluster that has read no route: of its board, with its bounds, and with a router of its map
 abbrev pub IsNewClientOf : ClusterValue Request → ClientValue Request → Type 0
-IsNewClientOf cluster client = IsClientOf cluster client × (client.router ≡ record { table = cluster.map.table; seen = [] })
+IsNewClientOf cluster client =
+    IsClientOf cluster client × (client.router ≡ record { table = cluster.map.table; seen = [] })
 
--- the session that settings begin: its cluster has the desk, the ranges and the limits that they ask for, and not too many workers, its
--- clients are new, and nothing has happened in it
+-- the session that settings begin: its cluster has the desk, the ranges and the limits that they ask for, and not too
+-- many workers, its clients are new, and nothing has happened in it
 pub record IsBegun (settings : SettingsValues) (session : SessionValue) : Type 0 where
   pub desk : session.cluster.control.desk ≡ settings_desk settings
   pub seen : session.cluster.control.chair.seen ≡ []
@@ -46,6 +48,7 @@ pub record IsBegun (settings : SettingsValues) (session : SessionValue) : Type 0
 
 -- why no session is begun: too many workers, or want of memory or of a thread, which no clause can tell
 abbrev pub MayRefuse : SettingsValues → BeginFault → Type 0
-MayRefuse settings (begin.Settings fault) = (fault ≡ TooManyWorkers) × (MAX_WORKERS < length settings.servers * settings.workers)
+MayRefuse settings (begin.Settings fault) =
+    (fault ≡ TooManyWorkers) × (MAX_WORKERS < length settings.servers * settings.workers)
 MayRefuse settings begin.NoMemory = ⊤
 MayRefuse settings begin.NoThread = ⊤

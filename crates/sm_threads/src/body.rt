@@ -5,8 +5,8 @@ use sm_service::{ApplyFault, CounterText, Reply, Request, Service};
 use std::alloc::{AllocError, Global};
 use std::marker::Model;
 
-/// A body of the sample service, as a type that is no instance of a generic one: a cluster of `CounterText` itself is made of more
-/// types than the borrow checker covers.
+/// A body of the sample service, as a type that is no instance of a generic one: a cluster of `CounterText` itself is
+/// made of more types than the borrow checker covers.
 #[derive(Drop)]
 pub struct TextBody {
     inner: CounterText,
@@ -33,7 +33,7 @@ impl TextBody {
 
 impl Service for TextBody {
     ghost use Rattle.std.specs.Prelude.{[], List};
-    ghost use Rattle.sm_map.specs.KeyMap.{Pair};
+    ghost use Rattle.sm_map.specs.KeyMap.{KeyPair};
     ghost use Rattle.sm_service.specs.Replies.{after, reply};
     ghost use Rattle.sm_service.specs.Service.{key_of_request};
 
@@ -41,7 +41,7 @@ impl Service for TextBody {
 
     type Reply = Reply;
 
-    ghost State = { List Pair };
+    ghost State = { List KeyPair };
 
     ghost initial = { [] };
 

@@ -7,9 +7,9 @@ use std::marker::PhantomData;
 use std::sync::Wait;
 use std::thread::Threads;
 
-/// Runs scripts on clusters, one command at a time, in the sessions that a closure starts. Where that closure is made it is known
-/// that its runtime may start threads; a method of an engine of any runtime doesn't know it. Where there is a listener, it is told
-/// what the cluster of each session counted.
+/// Runs scripts on clusters, one command at a time, in the sessions that a closure starts. Where that closure is made
+/// it is known that its runtime may start threads; a method of an engine of any runtime doesn't know it. Where there is
+/// a listener, it is told what the cluster of each session counted.
 #[derive(Drop)]
 pub(crate) struct ThreadEngine<R, F, L> {
     begin: F,

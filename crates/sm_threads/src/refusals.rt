@@ -2,7 +2,9 @@
 ghost use Rattle.std.specs.Prelude.{◌≡◌, IfOk, OnErr, None, Some};
 ghost use Rattle.std.specs.Option.{option_map};
 ghost use Rattle.sm_threads.specs.Calls.{answer_to, may_answer};
-ghost use Rattle.sm_threads.specs.Refusals.{admit_refused, begin_fault, call_refused, checkpoint_refused, command_refused, free_refused, hold_refused, publish_refused, request_refused};
+ghost use Rattle.sm_threads.specs.Refusals.{admit_refused, begin_fault, call_refused, checkpoint_refused};
+ghost use Rattle.sm_threads.specs.Refusals.{command_refused, free_refused, hold_refused, publish_refused};
+ghost use Rattle.sm_threads.specs.Refusals.{request_refused};
 
 use sm_cluster::{CallFault, CheckpointRefusal, FreeFault, HoldFault, PublishRefusal, StartFault};
 use sm_control::{ControlFault, RouteFault};

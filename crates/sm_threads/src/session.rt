@@ -27,8 +27,8 @@ pub(crate) const LOADERS: usize = 17;
 /// How many clients a cluster has: those of a load, and the one that makes the script's requests.
 const CLIENTS: usize = LOADERS + 1;
 
-/// A cluster of the sample service on which a script runs, one command at a time. It has to be stopped. Contracts see its cluster,
-/// the client that makes the script's requests, and those that make loads.
+/// A cluster of the sample service on which a script runs, one command at a time. It has to be stopped. Contracts see
+/// its cluster, the client that makes the script's requests, and those that make loads.
 pub(crate) struct ThreadSession<R> {
     rt: R,
     alloc: Global,

@@ -1,4 +1,5 @@
-ghost use Rattle.std.specs.Prelude.{◌≡◌, ◌↔◌, ◌≢◌, ◌<◌, ◌≤◌, ◌%◌, ◌*◌, ◌^◌, ℕ, Some, None, IfSome, IfNone, IsTrue, true, false, unwrap_or};
+ghost use Rattle.std.specs.Prelude.{◌≡◌, ◌↔◌, ◌≢◌, ◌<◌, ◌≤◌, ◌%◌, ◌*◌, ◌^◌, ℕ, Some, None, IfSome, IfNone, IsTrue};
+ghost use Rattle.std.specs.Prelude.{true, false, unwrap_or};
 ghost use Rattle.sm_ownership.specs.declared.record.Record.{Record as RecordValue};
 ghost use Rattle.sm_ownership.specs.History.{after_admit, after_done};
 ghost use Rattle.sm_ranges.specs.declared.stand.Stand.{Stand as StandValue};
@@ -68,8 +69,8 @@ pub fn record_of_word(word: u64) -> Record
     }
 }
 
-/// The record of a word that has one. The likely server changes nothing of the answer: where it serves the shard and isn't
-/// admitted to it, one comparison finds that record.
+/// The record of a word that has one. The likely server changes nothing of the answer: where it serves the shard and
+/// isn't admitted to it, one comparison finds that record.
 pub fn record_served(word: u64, likely: Option<ServerId>) -> Record
     requires { (state : RecordValue) × IsWellFormed state × (word_of state ≡ word) }
     ensures { (state : RecordValue) → IsWellFormed state → word_of state ≡ word → result ≡ state }
@@ -89,7 +90,8 @@ pub fn record_served(word: u64, likely: Option<ServerId>) -> Record
 /// The word after an admission, of the word of an idle record.
 pub fn admit_word(word: u64) -> u64
     requires { (state : RecordValue) × IsWellFormed state × (state.admitted ≡ false) × (word_of state ≡ word) }
-    ensures { (state : RecordValue) → state.admitted ≡ false → word_of state ≡ word → result ≡ word_of (after_admit state) }
+    ensures { (state : RecordValue) → state.admitted ≡ false → word_of state ≡ word
+        → result ≡ word_of (after_admit state) }
 {
     word + (ADMITTED + 1)
 }
@@ -97,7 +99,8 @@ pub fn admit_word(word: u64) -> u64
 /// The word after the end of an admission, of the word of an admitted record.
 pub fn done_word(word: u64) -> u64
     requires { (state : RecordValue) × IsWellFormed state × (state.admitted ≡ true) × (word_of state ≡ word) }
-    ensures { (state : RecordValue) → state.admitted ≡ true → word_of state ≡ word → result ≡ word_of (after_done state) }
+    ensures { (state : RecordValue) → state.admitted ≡ true → word_of state ≡ word
+        → result ≡ word_of (after_done state) }
 {
     word - (ADMITTED - 1)
 }
@@ -106,7 +109,8 @@ pub fn done_word(word: u64) -> u64
 fn known_stand(phase: u64, owner: u16, other: u16) -> Stand
     requires owner { phase ≢ 0 → IsServer owner }
     requires other { 2 ≤ phase → phase ≤ 4 → IsServer other }
-    ensures { (stand : StandValue) → phase_of stand ≡ phase → owner_number stand ≡ owner → other_number stand ≡ other → result ≡ stand }
+    ensures { (stand : StandValue) → phase_of stand ≡ phase → owner_number stand ≡ owner → other_number stand ≡ other
+        → result ≡ stand }
 {
     match phase {
         0 => Stand::Vacant,
@@ -152,8 +156,10 @@ fn number(server: Option<ServerId>) -> u64
 
 // The stand of this phase that names these servers, where there is one.
 fn stand_of(phase: u64, owner: Option<ServerId>, other: Option<ServerId>) -> Option<Stand>
-    ensures some { IfSome result (λ stand. NamesServers stand × (phase_of stand ≡ phase) × (server_of (owner_number stand) ≡ owner) × (server_of (other_number stand) ≡ other)) }
-    ensures none { (stand : StandValue) → NamesServers stand → phase_of stand ≡ phase → server_of (owner_number stand) ≡ owner → server_of (other_number stand) ≡ other → result ≡ Some stand }
+    ensures some { IfSome result (λ stand. NamesServers stand × (phase_of stand ≡ phase)
+        × (server_of (owner_number stand) ≡ owner) × (server_of (other_number stand) ≡ other)) }
+    ensures none { (stand : StandValue) → NamesServers stand → phase_of stand ≡ phase
+        → server_of (owner_number stand) ≡ owner → server_of (other_number stand) ≡ other → result ≡ Some stand }
 {
     let Some(owner) = owner else {
         return if phase == 0 && other.is_none() {

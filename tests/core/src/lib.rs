@@ -1,4 +1,4 @@
-//! Tests of ranges, ownership and words.
+//! Tests of ranges, ownership, words and the store's keys.
 #![tactic(auto)]
 
 #[cfg(test)]
@@ -9,5 +9,7 @@ mod ownership;
 mod ranges;
 #[cfg(test)]
 mod refused;
+#[cfg(test)]
+mod store;
 #[cfg(test)]
 mod word;

@@ -15,15 +15,17 @@ use sm_rule::permit::Front;
 use sm_server::checkpoint;
 
 impl<S: Service> Cluster<S> {
-    /// Makes the shard's present state its base, under a direct admission of the server, so that the shard keeps no request; or
-    /// answers the first reason that applies. The admission is by a new pass, which has seen all that the cluster told; the cluster
-    /// then tells what that pass has seen.
+    /// Makes the shard's present state its base, under a direct admission of the server, so that the shard keeps no
+    /// request; or answers the first reason that applies. The admission is by a new pass, which has seen all that the
+    /// cluster told; the cluster then tells what that pass has seen.
     pub fn checkpoint(&mut self, k: ShardId, a: ServerId) -> Result<Front, CheckpointRefusal>
         ensures unknown_shard { self.old.control.chair.board.limits.count ≤ k
             → (result ≡ Err CheckpointRefusal.UnknownShard) × (self.new ≡ self.old) }
-        ensures unknown_server { k < self.old.control.chair.board.limits.count → is_known self.old.control.desk.books.servers a ≡ false
+        ensures unknown_server { k < self.old.control.chair.board.limits.count
+            → is_known self.old.control.desk.books.servers a ≡ false
             → (result ≡ Err CheckpointRefusal.UnknownServer) × (self.new ≡ self.old) }
-        ensures known { k < self.old.control.chair.board.limits.count → is_known self.old.control.desk.books.servers a ≡ true
+        ensures known { k < self.old.control.chair.board.limits.count
+            → is_known self.old.control.desk.books.servers a ≡ true
             → IsBasedBy self.old k a result self.new }
         ensures unchanged { TellsMore self.old self.new }
     {

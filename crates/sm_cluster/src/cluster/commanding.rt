@@ -22,10 +22,11 @@ use std::alloc::{AllocError, Global};
 use std::sync::Wait;
 
 impl<S: Service> Cluster<S> {
-    /// Makes the command, or answers the first fault that applies. A server's door shuts where it failed or was stopped, and opens
-    /// where it is back. The cluster then tells all that the control has seen.
+    /// Makes the command, or answers the first fault that applies. A server's door shuts where it failed or was
+    /// stopped, and opens where it is back. The cluster then tells all that the control has seen.
     pub fn command(&mut self, command: Command) -> Result<(), ControlFault>
-        ensures answer { Commanded (desk_fault self.old.control.desk command) self.old.control self.new.control command result }
+        ensures answer { Commanded
+            (desk_fault self.old.control.desk command) self.old.control self.new.control command result }
         ensures board { self.new.control.chair.board ≡ self.old.control.chair.board }
         ensures told { Begins self.new.control.chair.seen self.new.told }
         ensures unchanged { TellsMore (cluster_commanded self.old self.new.control) self.new }
@@ -43,8 +44,8 @@ impl<S: Service> Cluster<S> {
         }
     }
 
-    /// Publishes the shard's owner and its generation, and gives that route; or answers why there is none, or why it isn't published.
-    /// It may wait for clients that are reading. The cluster then tells all that the control has seen.
+    /// Publishes the shard's owner and its generation, and gives that route; or answers why there is none, or why it
+    /// isn't published. It may wait for clients that are reading. The cluster then tells all that the control has seen.
     pub fn publish<R: Wait>(&mut self, rt: &R, k: ShardId) -> Result<Route, PublishRefusal>
         ensures published { Published (route_fault self.old.control.desk.books k) self.old self.new k result }
         ensures told { Begins self.new.control.chair.seen self.new.told }
@@ -72,19 +73,22 @@ impl<S: Service> Cluster<S> {
     /// The shards that fit no server in their turn are left.
     pub fn plan_assign(&self, alloc: Global) -> Result<Plan, AllocError>
         ensures plan { IfOk result (λ plan. plan ≡ assign_plan self.now.control.desk.books) }
-        ensures keeps_room { let books = self.now.control.desk.books in IfOk result (λ plan. KeepsRoom books (shards_to_move None books.shards)
+        ensures keeps_room { let books = self.now.control.desk.books in
+            IfOk result (λ plan. KeepsRoom books (shards_to_move None books.shards)
             (servers_but None books.servers) plan.moves plan.left) }
     {
         self.control.plan_assign(alloc)
     }
 
-    /// Each shard that the server serves, by number, goes to the lowest-numbered other server that it fits, earlier moves
-    /// counted as wholly migrated; or the first fault that applies.
+    /// Each shard that the server serves, by number, goes to the lowest-numbered other server that it fits, earlier
+    /// moves counted as wholly migrated; or the first fault that applies.
     pub fn plan_drain(&self, alloc: Global, a: ServerId) -> Result<Plan, DrainFault>
         ensures plan { IfOk result (λ plan. plan ≡ drain_plan self.now.control.desk.books a) }
-        ensures keeps_room { let books = self.now.control.desk.books in IfOk result (λ plan. KeepsRoom books (shards_to_move (Some a) books.shards)
+        ensures keeps_room { let books = self.now.control.desk.books in
+            IfOk result (λ plan. KeepsRoom books (shards_to_move (Some a) books.shards)
             (servers_but (Some a) books.servers) plan.moves plan.left) }
-        ensures unknown { is_known self.now.control.desk.books.servers a ≡ false → result ≡ Err DrainFault.UnknownServer }
+        ensures unknown { is_known self.now.control.desk.books.servers a ≡ false
+            → result ≡ Err DrainFault.UnknownServer }
         ensures known { is_known self.now.control.desk.books.servers a ≡ true → IsOkUnless result DrainFault.NoMemory }
     {
         self.control.plan_drain(alloc, a)

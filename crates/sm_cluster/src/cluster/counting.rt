@@ -9,8 +9,8 @@ use sm_ranges::shard_id::ShardId;
 use std::alloc::{AllocError, Global};
 
 impl<S: Service> Cluster<S> {
-    /// What was counted since the start. What is under way is counted once a server's step on it has ended. No clause says what the
-    /// counts are.
+    /// What was counted since the start. What is under way is counted once a server's step on it has ended. No clause
+    /// says what the counts are.
     pub fn counts(&self, alloc: Global) -> Result<Counts, AllocError>
         ensures { IfOk result (λ counts. length counts.shards.items ≡ self.now.control.chair.board.limits.count) }
     {
@@ -27,7 +27,8 @@ impl<S: Service> Cluster<S> {
         })
     }
 
-    // What was counted of the shard: its generation is the number of its changes, and of the begins and ends of its admissions.
+    // What was counted of the shard: its generation is the number of its changes, and of the begins and ends of its
+    // admissions.
     fn shard_counts(&self, k: ShardId) -> ShardCounts
         requires { k < self.now.control.chair.board.limits.count }
     {

@@ -1,5 +1,6 @@
 //! The start of a cluster.
-ghost use Rattle.std.specs.Prelude.{◌≡◌, ◌≢◌, ◌<◌, ◌≤◌, ◌*◌, ◌^◌, ◌↔◌, All, Err, IfErr, IfOk, IsTrue, None, [], length, map, replicate};
+ghost use Rattle.std.specs.Prelude.{◌≡◌, ◌≢◌, ◌<◌, ◌≤◌, ◌*◌, ◌^◌, ◌↔◌, All, Err, IfErr, IfOk, IsTrue, None, [], length};
+ghost use Rattle.std.specs.Prelude.{map, replicate};
 ghost use Rattle.std.specs.Arc.{arc_value};
 ghost use Rattle.sm_ranges.specs.declared.stand.Stand.TheVariants.{Vacant};
 ghost use Rattle.sm_rule.specs.Boards.{make_fault};
@@ -43,8 +44,9 @@ where
     S::Request: 'static,
     S::Reply: 'static,
 {
-    /// Starts so many workers for each server, at least one, and makes so many clients, 1 to 2^32 - 1; or answers the first fault
-    /// that applies, and the workers that were started are stopped and joined. The bodies have applied nothing yet.
+    /// Starts so many workers for each server, at least one, and makes so many clients, 1 to 2^32 - 1; or answers the
+    /// first fault that applies, and the workers that were started are stopped and joined. The bodies have applied
+    /// nothing yet.
     pub fn start<
         G: Gate + Send + Sync + Drop + 'static,
         R: Threads + Wait + Clone + Send + Drop + 'static,
@@ -65,8 +67,10 @@ where
         requires empty { All (λ body. S.requests body ≡ []) bodies.items }
         requires workers { 0 < workers }
         requires clients { (0 < clients) × (clients < 2 ^ 32) }
-        ensures too_many { MAX_WORKERS < length setup.desk.books.servers * workers → result ≡ Err StartFault.TooManyWorkers }
-        ensures enough { length setup.desk.books.servers * workers ≤ MAX_WORKERS → IfErr result (λ fault. fault ≢ StartFault.TooManyWorkers) }
+        ensures too_many { MAX_WORKERS < length setup.desk.books.servers * workers
+            → result ≡ Err StartFault.TooManyWorkers }
+        ensures enough { length setup.desk.books.servers * workers ≤ MAX_WORKERS
+            → IfErr result (λ fault. fault ≢ StartFault.TooManyWorkers) }
         ensures seen { IfOk result (λ made. made.0.control.chair.seen ≡ []) }
         ensures desk { IfOk result (λ made. made.0.control.desk ≡ setup.desk) }
         ensures count { IfOk result (λ made. made.0.control.chair.board.limits.count ≡ length bodies.items) }
@@ -76,7 +80,8 @@ where
         ensures holds { IfOk result (λ made. made.0.holds ≡ replicate (length bodies.items) None) }
         ensures map { IfOk result (λ made. made.0.map.map ≡ record { count = length bodies.items; published = [] }) }
         ensures routers { IfOk result (λ made.
-            map (λ client. client.router) made.1.items ≡ replicate clients (record { table = made.0.map.table; seen = [] })) }
+            map (λ client. client.router) made.1.items
+            ≡ replicate clients (record { table = made.0.map.table; seen = [] })) }
         ensures clients { IfOk result (λ made. length made.1.items ≡ clients) }
         ensures theirs { IfOk result (λ made. All (IsClientOf made.0) made.1.items) }
     {
@@ -190,9 +195,11 @@ where
     ensures control { IfOk result (λ made. made.0.control ≡ parts.control) }
     ensures bounds { IfOk result (λ made. made.0.bounds ≡ (arc_value parts.ground).layout) }
     ensures holds { IfOk result (λ made. made.0.holds ≡ replicate parts.control.chair.board.limits.count None) }
-    ensures map { IfOk result (λ made. made.0.map.map ≡ record { count = parts.control.chair.board.limits.count; published = [] }) }
+    ensures map { IfOk result
+        (λ made. made.0.map.map ≡ record { count = parts.control.chair.board.limits.count; published = [] }) }
     ensures routers { IfOk result (λ made.
-        map (λ client. client.router) made.1.items ≡ replicate clients (record { table = made.0.map.table; seen = [] })) }
+        map (λ client. client.router) made.1.items
+        ≡ replicate clients (record { table = made.0.map.table; seen = [] })) }
     ensures clients { IfOk result (λ made. length made.1.items ≡ clients) }
     ensures theirs { IfOk result (λ made. All (IsClientOf made.0) made.1.items) }
 {
@@ -219,8 +226,10 @@ fn clients_of<S: Service>(
 ) -> Result<Vec<Client<S>>, AllocError>
     ensures count { IfOk result (λ clients. length clients.items ≡ length routers.items) }
     ensures routers { IfOk result (λ clients. map (λ client. client.router) clients.items ≡ routers.items) }
-    ensures boards { IfOk result (λ clients. All (λ client. client.pass.board ≡ (arc_value ground.now).board) clients.items) }
-    ensures bounds { IfOk result (λ clients. All (λ client. client.bounds ≡ (arc_value ground.now).layout) clients.items) }
+    ensures boards { IfOk result
+        (λ clients. All (λ client. client.pass.board ≡ (arc_value ground.now).board) clients.items) }
+    ensures bounds { IfOk result
+        (λ clients. All (λ client. client.bounds ≡ (arc_value ground.now).layout) clients.items) }
 {
     let mut clients = Vec::new(alloc);
     for router in routers {
@@ -292,7 +301,13 @@ fn cluster_of<S: Service>(
 ) -> Cluster<S>
     requires board { parts.control.chair.board ≡ (arc_value parts.ground).board }
     requires holds { AreHoldsOn (arc_value parts.ground).board holds }
-    ensures { result ≡ record { control = parts.control; map = publisher; bounds = (arc_value parts.ground).layout; holds = holds; told = result.told } }
+    ensures { result ≡ record {
+      control = parts.control;
+      map = publisher;
+      bounds = (arc_value parts.ground).layout;
+      holds = holds;
+      told = result.told;
+    } }
 {
     let Parts {
         ground,

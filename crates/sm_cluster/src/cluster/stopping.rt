@@ -19,16 +19,17 @@ use std::sync::{Arc, Wait};
 use std::thread::Threads;
 
 impl<S: Service> Cluster<S> {
-    /// Shuts all doors, frees what is held, stops and joins the workers, and closes the board: each shard's record, and the body of
-    /// each idle one, after one legal history that extends what the control had seen by entries of passes, extends what the cluster
-    /// told and what each of these clients had seen, and has the end of each hold.
+    /// Shuts all doors, frees what is held, stops and joins the workers, and closes the board: each shard's record, and
+    /// the body of each idle one, after one legal history that extends what the control had seen by entries of passes,
+    /// extends what the cluster told and what each of these clients had seen, and has the end of each hold.
     pub fn stop<R: Threads + Wait>(
         self,
         rt: &R,
         clients: Vec<Client<S>>,
     ) -> Result<Vec<(Record, Option<S>)>, StopFault>
         requires clients { All (IsClientOf self) clients.items }
-        ensures stopped { IfOk result (λ rows. WasStopped (Keeps S.initial S.next S.base S.before S.requests) S.limit self clients.items rows.items) }
+        ensures stopped { IfOk result (λ rows. WasStopped
+            (Keeps S.initial S.next S.base S.before S.requests) S.limit self clients.items rows.items) }
     {
         let Cluster {
             ground,
@@ -58,7 +59,8 @@ fn closed<S: Service>(
     requires board { control.chair.board ≡ (arc_value ground).board }
     requires pass { closer.board ≡ (arc_value ground).board }
     requires free { closer.held ≡ None }
-    ensures { IfOk result (λ rows. WasClosed (Keeps S.initial S.next S.base S.before S.requests) S.limit control.chair closer rows.items) }
+    ensures { IfOk result (λ rows. WasClosed
+        (Keeps S.initial S.next S.base S.before S.requests) S.limit control.chair closer rows.items) }
 {
     let (chair, _) = control.into_parts();
     match Arc::try_unwrap(ground) {

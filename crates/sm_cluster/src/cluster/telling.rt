@@ -12,8 +12,8 @@ use sm_rule::board::Board;
 use sm_rule::pass::Pass;
 
 impl<S: Service> Cluster<S> {
-    /// Tells a client of the same board what the cluster's calls have done: it has then seen all that the control has, and by what each
-    /// hold, each checkpoint and each end of a hold was made or refused.
+    /// Tells a client of the same board what the cluster's calls have done: it has then seen all that the control has,
+    /// and by what each hold, each checkpoint and each end of a hold was made or refused.
     pub fn tell(&mut self, client: &mut Client<S>)
         requires { client.old.pass.board ≡ self.old.control.chair.board }
         ensures looks { PassLooks client.old.pass client.new.pass }

@@ -1,15 +1,15 @@
 //! Changes of a shard's stand.
-ghost use Rattle.std.specs.Prelude.{◌≡◌, None};
-ghost use Rattle.std.specs.Result.{result_err};
-ghost use Rattle.sm_ownership.specs.declared.change.Change.TheVariants.{Assign, PrepareAddShard, PrepareDropShard, AddShard, DropShard, Cancel, Pause, Resume, Reassign};
+ghost use Rattle.std.specs.Prelude.{◌≡◌};
+ghost use Rattle.sm_ownership.specs.declared.change.Change.TheVariants.{Assign, PrepareAddShard, PrepareDropShard};
+ghost use Rattle.sm_ownership.specs.declared.change.Change.TheVariants.{AddShard, DropShard, Cancel, Pause, Resume};
+ghost use Rattle.sm_ownership.specs.declared.change.Change.TheVariants.{Reassign};
 ghost use Rattle.sm_desk.specs.declared.command.Command.TheVariants.{Change as ChangeOf};
-ghost use Rattle.sm_desk.specs.Desk.{commanded, desk_fault};
+ghost use Rattle.sm_desk.specs.Desk.{desk_fault};
 ghost use Rattle.sm_control.specs.Controls.{Commanded};
 
 use super::Control;
 use crate::control_fault::ControlFault;
 use sm_body::service::Service;
-use sm_desk::{Command, CommandFault, Desk};
 use sm_ownership::change::Change;
 use sm_ranges::server_id::ServerId;
 use sm_ranges::shard_id::ShardId;
@@ -19,7 +19,8 @@ impl<S: Service> Control<S> {
     /// Gives a vacant shard this owner, or answers the first fault that applies.
     pub fn assign(&mut self, board: &Board<S>, k: ShardId, a: ServerId) -> Result<(), ControlFault>
         requires { self.old.chair.board ≡ board.now }
-        ensures answer { let command = ChangeOf k (Assign a) in Commanded (desk_fault self.old.desk command) self.old self.new command result }
+        ensures answer { let command = ChangeOf k (Assign a) in
+            Commanded (desk_fault self.old.desk command) self.old self.new command result }
         ensures board { self.new.chair.board ≡ self.old.chair.board }
     {
         self.change(board, k, Change::Assign(a))
@@ -33,7 +34,8 @@ impl<S: Service> Control<S> {
         next: ServerId,
     ) -> Result<(), ControlFault>
         requires { self.old.chair.board ≡ board.now }
-        ensures answer { let command = ChangeOf k (PrepareAddShard next) in Commanded (desk_fault self.old.desk command) self.old self.new command result }
+        ensures answer { let command = ChangeOf k (PrepareAddShard next) in
+            Commanded (desk_fault self.old.desk command) self.old self.new command result }
         ensures board { self.new.chair.board ≡ self.old.chair.board }
     {
         self.change(board, k, Change::PrepareAddShard(next))
@@ -42,7 +44,8 @@ impl<S: Service> Control<S> {
     /// Has the shard's owner stop executing and forward to the next owner, or answers the first fault that applies.
     pub fn prepare_drop_shard(&mut self, board: &Board<S>, k: ShardId) -> Result<(), ControlFault>
         requires { self.old.chair.board ≡ board.now }
-        ensures answer { let command = ChangeOf k PrepareDropShard in Commanded (desk_fault self.old.desk command) self.old self.new command result }
+        ensures answer { let command = ChangeOf k PrepareDropShard in
+            Commanded (desk_fault self.old.desk command) self.old self.new command result }
         ensures board { self.new.chair.board ≡ self.old.chair.board }
     {
         self.change(board, k, Change::PrepareDropShard)
@@ -51,7 +54,8 @@ impl<S: Service> Control<S> {
     /// Makes the next owner the owner, to whom the previous one forwards, or answers the first fault that applies.
     pub fn add_shard(&mut self, board: &Board<S>, k: ShardId) -> Result<(), ControlFault>
         requires { self.old.chair.board ≡ board.now }
-        ensures answer { let command = ChangeOf k AddShard in Commanded (desk_fault self.old.desk command) self.old self.new command result }
+        ensures answer { let command = ChangeOf k AddShard in
+            Commanded (desk_fault self.old.desk command) self.old self.new command result }
         ensures board { self.new.chair.board ≡ self.old.chair.board }
     {
         self.change(board, k, Change::AddShard)
@@ -60,7 +64,8 @@ impl<S: Service> Control<S> {
     /// Ends the migration, as the previous owner drops the shard, or answers the first fault that applies.
     pub fn drop_shard(&mut self, board: &Board<S>, k: ShardId) -> Result<(), ControlFault>
         requires { self.old.chair.board ≡ board.now }
-        ensures answer { let command = ChangeOf k DropShard in Commanded (desk_fault self.old.desk command) self.old self.new command result }
+        ensures answer { let command = ChangeOf k DropShard in
+            Commanded (desk_fault self.old.desk command) self.old self.new command result }
         ensures board { self.new.chair.board ≡ self.old.chair.board }
     {
         self.change(board, k, Change::DropShard)
@@ -69,7 +74,8 @@ impl<S: Service> Control<S> {
     /// Gives the migration up before `add_shard`, or answers the first fault that applies.
     pub fn cancel(&mut self, board: &Board<S>, k: ShardId) -> Result<(), ControlFault>
         requires { self.old.chair.board ≡ board.now }
-        ensures answer { let command = ChangeOf k Cancel in Commanded (desk_fault self.old.desk command) self.old self.new command result }
+        ensures answer { let command = ChangeOf k Cancel in
+            Commanded (desk_fault self.old.desk command) self.old self.new command result }
         ensures board { self.new.chair.board ≡ self.old.chair.board }
     {
         self.change(board, k, Change::Cancel)
@@ -78,7 +84,8 @@ impl<S: Service> Control<S> {
     /// Pauses the shard, so that nobody executes its requests, or answers the first fault that applies.
     pub fn pause(&mut self, board: &Board<S>, k: ShardId) -> Result<(), ControlFault>
         requires { self.old.chair.board ≡ board.now }
-        ensures answer { let command = ChangeOf k Pause in Commanded (desk_fault self.old.desk command) self.old self.new command result }
+        ensures answer { let command = ChangeOf k Pause in
+            Commanded (desk_fault self.old.desk command) self.old self.new command result }
         ensures board { self.new.chair.board ≡ self.old.chair.board }
     {
         self.change(board, k, Change::Pause)
@@ -87,7 +94,8 @@ impl<S: Service> Control<S> {
     /// Has the owner of a paused shard execute again, or answers the first fault that applies.
     pub fn resume(&mut self, board: &Board<S>, k: ShardId) -> Result<(), ControlFault>
         requires { self.old.chair.board ≡ board.now }
-        ensures answer { let command = ChangeOf k Resume in Commanded (desk_fault self.old.desk command) self.old self.new command result }
+        ensures answer { let command = ChangeOf k Resume in
+            Commanded (desk_fault self.old.desk command) self.old self.new command result }
         ensures board { self.new.chair.board ≡ self.old.chair.board }
     {
         self.change(board, k, Change::Resume)
@@ -101,13 +109,14 @@ impl<S: Service> Control<S> {
         next: ServerId,
     ) -> Result<(), ControlFault>
         requires { self.old.chair.board ≡ board.now }
-        ensures answer { let command = ChangeOf k (Reassign next) in Commanded (desk_fault self.old.desk command) self.old self.new command result }
+        ensures answer { let command = ChangeOf k (Reassign next) in
+            Commanded (desk_fault self.old.desk command) self.old self.new command result }
         ensures board { self.new.chair.board ≡ self.old.chair.board }
     {
         self.change(board, k, Change::Reassign(next))
     }
 
-    // Checks the change at the desk, makes it on the board, and then at the desk.
+    // Has the desk judge the change, and makes it on the board, and then at the desk.
     pub(super) fn change(
         &mut self,
         board: &Board<S>,
@@ -115,31 +124,18 @@ impl<S: Service> Control<S> {
         change: Change,
     ) -> Result<(), ControlFault>
         requires { self.old.chair.board ≡ board.now }
-        ensures answer { let command = ChangeOf k change in Commanded (desk_fault self.old.desk command) self.old self.new command result }
+        ensures answer { let command = ChangeOf k change in
+            Commanded (desk_fault self.old.desk command) self.old self.new command result }
         ensures board { self.new.chair.board ≡ self.old.chair.board }
     {
-        if let Err(fault) = check(&self.desk, k, &change) {
-            return Err(fault.into());
-        }
-        if let Err(refusal) = board.change(&mut self.chair, k, change) {
+        let stand = match self.desk.check_change(k, &change) {
+            Ok(stand) => stand,
+            Err(fault) => return Err(fault.into()),
+        };
+        if let Err(refusal) = board.change_to(&mut self.chair, k, &change, &stand) {
             return Err(refusal.into());
         }
-        commit(&mut self.desk, k, &change);
+        self.desk.commit_change(k, &change, &stand);
         Ok(())
     }
-}
-
-// Whether the desk lets the change through.
-fn check(desk: &Desk, k: ShardId, change: &Change) -> Result<(), CommandFault>
-    ensures { result_err result ≡ desk_fault desk.now (ChangeOf k change.now) }
-{
-    desk.check(&Command::Change(k, *change))
-}
-
-// Makes the change at the desk.
-fn commit(desk: &mut Desk, k: ShardId, change: &Change)
-    requires { desk_fault desk.old (ChangeOf k change.now) ≡ None }
-    ensures { desk.new ≡ commanded desk.old (ChangeOf k change.now) }
-{
-    desk.commit(Command::Change(k, *change));
 }

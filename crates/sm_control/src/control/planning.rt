@@ -20,17 +20,20 @@ impl<S: Service> Control<S> {
     /// The shards that fit no server in their turn are left.
     pub fn plan_assign(&self, alloc: Global) -> Result<Plan, AllocError>
         ensures plan { IfOk result (λ plan. plan ≡ assign_plan self.now.desk.books) }
-        ensures keeps_room { let books = self.now.desk.books in IfOk result (λ plan. KeepsRoom books (shards_to_move None books.shards)
+        ensures keeps_room { let books = self.now.desk.books in
+            IfOk result (λ plan. KeepsRoom books (shards_to_move None books.shards)
             (servers_but None books.servers) plan.moves plan.left) }
     {
         self.desk.books().plan_assign(alloc)
     }
 
-    /// Each shard that the server serves, by number, goes to the lowest-numbered other server that it fits, earlier moves
-    /// counted as wholly migrated; or the first fault that applies. A shard that names the server in another stand is not in the plan.
+    /// Each shard that the server serves, by number, goes to the lowest-numbered other server that it fits, earlier
+    /// moves counted as wholly migrated; or the first fault that applies. A shard that names the server in another
+    /// stand is not in the plan.
     pub fn plan_drain(&self, alloc: Global, a: ServerId) -> Result<Plan, DrainFault>
         ensures plan { IfOk result (λ plan. plan ≡ drain_plan self.now.desk.books a) }
-        ensures keeps_room { let books = self.now.desk.books in IfOk result (λ plan. KeepsRoom books (shards_to_move (Some a) books.shards)
+        ensures keeps_room { let books = self.now.desk.books in
+            IfOk result (λ plan. KeepsRoom books (shards_to_move (Some a) books.shards)
             (servers_but (Some a) books.servers) plan.moves plan.left) }
         ensures unknown { is_known self.now.desk.books.servers a ≡ false → result ≡ Err DrainFault.UnknownServer }
         ensures known { is_known self.now.desk.books.servers a ≡ true → IsOkUnless result DrainFault.NoMemory }
@@ -41,7 +44,8 @@ impl<S: Service> Control<S> {
         Ok(self.desk.books().plan_drain(alloc, a)?)
     }
 
-    /// The shard's owner, and its generation in all that the chair then has seen; or the first reason for which it has no route.
+    /// The shard's owner, and its generation in all that the chair then has seen; or the first reason for which it has
+    /// no route.
     pub fn route(&mut self, board: &Board<S>, k: ShardId) -> Result<Route, RouteFault>
         requires { self.old.chair.board ≡ board.now }
         ensures answer { Routed (route_fault self.old.desk.books k) self.old self.new k result }

@@ -9,25 +9,30 @@ use Rattle.sm_rows.specs.declared.server_row.ServerRow.{ServerRow}
 use Rattle.sm_place.specs.declared.server_state.ServerState.{ServerState}
 use Rattle.sm_place.specs.declared.server_state.ServerState.TheVariants.{Up}
 use Rattle.sm_place.specs.declared.shard.Shard.{Shard}
-use Rattle.sm_place.specs.Books.{BooksView, IsKnown, moved, no_server, no_shard, place_of, shard_at, state_of, with_stand, with_state}
+use Rattle.sm_place.specs.Books.{BooksView, IsKnown, moved, no_server, no_shard, place_of, shard_at, state_of}
+use Rattle.sm_place.specs.Books.{with_stand, with_state}
 
 -- the shard whose stand was set has it, each other is as before, and there are as many
 pub shard_at-same : (shards : List Shard) (k : ℕ) (stand : Stand) → k < length shards
     → shard_at (with_stand shards k stand) k ≡ moved (shard_at shards k) stand
 shard_at-same shards k stand h = get_or-set_same shards k (moved (shard_at shards k) stand) no_shard h
 
-pub shard_at-other : (shards : List Shard) (k j : ℕ) (stand : Stand) → j ≢ k → shard_at (with_stand shards k stand) j ≡ shard_at shards j
+pub shard_at-other : (shards : List Shard) (k j : ℕ) (stand : Stand) → j ≢ k
+    → shard_at (with_stand shards k stand) j ≡ shard_at shards j
 shard_at-other shards k j stand ne = get_or-set_other shards k j (moved (shard_at shards k) stand) no_shard ne
 
-pub length-with_stand : (shards : List Shard) (k : ℕ) (stand : Stand) → length (with_stand shards k stand) ≡ length shards
+pub length-with_stand : (shards : List Shard) (k : ℕ) (stand : Stand)
+    → length (with_stand shards k stand) ≡ length shards
 length-with_stand shards k stand = length-set shards k (moved (shard_at shards k) stand)
 
 -- the row at a server's place is its own
-pub id-at_place : (servers : List ServerRow) (a : ℕ) → IsKnown servers a → (get_or servers (place_of servers a) no_server).id ≡ a
+pub id-at_place : (servers : List ServerRow) (a : ℕ) → IsKnown servers a
+    → (get_or servers (place_of servers a) no_server).id ≡ a
 id-at_place servers a known = eqb-true _ _ (passes_at_first (λ row. eqb row.id a) servers no_server known)
 
 -- two servers at one place are one
-pub same_place : (servers : List ServerRow) (a b : ℕ) → IsKnown servers a → place_of servers b ≡ place_of servers a → b ≡ a
+pub same_place : (servers : List ServerRow) (a b : ℕ) → IsKnown servers a → place_of servers b ≡ place_of servers a
+    → b ≡ a
 same_place servers a b known e =
     let here = id-at_place servers a known in
     let b_known : IsKnown servers b = rw e known in

@@ -6,34 +6,48 @@ use Rattle.sm_ranges.specs.declared.stand.Stand.{Stand}
 use Rattle.sm_ranges.specs.Stand.{passes, names, names_one, owner_of, other_of, AllNamed}
 
 -- a server that passes, and is the one of the option
-passes-found : (test : ℕ → Bool) (x : Option ℕ) → passes test x ≡ true → (b : ℕ) × ((passes (λ c. eqb c b) x ≡ true) × (test b ≡ true))
+passes-found : (test : ℕ → Bool) (x : Option ℕ) → passes test x ≡ true
+    → (b : ℕ) × ((passes (λ c. eqb c b) x ≡ true) × (test b ≡ true))
 passes-found test None e = absurd (cc)
 passes-found test (Some a) e = (a, (eq-eqb a a refl, e))
 
-passes-one : (test : ℕ → Bool) (x : Option ℕ) (b : ℕ) → passes (λ c. eqb c b) x ≡ true → test b ≡ true → passes test x ≡ true
+passes-one : (test : ℕ → Bool) (x : Option ℕ) (b : ℕ) → passes (λ c. eqb c b) x ≡ true → test b ≡ true
+    → passes test x ≡ true
 passes-one test None b e t = absurd (cc)
 passes-one test (Some a) b e t = ap test (eqb-true a b e) ∙ t
 
 -- where a named server passes, there is one
-pub names_one-found : (test : ℕ → Bool) (stand : Stand) → names_one test stand ≡ true → (b : ℕ) × ((names stand b ≡ true) × (test b ≡ true))
+pub names_one-found : (test : ℕ → Bool) (stand : Stand) → names_one test stand ≡ true
+    → (b : ℕ) × ((names stand b ≡ true) × (test b ≡ true))
 names_one-found test stand e =
     elim (or_cases (passes test (owner_of stand)) (passes test (other_of stand)) e) [
       | inl p ↦ let found = passes-found test (owner_of stand) p in (
         found.0,
-        (or_left (passes (λ c. eqb c found.0) (owner_of stand)) (passes (λ c. eqb c found.0) (other_of stand)) found.1.0, found.1.1),
+        (
+          or_left (passes (λ c. eqb c found.0) (owner_of stand)) (passes (λ c. eqb c found.0)
+              (other_of stand)) found.1.0,
+          found.1.1,
+        ),
       )
       | inr p ↦ let found = passes-found test (other_of stand) p in (
         found.0,
-        (or_right (passes (λ c. eqb c found.0) (owner_of stand)) (passes (λ c. eqb c found.0) (other_of stand)) found.1.0, found.1.1),
+        (
+          or_right (passes (λ c. eqb c found.0) (owner_of stand)) (passes (λ c. eqb c found.0)
+              (other_of stand)) found.1.0,
+          found.1.1,
+        ),
       )
     ]
 
 -- a named server that passes is one
-pub names_one-named : (test : ℕ → Bool) (stand : Stand) (b : ℕ) → names stand b ≡ true → test b ≡ true → names_one test stand ≡ true
+pub names_one-named : (test : ℕ → Bool) (stand : Stand) (b : ℕ) → names stand b ≡ true → test b ≡ true
+    → names_one test stand ≡ true
 names_one-named test stand b e t =
     elim (or_cases (passes (λ c. eqb c b) (owner_of stand)) (passes (λ c. eqb c b) (other_of stand)) e) [
-      | inl p ↦ or_left (passes test (owner_of stand)) (passes test (other_of stand)) (passes-one test (owner_of stand) b p t)
-      | inr p ↦ or_right (passes test (owner_of stand)) (passes test (other_of stand)) (passes-one test (other_of stand) b p t)
+      | inl p ↦
+          or_left (passes test (owner_of stand)) (passes test (other_of stand)) (passes-one test (owner_of stand) b p t)
+      | inr p ↦ or_right (passes test (owner_of stand)) (passes test (other_of stand))
+          (passes-one test (other_of stand) b p t)
     ]
 
 IfSome-at : (P : ℕ → Type 0) (x : Option ℕ) (b : ℕ) → IfSome x P → passes (λ c. eqb c b) x ≡ true → P b

@@ -1,5 +1,6 @@
 -- Lists that a place cuts in two: what filters and `find` give of them, and what a write there leaves.
-use Rattle.std.proofs.Common.{◌≡◌, ℕ, zero, suc, ◌<◌, Bool, true, false, List, [], ◌∷◌, ◌++◌, length, get_or, set, take, drop, Some, None, refl, ap, arith}
+use Rattle.std.proofs.Common.{◌≡◌, ℕ, zero, suc, ◌<◌, Bool, true, false, List, [], ◌∷◌, ◌++◌, length, get_or, set, take}
+use Rattle.std.proofs.Common.{drop, Some, None, refl, ap, arith}
 use Rattle.std.specs.List.{All, AllPairs, AllWithin, filter, find}
 use Rattle.std.proofs.lemmas.List.Elements.{All-append}
 use Rattle.std.proofs.lemmas.List.Kept.{AllPairs-cons}
@@ -17,10 +18,12 @@ module _ {X : Type 0} (p : X → Bool) where
   filter-take [] (suc at) pass fail = refl
   filter-take (x ∷ xs) zero pass fail =
       let here : p x ≡ false = fail zero x (omega arith) (omega arith) in
-      rw here (filter-take xs zero (λ k d low high. absurd (omega arith)) (λ k d low high. fail (suc k) d (omega arith) (omega arith)))
+      rw here (filter-take xs zero (λ k d low high. absurd (omega arith))
+      (λ k d low high. fail (suc k) d (omega arith) (omega arith)))
   filter-take (x ∷ xs) (suc at) pass fail =
       let here : p x ≡ true = pass zero x (omega arith) (omega arith) in
-      rw here (ap (λ l. x ∷ l) (filter-take xs at (λ k d low high. pass (suc k) d (omega arith) (omega arith)) (λ k d low high. fail (suc k) d (omega arith) (omega arith))))
+      rw here (ap (λ l. x ∷ l) (filter-take xs at (λ k d low high. pass (suc k) d (omega arith) (omega arith))
+      (λ k d low high. fail (suc k) d (omega arith) (omega arith))))
 
   -- the elements from the place on pass, and no other
   pub filter-drop : (xs : List X) (at : ℕ) → Fails xs 0 at → Passes xs at (length xs) → filter p xs ≡ drop at xs
@@ -28,13 +31,16 @@ module _ {X : Type 0} (p : X → Bool) where
   filter-drop [] (suc at) fail pass = refl
   filter-drop (x ∷ xs) zero fail pass =
       let here : p x ≡ true = pass zero x (omega arith) (omega arith) in
-      rw here (ap (λ l. x ∷ l) (filter-drop xs zero (λ k d low high. absurd (omega arith)) (λ k d low high. pass (suc k) d (omega arith) (omega arith))))
+      rw here (ap (λ l. x ∷ l) (filter-drop xs zero (λ k d low high. absurd (omega arith))
+      (λ k d low high. pass (suc k) d (omega arith) (omega arith))))
   filter-drop (x ∷ xs) (suc at) fail pass =
       let here : p x ≡ false = fail zero x (omega arith) (omega arith) in
-      rw here (filter-drop xs at (λ k d low high. fail (suc k) d (omega arith) (omega arith)) (λ k d low high. pass (suc k) d (omega arith) (omega arith)))
+      rw here (filter-drop xs at (λ k d low high. fail (suc k) d (omega arith) (omega arith))
+      (λ k d low high. pass (suc k) d (omega arith) (omega arith)))
 
   -- the first element that passes stands at the place
-  pub find-at : (xs : List X) (at : ℕ) (d : X) → at < length xs → Fails xs 0 at → p (get_or xs at d) ≡ true → find p xs ≡ Some (get_or xs at d)
+  pub find-at : (xs : List X) (at : ℕ) (d : X) → at < length xs → Fails xs 0 at → p (get_or xs at d) ≡ true
+      → find p xs ≡ Some (get_or xs at d)
   find-at [] at d within fail pass = absurd (omega arith)
   find-at (x ∷ xs) zero d within fail pass =
       let here : p x ≡ true = pass in
@@ -57,7 +63,8 @@ module _ {X : Type 0} where
   set-cut (y ∷ ys) (suc at) x within = ap (λ l. y ∷ l) (set-cut ys at x (omega arith))
 
   -- each pair within one part, and each pair across
-  pub AllPairs-append : (R : X → X → Type 0) (xs ys : List X) → AllPairs R xs → AllPairs R ys → All (λ x. All (R x) ys) xs → AllPairs R (xs ++ ys)
+  pub AllPairs-append : (R : X → X → Type 0) (xs ys : List X) → AllPairs R xs → AllPairs R ys
+      → All (λ x. All (R x) ys) xs → AllPairs R (xs ++ ys)
   AllPairs-append R [] ys left right across = right
   AllPairs-append R (x ∷ xs) ys left right across =
       let inner : AllPairs R xs = λ i j d below within. left (suc i) (suc j) d (omega arith) (omega arith) in

@@ -28,7 +28,8 @@ greater_is Equal passes = cc
 greater_is Greater passes = refl
 
 -- of two rising keys, the lower one is in no higher order to a third
-pub index_rises : (a b key : List ℕ) → key_cmp a b ≡ Less → ordering_index (key_cmp a key) ≤ ordering_index (key_cmp b key)
+pub index_rises : (a b key : List ℕ) → key_cmp a b ≡ Less
+    → ordering_index (key_cmp a key) ≤ ordering_index (key_cmp b key)
 index_rises a b key below = by (key_cmp b key) refl
   where
     by : (o : Ordering) → key_cmp b key ≡ o → ordering_index (key_cmp a key) ≤ ordering_index o

@@ -1,5 +1,6 @@
 -- Lists in the order of keys: what a place or a gap in one tells, and what a change there leaves.
-use Rattle.std.proofs.Common.{◌≡◌, ℕ, suc, ◌<◌, ◌≤◌, ◌+◌, false, List, ◌∷◌, length, get_or, set, take, drop, Some, None, sym, ap, subst, inl, inr, arith}
+use Rattle.std.proofs.Common.{◌≡◌, ℕ, suc, ◌<◌, ◌≤◌, ◌+◌, false, List, ◌∷◌, length, get_or, set, take, drop, Some, None}
+use Rattle.std.proofs.Common.{sym, ap, subst, inl, inr, arith}
 use Rattle.std.specs.List.{All, AllWithin, HoldsAt, filter, find, insert, remove}
 use Rattle.std.specs.List.Sorted.{IsNonDecreasingBy}
 use Rattle.std.specs.declared.cmp.Ordering.TheVariants.{Less, Equal, Greater}
@@ -10,9 +11,11 @@ use Rattle.std.proofs.lemmas.List.{take-append-drop, get_or_default}
 use Rattle.std.proofs.lemmas.List.Elements.{All-cons, filter_passes}
 use Rattle.std.proofs.lemmas.List.Kept.{AllPairs-cons, AllPairs-filter}
 use Rattle.sm_ranges.specs.KeyOrder.{key_cmp}
-use Rattle.sm_ranges.specs.Keyed.{IsInKeyOrder, comes_before, has_key, comes_after, without_key, with_key, IsKeyPlace, IsKeyGap}
+use Rattle.sm_ranges.specs.Keyed.{IsInKeyOrder, comes_before, has_key, comes_after, without_key, with_key, IsKeyPlace}
+use Rattle.sm_ranges.specs.Keyed.{IsKeyGap}
 use Rattle.sm_ranges.specs.lemmas.Cuts.{filter-take, filter-drop, find-at, find-none, set-cut, AllPairs-append}
-use Rattle.sm_ranges.specs.lemmas.KeyOrders.{above_from_below, below_from_above, same_key, less_is, greater_is, index_rises}
+use Rattle.sm_ranges.specs.lemmas.KeyOrders.{above_from_below, below_from_above, same_key, less_is, greater_is}
+use Rattle.sm_ranges.specs.lemmas.KeyOrders.{index_rises}
 
 module _ {X : Type 0} (key_of : X → List ℕ) (xs : List X) (key : List ℕ) (order : IsInKeyOrder key_of xs) where
   -- the premise of std's binary search
@@ -24,17 +27,22 @@ module _ {X : Type 0} (key_of : X → List ℕ) (xs : List X) (key : List ℕ) (
       ]
 
   -- what is before an element that is below the key is below it too, and likewise above
-  pub below_up_to : (at : ℕ) → at < length xs → HoldsAt (λ x. key_cmp (key_of x) key ≡ Less) xs at → AllWithin (λ x. key_cmp (key_of x) key ≡ Less) xs 0 (at + 1)
+  pub below_up_to : (at : ℕ) → at < length xs → HoldsAt (λ x. key_cmp (key_of x) key ≡ Less) xs at
+      → AllWithin (λ x. key_cmp (key_of x) key ≡ Less) xs 0 (at + 1)
   below_up_to at within here k d _ low =
       elim (cases_lt k at) [
-        | inl before ↦ nat_list_cmp_total.trans (key_of (get_or xs k d)) (key_of (get_or xs at d)) key (order k at d before within) (here d)
+        | inl before ↦ nat_list_cmp_total.trans (key_of (get_or xs k d)) (key_of (get_or xs at d)) key
+            (order k at d before within) (here d)
         | inr after ↦ (let same : k ≡ at = omega arith in rw same (here d))
       ]
 
-  pub above_from : (at : ℕ) → at < length xs → HoldsAt (λ x. key_cmp (key_of x) key ≡ Greater) xs at → AllWithin (λ x. key_cmp (key_of x) key ≡ Greater) xs at (length xs)
+  pub above_from : (at : ℕ) → at < length xs → HoldsAt (λ x. key_cmp (key_of x) key ≡ Greater) xs at
+      → AllWithin (λ x. key_cmp (key_of x) key ≡ Greater) xs at (length xs)
   above_from at within here k d high inside =
       elim (cases_lt at k) [
-        | inl after ↦ above_from_below key (key_of (get_or xs k d)) (nat_list_cmp_total.trans key (key_of (get_or xs at d)) (key_of (get_or xs k d)) (below_from_above (key_of (get_or xs at d)) key (here d)) (order at k d after inside))
+        | inl after ↦ above_from_below key (key_of (get_or xs k d))
+            (nat_list_cmp_total.trans key (key_of (get_or xs at d)) (key_of (get_or xs k d))
+            (below_from_above (key_of (get_or xs at d)) key (here d)) (order at k d after inside))
         | inr before ↦ (let same : k ≡ at = omega arith in rw same (here d))
       ]
 
@@ -64,13 +72,16 @@ module _ {X : Type 0} (key_of : X → List ℕ) (xs : List X) (key : List ℕ) (
         ]
 
     pub before_here : filter (comes_before key_of key) xs ≡ take at xs
-    before_here = filter-take (comes_before key_of key) xs at (λ k d _ low. ap is_lt (front k d low)) (λ k d high within. from_here k d high within)
+    before_here = filter-take (comes_before key_of key) xs at (λ k d _ low. ap is_lt (front k d low))
+        (λ k d high within. from_here k d high within)
 
     pub after_here : filter (comes_after key_of key) xs ≡ drop (suc at) xs
-    after_here = filter-drop (comes_after key_of key) xs (suc at) (λ k d _ low. to_here k d low) (λ k d high within. ap is_gt (back k d (omega arith) within))
+    after_here = filter-drop (comes_after key_of key) xs (suc at) (λ k d _ low. to_here k d low)
+        (λ k d high within. ap is_gt (back k d (omega arith) within))
 
     pub found_here : (d : X) → find (has_key key_of key) xs ≡ Some (get_or xs at d)
-    found_here d = find-at (has_key key_of key) xs at d place.within (λ k e _ low. ap is_eq (front k e low)) (ap is_eq (place.same d))
+    found_here d = find-at (has_key key_of key) xs at d place.within (λ k e _ low. ap is_eq (front k e low))
+        (ap is_eq (place.same d))
 
     pub set_here : (x : X) → set xs at x ≡ with_key key_of xs key x
     set_here x = rw (before_here, after_here) (set-cut xs at x place.within)
@@ -80,10 +91,12 @@ module _ {X : Type 0} (key_of : X → List ℕ) (xs : List X) (key : List ℕ) (
 
   module _ (at : ℕ) (gap : IsKeyGap key_of xs key at) where
     pub before_gap : filter (comes_before key_of key) xs ≡ take at xs
-    before_gap = filter-take (comes_before key_of key) xs at (λ k d low high. ap is_lt (gap.apart.0 k d low high)) (λ k d low high. ap is_lt (gap.apart.1 k d low high))
+    before_gap = filter-take (comes_before key_of key) xs at (λ k d low high. ap is_lt (gap.apart.0 k d low high))
+        (λ k d low high. ap is_lt (gap.apart.1 k d low high))
 
     pub after_gap : filter (comes_after key_of key) xs ≡ drop at xs
-    after_gap = filter-drop (comes_after key_of key) xs at (λ k d low high. ap is_gt (gap.apart.0 k d low high)) (λ k d low high. ap is_gt (gap.apart.1 k d low high))
+    after_gap = filter-drop (comes_after key_of key) xs at (λ k d low high. ap is_gt (gap.apart.0 k d low high))
+        (λ k d low high. ap is_gt (gap.apart.1 k d low high))
 
     pub found_nowhere : find (has_key key_of key) xs ≡ None
     found_nowhere =
@@ -99,14 +112,20 @@ module _ {X : Type 0} (key_of : X → List ℕ) (xs : List X) (key : List ℕ) (
     without_here = rw (before_gap, after_gap) (sym (take-append-drop at xs))
 
   -- the changed list is in order
-  under : (k : ℕ) (d : X) → k < length (filter (comes_before key_of key) xs) → key_cmp (key_of (get_or (filter (comes_before key_of key) xs) k d)) key ≡ Less
+  under : (k : ℕ) (d : X) → k < length (filter (comes_before key_of key) xs)
+      → key_cmp (key_of (get_or (filter (comes_before key_of key) xs) k d)) key ≡ Less
   under k d within = less_is _ (filter_passes (comes_before key_of key) xs k d within)
 
-  over : (k : ℕ) (d : X) → k < length (filter (comes_after key_of key) xs) → key_cmp key (key_of (get_or (filter (comes_after key_of key) xs) k d)) ≡ Less
-  over k d within = below_from_above (key_of (get_or (filter (comes_after key_of key) xs) k d)) key (greater_is _ (filter_passes (comes_after key_of key) xs k d within))
+  over : (k : ℕ) (d : X) → k < length (filter (comes_after key_of key) xs)
+      → key_cmp key (key_of (get_or (filter (comes_after key_of key) xs) k d)) ≡ Less
+  over k d within = below_from_above (key_of (get_or (filter (comes_after key_of key) xs) k d)) key
+      (greater_is _ (filter_passes (comes_after key_of key) xs k d within))
 
-  across : (k : ℕ) (d : X) → k < length (filter (comes_before key_of key) xs) → All (λ later. key_cmp (key_of (get_or (filter (comes_before key_of key) xs) k d)) (key_of later) ≡ Less) (filter (comes_after key_of key) xs)
-  across k d within j e inside = nat_list_cmp_total.trans (key_of (get_or (filter (comes_before key_of key) xs) k d)) key (key_of (get_or (filter (comes_after key_of key) xs) j e)) (under k d within) (over j e inside)
+  across : (k : ℕ) (d : X) → k < length (filter (comes_before key_of key) xs)
+      → All (λ later. key_cmp (key_of (get_or (filter (comes_before key_of key) xs) k d)) (key_of later) ≡ Less)
+      (filter (comes_after key_of key) xs)
+  across k d within j e inside = nat_list_cmp_total.trans (key_of (get_or (filter (comes_before key_of key) xs) k d))
+      key (key_of (get_or (filter (comes_after key_of key) xs) j e)) (under k d within) (over j e inside)
 
   pub with_key_in_order : (x : X) → key_of x ≡ key → IsInKeyOrder key_of (with_key key_of xs key x)
   with_key_in_order x named =
@@ -114,15 +133,22 @@ module _ {X : Type 0} (key_of : X → List ℕ) (xs : List X) (key : List ℕ) (
       let low : List X = filter (comes_before key_of key) xs in
       let high : List X = filter (comes_after key_of key) xs in
       let above : All (Rises x) high = λ k d within. rw named (over k d within) in
-      AllPairs-append Rises low (x ∷ high) (AllPairs-filter Rises (comes_before key_of key) xs order) (AllPairs-cons Rises x high above (AllPairs-filter Rises (comes_after key_of key) xs order)) (λ k d within.
+      AllPairs-append Rises low (x ∷ high) (AllPairs-filter Rises (comes_before key_of key) xs order)
+      (AllPairs-cons Rises x high above (AllPairs-filter Rises (comes_after key_of key) xs order)) (λ k d within.
       All-cons (Rises (get_or low k d)) x high (rw named (under k d within)) (across k d within))
 
   pub without_key_in_order : IsInKeyOrder key_of (without_key key_of xs key)
   without_key_in_order =
       let Rises : X → X → Type 0 = λ one later. key_cmp (key_of one) (key_of later) ≡ Less in
-      AllPairs-append Rises (filter (comes_before key_of key) xs) (filter (comes_after key_of key) xs) (AllPairs-filter Rises (comes_before key_of key) xs order) (AllPairs-filter Rises (comes_after key_of key) xs order) across
+      AllPairs-append Rises (filter (comes_before key_of key) xs) (filter (comes_after key_of key) xs) (AllPairs-filter
+      Rises (comes_before key_of key) xs order) (AllPairs-filter Rises (comes_after key_of key) xs order) across
 
-module _ {X : Type 0} (key_of : X → List ℕ) (xs : List X) (order : IsInKeyOrder key_of xs) (at : ℕ) (within : at < length xs) (d : X) where
+module _ {X : Type 0} (key_of : X → List ℕ) (xs : List X) (order : IsInKeyOrder key_of xs) (at : ℕ)
+    (within : at < length xs) (d : X) where
   -- the element at a place stands where its own key is
   pub place_itself : IsKeyPlace key_of xs (key_of (get_or xs at d)) at
-  place_itself = record { within = within; same = λ e. subst (λ (x : X). key_cmp (key_of x) (key_of (get_or xs at d)) ≡ Equal) (get_or_default xs at d e within) (tied_itself nat_list_cmp_total (key_of (get_or xs at d))) }
+  place_itself = record {
+    within = within;
+    same = λ e. subst (λ (x : X). key_cmp (key_of x) (key_of (get_or xs at d))
+        ≡ Equal) (get_or_default xs at d e within) (tied_itself nat_list_cmp_total (key_of (get_or xs at d)));
+  }

@@ -1,5 +1,6 @@
 -- The bounds of a layout are those without a fault, and each key has one of its shards.
-use Rattle.std.proofs.Common.{◌≡◌, ℕ, ◌+◌, ◌-◌, ◌<◌, ◌≤◌, Bool, true, false, cond, List, [], ◌∷◌, Option, Some, None, length, get_or, drop, refl, sym, ap, ◌∙◌, arith}
+use Rattle.std.proofs.Common.{◌≡◌, ℕ, ◌+◌, ◌-◌, ◌<◌, ◌≤◌, Bool, true, false, cond, List, [], ◌∷◌, Option, Some, None}
+use Rattle.std.proofs.Common.{length, get_or, drop, refl, sym, ap, ◌∙◌, arith}
 use Rattle.std.specs.Prelude.{not, position, nat_lt, All}
 use Rattle.std.specs.List.{position_or_len, suffix_len, zip, AllAdjacentBelow}
 use Rattle.std.specs.Option.{option_map, option_or}
@@ -21,15 +22,18 @@ past_the_end : (n len : ℕ) → n ≡ len → ◌≡◌ {A = Option ℕ} (cond 
 past_the_end n len h = grind (arith, nat_tests)
 
 -- where no place is the first that passes, every element fails
-fails_everywhere : {X : Type 0} (p : X → Bool) (xs : List X) → position p xs ≡ None → (k : ℕ) (d : X) → k < length xs → p (get_or xs k d) ≡ false
+fails_everywhere : {X : Type 0} (p : X → Bool) (xs : List X) → position p xs ≡ None → (k : ℕ) (d : X) → k < length xs
+    → p (get_or xs k d) ≡ false
 fails_everywhere p xs h k d lt =
     let past : length xs ≤ position_or_len p xs = no_place (position_or_len p xs) (length xs) h in
     fails_before_first p xs k d (omega arith)
 
-no_place_where_all_fail : {X : Type 0} (p : X → Bool) (xs : List X) → ((k : ℕ) (d : X) → k < length xs → p (get_or xs k d) ≡ false) → position p xs ≡ None
+no_place_where_all_fail : {X : Type 0} (p : X → Bool) (xs : List X)
+    → ((k : ℕ) (d : X) → k < length xs → p (get_or xs k d) ≡ false) → position p xs ≡ None
 no_place_where_all_fail p [] fails = refl
 no_place_where_all_fail p (x ∷ xs) fails =
-    past_the_end _ _ (position_or_len_is p (x ∷ xs) (length (x ∷ xs)) x (omega arith) (λ k lt. fails k x lt) (λ lt. absurd (omega arith)))
+    past_the_end _ _ (position_or_len_is p (x ∷ xs) (length (x ∷ xs)) x (omega arith) (λ k lt. fails k x lt)
+    (λ lt. absurd (omega arith)))
 
 neither : {T : Type 0} (o p : Option T) → option_or o p ≡ None → (o ≡ None) × (p ≡ None)
 neither None p h = (refl, h)
@@ -51,16 +55,19 @@ at_most_255 n h = grind (arith, nat_tests)
 next_bound : (bounds : List (List ℕ)) (k : ℕ) (d : List ℕ) → get_or (drop 1 bounds) k d ≡ get_or bounds (k + 1) d
 next_bound bounds k d = get_or-drop 1 bounds k d ∙ ap (λ n. get_or bounds n d) (omega arith)
 
-rising : (bounds : List (List ℕ)) → first_not_rising bounds ≡ None → AllAdjacentBelow (λ low high. is_below low high ≡ true) bounds (length bounds)
+rising : (bounds : List (List ℕ)) → first_not_rising bounds ≡ None
+    → AllAdjacentBelow (λ low high. is_below low high ≡ true) bounds (length bounds)
 rising bounds h k d lt =
     let pairs = zip bounds (drop 1 bounds) in
     let unordered : List ℕ × List ℕ → Bool = λ pair. not (is_below pair.0 pair.1) in
     let within : k < length pairs = omega (arith, length-zip bounds (drop 1 bounds), length-drop 1 bounds) in
     let low = get_or bounds k d in
     let pair = get_or-zip bounds (drop 1 bounds) k (d, d) (omega arith) (omega (arith, length-drop 1 bounds)) in
-    let passes = fails_everywhere unordered pairs (unmapped (λ low. low + 1) (position unordered pairs) h) k (d, d) within in
+    let passes =
+    fails_everywhere unordered pairs (unmapped (λ low. low + 1) (position unordered pairs) h) k (d, d) within in
     let read = ap (λ high. is_below low high) (next_bound bounds k d) in
-    sym read ∙ (ap (λ p. is_below p.0 p.1) (sym pair) ∙ not-false (is_below (get_or pairs k (d, d)).0 (get_or pairs k (d, d)).1) passes)
+    sym read ∙ (ap (λ p. is_below p.0 p.1) (sym pair)
+    ∙ not-false (is_below (get_or pairs k (d, d)).0 (get_or pairs k (d, d)).1) passes)
 
 short : (bounds : List (List ℕ)) → first_too_long bounds ≡ None → All (λ bound. length bound ≤ 255) bounds
 short bounds h k d lt =
@@ -73,8 +80,10 @@ no_fault-layout [] h = cc
 no_fault-layout ((byte ∷ bytes) ∷ bounds) h = cc
 no_fault-layout ([] ∷ bounds) h =
     let all = [] ∷ bounds in
-    let first = neither (option_map NotRising (first_not_rising all)) (option_or (option_map KeyTooLong (first_too_long all)) (cond (nat_lt 4096 (length all)) (Some TooMany) None)) h in
-    let second = neither (option_map KeyTooLong (first_too_long all)) (cond (nat_lt 4096 (length all)) (Some TooMany) None) first.1 in
+    let first = neither (option_map NotRising (first_not_rising all)) (option_or
+    (option_map KeyTooLong (first_too_long all)) (cond (nat_lt 4096 (length all)) (Some TooMany) None)) h in
+    let second = neither (option_map KeyTooLong (first_too_long all))
+    (cond (nat_lt 4096 (length all)) (Some TooMany) None) first.1 in
     record {
       some = omega arith;
       few = few (length all) second.1;
@@ -83,7 +92,9 @@ no_fault-layout ([] ∷ bounds) h =
       short = short all (unmapped KeyTooLong (first_too_long all) second.0);
     }
 
-pairs_rise : (bounds : List (List ℕ)) → AllAdjacentBelow (λ low high. is_below low high ≡ true) bounds (length bounds) → (k : ℕ) (d : List ℕ × List ℕ) → k < length (zip bounds (drop 1 bounds)) → not (is_below (get_or (zip bounds (drop 1 bounds)) k d).0 (get_or (zip bounds (drop 1 bounds)) k d).1) ≡ false
+pairs_rise : (bounds : List (List ℕ)) → AllAdjacentBelow (λ low high. is_below low high ≡ true) bounds (length bounds)
+    → (k : ℕ) (d : List ℕ × List ℕ) → k < length (zip bounds (drop 1 bounds))
+    → not (is_below (get_or (zip bounds (drop 1 bounds)) k d).0 (get_or (zip bounds (drop 1 bounds)) k d).1) ≡ false
 pairs_rise bounds rises k d lt =
     let within : k + 1 < length bounds = omega (arith, length-zip bounds (drop 1 bounds), length-drop 1 bounds) in
     let low = get_or bounds k d.0 in
@@ -91,20 +102,26 @@ pairs_rise bounds rises k d lt =
     let next = next_bound bounds k d.1 ∙ get_or_default bounds (k + 1) d.1 d.0 within in
     ap (λ p. not (is_below p.0 p.1)) pair ∙ (ap (λ high. not (is_below low high)) next ∙ ap not (rises k d.0 within))
 
-none_unordered : (bounds : List (List ℕ)) → AllAdjacentBelow (λ low high. is_below low high ≡ true) bounds (length bounds) → first_not_rising bounds ≡ None
+none_unordered : (bounds : List (List ℕ))
+    → AllAdjacentBelow (λ low high. is_below low high ≡ true) bounds (length bounds) → first_not_rising bounds ≡ None
 none_unordered bounds rises =
     let unordered : List ℕ × List ℕ → Bool = λ pair. not (is_below pair.0 pair.1) in
-    ap (λ low. option_map (λ low. low + 1) low) (no_place_where_all_fail unordered (zip bounds (drop 1 bounds)) (pairs_rise bounds rises))
+    ap (λ low. option_map (λ low. low + 1) low)
+    (no_place_where_all_fail unordered (zip bounds (drop 1 bounds)) (pairs_rise bounds rises))
 
 none_too_long : (bounds : List (List ℕ)) → All (λ bound. length bound ≤ 255) bounds → first_too_long bounds ≡ None
-none_too_long bounds fits = no_place_where_all_fail (λ bound. nat_lt 255 (length bound)) bounds (λ k d lt. at_most_255 (length (get_or bounds k d)) (fits k d lt))
+none_too_long bounds fits = no_place_where_all_fail (λ bound. nat_lt 255 (length bound)) bounds
+    (λ k d lt. at_most_255 (length (get_or bounds k d)) (fits k d lt))
 
 -- and bounds of a layout have no fault
 pub layout-no_fault : (bounds : List (List ℕ)) → IsLayout bounds → first_layout_fault bounds ≡ None
 layout-no_fault [] layout = absurd (omega (arith, layout.some))
 layout-no_fault ((byte ∷ bytes) ∷ bounds) layout = cc
 layout-no_fault ([] ∷ bounds) layout =
-    rw (none_unordered ([] ∷ bounds) layout.rising, none_too_long ([] ∷ bounds) layout.short) (not_many (length ([] ∷ bounds)) layout.few)
+    rw (
+      none_unordered ([] ∷ bounds) layout.rising,
+      none_too_long ([] ∷ bounds) layout.short,
+    ) (not_many (length ([] ∷ bounds)) layout.few)
 
 -- the shard of a key is one of the layout's
 pub shard_of-within : (bounds : List (List ℕ)) (key : List ℕ) → IsLayout bounds → shard_of bounds key < length bounds

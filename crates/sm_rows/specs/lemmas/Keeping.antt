@@ -1,5 +1,6 @@
 -- Rows that pass the tests of their rules keep the rules.
-use Rattle.std.proofs.Common.{◌≡◌, ◌≤◌, ◌<◌, ◌+◌, ◌-◌, ◌^◌, ◌&&◌, ℕ, zero, suc, List, [], ◌∷◌, length, map, subst, refl, ap, ◌∙◌, eqb, Bool, true, get_or, arith, nat_le, nat_lt}
+use Rattle.std.proofs.Common.{◌≡◌, ◌≤◌, ◌<◌, ◌+◌, ◌-◌, ◌^◌, ◌&&◌, ℕ, zero, suc, List, [], ◌∷◌, length, map, subst, refl}
+use Rattle.std.proofs.Common.{ap, ◌∙◌, eqb, Bool, true, get_or, arith, nat_le, nat_lt}
 use Rattle.std.specs.Prelude.{All}
 use Rattle.std.specs.List.{list_all, range_with_len}
 use Rattle.std.specs.List.Sorted.{IsStrictlyIncreasing}
@@ -15,7 +16,8 @@ use Rattle.sm_rows.specs.declared.group_row.GroupRow.{GroupRow}
 use Rattle.sm_rows.specs.declared.shard_row.ShardRow.{ShardRow}
 use Rattle.sm_rows.specs.declared.domain_row.DomainRow.{DomainRow}
 use Rattle.sm_rows.specs.Domains.{are_domains, are_same, domains_from, domains_of, is_domain_row, is_used}
-use Rattle.sm_rows.specs.Rows.{is_within, is_server_row, is_group_row, is_shard_row, are_rising, are_servers, are_groups, are_shards}
+use Rattle.sm_rows.specs.Rows.{is_within, is_server_row, is_group_row, is_shard_row, are_rising, are_servers}
+use Rattle.sm_rows.specs.Rows.{are_groups, are_shards}
 use Rattle.sm_rows.specs.Kept.{AreServers, AreGroups, AreShards, AreDomains}
 
 -- a number within a range is from its low to its high end
@@ -36,13 +38,15 @@ three : (p q r : Bool) → (p && q && r) ≡ true → (p ≡ true) × (q ≡ tru
 three p q r e = let last = and_parts (p && q) r e in let firsts = and_parts p q last.0 in (firsts.0, firsts.1, last.1)
 
 -- where each number is below the next one's, the numbers rise strictly
-pub IsStrictlyIncreasing-are_rising : (rows : List ServerRow) → are_rising rows ≡ true → IsStrictlyIncreasing (map (λ row. row.id) rows)
+pub IsStrictlyIncreasing-are_rising : (rows : List ServerRow) → are_rising rows ≡ true
+    → IsStrictlyIncreasing (map (λ row. row.id) rows)
 IsStrictlyIncreasing-are_rising [] e k within = absurd (omega arith)
 IsStrictlyIncreasing-are_rising (row ∷ []) e k within = absurd (omega arith)
 IsStrictlyIncreasing-are_rising (row ∷ next ∷ rows) e zero within =
     ltb-true row.id next.id (and_parts (nat_lt row.id next.id) (are_rising (next ∷ rows)) e).0
 IsStrictlyIncreasing-are_rising (row ∷ next ∷ rows) e (suc k) within =
-    let rest = IsStrictlyIncreasing-are_rising (next ∷ rows) (and_parts (nat_lt row.id next.id) (are_rising (next ∷ rows)) e).1 k (omega arith) in
+    let rest = IsStrictlyIncreasing-are_rising (next ∷ rows)
+    (and_parts (nat_lt row.id next.id) (are_rising (next ∷ rows)) e).1 k (omega arith) in
     let place : suc (k + 1) ≡ suc k + 1 = omega arith in
     let ids : List ServerRow → List ℕ = map (λ row. row.id) in
     subst (λ j. get_or (ids (next ∷ rows)) k 0 < get_or (ids (row ∷ next ∷ rows)) j 0) place rest
@@ -55,7 +59,8 @@ AreServers-are_servers rows e =
     record {
       some = count.0;
       few = count.1;
-      ids = All-list_all (λ row. IsServer row.id) is_server_row (λ row t. is_within-true 1 MAX_SERVER row.id (parts row t).0) rows tests.1;
+      ids = All-list_all (λ row. IsServer row.id) is_server_row
+          (λ row t. is_within-true 1 MAX_SERVER row.id (parts row t).0) rows tests.1;
       ids_rise = IsStrictlyIncreasing-are_rising rows tests.2;
       domains = All-list_all (λ row. row.domain ≤ MAX_DOMAIN) is_server_row
           (λ row t. (is_within-true 0 MAX_DOMAIN row.domain (parts row t).1).1) rows tests.1;
@@ -64,8 +69,10 @@ AreServers-are_servers rows e =
     }
   where
     parts : (row : ServerRow) → is_server_row row ≡ true
-        → (is_within 1 MAX_SERVER row.id ≡ true) × (is_within 0 MAX_DOMAIN row.domain ≡ true) × (is_within 0 4294967295 row.capacity ≡ true)
-    parts row t = three (is_within 1 MAX_SERVER row.id) (is_within 0 MAX_DOMAIN row.domain) (is_within 0 4294967295 row.capacity) t
+        → (is_within 1 MAX_SERVER row.id ≡ true) × (is_within 0 MAX_DOMAIN row.domain ≡ true)
+        × (is_within 0 4294967295 row.capacity ≡ true)
+    parts row t = three (is_within 1 MAX_SERVER row.id) (is_within 0 MAX_DOMAIN row.domain)
+        (is_within 0 4294967295 row.capacity) t
 
 -- groups that pass keep their rules
 pub AreGroups-are_groups : (rows : List GroupRow) → are_groups rows ≡ true → AreGroups rows
@@ -81,7 +88,8 @@ AreGroups-are_groups rows e =
           (λ row t. (is_within-true 0 MAX_LIMIT row.down (parts row t).1).1) rows tests.1;
     }
   where
-    parts : (row : GroupRow) → is_group_row row ≡ true → (is_within 0 MAX_LIMIT row.limit ≡ true) × (is_within 0 MAX_LIMIT row.down ≡ true)
+    parts : (row : GroupRow) → is_group_row row ≡ true
+        → (is_within 0 MAX_LIMIT row.limit ≡ true) × (is_within 0 MAX_LIMIT row.down ≡ true)
     parts row t = and_parts (is_within 0 MAX_LIMIT row.limit) (is_within 0 MAX_LIMIT row.down) t
 
 -- shards that pass keep their rules
@@ -101,7 +109,8 @@ AreShards-are_shards groups rows e =
     }
   where
     parts : (row : ShardRow) → is_shard_row groups row ≡ true
-        → (nat_lt row.group groups ≡ true) × (is_within 0 4294967295 row.load ≡ true) × (is_within 0 MAX_CAP row.cap ≡ true)
+        → (nat_lt row.group groups ≡ true) × (is_within 0 4294967295 row.load ≡ true)
+        × (is_within 0 MAX_CAP row.cap ≡ true)
     parts row t = three (nat_lt row.group groups) (is_within 0 4294967295 row.load) (is_within 0 MAX_CAP row.cap) t
 
 -- numbers that are the same one by one are the same
@@ -121,12 +130,19 @@ domains_of-few servers = below (MAX_DOMAIN + 1)
     below : (n : ℕ) → length (domains_from 0 n servers) ≤ n
     below n =
         let numbers = range_with_len 0 (n - 0) in
-        omega (arith, length-filter (is_used servers) numbers, count_by-le-length (is_used servers) numbers, length-range_with_len 0 (n - 0))
+        omega (
+          arith,
+          length-filter (is_used servers) numbers,
+          count_by-le-length (is_used servers) numbers,
+          length-range_with_len 0 (n - 0),
+        )
 
 -- domains that pass keep their rules
-pub AreDomains-are_domains : (servers : List ServerRow) (rows : List DomainRow) → are_domains servers rows ≡ true → AreDomains servers rows
+pub AreDomains-are_domains : (servers : List ServerRow) (rows : List DomainRow) → are_domains servers rows ≡ true
+    → AreDomains servers rows
 AreDomains-are_domains servers rows e =
-    let tests = and_parts (are_same (map (λ row. row.domain) rows) (domains_of servers)) (list_all is_domain_row rows) e in
+    let tests =
+    and_parts (are_same (map (λ row. row.domain) rows) (domains_of servers)) (list_all is_domain_row rows) e in
     record {
       those_of_servers = same-are_same (map (λ row. row.domain) rows) (domains_of servers) tests.0;
       domains = All-list_all (λ row. row.domain ≤ MAX_DOMAIN) is_domain_row

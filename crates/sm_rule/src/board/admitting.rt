@@ -28,8 +28,8 @@ use std::marker::Brand;
 use std::snapshot::Snapshot;
 
 impl<S: Service> Board<S> {
-    /// The first reason for which a record of this board doesn't admit the server for a request that came so, if any. Without a
-    /// server that is `Vacant`, `Paused`, or else `NotExecutor`.
+    /// The first reason for which a record of this board doesn't admit the server for a request that came so, if any.
+    /// Without a server that is `Vacant`, `Paused`, or else `NotExecutor`.
     pub fn refusal(
         &self,
         state: &Record,
@@ -48,10 +48,10 @@ impl<S: Service> Board<S> {
         }
     }
 
-    /// Admits the pass to the shard, for a request that came to its server so, and gives the permit with the shard's body,
-    /// which has the shard's limit and rests on all requests that the pass has then seen of the shard; or answers the first
-    /// fault that applies to the record read, or that it was overtaken. A refusal adds no entry of the pass. That a call adds
-    /// none of other actors no clause says.
+    /// Admits the pass to the shard, for a request that came to its server so, and gives the permit with the shard's
+    /// body, which has the shard's limit and rests on all requests that the pass has then seen of the shard; or answers
+    /// the first fault that applies to the record read, or that it was overtaken. A refusal adds no entry of the pass.
+    /// That a call adds none of other actors no clause says.
     #[inline(always)]
     pub fn admit(
         &self,
@@ -65,14 +65,17 @@ impl<S: Service> Board<S> {
         ensures admitted { OnOk result (PassAdmitted pass.old k mode pass.new) }
         ensures permit { IfOk result (λ permit. (permit.shard ≡ k) × HoldsPermit pass.new permit) }
         ensures body { IfOk result (λ permit.
-            Keeps S.initial S.next S.base S.before S.requests permit.body (first_of pass.new.seen k) (all_of pass.new.seen k)) }
+            Keeps S.initial S.next S.base S.before S.requests permit.body (first_of pass.new.seen k)
+            (all_of pass.new.seen k)) }
         ensures kept { IfOk result (λ permit. S.requests permit.body ≡ kept pass.new.seen k) }
         ensures held { IfOk result (λ permit.
-            Keeps S.initial S.next S.base S.before S.requests permit.body (first_held pass.new.held) (all_held pass.new.held)) }
+            Keeps S.initial S.next S.base S.before S.requests permit.body (first_held pass.new.held)
+            (all_held pass.new.held)) }
         ensures all { OnOk result (all_held pass.new.held ≡ all_of pass.new.seen k) }
         ensures first { OnOk result (first_held pass.new.held ≡ first_of pass.new.seen k) }
         ensures limit { IfOk result (λ permit. S.limit permit.body ≡ limit_at self.now.limits permit.shard) }
-        ensures refused { IfErr result (λ refusal. PassLooks pass.old pass.new × RefusedBy pass.old pass.new k mode refusal) }
+        ensures refused { IfErr result
+            (λ refusal. PassLooks pass.old pass.new × RefusedBy pass.old pass.new k mode refusal) }
     {
         self.admit_as::<Brand>(pass, k, mode)
     }
@@ -92,14 +95,17 @@ impl<S: Service> Board<S> {
         ensures admitted { OnOk result (PassAdmitted pass.old k mode pass.new) }
         ensures permit { IfOk result (λ permit. (permit.shard ≡ k) × HoldsPermit pass.new permit) }
         ensures body { IfOk result (λ permit.
-            Keeps S.initial S.next S.base S.before S.requests permit.body (first_of pass.new.seen k) (all_of pass.new.seen k)) }
+            Keeps S.initial S.next S.base S.before S.requests permit.body (first_of pass.new.seen k)
+            (all_of pass.new.seen k)) }
         ensures kept { IfOk result (λ permit. S.requests permit.body ≡ kept pass.new.seen k) }
         ensures held { IfOk result (λ permit.
-            Keeps S.initial S.next S.base S.before S.requests permit.body (first_held pass.new.held) (all_held pass.new.held)) }
+            Keeps S.initial S.next S.base S.before S.requests permit.body (first_held pass.new.held)
+            (all_held pass.new.held)) }
         ensures all { OnOk result (all_held pass.new.held ≡ all_of pass.new.seen k) }
         ensures first { OnOk result (first_held pass.new.held ≡ first_of pass.new.seen k) }
         ensures limit { IfOk result (λ permit. S.limit permit.body ≡ limit_at self.now.limits permit.shard) }
-        ensures refused { IfErr result (λ refusal. PassLooks pass.old pass.new × RefusedBy pass.old pass.new k mode refusal) }
+        ensures refused { IfErr result
+            (λ refusal. PassLooks pass.old pass.new × RefusedBy pass.old pass.new k mode refusal) }
     {
         let (word, read) = self.load(&mut pass.seat, k, pass.server);
         match self.refusal(&read, pass.server, mode) {
@@ -140,8 +146,9 @@ impl<S: Service> Board<S> {
         body
     }
 
-    /// Ends the admission of the permit, and gives its body back. Since the admission the body has gained one request, or none,
-    /// or has made a checkpoint of what it kept, and the entry says which; it has the limit of its shard. It can't be refused.
+    /// Ends the admission of the permit, and gives its body back. Since the admission the body has gained one request,
+    /// or none, or has made a checkpoint of what it kept, and the entry says which; it has the limit of its shard. It
+    /// can't be refused.
     pub fn finish(&self, pass: &mut Pass<S>, permit: Permit<S>) -> Front
         requires board { pass.old.board ≡ self.now }
         requires permit { HoldsPermit pass.old permit }

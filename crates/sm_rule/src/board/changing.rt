@@ -1,8 +1,8 @@
 //! Changes of stands by the chair.
-ghost use Rattle.std.specs.Prelude.{◌≡◌, ◌<◌, ◌≤◌, false, None, IfErr, IfOk, OnOk};
+ghost use Rattle.std.specs.Prelude.{◌≡◌, ◌<◌, ◌≤◌, false, None, Some, IfErr, IfOk, OnOk};
 ghost use Rattle.sm_ownership.specs.declared.entry.Kind.TheVariants.{Change as Changed};
 ghost use Rattle.sm_ownership.specs.History.{after_change};
-ghost use Rattle.sm_ownership.specs.Rules.{phase_fault};
+ghost use Rattle.sm_ownership.specs.Rules.{phase_fault, stand_after};
 ghost use Rattle.sm_word.specs.Known.{NewlyNamesServer};
 ghost use Rattle.sm_rule.specs.Changes.{ChairAdds, ChairLooks, Forbids, NotMade, record_at_chair};
 
@@ -12,16 +12,16 @@ use crate::change_refusal::ChangeRefusal;
 use crate::rule::Asks;
 use sm_body::service::Service;
 use sm_ownership::change::Change;
-use sm_ownership::change_fault::ChangeFault;
 use sm_ownership::record::Record;
 use sm_ranges::shard_id::ShardId;
+use sm_ranges::stand::Stand;
 use sm_word::word::pack;
 use std::marker::Brand;
 
 impl<S: Service> Board<S> {
     /// Makes the change, which the shard's stand in all that the chair has seen allows; or answers that the shard's
-    /// generations are spent, that the shard is admitted, or that the call was overtaken. A refusal adds no entry of the chair.
-    /// That a call adds none of other actors no clause says.
+    /// generations are spent, that the shard is admitted, or that the call was overtaken. A refusal adds no entry of
+    /// the chair. That a call adds none of other actors no clause says.
     pub fn change(
         &self,
         chair: &mut Chair<S>,
@@ -32,26 +32,50 @@ impl<S: Service> Board<S> {
         requires shard { k < self.now.limits.count }
         requires fits { phase_fault (record_at_chair chair.old k).stand change ≡ None }
         ensures made { OnOk result (ChairAdds chair.old k change chair.new) }
-        ensures refused { IfErr result (λ refusal. ChairLooks chair.old chair.new × NotMade chair.old chair.new k refusal) }
+        ensures refused { IfErr result
+            (λ refusal. ChairLooks chair.old chair.new × NotMade chair.old chair.new k refusal) }
     {
-        self.change_as::<Brand>(chair, k, change)
+        match change.apply_to(chair.stand(k)) {
+            Ok(stand) => self.change_to(chair, k, &change, &stand),
+            Err(_) => unreachable!(),
+        }
+    }
+
+    /// `change`, for whom it is known that the change leads to this stand.
+    pub fn change_to(
+        &self,
+        chair: &mut Chair<S>,
+        k: ShardId,
+        change: &Change,
+        stand: &Stand,
+    ) -> Result<(), ChangeRefusal>
+        requires board { chair.old.board ≡ self.now }
+        requires shard { k < self.now.limits.count }
+        requires leads { stand_after (record_at_chair chair.old k).stand change.now ≡ Some stand.now }
+        ensures made { OnOk result (ChairAdds chair.old k change.now chair.new) }
+        ensures refused { IfErr result
+            (λ refusal. ChairLooks chair.old chair.new × NotMade chair.old chair.new k refusal) }
+    {
+        self.change_as::<Brand>(chair, k, change, stand)
     }
 
     fn change_as<B: Asks<S::Request>>(
         &self,
         chair: &mut Chair<S>,
         k: ShardId,
-        change: Change,
+        change: &Change,
+        stand: &Stand,
     ) -> Result<(), ChangeRefusal>
         requires board { chair.old.board ≡ self.now }
         requires shard { k < self.now.limits.count }
-        requires fits { phase_fault (record_at_chair chair.old k).stand change ≡ None }
-        requires kind { B.kind ≡ Changed change }
-        ensures made { OnOk result (ChairAdds chair.old k change chair.new) }
-        ensures refused { IfErr result (λ refusal. ChairLooks chair.old chair.new × NotMade chair.old chair.new k refusal) }
+        requires leads { stand_after (record_at_chair chair.old k).stand change.now ≡ Some stand.now }
+        requires kind { B.kind ≡ Changed change.now }
+        ensures made { OnOk result (ChairAdds chair.old k change.now chair.new) }
+        ensures refused { IfErr result
+            (λ refusal. ChairLooks chair.old chair.new × NotMade chair.old chair.new k refusal) }
     {
         let (word, read) = self.load(&mut chair.seat, k, None);
-        let next = self.changed(&read, change)?;
+        let next = self.changed(&read, change, stand)?;
         let new = pack(next);
         match self.exchange::<B>(&mut chair.seat, k, &read, &next, word, new) {
             Ok(()) => {
@@ -62,27 +86,38 @@ impl<S: Service> Board<S> {
         }
     }
 
-    // The record after the change, or why the record read doesn't allow one now.
-    fn changed(&self, read: &Record, change: Change) -> Result<Record, ChangeRefusal>
-        requires fits { phase_fault read.now.stand change ≡ None }
+    // The record after the change, which leads to this stand, or why the record read doesn't allow one now.
+    fn changed(
+        &self,
+        read: &Record,
+        change: &Change,
+        stand: &Stand,
+    ) -> Result<Record, ChangeRefusal>
+        requires leads { stand_after read.now.stand change.now ≡ Some stand.now }
         requires below { read.now.generation ≤ self.now.limits.ceiling }
-        ensures known { OnOk result (NewlyNamesServer change) }
+        ensures known { OnOk result (NewlyNamesServer change.now) }
         ensures idle { OnOk result (read.now.admitted ≡ false) }
         ensures below { OnOk result (read.now.generation < self.now.limits.ceiling) }
-        ensures next { IfOk result (λ next. next ≡ after_change read.now change) }
+        ensures next { IfOk result (λ next. next ≡ after_change read.now change.now) }
         ensures refused { IfErr result (λ refusal. Forbids self.now.limits.ceiling read.now refusal) }
     {
-        names_servers(&change);
-        match read.changed(change, self.ceiling) {
-            Ok(next) => Ok(next),
-            Err(ChangeFault::Spent(state)) => Err(ChangeRefusal::Spent(state)),
-            Err(ChangeFault::Busy(state)) => Err(ChangeRefusal::Busy(state)),
-            Err(_) => unreachable!(),
+        names_servers(change);
+        if read.generation >= self.ceiling {
+            return Err(ChangeRefusal::Spent(*read));
         }
+        if read.admitted {
+            return Err(ChangeRefusal::Busy(*read));
+        }
+        Ok(Record {
+            stand: *stand,
+            admitted: false,
+            generation: read.generation + 1,
+        })
     }
 }
 
-// The servers that a change names are numbered as servers are. Reading the number tells the proof so, and does nothing else.
+// The servers that a change names are numbered as servers are. Reading the number tells the proof so, and does nothing
+// else.
 fn names_servers(change: &Change)
     ensures { NewlyNamesServer change.now }
 {

@@ -14,9 +14,9 @@ use sm_word::word::record_of_word;
 use std::alloc::Global;
 
 impl<S: Service> Board<S> {
-    /// Ends the board: each shard's record, and the body of each idle one, of its limit and resting on all its requests, after
-    /// one legal history that extends what the chair had seen by entries of passes, and extends what the pass had seen. The
-    /// body of a shard whose permit was never spent isn't there.
+    /// Ends the board: each shard's record, and the body of each idle one, of its limit and resting on all its
+    /// requests, after one legal history that extends what the chair had seen by entries of passes, and extends what
+    /// the pass had seen. The body of a shard whose permit was never spent isn't there.
     pub fn close(self, chair: Chair<S>, pass: Pass<S>) -> Vec<(Record, Option<S>)>
         requires board { chair.board ≡ self }
         requires pass { pass.board ≡ self }

@@ -2,10 +2,10 @@
 ghost use Rattle.std.specs.Prelude.{◌≡◌, ◌<◌, ◌≤◌, ◌^◌, ◌++◌, ◌∷◌, [], None, IfErr, IfOk, OnErr, OnOk, fold, length};
 ghost use Rattle.sm_ownership.specs.declared.entry.Ending.TheVariants.{Nothing, Request as Requested};
 ghost use Rattle.sm_ownership.specs.declared.entry.Kind.TheVariants.{Done};
-ghost use Rattle.sm_ownership.specs.History.{all_of, first_of, kept};
+ghost use Rattle.sm_ownership.specs.History.{all_of, checkpoint_ending, first_of, kept};
 ghost use Rattle.sm_rule.specs.Admissions.{HoldsPermit};
 ghost use Rattle.sm_rule.specs.Boards.{limit_at};
-ghost use Rattle.sm_rule.specs.Bodies.{Keeps, checkpoint_ending};
+ghost use Rattle.sm_rule.specs.Bodies.{Keeps};
 ghost use Rattle.sm_rule.specs.Passes.{PassAdds, record_of};
 ghost use Rattle.sm_rule.specs.Views.{all_held, first_held, list_held};
 
@@ -17,8 +17,8 @@ use std::alloc::AllocError;
 
 impl<S: Service> Board<S> {
     /// Has the permit's body, as the admission gave it, apply the request, and ends the admission. The entry keeps the
-    /// request where it is applied, and else none; a request that isn't applied comes back with the reason: `KeptFull` where the
-    /// body keeps as many as its limit, `NoMemory` only where it keeps fewer.
+    /// request where it is applied, and else none; a request that isn't applied comes back with the reason: `KeptFull`
+    /// where the body keeps as many as its limit, `NoMemory` only where it keeps fewer.
     pub fn execute(
         &self,
         pass: &mut Pass<S>,
@@ -27,7 +27,8 @@ impl<S: Service> Board<S> {
     ) -> (Result<S::Reply, (S::Request, ApplyFault)>, Front)
         requires board { pass.old.board ≡ self.now }
         requires permit { HoldsPermit pass.old permit }
-        requires body { Keeps S.initial S.next S.base S.before S.requests permit.body (first_held pass.old.held) (all_held pass.old.held) }
+        requires body { Keeps S.initial S.next S.base S.before S.requests permit.body (first_held pass.old.held)
+            (all_held pass.old.held) }
         requires limit { S.limit permit.body ≡ limit_at self.now.limits permit.shard }
 
         // An applied request is the shard's last one, and its reply is that of the state after all those before it.
@@ -64,9 +65,9 @@ impl<S: Service> Board<S> {
         }
     }
 
-    /// Has the permit's body, as the admission gave it, make a checkpoint, and ends the admission. The entry is that checkpoint,
-    /// or nothing where the body kept no request, and then the shard keeps none. Where memory is refused it is nothing, and the
-    /// shard keeps what it kept.
+    /// Has the permit's body, as the admission gave it, make a checkpoint, and ends the admission. The entry is that
+    /// checkpoint, or nothing where the body kept no request, and then the shard keeps none. Where memory is refused it
+    /// is nothing, and the shard keeps what it kept.
     pub fn checkpoint(
         &self,
         pass: &mut Pass<S>,
@@ -74,7 +75,8 @@ impl<S: Service> Board<S> {
     ) -> (Result<(), AllocError>, Front)
         requires board { pass.old.board ≡ self.now }
         requires permit { HoldsPermit pass.old permit }
-        requires body { Keeps S.initial S.next S.base S.before S.requests permit.body (first_held pass.old.held) (all_held pass.old.held) }
+        requires body { Keeps S.initial S.next S.base S.before S.requests permit.body (first_held pass.old.held)
+            (all_held pass.old.held) }
         requires limit { S.limit permit.body ≡ limit_at self.now.limits permit.shard }
         ensures made { OnOk result.0
             (PassAdds pass.old permit.shard (Done (checkpoint_ending (list_held pass.old.held))) pass.new) }

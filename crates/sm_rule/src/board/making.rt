@@ -1,5 +1,6 @@
 //! Making a board.
-ghost use Rattle.std.specs.Prelude.{◌≡◌, ◌<◌, ◌≤◌, ◌^◌, All, IfOk, IfSome, IfNone, IsOkUnless, [], Some, length, map, replicate};
+ghost use Rattle.std.specs.Prelude.{◌≡◌, ◌<◌, ◌≤◌, ◌^◌, All, IfOk, IfSome, IfNone, IsOkUnless, [], Some, length, map};
+ghost use Rattle.std.specs.Prelude.{replicate};
 ghost use Rattle.sm_ranges.specs.declared.limits.TheConstants.{MAX_SHARDS};
 ghost use Rattle.sm_rule.specs.Boards.{make_fault};
 
@@ -16,9 +17,9 @@ use std::alloc::{AllocError, Global};
 use std::snapshot::Snapshot;
 
 impl<S: Service> Board<S> {
-    /// A board of as many vacant shards as bodies (1 to 4,096), which have applied nothing yet, whose generations stay at or below the
-    /// ceiling (3 to 2^36 - 1), and its chair; or the first fault that applies, `NoMemory` only where no other does, and
-    /// the bodies are dropped. Each shard has the limit of the body at its place in the list.
+    /// A board of as many vacant shards as bodies (1 to 4,096), which have applied nothing yet, whose generations stay
+    /// at or below the ceiling (3 to 2^36 - 1), and its chair; or the first fault that applies, `NoMemory` only where
+    /// no other does, and the bodies are dropped. Each shard has the limit of the body at its place in the list.
     pub fn make(
         alloc: Global,
         bodies: Vec<S>,

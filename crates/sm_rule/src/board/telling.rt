@@ -63,8 +63,8 @@ impl<S: Service> Board<S> {
         }
     }
 
-    /// Tells the pass all that the note had seen: it has then seen that too, and no more entries of the note's number. It
-    /// can't be refused.
+    /// Tells the pass all that the note had seen: it has then seen that too, and no more entries of the note's number.
+    /// It can't be refused.
     pub fn meet(&self, pass: &mut Pass<S>, note: Note<S>)
         requires board { pass.old.board ≡ self.now }
         requires note { note.board ≡ self.now }

@@ -8,8 +8,11 @@ use Rattle.sm_rule.specs.Views.{Begins}
 
 all_before : {X : Type 0} (P : X → Type 0) (front more : List X) → All P (front ++ more) → All P front
 all_before P [] more all = All-nil P
-all_before P (x ∷ front) more all = All-cons P x front (All-head P x (front ++ more) all) (all_before P front more (All-tail P x (front ++ more) all))
+all_before P (x ∷ front) more all =
+    All-cons P x front (All-head P x (front ++ more) all) (all_before P front more (All-tail P x (front ++ more) all))
 
 -- a history without an actor began without it
-pub none_begins : {Q : Type 0} (number : ℕ) (earlier later : List (Entry Q)) → Begins earlier later → NoneBy number later → NoneBy number earlier
-none_begins number earlier later begins none = all_before (λ entry. entry.actor ≢ number) earlier begins.0 (subst (NoneBy number) begins.1 none)
+pub none_begins : {Q : Type 0} (number : ℕ) (earlier later : List (Entry Q)) → Begins earlier later
+    → NoneBy number later → NoneBy number earlier
+none_begins number earlier later begins none =
+    all_before (λ entry. entry.actor ≢ number) earlier begins.0 (subst (NoneBy number) begins.1 none)

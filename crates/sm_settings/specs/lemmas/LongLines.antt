@@ -10,4 +10,5 @@ use Rattle.sm_settings.specs.SettingsLine.{settings_of, verdict_of}
 -- a line beyond the limit is too long, whatever it says
 pub settings_of_long : (line : List ℕ) → MAX_SETTINGS < length line → settings_of line ≡ Err TooLong
 unfolding settings_of
-settings_of_long line long = ap (λ b. if b then (if is_utf8 line then verdict_of (read line) else Err BadJson) else Err TooLong) (lt-leb (length line) MAX_SETTINGS long)
+settings_of_long line long = ap (λ b. if b then (if is_utf8 line then verdict_of (read line) else Err BadJson)
+    else Err TooLong) (lt-leb (length line) MAX_SETTINGS long)

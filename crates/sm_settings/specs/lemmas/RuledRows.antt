@@ -5,7 +5,8 @@ use Rattle.std.proofs.lemmas.Bool.{and_parts}
 use Rattle.std.proofs.lemmas.List.{length-map}
 use Rattle.sm_rows.specs.Rows.{is_within, is_server_row, is_group_row, is_shard_row, are_rising, are_shards}
 use Rattle.sm_rows.specs.Domains.{are_same, domains_of, is_domain_row}
-use Rattle.sm_rows.specs.lemmas.Keeping.{AreServers-are_servers, AreGroups-are_groups, AreShards-are_shards, AreDomains-are_domains, domains_of-few}
+use Rattle.sm_rows.specs.lemmas.Keeping.{AreServers-are_servers, AreGroups-are_groups, AreShards-are_shards}
+use Rattle.sm_rows.specs.lemmas.Keeping.{AreDomains-are_domains, domains_of-few}
 use Rattle.sm_rows.specs.declared.domain_row.DomainRow.{DomainRow}
 use Rattle.sm_rows.specs.declared.group_row.GroupRow.{GroupRow}
 use Rattle.sm_ranges.specs.declared.limits.TheConstants.{MAX_SERVER, MAX_SHARDS}
@@ -24,17 +25,21 @@ middle_false false c = refl
 
 pub servers_refused : (rows : List ServerRow) → list_all is_server_row rows ≡ false → rule_of_servers rows ≡ false
 unfolding rule_of_servers
-servers_refused rows out = ap (λ b. is_within 1 MAX_SERVER (length rows) && b && are_rising rows) out ∙ middle_false (is_within 1 MAX_SERVER (length rows)) (are_rising rows)
+servers_refused rows out = ap (λ b. is_within 1 MAX_SERVER (length rows) && b && are_rising rows) out
+    ∙ middle_false (is_within 1 MAX_SERVER (length rows)) (are_rising rows)
 
 pub groups_refused : (rows : List GroupRow) → list_all is_group_row rows ≡ false → rule_of_groups rows ≡ false
 unfolding rule_of_groups
-groups_refused rows out = ap (λ b. is_within 1 MAX_GROUPS (length rows) && b) out ∙ last_false (is_within 1 MAX_GROUPS (length rows))
+groups_refused rows out =
+    ap (λ b. is_within 1 MAX_GROUPS (length rows) && b) out ∙ last_false (is_within 1 MAX_GROUPS (length rows))
 
-pub shards_refused : (bounds groups : ℕ) (rows : List ShardRow) → list_all (is_shard_row groups) rows ≡ false → rule_of_shards bounds groups rows ≡ false
+pub shards_refused : (bounds groups : ℕ) (rows : List ShardRow) → list_all (is_shard_row groups) rows ≡ false
+    → rule_of_shards bounds groups rows ≡ false
 unfolding rule_of_shards
 shards_refused bounds groups rows out =
     ap (λ b. length rows == bounds && (is_within 1 MAX_SHARDS (length rows) && b)) out
-    ∙ ap (λ b. length rows == bounds && b) (last_false (is_within 1 MAX_SHARDS (length rows))) ∙ last_false (length rows == bounds)
+    ∙ ap (λ b. length rows == bounds && b) (last_false (is_within 1 MAX_SHARDS (length rows)))
+    ∙ last_false (length rows == bounds)
 
 pub servers_few : (rows : List ServerRow) → rule_of_servers rows ≡ true → length rows ≤ MAX_SHARDS
 unfolding rule_of_servers
@@ -44,17 +49,21 @@ pub groups_few : (rows : List GroupRow) → rule_of_groups rows ≡ true → len
 unfolding rule_of_groups
 groups_few rows kept = (AreGroups-are_groups rows kept).few
 
-pub shards_few : (bounds groups : ℕ) (rows : List ShardRow) → rule_of_shards bounds groups rows ≡ true → length rows ≤ MAX_SHARDS
+pub shards_few : (bounds groups : ℕ) (rows : List ShardRow) → rule_of_shards bounds groups rows ≡ true
+    → length rows ≤ MAX_SHARDS
 unfolding rule_of_shards
-shards_few bounds groups rows kept = (AreShards-are_shards groups rows (and_parts (length rows == bounds) (are_shards groups rows) kept).1).few
+shards_few bounds groups rows kept =
+    (AreShards-are_shards groups rows (and_parts (length rows == bounds) (are_shards groups rows) kept).1).few
 
-pub domains_refused : (servers : List ServerRow) (rows : List DomainRow) → list_all is_domain_row rows ≡ false → rule_of_domains servers rows ≡ false
+pub domains_refused : (servers : List ServerRow) (rows : List DomainRow) → list_all is_domain_row rows ≡ false
+    → rule_of_domains servers rows ≡ false
 unfolding rule_of_domains
 domains_refused servers rows out =
     ap (λ b. are_same (map (λ row. row.domain) rows) (domains_of servers) && b) out
     ∙ last_false (are_same (map (λ row. row.domain) rows) (domains_of servers))
 
-pub domains_few : (servers : List ServerRow) (rows : List DomainRow) → rule_of_domains servers rows ≡ true → length rows ≤ MAX_SHARDS
+pub domains_few : (servers : List ServerRow) (rows : List DomainRow) → rule_of_domains servers rows ≡ true
+    → length rows ≤ MAX_SHARDS
 unfolding rule_of_domains
 domains_few servers rows kept =
     let same = ap length (AreDomains-are_domains servers rows kept).those_of_servers in

@@ -2,7 +2,8 @@
 ghost use Rattle.std.specs.Prelude.{◌≡◌, IfOk};
 ghost use Rattle.sm_place.specs.Plans.{assign_plan};
 ghost use Rattle.sm_script.specs.declared.line_answer.LineAnswer.TheVariants.{Planned as IsPlanned};
-ghost use Rattle.sm_threads.specs.Calls.{Looked, RoutedKey, WasBased, WasCommanded, WasFreed, WasHeld, WasPublished, drain_answer};
+ghost use Rattle.sm_threads.specs.Calls.{Looked, RoutedKey, WasBased, WasCommanded, WasFreed, WasHeld, WasPublished};
+ghost use Rattle.sm_threads.specs.Calls.{drain_answer};
 
 use super::ThreadSession;
 use crate::refusals::{

@@ -7,7 +7,8 @@ ghost use Rattle.std.specs.Option.{option_map};
 ghost use Rattle.sm_rule.specs.Passes.{PassLooks, record_of};
 ghost use Rattle.sm_rule.specs.Views.{Begins};
 ghost use Rattle.sm_script.specs.declared.line_answer.LineAnswer.TheVariants.{Refused as IsRefused};
-ghost use Rattle.sm_threads.specs.Calls.{AnsweredAt, WasAnswered, WasLoaded, WasRequested, WasRouted, looking, with_client};
+ghost use Rattle.sm_threads.specs.Calls.{AnsweredAt, WasAnswered, WasLoaded, WasRequested, WasRouted, looking};
+ghost use Rattle.sm_threads.specs.Calls.{with_client};
 ghost use Rattle.sm_threads.specs.Loads.{IsLoadOf, IsVerdictOn};
 ghost use Rattle.sm_threads.specs.Refusals.{call_refused};
 
@@ -68,7 +69,8 @@ impl<R: Wait> ThreadSession<R> {
 
     /// Sends the request to a server that exists; an error is want of memory.
     fn send(&mut self, server: ServerId, request: Request) -> Result<LineAnswer, AllocError>
-        ensures answered { IfOk result (λ answer. WasAnswered (λ client. FaultAt counter_text self.old.client client 0 request)
+        ensures answered { IfOk result
+            (λ answer. WasAnswered (λ client. FaultAt counter_text self.old.client client 0 request)
             self.old.client request answer self.new.client) }
         ensures unchanged { self.new ≡ with_client self.old self.new.client }
     {
@@ -104,8 +106,8 @@ impl<R: Threads + Wait + Sync> ThreadSession<R> {
     }
 }
 
-/// The first client asks for the key's count, so many others add to it, so many times each, and the first asks again. The rest of
-/// the clients make no call.
+/// The first client asks for the key's count, so many others add to it, so many times each, and the first asks again.
+/// The rest of the clients make no call.
 fn load_by<R: Threads + Wait + Sync>(
     rt: &R,
     alloc: Global,

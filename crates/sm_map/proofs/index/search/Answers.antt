@@ -2,7 +2,7 @@ use Rattle.std.proofs.Common.{◌≡◌, ℕ, ◌+◌, ◌-◌, ◌/◌, ◌<◌
 use Rattle.std.specs.List.{AllWithin}
 use Rattle.std.specs.declared.cmp.Ordering.TheVariants.{Less, Greater}
 use Rattle.sm_ranges.specs.KeyOrder.{key_cmp}
-use Rattle.sm_map.specs.KeyMap.{Pair}
+use Rattle.sm_map.specs.KeyMap.{KeyPair}
 use Rattle.sm_map.specs.KeyEntry.{pairs_of}
 use Rattle.sm_map.specs.Block.{BlockValue}
 use Rattle.sm_map.specs.Blocks.{entries_in, lengths_in, IsSized}
@@ -29,7 +29,7 @@ loop-low-preserved-in-Less c =
     record {
       ordered = omega (arith, c.loop-low-test.true);
       within = c.loop-low.invariant.within;
-      before = λ _. subst (λ (n : ℕ). AllWithin (λ (pair : Pair). key_cmp pair.key c.args.key.now ≡ Less) (pairs_of c.args.arena.now.placed (entries_in c.args.blocks.now)) 0 (sum (take n (lengths_in c.args.blocks.now)) + 1)) one (first_less _ _ c.args.key.now c.requires.rising middle lt _ c.index-blocks-middle.is some _ c.entry.ensures _ c.get.ensures c.in-Less.ensures);
+      before = λ _. subst (λ (n : ℕ). AllWithin (λ (pair : KeyPair). key_cmp pair.key c.args.key.now ≡ Less) (pairs_of c.args.arena.now.placed (entries_in c.args.blocks.now)) 0 (sum (take n (lengths_in c.args.blocks.now)) + 1)) one (first_less _ _ c.args.key.now c.requires.rising middle lt _ c.index-blocks-middle.is some _ c.entry.ensures _ c.get.ensures c.in-Less.ensures);
       after = c.loop-low.invariant.after;
     }
 
@@ -58,5 +58,5 @@ returns-clause-absent c =
     record {
       within = omega (arith, c.loop-low.invariant.ordered, c.loop-low.invariant.within, blocks_counted c.args.blocks.now);
       before = c.loop-low.invariant.before;
-      after = subst (λ (n : ℕ). AllWithin (λ (pair : Pair). key_cmp pair.key c.args.key.now ≡ Greater) (pairs_of c.args.arena.now.placed (entries_in c.args.blocks.now)) (sum (take n (lengths_in c.args.blocks.now))) (length (pairs_of c.args.arena.now.placed (entries_in c.args.blocks.now)))) same c.loop-low.invariant.after;
+      after = subst (λ (n : ℕ). AllWithin (λ (pair : KeyPair). key_cmp pair.key c.args.key.now ≡ Greater) (pairs_of c.args.arena.now.placed (entries_in c.args.blocks.now)) (sum (take n (lengths_in c.args.blocks.now))) (length (pairs_of c.args.arena.now.placed (entries_in c.args.blocks.now)))) same c.loop-low.invariant.after;
     }

@@ -8,7 +8,8 @@ use Rattle.sm_run.specs.Openings.{IsRefused}
 use Rattle.sm_run.specs.declared.begin_fault.BeginFault.TheVariants.{Settings as IsOfSettings}
 use Rattle.sm_run.specs.declared.run_fault.RunFault.TheVariants.{Read, Write, NoMemory, NoThread}
 use Rattle.sm_run.proofs.Refusals.{Refusing, refused_early, refused_script, refused_watched}
-use Rattle.sm_run.proofs.Stops.{Opened, Touched, answered_after, early_session, early_unread, none_read, opened, ran_session, refused_by_engine, refused_opening, stopped_first}
+use Rattle.sm_run.proofs.Stops.{Opened, Touched, answered_after, early_session, early_unread, none_read, opened}
+use Rattle.sm_run.proofs.Stops.{ran_session, refused_by_engine, refused_opening, stopped_first}
 use Rattle.sm_run.proofs.Watches.{watched_session, watched_unread}
 use Rattle.sm_run.proofs.running.run.Goals as goal
 

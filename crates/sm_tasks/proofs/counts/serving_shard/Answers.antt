@@ -4,8 +4,7 @@ use Rattle.std.proofs.lemmas.Iterator.{YieldsList-from_slice}
 use Rattle.std.proofs.lemmas.Iterator.Search.{position_from_yields_List}
 use borrow.Author.Tests.{tests}
 use Rattle.sm_place.specs.declared.shard.Shard.{Shard}
-use Rattle.sm_ranges.specs.Stand.{names}
-use Rattle.sm_tasks.specs.States.{is_paused}
+use Rattle.sm_ranges.specs.Stand.{names, is_paused}
 use Rattle.sm_tasks.proofs.counts.serving_shard.Goals as goal
 
 pub returns : goal.returns

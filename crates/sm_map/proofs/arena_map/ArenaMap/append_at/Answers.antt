@@ -1,5 +1,5 @@
 use Rattle.std.proofs.Common.{Some, [], ◌++◌}
-use Rattle.sm_map.specs.KeyMap.{Pair, text_of}
+use Rattle.sm_map.specs.KeyMap.{KeyPair, text_of}
 use Rattle.sm_map.specs.KeyMap.{Text as HeldText}
 use Rattle.sm_map.proofs.KeyMaps.{rewrite_holds, rewrite_dead, held_here, text_here, held_nowhere}
 use Rattle.sm_map.proofs.Positions.{place_there, gap_there}
@@ -15,13 +15,13 @@ lengthen_at-requires-clause-text c d =
 pub returns-clause-ok : goal.returns-clause-ok
 returns-clause-ok c =
     let there = place_there _ c.args.position c.requires.position _ c.in-Ok.is in
-    let any : Pair = record { key = c.args.position.key.now; value = HeldText [] } in
-    rw (text_here _ _ c.requires.position.rising _ there.1 any) (rewrite_holds _ _ _ c.requires.position.rising _ _ there.1 (λ (pair : Pair). HeldText (text_of (Some pair.value) ++ c.args.tail.now)) any c.lengthen_at.ensures.ok)
+    let any : KeyPair = record { key = c.args.position.key.now; value = HeldText [] } in
+    rw (text_here _ _ c.requires.position.rising _ there.1 any) (rewrite_holds _ _ _ c.requires.position.rising _ _ there.1 (λ (pair : KeyPair). HeldText (text_of (Some pair.value) ++ c.args.tail.now)) any c.lengthen_at.ensures.ok)
 
 pub returns-clause-dead : goal.returns-clause-dead
 returns-clause-dead c =
     let there = place_there _ c.args.position c.requires.position _ c.in-Ok.is in
-    rewrite_dead _ _ _ c.requires.position.rising _ _ there.1 (λ (pair : Pair). HeldText (text_of (Some pair.value) ++ c.args.tail.now)) (record { key = c.args.position.key.now; value = HeldText [] }) c.lengthen_at.ensures.ok
+    rewrite_dead _ _ _ c.requires.position.rising _ _ there.1 (λ (pair : KeyPair). HeldText (text_of (Some pair.value) ++ c.args.tail.now)) (record { key = c.args.position.key.now; value = HeldText [] }) c.lengthen_at.ensures.ok
 
 -- the key holds a text, so it is there
 pub unreachable-requires : goal.unreachable-requires

@@ -1,7 +1,7 @@
 use Rattle.std.proofs.Common.{◌≡◌, ℕ, ◌<◌, ◌+◌, List, length, sum, take, subst, sym, ap, ◌∙◌, arith}
 use Rattle.std.proofs.lemmas.List.{take_all, length-take}
 use Rattle.sm_ranges.specs.Keyed.{IsKeyGap}
-use Rattle.sm_map.specs.KeyMap.{Pair, key_of}
+use Rattle.sm_map.specs.KeyMap.{KeyPair, key_of}
 use Rattle.sm_map.specs.ArenaMap.{MapValue, IsAddition}
 use Rattle.sm_map.specs.Blocks.{number_of, HasEntry, IsStop}
 use Rattle.sm_map.specs.declared.place.Place.{Place}
@@ -27,14 +27,14 @@ pair_at-requires c =
 pub insert_at-requires-clause-absent : goal.insert_at-requires-clause-absent
 insert_at-requires-clause-absent c =
     let within = (entry_at _ _ c.self.view_is c.loop-place.place _ c.loop-place-test.true c.block_count.ensures c.loop-place.invariant.stop (map_sum c.self.inside.arena c.self.inside.index.blocks)).1 in
-    let end : number_of c.args.self.now.blocks c.loop-place.place ≡ number_of c.loop-place.map.blocks c.end.result = omega (arith, c.end.ensures.end, ap (λ (l : List Pair). length l) c.loop-place.invariant.pairs, length-take (number_of c.args.self.now.blocks c.loop-place.place) c.args.self.now.pairs, within) in
+    let end : number_of c.args.self.now.blocks c.loop-place.place ≡ number_of c.loop-place.map.blocks c.end.result = omega (arith, c.end.ensures.end, ap (λ (l : List KeyPair). length l) c.loop-place.invariant.pairs, length-take (number_of c.args.self.now.blocks c.loop-place.place) c.args.self.now.pairs, within) in
     let rising = seen_in_order _ _ _ _ c.self.view_is c.self.invariant in
     subst (λ (n : ℕ). IsKeyGap key_of c.loop-place.map.pairs (row_of c.pair_at.result).key n) end (copy_gap _ rising _ within (row_of c.pair_at.result) c.pair_at.ensures _ c.loop-place.invariant.pairs)
 
 pub loop-place-preserved : goal.loop-place-preserved
 loop-place-preserved c =
     let within = (entry_at _ _ c.self.view_is c.loop-place.place _ c.loop-place-test.true c.block_count.ensures c.loop-place.invariant.stop (map_sum c.self.inside.arena c.self.inside.index.blocks)).1 in
-    let end : number_of c.args.self.now.blocks c.loop-place.place ≡ number_of c.loop-place.map.blocks c.end.result = omega (arith, c.end.ensures.end, ap (λ (l : List Pair). length l) c.loop-place.invariant.pairs, length-take (number_of c.args.self.now.blocks c.loop-place.place) c.args.self.now.pairs, within) in
+    let end : number_of c.args.self.now.blocks c.loop-place.place ≡ number_of c.loop-place.map.blocks c.end.result = omega (arith, c.end.ensures.end, ap (λ (l : List KeyPair). length l) c.loop-place.invariant.pairs, length-take (number_of c.args.self.now.blocks c.loop-place.place) c.args.self.now.pairs, within) in
     let next : number_of c.args.self.now.blocks c.after-place.result ≡ number_of c.args.self.now.blocks c.loop-place.place + 1 = subst (λ (x : MapValue). number_of x.blocks c.after-place.result ≡ number_of x.blocks c.loop-place.place + 1) c.self.view_is c.after-place.ensures.next in
     let rising = seen_in_order _ _ _ _ c.self.view_is c.self.invariant in
     let one = subst (λ (n : ℕ). IsAddition c.loop-place.map n (row_of c.pair_at.result) c.insert_at.new.self) (sym end) c.in_ok-insert_at.ensures.ok in

@@ -1,5 +1,5 @@
 use Rattle.std.specs.List.{HoldsAt}
-use Rattle.sm_map.specs.KeyMap.{Pair}
+use Rattle.sm_map.specs.KeyMap.{KeyPair}
 use Rattle.sm_map.specs.ArenaMap.{MapValue, IsRemoval}
 use Rattle.sm_map.specs.Blocks.{number_of}
 use Rattle.sm_map.proofs.Entries.{key_placed}
@@ -32,5 +32,5 @@ invariant_of-self c =
 pub returns : goal.returns
 returns c =
     let within = number_inside c.self.inside.index.blocks c.args.place (rw (← c.self.view_is) at c.requires) in
-    through (λ (old new : MapValue). HoldsAt (λ (pair : Pair). IsRemoval old (number_of old.blocks c.args.place) pair new) old.pairs (number_of old.blocks c.args.place)) _ _ _ _ c.self.view_is (same_map _ c.forget-2.new.arena _ _ _ (forgot_both c.self.inside.arena c.forget.new.self c.forget-2.new.arena c.remove-slot.result.key c.remove-slot.result.slot c.forget-2.ensures c.forget.ensures) c.remove-slot.ensures.entries)
+    through (λ (old new : MapValue). HoldsAt (λ (pair : KeyPair). IsRemoval old (number_of old.blocks c.args.place) pair new) old.pairs (number_of old.blocks c.args.place)) _ _ _ _ c.self.view_is (same_map _ c.forget-2.new.arena _ _ _ (forgot_both c.self.inside.arena c.forget.new.self c.forget-2.new.arena c.remove-slot.result.key c.remove-slot.result.slot c.forget-2.ensures c.forget.ensures) c.remove-slot.ensures.entries)
     (removed _ _ c.self.invariant _ within _ c.remove-slot.ensures.removed _ _)

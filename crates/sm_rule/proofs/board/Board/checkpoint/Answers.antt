@@ -1,6 +1,6 @@
 use Rattle.std.proofs.Common.{◌∙◌}
 use Rattle.sm_ownership.specs.declared.entry.Ending.TheVariants.{Nothing}
-use Rattle.sm_rule.specs.Bodies.{checkpoint_ending}
+use Rattle.sm_ownership.specs.History.{checkpoint_ending}
 use Rattle.sm_rule.specs.Views.{all_held, first_held, list_held}
 use Rattle.sm_rule.specs.lemmas.Resting.{all_based, ends_based, lent_rests, rests_same}
 use Rattle.sm_rule.proofs.board.Board.checkpoint.Goals as goal

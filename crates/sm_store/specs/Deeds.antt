@@ -1,0 +1,270 @@
+-- What processes do to the store: which transaction each deed is, when a process may send it, by what it has read, and
+-- when it
+-- is right for the store as it is.
+use Rattle.std.specs.Prelude.{ℕ, Bool, true, false, Some, ◌≡◌, ◌≢◌, ◌<◌, ◌≤◌, ◌+◌, IsTrue, List, [], ◌∷◌, ◌++◌, length}
+use Rattle.std.specs.Prelude.{slice_get}
+use Rattle.std.specs.List.{AllByRecursion}
+use Rattle.sm_ownership.specs.declared.change.Change.{Change}
+use Rattle.sm_ownership.specs.declared.record.Record.{Record}
+use Rattle.sm_ownership.specs.History.{after_change, change_fits}
+use Rattle.sm_ownership.specs.Rules.{accepts}
+use Rattle.sm_store.specs.declared.compare.Compare.{Compare}
+use Rattle.sm_store.specs.declared.head.Head.{Head}
+use Rattle.sm_store.specs.declared.item.Item.{Item}
+use Rattle.sm_store.specs.declared.store_key.PassingKey.{PassingKey}
+use Rattle.sm_store.specs.declared.store_key.PassingKey.TheVariants.{Leader, Server, Batch, Part}
+use Rattle.sm_store.specs.declared.store_key.StoreKey.{StoreKey}
+use Rattle.sm_store.specs.Clients.{AreNext}
+use Rattle.sm_store.specs.Store.{Transaction, Leads, Stands, Heads, Executes, Bases, Follows, Deletes, Elsewhere}
+use Rattle.sm_store.specs.Store.{leader_key, record_key, head_key, part_key, revision_of, all_hold, leader_of}
+use Rattle.sm_store.specs.Store.{stored_record, head_of, part_at, made, made_until}
+
+-- what all processes go by: how many shards there are, the greatest generation of a record, and the parts of a base
+-- that stands
+-- for requests
+pub record Charter (Q P : Type 0) : Type 0 where
+  pub count : ℕ
+  pub ceiling : ℕ
+  pub parts : List (Item Q) → List P
+
+-- what a process does to the store
+pub data Deed (Q P : Type 0) : Type 0 where
+  -- a process is elected
+  Electing : (process : ℕ) → Deed Q P
+  -- a lease ends, and its key goes
+  Expiring : (key : PassingKey) → Deed Q P
+  -- a process that leads changes a shard's record, which it read at the first revision, as was its election at the
+  -- second
+  Changing : (process shard : ℕ) (change : Change) (next : Record) (stood elected : ℕ) → Deed Q P
+  -- a server executes requests of a shard, whose record it read at the first revision, and this head at the second
+  Executing : (shard server : ℕ) (items : List (Item Q)) (head : Head) (stood logged : ℕ) → Deed Q P
+  -- a server writes a part of the base of so many batches
+  Basing : (shard number place : ℕ) (part : P) → Deed Q P
+  -- a head that was read at this revision comes to name the base of so many batches, in so many parts
+  Naming : (shard : ℕ) (head : Head) (number parts logged : ℕ) → Deed Q P
+  -- what lies behind the base is deleted
+  Clearing : (key : PassingKey) → Deed Q P
+  -- a server says up to which revision it has read
+  Following : (server revision : ℕ) → Deed Q P
+  -- compares alone
+  Checking : (compares : List Compare) → Deed Q P
+  -- something else is written
+  Foreign : Deed Q P
+
+-- a compare of a key with a revision
+abbrev pub at : StoreKey → ℕ → Compare
+at key revision = record { key = key; revision = revision }
+
+-- the transaction of a deed
+abbrev pub transaction_of : {Q P : Type 0} → Deed Q P → Transaction Q P
+transaction_of (Electing process) = record { compares = []; writes = Leads process ∷ [] }
+transaction_of (Expiring key) = record { compares = []; writes = Deletes key ∷ [] }
+transaction_of (Changing process shard change next stood elected) =
+    record {
+      compares = at (record_key shard) stood ∷ at leader_key elected ∷ [];
+      writes = Stands process shard change next ∷ [];
+    }
+transaction_of (Executing shard server items head stood logged) =
+    record {
+      compares = at (record_key shard) stood ∷ at (head_key shard) logged ∷ [];
+      writes = Heads shard (record { batches = head.batches + 1; base = head.base; parts = head.parts })
+          ∷ Executes shard (head.batches + 1) server items ∷ [];
+    }
+transaction_of (Basing shard number place part) = record { compares = []; writes = Bases shard number place part ∷ [] }
+transaction_of (Naming shard head number parts logged) =
+    record {
+      compares = at (head_key shard) logged ∷ [];
+      writes = Heads shard (record { batches = head.batches; base = number; parts = parts }) ∷ [];
+    }
+transaction_of (Clearing key) = record { compares = []; writes = Deletes key ∷ [] }
+transaction_of (Following server revision) = record { compares = []; writes = Follows server revision ∷ [] }
+transaction_of (Checking compares) = record { compares = compares; writes = [] }
+transaction_of Foreign = record { compares = []; writes = Elsewhere ∷ [] }
+
+-- at some moment the view had this value, and its key was last written at this revision
+pub record WasFound {Q P A : Type 0} (view : List (Transaction Q P) → A) (key : StoreKey)
+    (log : List (Transaction Q P)) (value : A) (revision : ℕ) : Type 0 where
+  pub later : List (Transaction Q P)
+  pub past : List (Transaction Q P)
+  pub is : log ≡ later ++ past
+  pub at : revision_of key past ≡ revision
+  pub was : view past ≡ value
+
+-- a shard's head, and the requests that are made
+pub record ShardLog (Q : Type 0) : Type 0 where
+  pub head : Head
+  pub items : List (Item Q)
+
+-- a shard's head and requests in a store
+abbrev pub shard_log : {Q P : Type 0} → ℕ → List (Transaction Q P) → ShardLog Q
+shard_log shard log = record { head = head_of shard log; items = made shard log }
+
+-- the server is the one that the record accepts for each of the requests, and each has a number that comes next
+pub record AreAccepted {Q : Type 0} (state : Record) (server : ℕ) (before items : List (Item Q)) : Type 0 where
+  pub accepted : AllByRecursion (λ item. IsTrue (accepts state server item.mode)) items
+  pub next : AreNext before items
+
+-- the control may make the change
+pub record IsChanged (ceiling : ℕ) (state : Record) (change : Change) (next : Record) : Type 0 where
+  pub fits : IsTrue (change_fits ceiling state 0 change)
+  pub is : next ≡ after_change state change
+
+-- the key lies under a lease, and goes when that ends
+abbrev pub is_leased : PassingKey → Bool
+is_leased Leader = true
+is_leased (Server server) = true
+is_leased _ = false
+
+-- one who has read that it leads, and the record
+pub record MayChange {Q P : Type 0} (charter : Charter Q P) (log : List (Transaction Q P)) (process shard : ℕ)
+    (change : Change) (next : Record)
+    (stood elected : ℕ) : Type 0 where
+  pub within : shard < charter.count
+  pub was_elected : 0 < elected
+  pub leads : WasFound leader_of leader_key log process elected
+  pub state : Record
+  pub record_was : WasFound (stored_record shard) (record_key shard) log state stood
+  pub changed : IsChanged charter.ceiling state change next
+
+-- one who has read the record, and head and requests
+pub record MayExecute {Q P : Type 0} (charter : Charter Q P) (log : List (Transaction Q P)) (shard server : ℕ)
+    (items : List (Item Q)) (head : Head)
+    (stood logged : ℕ) : Type 0 where
+  pub within : shard < charter.count
+  pub named : server ≢ 0
+  pub state : Record
+  pub record_was : WasFound (stored_record shard) (record_key shard) log state stood
+  pub before : List (Item Q)
+  pub log_was : WasFound (shard_log shard) (head_key shard) log (record { head = head; items = before }) logged
+  pub accepted : AreAccepted state server before items
+
+-- one who has read the requests of so many batches
+pub record HasRequests {Q P : Type 0} (log : List (Transaction Q P)) (shard number : ℕ)
+    (items : List (Item Q)) : Type 0 where
+  pub head : Head
+  pub revision : ℕ
+  pub log_was : WasFound (shard_log shard) (head_key shard) log (record { head = head; items = items }) revision
+  pub all : head.batches ≡ number
+
+-- one who has read the requests of so many batches, of whose base this is a part
+pub record MayBase {Q P : Type 0} (charter : Charter Q P) (log : List (Transaction Q P)) (shard number place : ℕ)
+    (part : P) : Type 0 where
+  pub items : List (Item Q)
+  pub requests : HasRequests log shard number items
+  pub is : slice_get (charter.parts items) place ≡ Some part
+
+-- one who has read a head with an older base, and that each part of this one is there
+pub record MayName {Q P : Type 0} (charter : Charter Q P) (log : List (Transaction Q P)) (shard : ℕ) (head : Head)
+    (number parts logged : ℕ) : Type 0 where
+  pub head_was : WasFound (head_of shard) (head_key shard) log head logged
+  pub newer : head.base < number
+  pub items : List (Item Q)
+  pub requests : HasRequests log shard number items
+  pub all : parts ≡ length (charter.parts items)
+  pub there : (place : ℕ) → place < parts → (part : P) × (revision : ℕ)
+      × WasFound (part_at shard number place) (part_key shard number place) log (Some part) revision
+
+-- one who has read a head whose base stands for the batch, or is newer
+abbrev pub MayClear : {Q P : Type 0} → Charter Q P → List (Transaction Q P) → PassingKey → Type 0
+MayClear charter log (Batch shard number) =
+    (head : Head) × (revision : ℕ) × WasFound (head_of shard) (head_key shard) log head revision
+    × (number ≤ head.base)
+MayClear charter log (Part shard number place) =
+    (head : Head) × (revision : ℕ) × WasFound (head_of shard) (head_key shard) log head revision
+    × (number < head.base)
+MayClear charter log _ = ⊥
+
+-- a process may do this; who is elected, when a lease ends, and what is written elsewhere, is left to others
+abbrev pub MayDo : {Q P : Type 0} → Charter Q P → List (Transaction Q P) → Deed Q P → Type 0
+MayDo charter log (Electing process) = Unit {0}
+MayDo charter log (Expiring key) = IsTrue (is_leased key)
+MayDo charter log (Changing process shard change next stood elected) =
+    MayChange charter log process shard change next stood elected
+MayDo charter log (Executing shard server items head stood logged) =
+    MayExecute charter log shard server items head stood logged
+MayDo charter log (Basing shard number place part) = MayBase charter log shard number place part
+MayDo charter log (Naming shard head number parts logged) = MayName charter log shard head number parts logged
+MayDo charter log (Clearing key) = MayClear charter log key
+MayDo charter log (Following server revision) = Unit {0}
+MayDo charter log (Checking compares) = Unit {0}
+MayDo charter log Foreign = Unit {0}
+
+-- the transaction is that of a deed that a process may do
+pub record MaySend {Q P : Type 0} (charter : Charter Q P) (log : List (Transaction Q P))
+    (txn : Transaction Q P) : Type 0 where
+  pub deed : Deed Q P
+  pub is : txn ≡ transaction_of deed
+  pub may : MayDo charter log deed
+
+-- each transaction was one that might be sent, and was made as its compares held
+abbrev pub IsHonest : {Q P : Type 0} → Charter Q P → List (Transaction Q P) → Type 0
+IsHonest charter [] = Unit {0}
+IsHonest charter (txn ∷ earlier) = IsTrue (all_hold earlier txn.compares) × MaySend charter earlier txn
+    × IsHonest charter earlier
+
+-- below, `log` is the store before the deed
+
+-- the change is made by who leads, and the rule allows it of the record
+pub record IsRightChange {Q P : Type 0} (charter : Charter Q P) (log : List (Transaction Q P)) (process shard : ℕ)
+    (change : Change)
+    (next : Record) : Type 0 where
+  pub within : shard < charter.count
+  pub leads : leader_of log ≡ process
+  pub changed : IsChanged charter.ceiling (stored_record shard log) change next
+
+-- the requests are executed by the server that the record accepts, and come next in the log
+pub record IsRightBatch {Q P : Type 0} (charter : Charter Q P) (log : List (Transaction Q P)) (shard server : ℕ)
+    (items : List (Item Q))
+    (head : Head) : Type 0 where
+  pub within : shard < charter.count
+  pub named : server ≢ 0
+  pub accepted : AreAccepted (stored_record shard log) server (made shard log) items
+  pub head_is : head_of shard log ≡ head
+
+-- the part is one of the base of the shard's first batches, so many
+pub record IsRightPart {Q P : Type 0} (charter : Charter Q P) (log : List (Transaction Q P)) (shard number place : ℕ)
+    (part : P) : Type 0 where
+  pub within : number ≤ (head_of shard log).batches
+  pub is : slice_get (charter.parts (made_until shard number log)) place ≡ Some part
+
+-- the base is newer than the one before, and lies there whole
+pub record IsRightBase {Q P : Type 0} (charter : Charter Q P) (log : List (Transaction Q P)) (shard : ℕ) (head : Head)
+    (number parts : ℕ) : Type 0 where
+  pub head_is : head_of shard log ≡ head
+  pub newer : head.base < number
+  pub within : number ≤ head.batches
+  pub all : parts ≡ length (charter.parts (made_until shard number log))
+  pub there : (place : ℕ) → place < parts
+      → part_at shard number place log ≡ slice_get (charter.parts (made_until shard number log)) place
+
+-- the base stands for the batch, or is newer
+abbrev pub IsBehind : {Q P : Type 0} → Charter Q P → List (Transaction Q P) → PassingKey → Type 0
+IsBehind charter log (Batch shard number) = number ≤ (head_of shard log).base
+IsBehind charter log (Part shard number place) = number < (head_of shard log).base
+IsBehind charter log _ = ⊥
+
+-- the deed is right for the store as it is
+abbrev pub IsRight : {Q P : Type 0} → Charter Q P → List (Transaction Q P) → Deed Q P → Type 0
+IsRight charter log (Electing process) = Unit {0}
+IsRight charter log (Expiring key) = IsTrue (is_leased key)
+IsRight charter log (Changing process shard change next stood elected) =
+    IsRightChange charter log process shard change next
+IsRight charter log (Executing shard server items head stood logged) = IsRightBatch charter log shard server items head
+IsRight charter log (Basing shard number place part) = IsRightPart charter log shard number place part
+IsRight charter log (Naming shard head number parts logged) = IsRightBase charter log shard head number parts
+IsRight charter log (Clearing key) = IsBehind charter log key
+IsRight charter log (Following server revision) = Unit {0}
+IsRight charter log (Checking compares) = Unit {0}
+IsRight charter log Foreign = Unit {0}
+
+-- the transaction is that of a deed that is right
+pub record WasRight {Q P : Type 0} (charter : Charter Q P) (log : List (Transaction Q P))
+    (txn : Transaction Q P) : Type 0 where
+  pub deed : Deed Q P
+  pub is : txn ≡ transaction_of deed
+  pub right : IsRight charter log deed
+
+-- each transaction was right for the store before it
+abbrev pub AreRight : {Q P : Type 0} → Charter Q P → List (Transaction Q P) → Type 0
+AreRight charter [] = Unit {0}
+AreRight charter (txn ∷ earlier) = WasRight charter earlier txn × AreRight charter earlier

@@ -1,0 +1,199 @@
+-- The store: its transactions, the latest first, and what they leave. A transaction's revision is its place in this
+-- order.
+use Rattle.std.specs.Prelude.{ℕ, Bool, true, false, Option, Some, None, nat_lt, ◌==◌, ◌&&◌, ◌+◌, List, [], ◌∷◌, ◌++◌}
+use Rattle.std.specs.Prelude.{length, if◌then◌else◌}
+use Rattle.std.specs.List.{list_all, list_any}
+use Rattle.sm_ownership.specs.declared.change.Change.{Change}
+use Rattle.sm_ownership.specs.declared.record.Record.{Record}
+use Rattle.sm_ownership.specs.History.{vacant}
+use Rattle.sm_store.specs.declared.compare.Compare.{Compare}
+use Rattle.sm_store.specs.declared.head.Head.{Head}
+use Rattle.sm_store.specs.declared.item.Item.{Item}
+use Rattle.sm_store.specs.declared.store_key.LastingKey.{LastingKey}
+use Rattle.sm_store.specs.declared.store_key.LastingKey.TheVariants.{Record as RecordKey, Head as HeadKey}
+use Rattle.sm_store.specs.declared.store_key.PassingKey.{PassingKey}
+use Rattle.sm_store.specs.declared.store_key.PassingKey.TheVariants.{Leader, Server, Batch, Part, Other}
+use Rattle.sm_store.specs.declared.store_key.StoreKey.{StoreKey}
+use Rattle.sm_store.specs.declared.store_key.StoreKey.TheVariants.{Lasting, Passing}
+
+-- what a transaction writes to one key
+pub data Write (Q P : Type 0) : Type 0 where
+  -- a process leads
+  Leads : (process : ℕ) → Write Q P
+  -- a shard's record becomes this one, by a change that this process makes
+  Stands : (process shard : ℕ) (change : Change) (next : Record) → Write Q P
+  -- the head of a shard's log becomes this one
+  Heads : (shard : ℕ) (head : Head) → Write Q P
+  -- the shard's batch of this number holds these requests, which this server executed
+  Executes : (shard number server : ℕ) (items : List (Item Q)) → Write Q P
+  -- the shard's base of so many batches has this part at this place
+  Bases : (shard number place : ℕ) (part : P) → Write Q P
+  -- a server is there, and has read the store up to this revision
+  Follows : (server revision : ℕ) → Write Q P
+  -- the key is deleted
+  Deletes : (key : PassingKey) → Write Q P
+  -- something else is written
+  Elsewhere : Write Q P
+
+-- it is made as a whole, if each compare holds, and else not at all
+pub record Transaction (Q P : Type 0) : Type 0 where
+  pub compares : List Compare
+  pub writes : List (Write Q P)
+
+-- the key of who leads
+abbrev pub leader_key : StoreKey
+leader_key = Passing Leader
+
+-- the key of a shard's record
+abbrev pub record_key : ℕ → StoreKey
+record_key shard = Lasting (RecordKey shard)
+
+-- the key of the head of a shard's log
+abbrev pub head_key : ℕ → StoreKey
+head_key shard = Lasting (HeadKey shard)
+
+-- the key of a shard's batch of this number
+abbrev pub batch_key : ℕ → ℕ → StoreKey
+batch_key shard number = Passing (Batch shard number)
+
+-- the key of a part of a base
+abbrev pub part_key : ℕ → ℕ → ℕ → StoreKey
+part_key shard number place = Passing (Part shard number place)
+
+-- the key that is written
+abbrev pub written_key : {Q P : Type 0} → Write Q P → StoreKey
+written_key (Leads process) = leader_key
+written_key (Stands process shard change next) = record_key shard
+written_key (Heads shard head) = head_key shard
+written_key (Executes shard number server items) = batch_key shard number
+written_key (Bases shard number place part) = part_key shard number place
+written_key (Follows server revision) = Passing (Server server)
+written_key (Deletes key) = Passing key
+written_key Elsewhere = Passing Other
+
+-- the write deletes its key
+abbrev pub is_deletion : {Q P : Type 0} → Write Q P → Bool
+is_deletion (Deletes key) = true
+is_deletion _ = false
+
+-- two keys that are never deleted are the same
+abbrev pub same_lasting : LastingKey → LastingKey → Bool
+same_lasting (RecordKey a) (RecordKey b) = a == b
+same_lasting (HeadKey a) (HeadKey b) = a == b
+same_lasting _ _ = false
+
+-- two keys that may be deleted are the same
+abbrev pub same_passing : PassingKey → PassingKey → Bool
+same_passing Leader Leader = true
+same_passing (Server a) (Server b) = a == b
+same_passing (Batch a m) (Batch b n) = a == b && m == n
+same_passing (Part a m i) (Part b n j) = a == b && (m == n && i == j)
+same_passing Other Other = true
+same_passing _ _ = false
+
+-- two keys are the same
+abbrev pub same_store_key : StoreKey → StoreKey → Bool
+same_store_key (Lasting a) (Lasting b) = same_lasting a b
+same_store_key (Passing a) (Passing b) = same_passing a b
+same_store_key _ _ = false
+
+-- the writes leave this of a value, one after the other
+abbrev pub left_by : {A W : Type 0} → (A → W → A) → A → List W → A
+left_by one before [] = before
+left_by one before (write ∷ writes) = left_by one (one before write) writes
+
+-- a write of the key leaves it at this revision, or at none where it is deleted
+abbrev pub revised : {Q P : Type 0} → StoreKey → ℕ → ℕ → Write Q P → ℕ
+revised key now before write =
+    if same_store_key (written_key write) key then (if is_deletion write then 0 else now) else before
+
+-- the revision at which the key was last written, 0 where it isn't there
+abbrev pub revision_of : {Q P : Type 0} → StoreKey → List (Transaction Q P) → ℕ
+revision_of key [] = 0
+revision_of key (txn ∷ earlier) = left_by (revised key (length earlier + 1)) (revision_of key earlier) txn.writes
+
+-- each compare holds
+abbrev pub all_hold : {Q P : Type 0} → List (Transaction Q P) → List Compare → Bool
+all_hold log compares = list_all (λ compare. revision_of compare.key log == compare.revision) compares
+
+-- what the transactions leave of a value, of which each write leaves this
+abbrev pub view_from : {A Q P : Type 0} → (A → Write Q P → A) → A → List (Transaction Q P) → A
+view_from one start [] = start
+view_from one start (txn ∷ earlier) = left_by one (view_from one start earlier) txn.writes
+
+-- who leads after a write, 0 where nobody does
+abbrev pub led : {Q P : Type 0} → ℕ → Write Q P → ℕ
+led before (Leads process) = process
+led before (Deletes key) = if same_passing key Leader then 0 else before
+led before _ = before
+
+-- who leads, 0 where nobody does
+abbrev pub leader_of : {Q P : Type 0} → List (Transaction Q P) → ℕ
+leader_of log = view_from led 0 log
+
+-- a shard's record after a write
+abbrev pub stood : {Q P : Type 0} → ℕ → Record → Write Q P → Record
+stood shard before (Stands process at change next) = if at == shard then next else before
+stood shard before _ = before
+
+-- the record of a shard
+abbrev pub stored_record : {Q P : Type 0} → ℕ → List (Transaction Q P) → Record
+stored_record shard log = view_from (stood shard) vacant log
+
+-- the head of a shard's log after a write
+abbrev pub headed : {Q P : Type 0} → ℕ → Head → Write Q P → Head
+headed shard before (Heads at head) = if at == shard then head else before
+headed shard before _ = before
+
+-- the head of a shard's log
+abbrev pub head_of : {Q P : Type 0} → ℕ → List (Transaction Q P) → Head
+head_of shard log = view_from (headed shard) (record { batches = 0; base = 0; parts = 0 }) log
+
+-- the batch at a number after a write
+abbrev pub batched : {Q P : Type 0} → ℕ → ℕ → Option (List (Item Q)) → Write Q P → Option (List (Item Q))
+batched shard number before (Executes at n server items) = if at == shard && n == number then Some items else before
+batched shard number before (Deletes key) = if same_passing key (Batch shard number) then None else before
+batched shard number before _ = before
+
+-- the batch that stands at a number
+abbrev pub batch_at : {Q P : Type 0} → ℕ → ℕ → List (Transaction Q P) → Option (List (Item Q))
+batch_at shard number log = view_from (batched shard number) None log
+
+-- the part of a base at a place after a write
+abbrev pub based_on : {Q P : Type 0} → ℕ → ℕ → ℕ → Option P → Write Q P → Option P
+based_on shard number place before (Bases at n i part) =
+    if at == shard && (n == number && i == place) then Some part else before
+based_on shard number place before (Deletes key) = if same_passing key (Part shard number place) then None else before
+based_on shard number place before _ = before
+
+-- the part of a base that stands at a place
+abbrev pub part_at : {Q P : Type 0} → ℕ → ℕ → ℕ → List (Transaction Q P) → Option P
+part_at shard number place log = view_from (based_on shard number place) None log
+
+-- a write of this key is among these
+abbrev pub touches : {Q P : Type 0} → StoreKey → List (Write Q P) → Bool
+touches key writes = list_any (λ write. same_store_key (written_key write) key) writes
+
+-- the requests of a shard in the batches among these writes
+abbrev pub executed_by : {Q P : Type 0} → ℕ → List (Write Q P) → List (Item Q)
+executed_by shard [] = []
+executed_by shard (Executes at number server items ∷ writes) =
+    (if at == shard then items else []) ++ executed_by shard writes
+executed_by shard (_ ∷ writes) = executed_by shard writes
+
+-- the requests of a shard that a transaction makes: those of a batch that is written with the head of the shard's log
+abbrev pub made_by : {Q P : Type 0} → ℕ → List (Write Q P) → List (Item Q)
+made_by shard writes = if touches (head_key shard) writes then executed_by shard writes else []
+
+-- the requests of a shard that are made, in order
+abbrev pub made : {Q P : Type 0} → ℕ → List (Transaction Q P) → List (Item Q)
+made shard [] = []
+made shard (txn ∷ earlier) = made shard earlier ++ made_by shard txn.writes
+
+-- those of its first batches, so many
+abbrev pub made_until : {Q P : Type 0} → ℕ → ℕ → List (Transaction Q P) → List (Item Q)
+made_until shard number [] = []
+made_until shard number (txn ∷ earlier) =
+    if nat_lt (head_of shard earlier).batches number
+    then made_until shard number earlier ++ made_by shard txn.writes
+    else made_until shard number earlier

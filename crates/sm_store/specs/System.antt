@@ -1,0 +1,183 @@
+-- All processes and the store, over every order of events. Messages come late, twice, or never, and in any order: what
+-- was
+-- once sent to the store may reach it at any later moment, any number of times. Processes stop, forget and start at
+-- any moment:
+-- nothing here rests on what they remember, but only on what they send and claim.
+use Rattle.std.specs.Prelude.{ℕ, Option, Some, None, ◌≡◌, ◌≤◌, ◌<◌, List, [], ◌∷◌, ◌++◌, length, slice_get}
+use Rattle.std.specs.Prelude.{if◌then◌else◌}
+use Rattle.std.specs.List.{AllByRecursion}
+use Rattle.sm_store.specs.declared.item.Item.{Item}
+use Rattle.sm_store.specs.Clients.{last_of, reply_in, state_after, times}
+use Rattle.sm_store.specs.Store.{Transaction, Write, all_hold, head_key, made}
+use Rattle.sm_store.specs.Deeds.{AreRight, Charter, MaySend, WasFound, at}
+use Rattle.sm_store.specs.Whole.{IsLogWhole}
+
+-- a request that only reads, and the length of the log when it came
+pub record Ask (Q : Type 0) : Type 0 where
+  pub shard : ℕ
+  pub request : Q
+  pub since : ℕ
+
+-- what a process claims to a client
+pub data Claim (Q R : Type 0) : Type 0 where
+  -- the client's request of this number is made, with this reply
+  Replies : (shard client number : ℕ) (reply : R) → Claim Q R
+  -- a later one of the client is made, so this one won't be
+  Overtaken : (shard client number : ℕ) → Claim Q R
+  -- what is asked has this reply
+  Reads : (ask : Ask Q) (reply : R) → Claim Q R
+
+-- a transaction that was sent, and the length of the log then
+pub record SentTransaction (Q P : Type 0) : Type 0 where
+  pub txn : Transaction Q P
+  pub since : ℕ
+
+-- one whose compares held, and the store at which they did
+pub record Carried (Q P : Type 0) : Type 0 where
+  pub txn : Transaction Q P
+  pub since : ℕ
+  pub moment : List (Transaction Q P)
+
+-- the store, and all that was ever asked, sent, held and claimed
+pub record System (Q P R : Type 0) : Type 0 where
+  pub log : List (Transaction Q P)
+  pub asked : List (Ask Q)
+  pub sent : List (SentTransaction Q P)
+  pub held : List (Carried Q P)
+  pub claims : List (Claim Q R)
+
+-- what happens, one after another
+pub data Event (Q P R : Type 0) : Type 0 where
+  -- a request that only reads comes to a process
+  Comes : (shard : ℕ) (request : Q) → Event Q P R
+  -- a process sends a transaction
+  Sends : (txn : Transaction Q P) → Event Q P R
+  -- one that was sent, or a copy of it, reaches the store
+  Reaches : (which : ℕ) → Event Q P R
+  -- a process claims something to a client
+  Claims : (claim : Claim Q R) → Event Q P R
+
+-- the log with a transaction that is made; one that writes nothing leaves no trace
+abbrev pub extended : {Q P : Type 0} → Transaction Q P → List (Write Q P) → List (Transaction Q P)
+    → List (Transaction Q P)
+extended txn [] log = log
+extended txn (write ∷ writes) log = txn ∷ log
+
+-- the store makes a transaction that reaches it, where its compares hold
+abbrev pub after_reaching : {Q P R : Type 0} → System Q P R → Option (SentTransaction Q P) → System Q P R
+after_reaching system None = system
+after_reaching system (Some sent) =
+    if all_hold system.log sent.txn.compares
+    then record {
+      log = extended sent.txn sent.txn.writes system.log;
+      asked = system.asked;
+      sent = system.sent;
+      held = record { txn = sent.txn; since = sent.since; moment = system.log } ∷ system.held;
+      claims = system.claims;
+    }
+    else system
+
+-- the reply is that of a moment after the request came
+pub record IsReadSince {Q P R S : Type 0} (after : S → Q → S) (reply : S → Q → R) (start : S)
+    (log : List (Transaction Q P)) (ask : Ask Q) (answer : R) : Type 0 where
+  pub later : List (Transaction Q P)
+  pub past : List (Transaction Q P)
+  pub is : log ≡ later ++ past
+  pub since : ask.since ≤ length past
+  pub answer_is : answer ≡ reply (state_after after start (made ask.shard past)) ask.request
+
+-- it is so: the reply is that of one thread's run over the requests that are made, in order; what won't be made is
+-- overtaken by a greater number of its client
+abbrev pub IsSo : {Q P R S : Type 0} → (S → Q → S) → (S → Q → R) → S → List (Transaction Q P) → Claim Q R → Type 0
+IsSo after reply start log (Replies shard client number answer) =
+    reply_in after reply start (made shard log) client number ≡ Some answer
+IsSo after reply start log (Overtaken shard client number) = number < last_of client (made shard log)
+IsSo after reply start log (Reads ask answer) = IsReadSince after reply start log ask answer
+
+-- one who has read the requests, and sent after the request came a transaction that compares their revision, which held
+pub record MayRead {Q P R S : Type 0} (after : S → Q → S) (reply : S → Q → R) (start : S) (system : System Q P R)
+    (ask : Ask Q) (answer : R) : Type 0 where
+  pub place : ℕ
+  pub was_asked : slice_get system.asked place ≡ Some ask
+  pub held : Carried Q P
+  pub which : ℕ
+  pub was_held : slice_get system.held which ≡ Some held
+  pub sent_after : ask.since ≤ held.since
+  pub items : List (Item Q)
+  pub revision : ℕ
+  pub items_were : WasFound (made ask.shard) (head_key ask.shard) system.log items revision
+  pub compare : ℕ
+  pub compared : slice_get held.txn.compares compare ≡ Some (at (head_key ask.shard) revision)
+  pub answer_is : answer ≡ reply (state_after after start items) ask.request
+
+-- what a process may claim: what is so in the store that it has read, and a read by `MayRead`
+abbrev pub MayClaim : {Q P R S : Type 0} → (S → Q → S) → (S → Q → R) → S → System Q P R → Claim Q R → Type 0
+MayClaim after reply start system (Replies shard client number answer) =
+    IsSo after reply start system.log (Replies shard client number answer)
+MayClaim after reply start system (Overtaken shard client number) =
+    IsSo after reply start system.log (Overtaken shard client number)
+MayClaim after reply start system (Reads ask answer) = MayRead after reply start system ask answer
+
+-- what may happen: a process sends what it may, and claims what it knows
+abbrev pub May : {Q P R S : Type 0} → (S → Q → S) → (S → Q → R) → S → Charter Q P → System Q P R → Event Q P R → Type 0
+May after reply start charter system (Comes shard request) = Unit {0}
+May after reply start charter system (Sends txn) = MaySend charter system.log txn
+May after reply start charter system (Reaches which) = Unit {0}
+May after reply start charter system (Claims claim) = MayClaim after reply start system claim
+
+-- the system after an event
+abbrev pub happens : {Q P R : Type 0} → System Q P R → Event Q P R → System Q P R
+happens system (Comes shard request) =
+    record {
+      log = system.log;
+      asked = record { shard = shard; request = request; since = length system.log } ∷ system.asked;
+      sent = system.sent;
+      held = system.held;
+      claims = system.claims;
+    }
+happens system (Sends txn) =
+    record {
+      log = system.log;
+      asked = system.asked;
+      sent = record { txn = txn; since = length system.log } ∷ system.sent;
+      held = system.held;
+      claims = system.claims;
+    }
+happens system (Reaches which) = after_reaching system (slice_get system.sent which)
+happens system (Claims claim) =
+    record {
+      log = system.log;
+      asked = system.asked;
+      sent = system.sent;
+      held = system.held;
+      claims = claim ∷ system.claims;
+    }
+
+-- the system after these events, the latest first
+abbrev pub system_after : {Q P R : Type 0} → List (Event Q P R) → System Q P R
+system_after [] = record { log = []; asked = []; sent = []; held = []; claims = [] }
+system_after (event ∷ earlier) = happens (system_after earlier) event
+
+-- each event was one that might happen
+abbrev pub MightHappen : {Q P R S : Type 0} → (S → Q → S) → (S → Q → R) → S → Charter Q P → List (Event Q P R) → Type 0
+MightHappen after reply start charter [] = Unit {0}
+MightHappen after reply start charter (event ∷ earlier) = May after reply start charter (system_after earlier) event
+    × MightHappen after reply start charter earlier
+
+-- the law, at each moment of each run
+pub record IsLawful {Q P R S : Type 0} (after : S → Q → S) (reply : S → Q → R) (start : S) (charter : Charter Q P)
+    (system : System Q P R) : Type 0 where
+  -- each change was one that the rule allows, by who led; each batch was the accepted server's, and next in the log
+  pub right : AreRight charter system.log
+  -- what lies at a shard's keys leads to all that is made
+  pub whole : (shard : ℕ) → IsLogWhole charter shard system.log
+  -- nothing is made twice
+  pub once : (shard client number : ℕ) → times client number (made shard system.log) ≤ 1
+  -- whatever was claimed is so, now as when it was claimed
+  pub claims : AllByRecursion (IsSo after reply start system.log) system.claims
+
+-- what was overtaken is not made from then on
+abbrev pub StaysOvertaken : {Q P R : Type 0} → System Q P R → System Q P R → Claim Q R → Type 0
+StaysOvertaken before now (Overtaken shard client number) =
+    times client number (made shard now.log) ≡ times client number (made shard before.log)
+StaysOvertaken before now _ = Unit {0}

@@ -1,0 +1,177 @@
+-- What the store's growth leaves: what was read, what may be sent, and what was claimed.
+use Rattle.std.proofs.Common.{◌≡◌, ℕ, ◌<◌, Bool, true, false, List, [], ◌∷◌, ◌++◌, refl, sym, ap, subst, ◌∙◌, arith}
+use Rattle.std.proofs.Common.{⊎_elim, append_assoc, append-nil}
+use Rattle.std.specs.Prelude.{◌==◌, max, if◌then◌else◌}
+use Rattle.std.proofs.lemmas.Bool.{eqb-true, cases_Bool}
+use Rattle.sm_store.specs.declared.item.Item.{Item}
+use Rattle.sm_store.specs.declared.store_key.PassingKey.{PassingKey}
+use Rattle.sm_store.specs.declared.store_key.PassingKey.TheVariants.{Leader, Server, Batch, Part, Other}
+use Rattle.sm_store.specs.declared.store_key.StoreKey.{StoreKey}
+use Rattle.sm_store.specs.Clients.{last_of, AreNext, times, reply_in}
+use Rattle.sm_store.specs.Store.{Transaction, head_key, made, made_by, touches}
+use Rattle.sm_store.specs.Deeds.{AreRight, Charter, Deed, Electing, Expiring, Changing, Executing, Basing, Naming}
+use Rattle.sm_store.specs.Deeds.{Clearing, Following, Checking, Foreign, HasRequests, IsRight, MayClear, MayDo, MaySend}
+use Rattle.sm_store.specs.Deeds.{WasFound, transaction_of}
+use Rattle.sm_store.specs.System.{Claim, Replies, Overtaken, Reads, IsSo}
+use Rattle.sm_store.specs.lemmas.Numbers.{last-append, next-append, reply-append, times-append, passed}
+
+next_none : {Q : Type 0} (before : List (Item Q)) (b : Bool) (items : List (Item Q)) → items ≡ []
+    → AreNext before (if b then items else [])
+next_none before true items none = subst (AreNext before) (sym none) tt
+next_none before false items none = tt
+
+pub next_split : {Q : Type 0} (before xs ys : List (Item Q)) → AreNext before (xs ++ ys) → AreNext (before ++ xs) ys
+next_split {Q = Q} before [] ys next = subst (λ (list : List (Item Q)). AreNext list ys) (sym (append-nil before)) next
+next_split {Q = Q} before (item ∷ items) ys next =
+    subst (λ (list : List (Item Q)). AreNext list ys) (append_assoc before (item ∷ []) items)
+    (next_split (before ++ item ∷ []) items ys next.1)
+
+module _ {Q P : Type 0} where
+  -- what was read once was read, however the store goes on
+  pub found_grows : {A : Type 0} (view : List (Transaction Q P) → A) (key : StoreKey)
+      (more log : List (Transaction Q P))
+      (value : A) (revision : ℕ) → WasFound view key log value revision → WasFound view key (more ++ log) value revision
+  found_grows view key more log value revision found = record {
+    later = more ++ found.later;
+    past = found.past;
+    is = ap (λ (rest : List (Transaction Q P)). more ++ rest) found.is ∙ sym (append_assoc more found.later found.past);
+    at = found.at;
+    was = found.was;
+  }
+
+  -- a shard's requests go on
+  pub made_grows : (shard : ℕ) (more log : List (Transaction Q P))
+      → (extra : List (Item Q)) × (made shard (more ++ log) ≡ made shard log ++ extra)
+  made_grows shard [] log = ([], sym (append-nil (made shard log)))
+  made_grows shard (txn ∷ more) log =
+      let rest = made_grows shard more log in
+      let added = made_by shard txn.writes in (
+        rest.0 ++ added,
+        ap (λ (items : List (Item Q)). items ++ added) rest.1 ∙ append_assoc (made shard log) rest.0 added,
+      )
+
+module _ {Q P : Type 0} (charter : Charter Q P) where
+  requests_grow : (more log : List (Transaction Q P)) (shard number : ℕ) (items : List (Item Q))
+      → HasRequests log shard number items → HasRequests (more ++ log) shard number items
+  requests_grow more log shard number items has = record {
+    head = has.head;
+    revision = has.revision;
+    log_was = found_grows _ _ more log _ _ has.log_was;
+    all = has.all;
+  }
+
+  clear_grows : (more log : List (Transaction Q P)) (key : PassingKey) → MayClear charter log key
+      → MayClear charter (more ++ log) key
+  clear_grows more log (Batch shard number) may = (may.0, may.1, found_grows _ _ more log _ _ may.2, may.3)
+  clear_grows more log (Part shard number place) may = (may.0, may.1, found_grows _ _ more log _ _ may.2, may.3)
+  clear_grows more log Leader may = may
+  clear_grows more log (Server server) may = may
+  clear_grows more log Other may = may
+
+  may_grow : (more log : List (Transaction Q P)) (deed : Deed Q P) → MayDo charter log deed
+      → MayDo charter (more ++ log) deed
+  may_grow more log (Electing process) may = tt
+  may_grow more log (Expiring key) may = may
+  may_grow more log (Changing process shard change next stood elected) may = record {
+    within = may.within;
+    was_elected = may.was_elected;
+    leads = found_grows _ _ more log _ _ may.leads;
+    state = may.state;
+    record_was = found_grows _ _ more log _ _ may.record_was;
+    changed = may.changed;
+  }
+  may_grow more log (Executing shard server items head stood logged) may = record {
+    within = may.within;
+    named = may.named;
+    state = may.state;
+    record_was = found_grows _ _ more log _ _ may.record_was;
+    before = may.before;
+    log_was = found_grows _ _ more log _ _ may.log_was;
+    accepted = may.accepted;
+  }
+  may_grow more log (Basing shard number place part) may = record {
+    items = may.items;
+    requests = requests_grow more log shard number may.items may.requests;
+    is = may.is;
+  }
+  may_grow more log (Naming shard head number parts logged) may = record {
+    head_was = found_grows _ _ more log _ _ may.head_was;
+    newer = may.newer;
+    items = may.items;
+    requests = requests_grow more log shard number may.items may.requests;
+    all = may.all;
+    there = λ place below. let one = may.there place below in (one.0, one.1, found_grows _ _ more log _ _ one.2);
+  }
+  may_grow more log (Clearing key) may = clear_grows more log key may
+  may_grow more log (Following server revision) may = tt
+  may_grow more log (Checking compares) may = tt
+  may_grow more log Foreign may = tt
+
+  -- what may be sent once may be sent later
+  pub send_grows : (more log : List (Transaction Q P)) (txn : Transaction Q P) → MaySend charter log txn
+      → MaySend charter (more ++ log) txn
+  send_grows more log txn may = record { deed = may.deed; is = may.is; may = may_grow more log may.deed may.may }
+
+  added_next : (shard : ℕ) (log : List (Transaction Q P)) (deed : Deed Q P) → IsRight charter log deed
+      → AreNext (made shard log) (made_by shard (transaction_of deed).writes)
+  added_next shard log (Electing process) right = tt
+  added_next shard log (Expiring key) right = tt
+  added_next shard log (Changing process at change next stood elected) right = tt
+  added_next shard log (Executing at server items head stood logged) right =
+      ⊎_elim
+      (λ (yes : (at == shard) ≡ true).
+      let its : AreNext (made shard log) items =
+      subst (λ (k : ℕ). AreNext (made k log) items) (eqb-true at shard yes) right.accepted.next in
+      rw yes (subst (AreNext (made shard log)) (sym (append-nil items)) its))
+      (λ (no : (at == shard) ≡ false). rw no tt)
+      (cases_Bool (at == shard))
+  added_next shard log (Basing at number place part) right = tt
+  added_next shard log (Naming at head number parts logged) right =
+      next_none (made shard log) (touches (head_key shard) (transaction_of {Q = Q} {P = P}
+      (Naming at head number parts logged)).writes) [] refl
+  added_next shard log (Clearing key) right = tt
+  added_next shard log (Following server revision) right = tt
+  added_next shard log (Checking compares) right = tt
+  added_next shard log Foreign right = tt
+
+  -- a shard's requests come next one after the other
+  pub made_next : (shard : ℕ) (log : List (Transaction Q P)) → AreRight charter log → AreNext [] (made shard log)
+  made_next shard [] right = tt
+  made_next shard (txn ∷ earlier) right =
+      next-append [] (made shard earlier) (made_by shard txn.writes) (made_next shard earlier right.1)
+      (subst (λ (t : Transaction Q P). AreNext (made shard earlier) (made_by shard t.writes)) (sym right.0.is)
+      (added_next shard earlier right.0.deed right.0.right))
+
+  -- what a client's greater number has overtaken is not made from then on
+  pub overtaken_grows : (shard client number : ℕ) (more log : List (Transaction Q P)) → AreRight charter (more ++ log)
+      → number < last_of client (made shard log)
+      → times client number (made shard (more ++ log)) ≡ times client number (made shard log)
+  overtaken_grows shard client number more log right below =
+      let grown = made_grows shard more log in
+      let next : AreNext (made shard log) grown.0 =
+      next_split [] (made shard log) grown.0
+      (subst (λ (list : List (Item Q)). AreNext [] list) grown.1 (made_next shard (more ++ log) right)) in
+      let none : times client number grown.0 ≡ 0 = passed client number (made shard log) grown.0 next (omega arith) in
+      ap (times client number) grown.1 ∙ times-append client number (made shard log) grown.0 ∙ omega arith
+
+module _ {Q P R S : Type 0} (after : S → Q → S) (reply : S → Q → R) (start : S) (charter : Charter Q P) where
+  -- what is so stays so
+  pub so_grows : (more log : List (Transaction Q P)) (claim : Claim Q R) → IsSo after reply start log claim
+      → IsSo after reply start (more ++ log) claim
+  so_grows more log (Replies shard client number answer) so =
+      let grown = made_grows shard more log in
+      ap (λ (items : List (Item Q)). reply_in after reply start items client number) grown.1
+      ∙ reply-append after reply start (made shard log) grown.0 client number answer so
+  so_grows more log (Overtaken shard client number) so =
+      let grown = made_grows shard more log in
+      let longer : last_of client (made shard (more ++ log)) ≡ max (last_of client (made shard log))
+      (last_of client grown.0) =
+      ap (last_of client) grown.1 ∙ last-append client (made shard log) grown.0 in
+      omega arith
+  so_grows more log (Reads ask answer) so = record {
+    later = more ++ so.later;
+    past = so.past;
+    is = ap (λ (rest : List (Transaction Q P)). more ++ rest) so.is ∙ sym (append_assoc more so.later so.past);
+    since = so.since;
+    answer_is = so.answer_is;
+  }

@@ -1,0 +1,164 @@
+-- A compare that holds means that what was read is what stands.
+use Rattle.std.proofs.Common.{◌≡◌, ℕ, ◌+◌, ◌<◌, ◌≤◌, Bool, true, false, List, [], ◌∷◌, ◌++◌, length, refl, sym, ap}
+use Rattle.std.proofs.Common.{subst, ◌∙◌, arith, ⊎_elim, inl, inr, length-append}
+use Rattle.std.specs.Prelude.{◌||◌, ◌⊎◌, if◌then◌else◌}
+use Rattle.std.proofs.lemmas.Bool.{true≢false, or_cases, cond-true, cond-false, cases_Bool}
+use Rattle.sm_store.specs.declared.store_key.PassingKey.{PassingKey}
+use Rattle.sm_store.specs.declared.store_key.StoreKey.{StoreKey}
+use Rattle.sm_store.specs.declared.store_key.StoreKey.TheVariants.{Lasting, Passing}
+use Rattle.sm_store.specs.Store.{Transaction, Write, Leads, Stands, Heads, Executes, Bases, Follows, Deletes, Elsewhere}
+use Rattle.sm_store.specs.Store.{same_store_key, written_key, is_deletion, left_by, revised, revision_of, touches}
+use Rattle.sm_store.specs.Deeds.{WasFound}
+
+-- the key is never deleted
+abbrev pub is_lasting : StoreKey → Bool
+is_lasting (Lasting key) = true
+is_lasting (Passing key) = false
+
+tail_of : {A : Type 0} → List A → List A
+tail_of [] = []
+tail_of (x ∷ xs) = xs
+
+or_neither : (a b : Bool) → (a || b) ≡ false → (a ≡ false) × (b ≡ false)
+or_neither true b none = absurd (true≢false none)
+or_neither false b none = (refl, none)
+
+-- a compare of this revision tells of the key: it is never deleted, or is there
+abbrev pub IsTelling : StoreKey → ℕ → Type 0
+IsTelling key revision = (is_lasting key ≡ true) ⊎ (0 < revision)
+
+-- a write of the key leaves it at this revision, or deletes it, where it may be deleted
+abbrev pub IsRevised : StoreKey → ℕ → ℕ → Type 0
+IsRevised key now left = (left ≡ now) ⊎ ((left ≡ 0) × (is_lasting key ≡ false))
+
+passing_apart : (passing : PassingKey) (key : StoreKey) → same_store_key (Passing passing) key ≡ true
+    → is_lasting key ≡ false
+passing_apart passing (Lasting key) same = absurd (true≢false (sym same))
+passing_apart passing (Passing key) same = refl
+
+module _ {Q P : Type 0} where
+  -- no write of another key changes the view
+  abbrev pub IsViewOf : {A : Type 0} → (List (Transaction Q P) → A) → StoreKey → Type 0
+  IsViewOf view key =
+      (txn : Transaction Q P) (earlier : List (Transaction Q P)) → touches key txn.writes ≡ false
+      → view (txn ∷ earlier) ≡ view earlier
+
+  pub apart_writes : (key : StoreKey) (write : Write Q P) (writes : List (Write Q P)) → touches key (write ∷ writes)
+      ≡ false
+      → (same_store_key (written_key write) key ≡ false) × (touches key writes ≡ false)
+  apart_writes key write writes apart = or_neither (same_store_key (written_key write) key) (touches key writes) apart
+
+  revised_one : (key : StoreKey) (now before : ℕ) (write : Write Q P) → same_store_key (written_key write) key ≡ true
+      → IsRevised key now (revised key now before write)
+  revised_one key now before (Leads process) same = inl (cond-true _ now before same)
+  revised_one key now before (Stands process shard change next) same = inl (cond-true _ now before same)
+  revised_one key now before (Heads shard head) same = inl (cond-true _ now before same)
+  revised_one key now before (Executes shard number server items) same = inl (cond-true _ now before same)
+  revised_one key now before (Bases shard number place part) same = inl (cond-true _ now before same)
+  revised_one key now before (Follows server revision) same = inl (cond-true _ now before same)
+  revised_one key now before (Deletes passing) same =
+      inr (cond-true (same_store_key (Passing passing) key) 0 before same, passing_apart passing key same)
+  revised_one key now before Elsewhere same = inl (cond-true _ now before same)
+
+  revised_alone : (key : StoreKey) (now before : ℕ) (writes : List (Write Q P)) → touches key writes ≡ false
+      → left_by (revised key now) before writes ≡ before
+  revised_alone key now before [] apart = refl
+  revised_alone key now before (write ∷ writes) apart =
+      let parts = apart_writes key write writes apart in
+      revised_alone key now (revised key now before write) writes parts.1
+      ∙ cond-false (same_store_key (written_key write) key) (if is_deletion write then 0 else now) before parts.0
+
+  revised_by : (key : StoreKey) (now before : ℕ) (writes : List (Write Q P)) → touches key writes ≡ true
+      → IsRevised key now (left_by (revised key now) before writes)
+  revised_by key now before [] touched = absurd (true≢false (sym touched))
+  revised_by key now before (write ∷ writes) touched =
+      ⊎_elim
+      (λ (yes : touches key writes ≡ true). revised_by key now (revised key now before write) writes yes)
+      (λ (no : touches key writes ≡ false).
+      let here : same_store_key (written_key write) key ≡ true = ⊎_elim
+      (λ (same : same_store_key (written_key write) key ≡ true). same)
+      (λ (rest : touches key writes ≡ true). absurd (true≢false (sym rest ∙ no)))
+      (or_cases (same_store_key (written_key write) key) (touches key writes) touched) in
+      subst (IsRevised key now) (sym (revised_alone key now (revised key now before write) writes no))
+      (revised_one key now before write here))
+      (cases_Bool (touches key writes))
+
+  pub revision_within : (key : StoreKey) (log : List (Transaction Q P)) → revision_of key log ≤ length log
+  revision_within key [] = omega arith
+  revision_within key (txn ∷ earlier) =
+      let before = revision_within key earlier in
+      ⊎_elim
+      (λ (yes : touches key txn.writes ≡ true).
+      ⊎_elim
+      (λ (now : revision_of key (txn ∷ earlier) ≡ length earlier + 1). omega arith)
+      (λ (gone : (revision_of key (txn ∷ earlier) ≡ 0) × (is_lasting key ≡ false)). let zero = gone.0 in omega arith)
+      (revised_by key (length earlier + 1) (revision_of key earlier) txn.writes yes))
+      (λ (no : touches key txn.writes ≡ false).
+      let same = revised_alone key (length earlier + 1) (revision_of key earlier) txn.writes no in omega arith)
+      (cases_Bool (touches key txn.writes))
+
+  longer : (later past : List (Transaction Q P)) → length past ≤ length (later ++ past)
+  longer later past = omega (arith, length-append later past)
+
+  -- a key whose revision is the same at two moments was not written between them
+  pub unwritten : {A : Type 0} (view : List (Transaction Q P) → A) (key : StoreKey) → IsViewOf view key
+      → (later past : List (Transaction Q P)) → IsTelling key (revision_of key past)
+      → revision_of key (later ++ past) ≡ revision_of key past → view (later ++ past) ≡ view past
+  unwritten view key local [] past telling same = refl
+  unwritten view key local (txn ∷ later) past telling same =
+      ⊎_elim
+      (λ (yes : touches key txn.writes ≡ true).
+      ⊎_elim
+      (λ (now : revision_of key (txn ∷ later ++ past) ≡ length (later ++ past) + 1).
+      let within = revision_within key past in
+      let more = longer later past in
+      absurd (omega arith))
+      (λ (gone : (revision_of key (txn ∷ later ++ past) ≡ 0) × (is_lasting key ≡ false)).
+      ⊎_elim
+      (λ (lasts : is_lasting key ≡ true). absurd (true≢false (sym lasts ∙ gone.1)))
+      (λ (there : 0 < revision_of key past). let zero = gone.0 in absurd (omega arith))
+      telling)
+      (revised_by key (length (later ++ past) + 1) (revision_of key (later ++ past)) txn.writes yes))
+      (λ (no : touches key txn.writes ≡ false).
+      let alone = revised_alone key (length (later ++ past) + 1) (revision_of key (later ++ past)) txn.writes no in
+      local txn (later ++ past) no ∙ unwritten view key local later past telling (sym alone ∙ same))
+      (cases_Bool (touches key txn.writes))
+
+  -- what was read stands, where its key's revision is the one that was read
+  pub stands : {A : Type 0} (view : List (Transaction Q P) → A) (key : StoreKey) → IsViewOf view key
+      → (log : List (Transaction Q P)) (value : A) (revision : ℕ) → IsTelling key revision
+      → WasFound view key log value revision → revision_of key log ≡ revision → view log ≡ value
+  stands view key local log value revision telling found now =
+      let same : revision_of key (found.later ++ found.past) ≡ revision_of key found.past =
+      ap (revision_of key) (sym found.is) ∙ now ∙ sym found.at in
+      ap view found.is
+      ∙ unwritten view key local found.later found.past (subst (IsTelling key) (sym found.at) telling) same
+      ∙ found.was
+
+  -- of two ends of one list, one is an end of the other
+  ends : (xs ys a b : List (Transaction Q P)) → xs ++ a ≡ ys ++ b
+      → ((more : List (Transaction Q P)) × (a ≡ more ++ b)) ⊎ ((more : List (Transaction Q P)) × (b ≡ more ++ a))
+  unfolding tail_of
+  ends [] ys a b same = inl (ys, same)
+  ends (x ∷ xs) [] a b same = inr (x ∷ xs, sym same)
+  ends (x ∷ xs) (y ∷ ys) a b same = ends xs ys a b (ap tail_of same)
+
+  -- what was read stood at each moment at which its key's revision was the one that was read
+  pub stood_then : {A : Type 0} (view : List (Transaction Q P) → A) (key : StoreKey) → IsViewOf view key
+      → (log : List (Transaction Q P)) (value : A) (revision : ℕ) → IsTelling key revision
+      → WasFound view key log value revision → (later past : List (Transaction Q P)) → log ≡ later ++ past
+      → revision_of key past ≡ revision → view past ≡ value
+  stood_then view key local log value revision telling found later past is at =
+      ⊎_elim
+      (λ (longer : (more : List (Transaction Q P)) × (found.past ≡ more ++ past)).
+      let same : revision_of key (longer.0 ++ past) ≡ revision_of key past =
+      ap (revision_of key) (sym longer.1) ∙ found.at ∙ sym at in
+      sym (unwritten view key local longer.0 past (subst (IsTelling key) (sym at) telling) same)
+      ∙ ap view (sym longer.1) ∙ found.was)
+      (λ (shorter : (more : List (Transaction Q P)) × (past ≡ more ++ found.past)).
+      let same : revision_of key (shorter.0 ++ found.past) ≡ revision_of key found.past =
+      ap (revision_of key) (sym shorter.1) ∙ at ∙ sym found.at in
+      ap view shorter.1
+      ∙ unwritten view key local shorter.0 found.past (subst (IsTelling key) (sym found.at) telling) same
+      ∙ found.was)
+      (ends found.later later found.past past (sym found.is ∙ is))

@@ -1,0 +1,151 @@
+-- The parts of a base are what they should be, and stay while no newer base is named.
+use Rattle.std.proofs.Common.{◌≡◌, ℕ, ◌<◌, ◌≤◌, Bool, true, false, List, [], ◌∷◌, ◌++◌, Option, Some, None, refl, sym}
+use Rattle.std.proofs.Common.{ap, subst, ◌∙◌, arith, ⊎_elim, inl, inr}
+use Rattle.std.specs.Prelude.{◌==◌, ◌&&◌, ◌⊎◌, slice_get, unwrap_or, if◌then◌else◌}
+use Rattle.std.proofs.lemmas.Bool.{true≢false, and_parts, eqb-true, cases_Bool, cond-true, cond-false}
+use Rattle.std.proofs.lemmas.Option.{none-some}
+use Rattle.sm_store.specs.declared.item.Item.{Item}
+use Rattle.sm_store.specs.declared.store_key.PassingKey.{PassingKey}
+use Rattle.sm_store.specs.declared.store_key.PassingKey.TheVariants.{Leader, Server, Batch, Part, Other}
+use Rattle.sm_store.specs.Store.{Transaction, head_of, made_until, part_at, same_passing, Deletes}
+use Rattle.sm_store.specs.Deeds.{Charter, Deed, Electing, Expiring, Changing, Executing, Basing, Naming, Clearing}
+use Rattle.sm_store.specs.Deeds.{Following, Checking, Foreign, transaction_of, is_leased, IsBehind, IsRight, AreRight}
+use Rattle.sm_store.specs.lemmas.Heads.{risen_by, until_there}
+
+some_or : {A : Type 0} (b : Bool) (x y : A) (o : Option A) → (if b then Some x else o) ≡ Some y
+    → ((b ≡ true) × (x ≡ y)) ⊎ (o ≡ Some y)
+some_or {A = A} true x y o is = inl (refl, ap (λ (q : Option A). unwrap_or q x) is)
+some_or false x y o is = inr is
+
+none_or : {A : Type 0} (b : Bool) (y : A) (o : Option A) → (if b then None else o) ≡ Some y → o ≡ Some y
+none_or true y o is = absurd (none-some _ is)
+none_or false y o is = is
+
+module _ {Q P : Type 0} (charter : Charter Q P) (shard number place : ℕ) where
+  -- the part is the base's, of batches that are there
+  pub record IsPartOf (log : List (Transaction Q P)) (part : P) : Type 0 where
+    pub within : number ≤ (head_of shard log).batches
+    pub is : slice_get (charter.parts (made_until shard number log)) place ≡ Some part
+
+  -- what is there after a deed was there before it, or is written by it
+  written : (log : List (Transaction Q P)) (deed : Deed Q P) (part : P) → IsRight charter log deed
+      → part_at shard number place (transaction_of deed ∷ log) ≡ Some part
+      → (part_at shard number place log ≡ Some part) ⊎ IsPartOf log part
+  written log (Electing process) part right is = inl is
+  written log (Expiring key) part right is = inl (none_or (same_passing key (Part shard number place)) part _ is)
+  written log (Changing process at change next stood elected) part right is = inl is
+  written log (Executing at server items head stood logged) part right is = inl is
+  written log (Basing at n i one) part right is =
+      ⊎_elim
+      (λ (here : ((at == shard && (n == number && i == place)) ≡ true) × (one ≡ part)).
+      let two = and_parts (at == shard) (n == number && i == place) here.0 in
+      let three = and_parts (n == number) (i == place) two.1 in
+      let a = eqb-true at shard two.0 in
+      let b = eqb-true n number three.0 in
+      let c = eqb-true i place three.1 in
+      inr (record {
+        within = subst (λ (k : ℕ). number ≤ (head_of k log).batches) a
+            (subst (λ (k : ℕ). k ≤ (head_of at log).batches) b right.within);
+        is = subst (λ (k : ℕ). slice_get (charter.parts (made_until k number log)) place ≡ Some part) a
+            (subst (λ (k : ℕ). slice_get (charter.parts (made_until at k log)) place ≡ Some part) b
+            (subst (λ (k : ℕ). slice_get (charter.parts (made_until at n log)) k ≡ Some part) c
+            (right.is ∙ ap Some here.1)));
+      }))
+      (λ (before : part_at shard number place log ≡ Some part). inl before)
+      (some_or (at == shard && (n == number && i == place)) one part (part_at shard number place log) is)
+  written log (Naming at head n parts logged) part right is = inl is
+  written log (Clearing key) part right is = inl (none_or (same_passing key (Part shard number place)) part _ is)
+  written log (Following server revision) part right is = inl is
+  written log (Checking compares) part right is = inl is
+  written log Foreign part right is = inl is
+
+  part_grows : (txn : Transaction Q P) (earlier : List (Transaction Q P)) (part : P) → AreRight charter (txn ∷ earlier)
+      → IsPartOf earlier part → IsPartOf (txn ∷ earlier) part
+  part_grows txn earlier part right was =
+      let within = was.within in
+      let more = risen_by charter shard txn earlier right in let b = more.batches in
+      record {
+        within = omega arith;
+        is = ap (λ (items : List (Item Q)). slice_get (charter.parts items) place)
+            (until_there charter shard number txn earlier was.within) ∙ was.is;
+      }
+
+  -- each part that is there is the base's
+  pub part_is : (log : List (Transaction Q P)) (part : P) → AreRight charter log
+      → part_at shard number place log ≡ Some part → IsPartOf log part
+  part_is [] part right is = absurd (none-some _ is)
+  part_is (txn ∷ earlier) part right is =
+      part_grows txn earlier part right
+      (⊎_elim
+      (λ (before : part_at shard number place earlier ≡ Some part). part_is earlier part right.1 before)
+      (λ (now : IsPartOf earlier part). now)
+      (written earlier right.0.deed part right.0.right
+      (subst (λ (t : Transaction Q P). part_at shard number place (t ∷ earlier) ≡ Some part) right.0.is is)))
+
+  abbrev pub HasPart : List (Transaction Q P) → Type 0
+  HasPart log = (part : P) × (part_at shard number place log ≡ Some part)
+
+  kept : (log : List (Transaction Q P)) (key : PassingKey) → same_passing key (Part shard number place) ≡ false
+      → HasPart log → HasPart (record { compares = []; writes = Deletes key ∷ [] } ∷ log)
+  kept log key apart has = (
+    has.0,
+    cond-false (same_passing key (Part shard number place)) None (part_at shard number place log) apart
+        ∙ has.1,
+  )
+
+  leased_apart : (key : PassingKey) → is_leased key ≡ true → same_passing key (Part shard number place) ≡ false
+  leased_apart Leader leased = refl
+  leased_apart (Server server) leased = refl
+  leased_apart (Batch at n) leased = refl
+  leased_apart (Part at n i) leased = absurd (true≢false (sym leased))
+  leased_apart Other leased = refl
+
+  behind_apart : (log : List (Transaction Q P)) (key : PassingKey) → IsBehind charter log key
+      → (head_of shard log).base ≤ number → same_passing key (Part shard number place) ≡ false
+  behind_apart log (Part at n i) behind newest =
+      ⊎_elim
+      (λ (yes : same_passing (Part at n i) (Part shard number place) ≡ true).
+      let two = and_parts (at == shard) (n == number && i == place) yes in
+      let three = and_parts (n == number) (i == place) two.1 in
+      let a = eqb-true at shard two.0 in
+      let b = eqb-true n number three.0 in
+      let less : n < (head_of shard log).base = subst (λ (k : ℕ). n < (head_of k log).base) a behind in
+      absurd (omega arith))
+      (λ (no : same_passing (Part at n i) (Part shard number place) ≡ false). no)
+      (cases_Bool (same_passing (Part at n i) (Part shard number place)))
+  behind_apart log (Batch at n) behind newest = refl
+  behind_apart log Leader behind newest = refl
+  behind_apart log (Server server) behind newest = refl
+  behind_apart log Other behind newest = refl
+
+  stays_one : (log : List (Transaction Q P)) (deed : Deed Q P) → IsRight charter log deed
+      → (head_of shard log).base ≤ number → HasPart log → HasPart (transaction_of deed ∷ log)
+  stays_one log (Electing process) right newest has = has
+  stays_one log (Expiring key) right newest has = kept log key (leased_apart key right) has
+  stays_one log (Changing process at change next stood elected) right newest has = has
+  stays_one log (Executing at server items head stood logged) right newest has = has
+  stays_one log (Basing at n i one) right newest has =
+      let here = at == shard && (n == number && i == place) in
+      ⊎_elim
+      (λ (yes : here ≡ true). (one, cond-true here (Some one) (part_at shard number place log) yes))
+      (λ (no : here ≡ false). (has.0, cond-false here (Some one) (part_at shard number place log) no ∙ has.1))
+      (cases_Bool here)
+  stays_one log (Naming at head n parts logged) right newest has = has
+  stays_one log (Clearing key) right newest has = kept log key (behind_apart log key right newest) has
+  stays_one log (Following server revision) right newest has = has
+  stays_one log (Checking compares) right newest has = has
+  stays_one log Foreign right newest has = has
+
+  pub part_stays_one : (txn : Transaction Q P) (earlier : List (Transaction Q P)) → AreRight charter (txn ∷ earlier)
+      → (head_of shard earlier).base ≤ number → HasPart earlier → HasPart (txn ∷ earlier)
+  part_stays_one txn earlier right newest has =
+      subst (λ (t : Transaction Q P). HasPart (t ∷ earlier)) (sym right.0.is)
+      (stays_one earlier right.0.deed right.0.right newest has)
+
+  -- a part that was there is there, while no newer base is named
+  pub part_stays : (later past : List (Transaction Q P)) → AreRight charter (later ++ past)
+      → (head_of shard (later ++ past)).base ≤ number → HasPart past → HasPart (later ++ past)
+  part_stays [] past right newest has = has
+  part_stays (txn ∷ later) past right newest has =
+      let more = risen_by charter shard txn (later ++ past) right in let b = more.base in
+      part_stays_one txn (later ++ past) right (omega arith) (part_stays later past right.1 (omega arith) has)

@@ -1,0 +1,137 @@
+-- What is made of an honest store was right when it was made.
+use Rattle.std.proofs.Common.{◌≡◌, ℕ, ◌≤◌, true, List, [], ◌∷◌, ◌++◌, Some, length, refl, sym, ap, subst, ◌∙◌, arith}
+use Rattle.std.proofs.Common.{inl, inr}
+use Rattle.std.specs.Prelude.{◌==◌, slice_get}
+use Rattle.std.proofs.lemmas.Bool.{and_parts, eqb-true}
+use Rattle.sm_ownership.specs.declared.record.Record.{Record}
+use Rattle.sm_store.specs.declared.compare.Compare.{Compare}
+use Rattle.sm_store.specs.declared.head.Head.{Head}
+use Rattle.sm_store.specs.declared.item.Item.{Item}
+use Rattle.sm_store.specs.declared.store_key.PassingKey.{PassingKey}
+use Rattle.sm_store.specs.declared.store_key.PassingKey.TheVariants.{Leader, Server, Batch, Part, Other}
+use Rattle.sm_store.specs.declared.store_key.StoreKey.{StoreKey}
+use Rattle.sm_store.specs.Store.{Transaction, all_hold, head_key, head_of, leader_key, leader_of, made, part_at}
+use Rattle.sm_store.specs.Store.{record_key, revision_of, stored_record}
+use Rattle.sm_store.specs.Deeds.{Charter, Deed, Electing, Expiring, Changing, Executing, Basing, Naming, Clearing}
+use Rattle.sm_store.specs.Deeds.{Following, Checking, Foreign, transaction_of, at, AreAccepted, IsChanged, ShardLog}
+use Rattle.sm_store.specs.Deeds.{shard_log, WasFound, MayDo, MayName, MayClear, IsHonest, IsBehind, IsRight}
+use Rattle.sm_store.specs.Deeds.{IsRightBase, AreRight}
+use Rattle.sm_store.specs.lemmas.Heads.{read_until, risen}
+use Rattle.sm_store.specs.lemmas.Heart.{stands}
+use Rattle.sm_store.specs.lemmas.Parts.{part_is, part_stays}
+use Rattle.sm_store.specs.lemmas.Views.{head_view, leader_view, log_view, record_view}
+
+module _ {Q P : Type 0} where
+  -- one compare of a transaction held, or both
+  first_held : (log : List (Transaction Q P)) (a : StoreKey) (m : ℕ) (rest : List Compare)
+      → all_hold log (at a m ∷ rest) ≡ true → (revision_of a log ≡ m) × (all_hold log rest ≡ true)
+  first_held log a m rest held =
+      let parts = and_parts (revision_of a log == m) (all_hold log rest) held in
+      (eqb-true (revision_of a log) m parts.0, parts.1)
+
+module _ {Q P : Type 0} (charter : Charter Q P) where
+  head_behind : (log : List (Transaction Q P)) (shard : ℕ) (head : Head) (revision : ℕ) → AreRight charter log
+      → WasFound (head_of shard) (head_key shard) log head revision → head.base ≤ (head_of shard log).base
+  head_behind log shard head revision right found =
+      let all : AreRight charter (found.later ++ found.past) = subst (AreRight charter) found.is right in
+      let more = risen charter shard found.later found.past all in
+      subst (λ (h : Head). h.base ≤ (head_of shard log).base) found.was
+      (subst (λ (l : List (Transaction Q P)). (head_of shard found.past).base ≤ (head_of shard l).base)
+      (sym found.is) more.base)
+
+  base_right : (log : List (Transaction Q P)) (shard : ℕ) (head : Head) (number parts logged : ℕ) → AreRight charter log
+      → head_of shard log ≡ head → MayName charter log shard head number parts logged
+      → IsRightBase charter log shard head number parts
+  base_right log shard head number parts logged right is may =
+      let read = read_until charter shard number may.items log right may.requests in
+      let newer = may.newer in
+      record {
+        head_is = is;
+        newer = may.newer;
+        within = subst (λ (h : Head). number ≤ h.batches) is read.0;
+        all = may.all ∙ ap (λ (items : List (Item Q)). length (charter.parts items)) (sym read.1);
+        there = λ place below.
+            let one = may.there place below in
+            let found = one.2 in
+            let all : AreRight charter (found.later ++ found.past) = subst (AreRight charter) found.is right in
+            let newest : (head_of shard log).base ≤ number = subst (λ (h : Head). h.base ≤ number) (sym is)
+            (omega arith) in
+            let now = part_stays charter shard number place found.later found.past all
+            (subst (λ (l : List (Transaction Q P)). (head_of shard l).base ≤ number) found.is newest)
+            (one.0, found.was) in
+            let there : part_at shard number place log ≡ Some now.0 = ap (part_at shard number place) found.is
+            ∙ now.1 in
+            there ∙ sym (part_is charter shard number place log now.0 right there).is;
+      }
+
+  clear_right : (log : List (Transaction Q P)) (key : PassingKey) → AreRight charter log → MayClear charter log key
+      → IsBehind charter log key
+  clear_right log (Batch shard number) right may =
+      let behind = head_behind log shard may.0 may.1 right may.2 in let below = may.3 in omega arith
+  clear_right log (Part shard number place) right may =
+      let behind = head_behind log shard may.0 may.1 right may.2 in let below = may.3 in omega arith
+  clear_right log Leader right may = may
+  clear_right log (Server server) right may = may
+  clear_right log Other right may = may
+
+  right_one : (log : List (Transaction Q P)) (deed : Deed Q P) → AreRight charter log
+      → all_hold log (transaction_of deed).compares ≡ true → MayDo charter log deed → IsRight charter log deed
+  right_one log (Electing process) right held may = tt
+  right_one log (Expiring key) right held may = may
+  right_one log (Changing process shard change next stood elected) right held may =
+      let first = first_held log (record_key shard) stood (at leader_key elected ∷ []) held in
+      let second = first_held log leader_key elected [] first.1 in
+      let now : stored_record shard log ≡ may.state =
+      stands (stored_record shard) (record_key shard) (record_view shard) log may.state stood
+      (inl refl) may.record_was first.0 in
+      record {
+        within = may.within;
+        leads = stands leader_of leader_key leader_view log process elected (inr may.was_elected) may.leads second.0;
+        changed = subst (λ (state : Record). IsChanged charter.ceiling state change next) (sym now) may.changed;
+      }
+  right_one log (Executing shard server items head stood logged) right held may =
+      let first = first_held log (record_key shard) stood (at (head_key shard) logged ∷ []) held in
+      let second = first_held log (head_key shard) logged [] first.1 in
+      let now : stored_record shard log ≡ may.state =
+      stands (stored_record shard) (record_key shard) (record_view shard) log may.state stood
+      (inl refl) may.record_was first.0 in
+      let whole : shard_log shard log ≡ record { head = head; items = may.before } =
+      stands (shard_log shard) (head_key shard) (log_view shard) log
+      (record { head = head; items = may.before }) logged (inl refl) may.log_was second.0 in
+      let items_are : made shard log ≡ may.before = ap (λ (l : ShardLog Q). l.items) whole in
+      record {
+        within = may.within;
+        named = may.named;
+        accepted = subst (λ (state : Record). AreAccepted state server (made shard log) items) (sym now)
+            (subst (λ (before : List (Item Q)). AreAccepted may.state server before items)
+            (sym items_are) may.accepted);
+        head_is = ap (λ (l : ShardLog Q). l.head) whole;
+      }
+  right_one log (Basing shard number place part) right held may =
+      let read = read_until charter shard number may.items log right may.requests in
+      record {
+        within = read.0;
+        is = ap (λ (items : List (Item Q)). slice_get (charter.parts items) place) read.1 ∙ may.is;
+      }
+  right_one log (Naming shard head number parts logged) right held may =
+      let first = first_held log (head_key shard) logged [] held in
+      base_right log shard head number parts logged right
+      (stands (head_of shard) (head_key shard) (head_view shard) log head logged (inl refl) may.head_was first.0) may
+  right_one log (Clearing key) right held may = clear_right log key right may
+  right_one log (Following server revision) right held may = tt
+  right_one log (Checking compares) right held may = tt
+  right_one log Foreign right held may = tt
+
+  pub honest_is_right : (log : List (Transaction Q P)) → IsHonest charter log → AreRight charter log
+  honest_is_right [] honest = tt
+  honest_is_right (txn ∷ earlier) honest =
+      let right = honest_is_right earlier honest.2 in
+      let held : all_hold earlier (transaction_of honest.1.deed).compares ≡ true =
+      subst (λ (t : Transaction Q P). all_hold earlier t.compares ≡ true) honest.1.is honest.0 in (
+        record {
+          deed = honest.1.deed;
+          is = honest.1.is;
+          right = right_one earlier honest.1.deed right held honest.1.may;
+        },
+        right,
+      )

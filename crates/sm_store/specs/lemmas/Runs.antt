@@ -1,0 +1,284 @@
+-- Every run is lawful.
+use Rattle.std.proofs.Common.{◌≡◌, ℕ, ◌≤◌, true, false, List, [], ◌∷◌, ◌++◌, length, refl, sym, ap, subst, ◌∙◌, arith}
+use Rattle.std.proofs.Common.{⊎_elim, inl, append_assoc, length-append, zero, suc}
+use Rattle.std.specs.Prelude.{Option, Some, None, IfSome, ◌==◌, slice_get}
+use Rattle.std.specs.List.{AllByRecursion}
+use Rattle.std.proofs.lemmas.Bool.{and_parts, cases_Bool, cond_both, cond-true, cond-false, eqb-true}
+use Rattle.sm_store.specs.declared.compare.Compare.{Compare}
+use Rattle.sm_store.specs.declared.item.Item.{Item}
+use Rattle.sm_store.specs.Clients.{state_after, times}
+use Rattle.sm_store.specs.Store.{Transaction, Write, all_hold, head_key, made, revision_of}
+use Rattle.sm_store.specs.Deeds.{AreRight, Charter, IsHonest, MaySend}
+use Rattle.sm_store.specs.System.{Ask, Claim, Replies, Overtaken, Reads, Event, Comes, Sends, Reaches, Claims, Carried}
+use Rattle.sm_store.specs.System.{SentTransaction, System, IsLawful, IsSo, May, MayClaim, MayRead, MightHappen}
+use Rattle.sm_store.specs.System.{StaysOvertaken}
+use Rattle.sm_store.specs.System.{extended, happens, after_reaching, system_after}
+use Rattle.sm_store.specs.lemmas.Growth.{made_next, overtaken_grows, send_grows, so_grows}
+use Rattle.sm_store.specs.lemmas.Heart.{stood_then}
+use Rattle.sm_store.specs.lemmas.Numbers.{once}
+use Rattle.sm_store.specs.lemmas.Right.{honest_is_right}
+use Rattle.sm_store.specs.lemmas.Views.{made_view}
+use Rattle.sm_store.specs.lemmas.Whole.{whole}
+
+pub all_map : {A : Type 0} (F G : A → Type 0) → ((x : A) → F x → G x) → (xs : List A) → AllByRecursion F xs
+    → AllByRecursion G xs
+all_map F G f [] all = tt
+all_map F G f (x ∷ xs) all = (f x all.0, all_map F G f xs all.1)
+
+pub at_place : {A : Type 0} (F : A → Type 0) (xs : List A) (place : ℕ) → AllByRecursion F xs
+    → IfSome (slice_get xs place) F
+at_place F [] place all = tt
+at_place F (x ∷ xs) zero all = all.0
+at_place F (x ∷ xs) (suc place) all = at_place F xs place all.1
+
+module _ {Q P : Type 0} where
+  -- each compare of those that hold
+  compare_held : (log : List (Transaction Q P)) (compares : List Compare) → all_hold log compares ≡ true
+      → AllByRecursion (λ compare. revision_of compare.key log ≡ compare.revision) compares
+  compare_held log [] held = tt
+  compare_held log (compare ∷ compares) held =
+      let parts = and_parts (revision_of compare.key log == compare.revision) (all_hold log compares) held in
+      (eqb-true (revision_of compare.key log) compare.revision parts.0, compare_held log compares parts.1)
+
+  -- what was sent may be sent, and was sent in the past
+  pub record IsSendable (charter : Charter Q P) (log : List (Transaction Q P))
+      (sent : SentTransaction Q P) : Type 0 where
+    pub may : MaySend charter log sent.txn
+    pub since : sent.since ≤ length log
+
+  -- what held did so in the past, after it was sent
+  pub record DidHold (log : List (Transaction Q P)) (held : Carried Q P) : Type 0 where
+    pub later : List (Transaction Q P)
+    pub is : log ≡ later ++ held.moment
+    pub since : held.since ≤ length held.moment
+    pub holds : all_hold held.moment held.txn.compares ≡ true
+
+  sendable_grows : (charter : Charter Q P) (more log : List (Transaction Q P)) (sent : SentTransaction Q P)
+      → IsSendable charter log sent
+      → IsSendable charter (more ++ log) sent
+  sendable_grows charter more log sent was = let since = was.since in record {
+    may = send_grows charter more log sent.txn was.may;
+    since = omega (arith, length-append more log);
+  }
+
+  held_grows : (more log : List (Transaction Q P)) (held : Carried Q P) → DidHold log held → DidHold (more ++ log) held
+  held_grows more log held was = record {
+    later = more ++ was.later;
+    is = ap (λ (rest : List (Transaction Q P)). more ++ rest) was.is ∙ sym (append_assoc more was.later held.moment);
+    since = was.since;
+    holds = was.holds;
+  }
+
+  extended_grows : (charter : Charter Q P) (txn : Transaction Q P) (writes : List (Write Q P))
+      (log : List (Transaction Q P))
+      → all_hold log txn.compares ≡ true → MaySend charter log txn → IsHonest charter log
+      → (more : List (Transaction Q P)) × (extended txn writes log ≡ more ++ log)
+      × IsHonest charter (extended txn writes log)
+  extended_grows charter txn [] log held may honest = ([], refl, honest)
+  extended_grows charter txn (write ∷ writes) log held may honest = (txn ∷ [], refl, (held, may, honest))
+
+module _ {Q P R S : Type 0} (after : S → Q → S) (reply : S → Q → R) (start : S) (charter : Charter Q P) where
+  pub record IsSoundSystem (system : System Q P R) : Type 0 where
+    pub honest : IsHonest charter system.log
+    pub sent : AllByRecursion (IsSendable charter system.log) system.sent
+    pub held : AllByRecursion (DidHold system.log) system.held
+    pub claims : AllByRecursion (IsSo after reply start system.log) system.claims
+
+  grown : (system : System Q P R) (new more : List (Transaction Q P)) → new ≡ more ++ system.log → IsHonest charter new
+      → IsSoundSystem system
+      → IsSoundSystem (record {
+        log = new;
+        asked = system.asked;
+        sent = system.sent;
+        held = system.held;
+        claims =
+            system.claims;
+      })
+  grown system new more is honest sound = record {
+    honest = honest;
+    sent = all_map (IsSendable charter system.log) (IsSendable charter new)
+        (λ one was. subst (λ (log : List (Transaction Q P)). IsSendable charter log one) (sym is)
+        (sendable_grows charter more system.log one was))
+        system.sent sound.sent;
+    held = all_map (DidHold system.log) (DidHold new)
+        (λ one was. subst (λ (log : List (Transaction Q P)). DidHold log one) (sym is)
+        (held_grows more system.log one was))
+        system.held sound.held;
+    claims = all_map (IsSo after reply start system.log) (IsSo after reply start new)
+        (λ one so. subst (λ (log : List (Transaction Q P)). IsSo after reply start log one) (sym is)
+        (so_grows after reply start charter more system.log one so))
+        system.claims sound.claims;
+  }
+
+  reached_sound : (system : System Q P R) (found : Option (SentTransaction Q P)) → IsSoundSystem system
+      → IfSome found (IsSendable charter system.log) → IsSoundSystem (after_reaching system found)
+  reached_sound system None sound may = sound
+  reached_sound system (Some sent) sound may =
+      let made_one : System Q P R = record {
+        log = extended sent.txn sent.txn.writes system.log;
+        asked = system.asked;
+        sent = system.sent;
+        held = record { txn = sent.txn; since = sent.since; moment = system.log } ∷ system.held;
+        claims = system.claims;
+      } in
+      ⊎_elim
+      (λ (yes : all_hold system.log sent.txn.compares ≡ true).
+      let goes = extended_grows charter sent.txn sent.txn.writes system.log yes may.may sound.honest in
+      let old = grown system (extended sent.txn sent.txn.writes system.log) goes.0 goes.1 goes.2 sound in
+      let now : IsSoundSystem made_one = record {
+        honest = goes.2;
+        sent = old.sent;
+        held = (record { later = goes.0; is = goes.1; since = may.since; holds = yes }, old.held);
+        claims = old.claims;
+      } in
+      subst IsSoundSystem (sym (cond-true (all_hold system.log sent.txn.compares) made_one system yes)) now)
+      (λ (no : all_hold system.log sent.txn.compares ≡ false).
+      subst IsSoundSystem (sym (cond-false (all_hold system.log sent.txn.compares) made_one system no)) sound)
+      (cases_Bool (all_hold system.log sent.txn.compares))
+
+  read_so : (system : System Q P R) (ask : Ask Q) (answer : R) → IsSoundSystem system
+      → MayRead after reply start system ask answer → IsSo after reply start system.log
+      (Reads ask answer)
+  read_so system ask answer sound may =
+      let did : DidHold system.log may.held = subst (λ (one : Option (Carried Q P)). IfSome one (DidHold system.log))
+      may.was_held (at_place (DidHold system.log) system.held may.which sound.held) in
+      let sent_after = may.sent_after in
+      let since = did.since in
+      let now : revision_of (head_key ask.shard) may.held.moment ≡ may.revision =
+      subst (λ (one : Option Compare). IfSome one (λ compare. revision_of compare.key may.held.moment
+      ≡ compare.revision)) may.compared
+      (at_place (λ (compare : Compare). revision_of compare.key may.held.moment ≡ compare.revision)
+      may.held.txn.compares may.compare
+      (compare_held may.held.moment may.held.txn.compares did.holds)) in
+      let items_are : made ask.shard may.held.moment ≡ may.items =
+      stood_then (made ask.shard) (head_key ask.shard) (made_view ask.shard) system.log may.items may.revision
+      (inl refl) may.items_were did.later may.held.moment did.is now in
+      record {
+        later = did.later;
+        past = may.held.moment;
+        is = did.is;
+        since = omega arith;
+        answer_is = may.answer_is ∙ ap (λ (items : List (Item Q)). reply (state_after after start items) ask.request)
+            (sym items_are);
+      }
+
+  claim_so : (system : System Q P R) (claim : Claim Q R) → IsSoundSystem system
+      → MayClaim after reply start system claim
+      → IsSo after reply start system.log claim
+  claim_so system (Replies shard client number answer) sound may = may
+  claim_so system (Overtaken shard client number) sound may = may
+  claim_so system (Reads ask answer) sound may = read_so system ask answer sound may
+
+  pub sound_step : (system : System Q P R) (event : Event Q P R) → IsSoundSystem system
+      → May after reply start charter system event → IsSoundSystem (happens system event)
+  sound_step system (Comes shard request) sound may =
+      record { honest = sound.honest; sent = sound.sent; held = sound.held; claims = sound.claims }
+  sound_step system (Sends txn) sound may =
+      record {
+        honest = sound.honest;
+        sent = (record { may = may; since = omega arith }, sound.sent);
+        held =
+            sound.held;
+        claims = sound.claims;
+      }
+  sound_step system (Reaches which) sound may =
+      reached_sound system (slice_get system.sent which) sound
+      (at_place (IsSendable charter system.log) system.sent which sound.sent)
+  sound_step system (Claims claim) sound may =
+      record {
+        honest = sound.honest;
+        sent = sound.sent;
+        held = sound.held;
+        claims =
+            (claim_so system claim sound may, sound.claims);
+      }
+
+  pub sound : (events : List (Event Q P R)) → MightHappen after reply start charter events
+      → IsSoundSystem (system_after events)
+  sound [] might = record { honest = tt; sent = tt; held = tt; claims = tt }
+  sound (event ∷ earlier) might = sound_step (system_after earlier) event
+      (sound earlier might.1) might.0
+
+  pub lawful_system : (system : System Q P R) → IsSoundSystem system → IsLawful after reply start charter system
+  lawful_system system sound =
+      let right = honest_is_right charter system.log sound.honest in
+      record {
+        right = right;
+        whole = λ shard. whole charter shard system.log right;
+        once = λ shard client number. once client number (made shard system.log)
+            (made_next charter shard system.log right);
+        claims = sound.claims;
+      }
+
+  pub lawful : (events : List (Event Q P R)) → MightHappen after reply start charter events
+      → IsLawful after reply start charter (system_after events)
+  lawful events might = lawful_system (system_after events) (sound events might)
+
+  extends : (txn : Transaction Q P) (writes : List (Write Q P)) (log : List (Transaction Q P))
+      → (more : List (Transaction Q P)) × (extended txn writes log ≡ more ++ log)
+  extends txn [] log = ([], refl)
+  extends txn (write ∷ writes) log = (txn ∷ [], refl)
+
+  -- the store of a later moment is that of an earlier one, and more
+  abbrev GoesOnFrom : List (Transaction Q P) → System Q P R → Type 0
+  GoesOnFrom log system = (more : List (Transaction Q P)) × (system.log ≡ more ++ log)
+
+  log_reached : (system : System Q P R) (found : Option (SentTransaction Q P))
+      → GoesOnFrom system.log (after_reaching system found)
+  log_reached system None = ([], refl)
+  log_reached system (Some sent) =
+      cond_both (all_hold system.log sent.txn.compares)
+      (record {
+        log = extended sent.txn sent.txn.writes system.log;
+        asked = system.asked;
+        sent = system.sent;
+        held = record { txn = sent.txn; since = sent.since; moment = system.log } ∷ system.held;
+        claims = system.claims;
+      })
+      system (GoesOnFrom system.log) (λ _. extends sent.txn sent.txn.writes system.log) (λ _. ([], refl))
+
+  pub log_step : (system : System Q P R) (event : Event Q P R)
+      → GoesOnFrom system.log (happens system event)
+  log_step system (Comes shard request) = ([], refl)
+  log_step system (Sends txn) = ([], refl)
+  log_step system (Reaches which) = log_reached system (slice_get system.sent which)
+  log_step system (Claims claim) = ([], refl)
+
+  log_grows : (later earlier : List (Event Q P R))
+      → GoesOnFrom (system_after earlier).log
+      (system_after (later ++ earlier))
+  log_grows [] earlier = ([], refl)
+  log_grows (event ∷ later) earlier =
+      let rest = log_grows later earlier in
+      let step = log_step (system_after (later ++ earlier)) event in (
+        step.0 ++ rest.0,
+        step.1 ∙ ap (λ (log : List (Transaction Q P)). step.0 ++ log) rest.1
+            ∙ sym (append_assoc step.0 rest.0 (system_after earlier).log),
+      )
+
+  did_earlier : (later earlier : List (Event Q P R)) → MightHappen after reply start charter (later ++ earlier)
+      → MightHappen after reply start charter earlier
+  did_earlier [] earlier might = might
+  did_earlier (event ∷ later) earlier might = did_earlier later earlier might.1
+
+  stays_one : (before now : System Q P R) (more : List (Transaction Q P)) → now.log ≡ more ++ before.log
+      → AreRight charter now.log → (claim : Claim Q R) → IsSo after reply start before.log claim
+      → StaysOvertaken before now claim
+  stays_one before now more is right (Replies shard client number answer) so = tt
+  stays_one before now more is right (Overtaken shard client number) so =
+      ap (λ (log : List (Transaction Q P)). times client number (made shard log)) is
+      ∙ overtaken_grows charter shard client number more before.log (subst (AreRight charter) is right) so
+  stays_one before now more is right (Reads ask answer) so = tt
+
+  pub stays_overtaken : (later earlier : List (Event Q P R)) → MightHappen after reply start charter (later ++ earlier)
+      → AllByRecursion
+      (StaysOvertaken (system_after earlier)
+      (system_after (later ++ earlier)))
+      (system_after earlier).claims
+  stays_overtaken later earlier might =
+      let before = system_after earlier in
+      let now = system_after (later ++ earlier) in
+      let grows = log_grows later earlier in
+      all_map (IsSo after reply start before.log) (StaysOvertaken before now)
+      (stays_one before now grows.0 grows.1 (lawful (later ++ earlier) might).right)
+      before.claims (sound earlier (did_earlier later earlier might)).claims

@@ -1,0 +1,67 @@
+//! Laws of the store.
+
+ghost use Rattle.std.specs.Prelude.{◌≡◌, ◌<◌, ◌≤◌, ◌++◌, ℕ, List, length, map, reverse};
+ghost use Rattle.std.specs.List.{AllByRecursion};
+ghost use Rattle.sm_ownership.specs.declared.record.Record.{Record};
+ghost use Rattle.sm_ownership.specs.History.{IsLegal, all_of, record_at, table_of};
+ghost use Rattle.sm_store.specs.Histories.{history_of};
+ghost use Rattle.sm_store.specs.Store.{Transaction, made, head_key, leader_key, leader_of, record_key, revision_of};
+ghost use Rattle.sm_store.specs.Store.{stored_record};
+ghost use Rattle.sm_store.specs.Deeds.{AreRight, Charter, IsHonest, ShardLog, WasFound, shard_log};
+ghost use Rattle.sm_store.specs.System.{Event, IsLawful, MightHappen, StaysOvertaken, system_after};
+ghost use Rattle.sm_store.specs.Whole.{IsLogWhole};
+
+/// What was read stands, where its key's revision is still the one that was read.
+pub fn read_stands<Q, P>()
+    ensures leader { (log : List (Transaction Q P)) (process revision : ℕ) → 0 < revision
+        → WasFound leader_of leader_key log process revision
+        → revision_of leader_key log ≡ revision → leader_of log ≡ process }
+    ensures record_of { (log : List (Transaction Q P)) (shard : ℕ) (state : Record) (revision : ℕ)
+        → WasFound (stored_record shard) (record_key shard) log state revision
+        → revision_of (record_key shard) log ≡ revision → stored_record shard log ≡ state }
+    ensures log { (log : List (Transaction Q P)) (shard : ℕ) (read : ShardLog Q) (revision : ℕ)
+        → WasFound (shard_log shard) (head_key shard) log read revision
+        → revision_of (head_key shard) log ≡ revision → shard_log shard log ≡ read }
+{}
+
+/// Each transaction of an honest store, to which no one sent anything but what he might, was right for the store before
+/// it: a change was made by who led then, and the rule allowed it; a batch by the server that the record accepts, with
+/// requests that come next; a head names a base that lies there whole; and what was deleted lay behind the base, or was
+/// a lease.
+pub fn honest_is_right<Q, P>()
+    ensures { (charter : Charter Q P) (log : List (Transaction Q P)) → IsHonest charter log → AreRight charter log }
+{}
+
+/// What lies at a shard's keys leads to all requests that are made: the base that the head names, and the batches after
+/// it.
+pub fn keys_are_whole<Q, P>()
+    ensures { (charter : Charter Q P) (log : List (Transaction Q P)) (shard : ℕ)
+        → IsHonest charter log → IsLogWhole charter shard log }
+{}
+
+/// The law of the store, over every run of all processes, each of which sends only what it may and claims only what it
+/// knows. What was claimed to be overtaken is never made later.
+pub fn runs_are_lawful<Q, P, R, S>()
+    ensures lawful { (after : S → Q → S) (reply : S → Q → R) (start : S) (charter : Charter Q P)
+        (events : List (Event Q P R))
+        → MightHappen after reply start charter events
+        → IsLawful after reply start charter (system_after events) }
+    ensures overtaken { (after : S → Q → S) (reply : S → Q → R) (start : S) (charter : Charter Q P)
+        (later earlier : List (Event Q P R)) → MightHappen after reply start charter (later ++ earlier)
+        → let before = system_after earlier in
+        let now = system_after (later ++ earlier) in
+        AllByRecursion (StaysOvertaken before now) before.claims }
+{}
+
+/// An honest store stands for a legal history of the ownership table, whose laws so hold of it too: each change is
+/// legal, and for each request the executor is admitted, and no one else.
+pub fn store_is_a_history<Q, P>()
+    ensures legal { (charter : Charter Q P) (ceiling : ℕ) (log : List (Transaction Q P)) → IsHonest charter log
+        → length (history_of log) ≤ ceiling → IsLegal charter.count ceiling (reverse (history_of log)) }
+    ensures stands { (charter : Charter Q P) (ceiling : ℕ) (log : List (Transaction Q P)) → IsHonest charter log
+        → length (history_of log) ≤ ceiling → (shard : ℕ) → shard < charter.count
+        → (record_at (table_of charter.count ceiling (reverse (history_of log))) shard).stand
+        ≡ (stored_record shard log).stand }
+    ensures requests { (charter : Charter Q P) (log : List (Transaction Q P)) (shard : ℕ) → IsHonest charter log
+        → all_of (reverse (history_of log)) shard ≡ map (λ item. item.request) (made shard log) }
+{}

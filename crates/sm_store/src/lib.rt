@@ -1,0 +1,28 @@
+//! A store that several machines share: its transactions in one order, what a process may send to it and claim of it,
+//! and the laws that then hold of every run.
+//!
+//! The store keeps a value at a key, and makes a transaction as a whole: it writes where each compare still holds.
+//! Nothing here runs.
+//!
+//! ```rust
+//! let shard = ShardId::new(7).expect(&rt, "a shard");
+//! let head = StoreKey::Lasting(LastingKey::Head(shard));
+//! let compare = Compare {
+//!     key: head,
+//!     revision: 3,
+//! };
+//! assert!(rt; compare.key == head);
+//! assert!(rt; compare.key != StoreKey::Passing(PassingKey::Batch(shard, 3)));
+//! ```
+#![tactic(auto)]
+
+pub mod compare;
+pub mod head;
+pub mod item;
+pub mod laws;
+pub mod store_key;
+
+pub use compare::Compare;
+pub use head::Head;
+pub use item::Item;
+pub use store_key::{LastingKey, PassingKey, StoreKey};

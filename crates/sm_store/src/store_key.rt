@@ -1,0 +1,33 @@
+use sm_ranges::server_id::ServerId;
+use sm_ranges::shard_id::ShardId;
+
+/// A key that is never deleted, so its revision tells all that was ever written to it.
+#[derive(Clone, Copy, Debug, PartialEq, Eq, Drop)]
+pub enum LastingKey {
+    /// The record of a shard.
+    Record(ShardId),
+    /// The head of a shard's log.
+    Head(ShardId),
+}
+
+/// A key that may be deleted.
+#[derive(Clone, Copy, Debug, PartialEq, Eq, Drop)]
+pub enum PassingKey {
+    /// The control that leads, for as long as its lease.
+    Leader,
+    /// A server, for as long as its lease.
+    Server(ServerId),
+    /// A batch of a shard's requests, by its number.
+    Batch(ShardId, u64),
+    /// A part of a shard's base: of so many batches, and its place among the parts.
+    Part(ShardId, u64, u64),
+    /// Any other key.
+    Other,
+}
+
+/// A key of the store.
+#[derive(Clone, Copy, Debug, PartialEq, Eq, Drop)]
+pub enum StoreKey {
+    Lasting(LastingKey),
+    Passing(PassingKey),
+}
