@@ -10,6 +10,7 @@ use Rattle.sm_run.specs.declared.run_fault.RunFault.TheVariants.{Read, Write}
 use Rattle.sm_run.specs.declared.status.Status.{Status}
 use Rattle.sm_run.specs.declared.status.Status.TheVariants.{Ran}
 
+-- what the run left of its reader and its writer
 pub record KeepsWatch (result : Result Status RunFault) (was now : Transcript) : Type 0 where
   -- where the whole script ran, nothing is left to read
   pub read_all : result ≡ Ok Ran → IsAtEnd now.reading.left
