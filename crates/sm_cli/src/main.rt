@@ -15,7 +15,7 @@ use clap::error::ErrorKind;
 use clap::{Arg, ArgAction, ArgMatches, Command};
 use sm_cluster::Open;
 use sm_explain::{Beginning, Console, Explained};
-use sm_lines::Watched;
+use sm_lines::Dialogue;
 use sm_model::{ModelEngine, run_model};
 use sm_run::{RunFault, Status, run};
 use sm_threads::{run_threads, run_threads_explained};
@@ -161,26 +161,21 @@ fn end_plain<R: Runtime>(rt: &R, ended: Result<Status, RunFault>) -> anyhow::Res
     }
 }
 
-/// Runs the script of the reader, and writes its answers, on any streams alike. Of streams that tell their bytes, as
-/// a buffer in
-/// memory does, what was written is what the runner's definition says. Standard input and output, which `main` hands
-/// over, tell none.
-fn run_on<I: Read, W: Write, R: Threads + Wait + Clone + Send + Sync + Drop + 'static>(
-    rt: &R,
-    alloc: Global,
-    runner: Runner,
-    reader: &mut Watched<I>,
-    writer: &mut Watched<W>,
-) -> Result<Status, RunFault>
-    ensures model { runner ≡ Runner.Model → OnOk result (WroteScript (I.remaining reader.old.inner)
-        (W.contents writer.old.inner) (W.contents writer.new.inner)) }
-    ensures threads { runner ≡ Runner.Threads → result ≡ Ok Status.Ran → WroteAnswers (I.remaining reader.old.inner)
-        (W.contents writer.old.inner) (W.contents writer.new.inner) }
-    ensures read_all { result ≡ Ok Status.Ran → IsAtEnd (I.remaining reader.new.inner) }
+/// Runs the script of the dialogue's reader, and writes its answers, on any streams alike. Of streams that tell their
+/// bytes, as a buffer in memory does, what was written is what the runner's definition says. Standard input and
+/// output, which `main` hands over, tell none.
+fn run_on<
+    I: Read + Drop,
+    W: Write + Drop,
+    R: Threads + Wait + Clone + Send + Sync + Drop + 'static,
+>(rt: &R, alloc: Global, runner: Runner, dialogue: &mut Dialogue<I, W>) -> Result<Status, RunFault>
+    ensures model { runner ≡ Runner.Model → OnOk result (WroteScript dialogue.old dialogue.new) }
+    ensures threads { runner ≡ Runner.Threads → result ≡ Ok Status.Ran → WroteAnswers dialogue.old dialogue.new }
+    ensures read_all { result ≡ Ok Status.Ran → IsAtEnd dialogue.new.reading.left }
 {
     match runner {
-        Runner::Model => run_model(alloc, reader, writer),
-        Runner::Threads => run_threads(rt, alloc, reader, writer, &Open),
+        Runner::Model => run_model(alloc, dialogue),
+        Runner::Threads => run_threads(rt, alloc, dialogue, &Open),
     }
 }
 
@@ -190,10 +185,10 @@ fn run_plain<R: Runtime + Threads + Wait + Send + Sync + 'static>(
     alloc: Global,
     runner: Runner,
 ) -> anyhow::Result<ExitCode> {
-    let mut reader = Watched::new(rt.reader());
-    let mut writer = Watched::new(io::writer(rt));
-    let ended = run_on(rt, alloc, runner, &mut reader, &mut writer);
-    end_plain(rt, ended)
+    match Dialogue::new(alloc, rt.reader(), io::writer(rt)) {
+        Ok(mut dialogue) => end_plain(rt, run_on(rt, alloc, runner, &mut dialogue)),
+        Err(_) => end_early(rt, RunFault::NoMemory),
+    }
 }
 
 /// Runs the script of standard input, and tells on standard error why lines or settings are refused, and what a
@@ -205,17 +200,18 @@ fn run_explained<R: Runtime + Threads + Wait + Send + Sync + 'static>(
 ) -> anyhow::Result<ExitCode> {
     let console = Console::new(rt);
     let mut output = Beginning::new(alloc, io::writer(rt));
-    let mut reader = Watched::new(rt.reader());
-    let mut writer = Watched::new(&mut output);
-    let ended = match runner {
-        Runner::Model => {
-            let mut engine = Explained::new(ModelEngine::new(alloc), &console);
-            run(alloc, &mut reader, &mut writer, &mut engine)
-        }
-        Runner::Threads => {
-            let table = CountsTable::new(rt);
-            run_threads_explained(rt, alloc, &mut reader, &mut writer, &Open, &console, table)
-        }
+    let ended = match Dialogue::new(alloc, rt.reader(), &mut output) {
+        Ok(mut dialogue) => match runner {
+            Runner::Model => {
+                let mut engine = Explained::new(ModelEngine::new(alloc), &console);
+                run(alloc, &mut dialogue, &mut engine)
+            }
+            Runner::Threads => {
+                let table = CountsTable::new(rt);
+                run_threads_explained(rt, alloc, &mut dialogue, &Open, &console, table)
+            }
+        },
+        Err(_) => Err(RunFault::NoMemory),
     };
     match ended {
         Ok(Status::Ran) if console.has_heard_error() => Ok(ExitCode::from(WITH_ERRORS)),

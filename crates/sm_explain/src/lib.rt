@@ -5,7 +5,7 @@
 //! ```rust
 //! let console = Console::new(&rt);
 //! let mut engine = Explained::new(Repeating, &console);
-//! let status = run(alloc, &mut reader, &mut writer, &mut engine)?;
+//! let status = run(alloc, &mut dialogue, &mut engine)?;
 //! assert!(rt; status == Status::Ran);
 //! assert!(rt; console.has_heard_error());
 //! ```

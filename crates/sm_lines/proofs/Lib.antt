@@ -2,4 +2,3 @@ pub mod Pieces
 pub mod LineLemmas
 pub mod Writing
 pub mod AnswerLemmas
-pub mod Calls

@@ -1,6 +1,6 @@
 pub mod Lines
 pub mod Reading
-pub mod Sending
+pub mod Writing
+pub mod Transcripts
 pub mod Answers
-pub mod Watching
 pub mod lemmas

@@ -1,39 +1,79 @@
--- What callers see of a reader of lines.
-use Rattle.std.specs.Prelude.{◌≡◌, ℕ, ◌+◌, ◌*◌, ◌≤◌, List, length, Bool, true, false, ⊤, Option, None, Some}
-use Rattle.std.specs.Io.KnownBytes.{prepend_known, IsAtEnd}
+-- What callers see of a reader of lines, and what reading a line does.
+use Rattle.std.specs.Prelude.{◌≡◌, ℕ, ◌+◌, ◌*◌, ◌<◌, ◌≤◌, ◌⊎◌, List, [], ◌∷◌, ◌++◌, length, take, All, Bool, true}
+use Rattle.std.specs.Prelude.{false, Option}
+use Rattle.std.specs.Io.KnownBytes.{prepend_known, Consumes, IsAtEnd}
+use Rattle.sm_lines.specs.Lines.{lines_of, with_feeds, IsPlain}
 use Rattle.sm_lines.specs.declared.TheConstants.{PIECE}
+use Rattle.sm_lines.specs.declared.line_reader.Next.{Next}
+use Rattle.sm_lines.specs.declared.line_reader.Next.TheVariants.{Line, LongLine, End}
+use Rattle.sm_lines.specs.declared.watch.TheConstants.{COUNT_LIMIT}
 
--- the line in front, the bytes read beyond it, and whether the end of the input was seen
+-- what is kept of the line that was read last, the bytes read beyond it and those that the reader has left; whether the
+-- end was seen, a call failed, or a call was made after the end; and how many were made
 pub record Reading : Type 0 where
   pub line : List ℕ
   pub held : List ℕ
+  pub left : Option (List ℕ)
   pub ended : Bool
+  pub failed : Bool
+  pub past_end : Bool
+  pub calls : ℕ
 
 -- the bytes of the lines to come: those that are held, and then those that the reader has left
-abbrev pub unread : Reading → Option (List ℕ) → Option (List ℕ)
-unread lines remaining = prepend_known lines.held remaining
+abbrev pub to_come : Reading → Option (List ℕ)
+to_come reading = prepend_known reading.held reading.left
 
--- where the end was seen, this is the reader that ended
-abbrev pub EndStands : Reading → Option (List ℕ) → Type 0
-EndStands lines remaining = lines.ended ≡ true → IsAtEnd remaining
+-- a piece at most is held, and all that is held came from the calls; once the end was seen, nothing is held or left
+pub record IsOrderly (reading : Reading) : Type 0 where
+  pub piece : length reading.held ≤ PIECE
+  pub came : length reading.held ≤ PIECE * reading.calls
+  pub end : reading.ended ≡ true → (reading.held ≡ []) × IsAtEnd reading.left
 
--- one call for the end, where it was seen
-abbrev pub end_call : Bool → ℕ
-end_call true = 1
-end_call false = 0
+-- the reader wasn't called
+abbrev pub IsUncalled : Reading → Reading → Type 0
+IsUncalled was now = (now.left ≡ was.left) × (now.ended ≡ was.ended) × (now.calls ≡ was.calls)
 
--- the reader was called no more often than it gave bytes, but for the call that saw the end: `was` and `ended` say
--- whether it was seen before and after
-abbrev pub CallsFit : Bool → Bool → Option (List ℕ) → Option (List ℕ) → ℕ → ℕ → Type 0
-CallsFit was ended None left before after = ⊤
-CallsFit was ended (Some bytes) None before after = ⊥
-CallsFit was ended (Some bytes) (Some left) before after =
-    after + length left + end_call was ≤ before + length bytes + end_call ended
+-- one call, where it was made
+abbrev pub call_of : Bool → ℕ
+call_of true = 1
+call_of false = 0
 
--- what is held came from so many calls, each of which gives a piece at most
-abbrev pub HeldGiven : Reading → ℕ → Type 0
-HeldGiven lines calls = length lines.held ≤ PIECE * calls
+-- these bytes were taken off: `given` are those of the reader's calls since. Each call gives a byte at least, but for
+-- one that sees the end or fails, for which `last` stands, and a piece at most. Once the end was seen there is none
+pub record Reads (was now : Reading) (taken : List ℕ) (last : Bool) : Type 0 where
+  pub given : List ℕ
+  pub lost : Consumes was.left now.left given
+  pub split : was.held ++ given ≡ taken ++ now.held
+  pub least : now.calls + call_of was.ended ≤ was.calls + length given + call_of last
+  pub most : length given + PIECE * was.calls ≤ PIECE * now.calls
+  pub at_end : was.ended ≡ true → IsUncalled was now
+  pub not_past_end : now.past_end ≡ was.past_end
+  pub before : IsOrderly was
+  pub after : IsOrderly now
 
--- so many lines, of a byte each at least, came from what was held and from the calls since
-abbrev pub LinesGiven : ℕ → Reading → Reading → ℕ → ℕ → Type 0
-LinesGiven count was lines before after = count + length lines.held + PIECE * before ≤ length was.held + PIECE * after
+-- these lines were taken off, each with its line feed unless the end was seen
+pub record TookLines (was now : Reading) (lines : List (List ℕ)) : Type 0 where
+  pub taken : List ℕ
+  pub reads : Reads was now taken now.ended
+  pub are : lines_of taken ≡ lines
+  pub plain : All IsPlain lines
+  pub feeds : now.ended ≡ false → taken ≡ with_feeds lines
+
+-- what reading a line took off: one within the limit, which is kept whole; a longer one, which is kept up to the limit;
+-- or none, as there is no further one
+abbrev pub TookNext : ℕ → Next → Reading → Reading → Type 0
+TookNext limit Line was now = TookLines was now (now.line ∷ []) × (length now.line ≤ limit)
+TookNext limit LongLine was now = (line : List ℕ) × TookLines was now (line ∷ []) × (limit < length line)
+    × (now.line ≡ take limit line)
+TookNext limit End was now = TookLines was now [] × (now.ended ≡ true)
+
+-- a front of a line was taken off
+abbrev pub TookPart : Reading → Reading → Bool → Type 0
+TookPart was now last = (part : List ℕ) × IsPlain part × Reads was now part last
+
+-- the reader failed, or was called too often, in a line: nothing is held, and the end was not seen
+pub record ReaderStopped (was now : Reading) : Type 0 where
+  pub part : TookPart was now true
+  pub unseen : was.ended ≡ false
+  pub none_held : now.held ≡ []
+  pub why : (now.failed ≡ true) ⊎ (COUNT_LIMIT ≤ now.calls)

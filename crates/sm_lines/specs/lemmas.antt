@@ -1,3 +1,3 @@
 -- Lemmas that the proofs of crates above cite.
 pub mod Answering
-pub mod Keeping
+pub mod Taking

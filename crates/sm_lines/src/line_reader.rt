@@ -1,8 +1,7 @@
-ghost use Rattle.std.specs.Prelude.{◌≡◌, ◌≢◌, ◌+◌, ◌<◌, ◌≤◌, ◌⊎◌, ◌↔◌, ◌++◌, [], true, false, IsTrue, IfOk, IfSome};
-ghost use Rattle.std.specs.Prelude.{IfNone, OnOk, OnErr, All, Contains, length, take, drop, slice_index};
+ghost use Rattle.std.specs.Prelude.{◌≡◌, ◌≢◌, ◌+◌, ◌*◌, ◌<◌, ◌≤◌, ◌⊎◌, ◌↔◌, ◌++◌, [], true, false, IsTrue, IfOk};
+ghost use Rattle.std.specs.Prelude.{IfSome, IfNone, OnOk, OnErr, All, Contains, length, take, drop, slice_index};
 ghost use Rattle.std.specs.Io.KnownBytes.{Consumes, IsAtEnd};
-ghost use Rattle.sm_lines.specs.Lines.{TookLine, TookLongLine, TookPart};
-ghost use Rattle.sm_lines.specs.Reading.{unread, CallsFit, EndStands, LinesGiven};
+ghost use Rattle.sm_lines.specs.Reading.{call_of, IsUncalled, ReaderStopped, TookNext, TookPart};
 
 use crate::{COUNT_LIMIT, PIECE, Watched};
 use memchr::memchr;
@@ -15,27 +14,36 @@ const LINE_FEED: u8 = b'\n';
 /// Reads a text in pieces of at most [`PIECE`] bytes and gives its lines one by one, each without its line feed.
 ///
 /// A last line without a line feed counts if it isn't empty. Of a line beyond its limit only the first bytes are kept.
-/// One reader is read from the first call to the last: a `LineReader` holds bytes of it that belong to later lines.
 #[derive(Drop)]
-pub struct LineReader {
+pub struct LineReader<R: Read + Drop> {
+    reader: Watched<R>,
     piece: Vec<u8>,
     at: usize,
     end: usize,
     line: Vec<u8>,
-    ended: bool,
 }
 
-impl Model for LineReader {
-    ghost use Rattle.std.specs.Prelude.{◌≤◌, ◌<◌, length, slice_range};
+impl<R: Read + Drop> Model for LineReader<R> {
+    ghost use Rattle.std.specs.Prelude.{◌≡◌, ◌≤◌, ◌<◌, ◌*◌, true, length, slice_range};
+    ghost use Rattle.std.specs.Io.KnownBytes.{IsAtEnd};
     ghost use Rattle.sm_lines.specs.Reading.{Reading};
     ghost use Rattle.sm_lines.specs.declared.TheConstants.{PIECE};
 
     ghost Value = { Reading };
 
-    ghost view = { λ r. record { line = r.line.items; held = slice_range r.piece.items r.at r.end; ended = r.ended } };
+    ghost view = { λ r. record {
+      line = r.line.items;
+      held = slice_range r.piece.items r.at r.end;
+      left = R.remaining r.reader.inner;
+      ended = r.reader.ended;
+      failed = r.reader.failed;
+      past_end = r.reader.read_past_end;
+      calls = r.reader.calls;
+    } };
 
     ghost invariant = { λ r. (r.at ≤ r.end) × (r.end ≤ length r.piece.items) × (0 < length r.piece.items)
-        × (length r.piece.items ≤ PIECE) };
+        × (length r.piece.items ≤ PIECE) × (r.end ≤ PIECE * r.reader.calls)
+        × (r.reader.ended ≡ true → (r.at ≡ r.end) × IsAtEnd (R.remaining r.reader.inner)) };
 }
 
 /// What stands in front of a [`LineReader`].
@@ -75,18 +83,37 @@ fn blank_piece(alloc: Global) -> Result<Vec<u8>, AllocError>
     vec![in alloc; 0u8; PIECE]
 }
 
-impl LineReader {
-    /// A reader of lines that has read nothing.
-    pub fn new(alloc: Global) -> Result<LineReader, AllocError>
-        ensures { IfOk result (λ lines. lines ≡ record { line = []; held = []; ended = false }) }
+impl<R: Read + Drop> LineReader<R> {
+    /// A reader of the lines of `reader` that has read nothing.
+    pub fn new(alloc: Global, reader: R) -> Result<LineReader<R>, AllocError>
+        ensures { IfOk result (λ lines. lines ≡ record {
+          line = [];
+          held = [];
+          left = R.remaining reader;
+          ended = false;
+          failed = false;
+          past_end = false;
+          calls = 0;
+        }) }
     {
         Ok(LineReader {
+            reader: Watched::new(reader),
             piece: blank_piece(alloc)?,
             at: 0,
             end: 0,
             line: Vec::new(alloc),
-            ended: false,
         })
+    }
+
+    /// The reader, with what is told of its calls.
+    pub fn reader(&self) -> &Watched<R>
+        ensures calls { result.now.calls ≡ self.now.calls }
+        ensures ended { result.now.ended ≡ self.now.ended }
+        ensures failed { result.now.failed ≡ self.now.failed }
+        ensures past_end { result.now.read_past_end ≡ self.now.past_end }
+        ensures left { R.remaining result.now.inner ≡ self.now.left }
+    {
+        &self.reader
     }
 
     /// What is kept of the line that was read last: all of it, or as many of its first bytes as its limit.
@@ -116,14 +143,25 @@ impl LineReader {
             × (slice_index self.now.held n ≡ 10)
             × All (λ b. b ≢ 10) (take n self.now.held)) }
         ensures none { IfNone result (All (λ b. b ≢ 10) self.now.held) }
-        ensures piece { length self.now.held ≤ PIECE }
     {
         memchr(LINE_FEED, &self.piece[self.at..self.end])
     }
 
+    /// Does nothing, and says what always holds of a reading.
+    pub(crate) fn stays_orderly(&self)
+        ensures piece { length self.now.held ≤ PIECE }
+        ensures came { length self.now.held ≤ PIECE * self.now.calls }
+        ensures end { self.now.ended ≡ true → (self.now.held ≡ []) × IsAtEnd self.now.left }
+    {
+        let _ = &self.reader;
+    }
+
     /// Forgets the line that was read last.
     fn begin_line(&mut self)
-        ensures { self.new ≡ record self.old { line = [] } }
+        ensures begun { self.new ≡ record self.old { line = [] } }
+        ensures piece { length self.old.held ≤ PIECE }
+        ensures came { length self.old.held ≤ PIECE * self.old.calls }
+        ensures end { self.old.ended ≡ true → (self.old.held ≡ []) × IsAtEnd self.old.left }
     {
         self.line.clear();
     }
@@ -202,44 +240,34 @@ impl LineReader {
     }
 
     /// Reads a piece, where none is held; false at the end, where the reader isn't called again.
-    fn fill<R: Read>(&mut self, reader: &mut Watched<R>) -> Result<bool, ReadFault>
+    fn fill(&mut self) -> Result<bool, ReadFault>
         requires empty { self.old.held ≡ [] }
-        requires end_stands { EndStands self.old (R.remaining reader.old.inner) }
         ensures line { self.new.line ≡ self.old.line }
-        ensures piece { length self.new.held ≤ PIECE }
-        ensures bytes { Consumes (R.remaining reader.old.inner)
-            (R.remaining reader.new.inner) self.new.held }
-        ensures more { IfOk result (λ more. more ≡ true → (reader.old.calls < COUNT_LIMIT)
-            × (reader.new.calls ≡ reader.old.calls + 1) × (reader.new.failed ≡ reader.old.failed)
+        ensures bytes { Consumes self.old.left self.new.left self.new.held }
+        ensures more { IfOk result (λ more. more ≡ true → (self.old.calls < COUNT_LIMIT)
+            × (self.new.calls ≡ self.old.calls + 1) × (self.new.failed ≡ self.old.failed)
             × (self.new.ended ≡ false) × (self.old.ended ≡ false)) }
         ensures end { IfOk result (λ more. more ≡ false → (self.new.held ≡ [])
-            × IsAtEnd (R.remaining reader.new.inner) × (reader.new.failed ≡ reader.old.failed)
-            × (self.new.ended ≡ true)
-            × (self.old.ended ≡ true → reader.new ≡ reader.old)) }
-        ensures err { OnErr result ((self.new ≡ self.old) × (self.old.ended ≡ false)) }
-        ensures read_fault { OnErr result ((result ≡ Err ReadFault.Read)
-            × ((reader.new.failed ≡ true) ⊎ (COUNT_LIMIT ≤ reader.new.calls))) }
-        ensures calls { OnOk result (CallsFit self.old.ended self.new.ended
-            (R.remaining reader.old.inner) (R.remaining reader.new.inner)
-            reader.old.calls reader.new.calls) }
-        ensures last_call { OnErr result (CallsFit false true (R.remaining reader.old.inner)
-            (R.remaining reader.new.inner) reader.old.calls reader.new.calls) }
-        ensures same_end { reader.old.ended ≡ self.old.ended → reader.new.ended ≡ self.new.ended }
-        ensures not_past_end { reader.old.ended ≡ self.old.ended
-            → reader.new.read_past_end ≡ reader.old.read_past_end }
-        ensures given { LinesGiven 0 self.old self.new reader.old.calls reader.new.calls }
+            × IsAtEnd self.new.left × (self.new.ended ≡ true) × (self.new.failed ≡ self.old.failed)
+            × (self.old.ended ≡ true → self.new ≡ self.old)) }
+        ensures err { OnErr result ((self.new.held ≡ []) × (self.old.ended ≡ false) × (self.new.ended ≡ false)
+            × (result ≡ Err ReadFault.Read)
+            × ((self.new.failed ≡ true) ⊎ (COUNT_LIMIT ≤ self.new.calls))) }
+        ensures least { OnOk result (self.new.calls + call_of self.old.ended
+            ≤ self.old.calls + length self.new.held + call_of self.new.ended) }
+        ensures last { OnErr result (self.new.calls ≤ self.old.calls + 1) }
+        ensures most { length self.new.held + PIECE * self.old.calls ≤ PIECE * self.new.calls }
+        ensures past_end { self.new.past_end ≡ self.old.past_end }
+        ensures piece { length self.new.held ≤ PIECE }
     {
-        if self.ended {
+        if self.reader.has_ended() {
             return Ok(false);
         }
-        if reader.calls() >= COUNT_LIMIT {
+        if self.reader.calls() >= COUNT_LIMIT {
             return Err(ReadFault::Read);
         }
-        match reader.read(self.piece.as_mut_slice()) {
-            Ok(0) => {
-                self.ended = true;
-                Ok(false)
-            }
+        match self.reader.read(self.piece.as_mut_slice()) {
+            Ok(0) => Ok(false),
             Ok(n) => {
                 self.at = 0;
                 self.end = n;
@@ -253,57 +281,14 @@ impl LineReader {
     ///
     /// Nothing is read once the end of the text was seen, nor where the line's end is already held. After a fault the
     /// line in front may have lost some of its bytes.
-    pub fn next_line<R: Read>(
-        &mut self,
-        reader: &mut Watched<R>,
-        limit: usize,
-    ) -> Result<Next, ReadFault>
-        // A reader that ended is the one that is passed again.
-        requires { EndStands self.old (R.remaining reader.old.inner) }
-
-        ensures line { IfOk result (λ next. next ≡ Next.Line → TookLine self.new.ended
-            (unread self.old (R.remaining reader.old.inner))
-            (unread self.new (R.remaining reader.new.inner)) self.new.line limit) }
-        ensures long_line { IfOk result (λ next. next ≡ Next.LongLine → TookLongLine self.new.ended
-            (unread self.old (R.remaining reader.old.inner))
-            (unread self.new (R.remaining reader.new.inner)) self.new.line limit) }
-        ensures end { IfOk result (λ next. next ≡ Next.End → IsAtEnd (unread self.old
-            (R.remaining reader.old.inner))
-            × IsAtEnd (R.remaining reader.new.inner) × (self.new.held ≡ [])
-            × (self.new.ended ≡ true)) }
-
-        // Of the line in front some bytes may be gone, and where reading failed nothing is held.
-        ensures err { OnErr result (TookPart (unread self.old
-            (R.remaining reader.old.inner)) (unread self.new (R.remaining reader.new.inner))) }
-        ensures read_fault { result ≡ Err ReadFault.Read → (self.new.held ≡ [])
-            × (self.old.ended ≡ false)
-            × ((reader.new.failed ≡ true) ⊎ (COUNT_LIMIT ≤ reader.new.calls)) }
-
-        ensures unfailed { result ≢ Err ReadFault.Read → reader.new.failed ≡ reader.old.failed }
-        ensures stays_ended { self.old.ended ≡ true → self.new.ended ≡ true }
-        ensures end_stands { EndStands self.new (R.remaining reader.new.inner) }
-        ensures piece { length self.new.held ≤ PIECE }
-
-        // The reader is called no more often than it gives bytes, but for a call that sees the end or fails.
-        ensures calls { result ≢ Err ReadFault.Read → CallsFit self.old.ended self.new.ended
-            (R.remaining reader.old.inner) (R.remaining reader.new.inner)
-            reader.old.calls reader.new.calls }
-        ensures last_call { result ≡ Err ReadFault.Read → CallsFit false true
-            (R.remaining reader.old.inner) (R.remaining reader.new.inner)
-            reader.old.calls reader.new.calls }
-        ensures not_read_again { self.old.ended ≡ true → reader.new ≡ reader.old }
-        // Where the line's end is held nothing is read, so that no end is seen and no reading fails.
-        ensures held { Contains self.old.held 10 → (reader.new ≡ reader.old)
+    pub fn next_line(&mut self, limit: usize) -> Result<Next, ReadFault>
+        ensures took { IfOk result (λ next. TookNext limit next self.old self.new) }
+        ensures no_memory { result ≡ Err ReadFault.NoMemory → TookPart self.old self.new self.new.ended }
+        ensures stopped { result ≡ Err ReadFault.Read → ReaderStopped self.old self.new }
+        ensures unfailed { result ≢ Err ReadFault.Read → self.new.failed ≡ self.old.failed }
+        // Where the line's end is held the reader isn't called, so that no end is seen and no reading fails.
+        ensures held { Contains self.old.held 10 → IsUncalled self.old self.new
             × (result ≢ Ok Next.End) × (result ≢ Err ReadFault.Read) }
-        // Where the end was seen here if the reader had come to it, nothing is read past it.
-        ensures same_end { reader.old.ended ≡ self.old.ended → reader.new.ended ≡ self.new.ended }
-        ensures not_past_end { reader.old.ended ≡ self.old.ended
-            → reader.new.read_past_end ≡ reader.old.read_past_end }
-        // A call gives a piece at most, and a line takes a byte at least.
-        ensures given { OnOk result (LinesGiven 0 self.old self.new
-            reader.old.calls reader.new.calls) }
-        ensures line_given { IfOk result (λ next. next ≢ Next.End → LinesGiven 1 self.old self.new
-            reader.old.calls reader.new.calls) }
     {
         self.begin_line();
         let mut is_long = false;
@@ -312,7 +297,7 @@ impl LineReader {
                 Some(n) => return Ok(self.end_line(n, limit, is_long)?),
                 None => is_long = self.take_held(limit, is_long)?,
             }
-            match self.fill(reader) {
+            match self.fill() {
                 Ok(true) => {}
                 Ok(false) => return Ok(self.last_line(is_long)),
                 Err(fault) => return Err(fault),

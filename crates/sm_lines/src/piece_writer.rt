@@ -1,6 +1,6 @@
 ghost use Rattle.std.specs.Prelude.{◌≡◌, ◌++◌, [], true, false, IfOk, OnOk, OnErr};
 ghost use Rattle.std.specs.Io.KnownBytes.{Appends};
-ghost use Rattle.sm_lines.specs.Sending.{Sends, WroteFront};
+ghost use Rattle.sm_lines.specs.Writing.{Sends, WroteFront, WroteShort, Wrote};
 
 use crate::{PIECE, Watched};
 use std::alloc::{AllocError, Global};
@@ -34,80 +34,112 @@ pub fn write_whole<W: Write>(writer: &mut Watched<W>, bytes: &[u8]) -> Result<()
     Ok(())
 }
 
-/// Collects bytes and writes them in pieces; contracts see it as the bytes that wait to be written, [`PIECE`] at most.
+/// Collects bytes and writes them in pieces of [`PIECE`] bytes at most.
 ///
-/// After a fault it is of no further use: a front of what waited was written, and nothing tells how much.
+/// After a fault a front of what waited was written, and nothing tells how much; nothing waits then.
 #[derive(Drop)]
-pub struct PieceWriter {
+pub struct PieceWriter<W: Write + Drop> {
+    writer: Watched<W>,
     pending: Vec<u8>,
 }
 
-impl Model for PieceWriter {
-    ghost use Rattle.std.specs.Prelude.{ℕ, ◌≤◌, List, length};
+impl<W: Write + Drop> Model for PieceWriter<W> {
+    ghost use Rattle.std.specs.Prelude.{◌≤◌, length};
+    ghost use Rattle.sm_lines.specs.Writing.{Writing};
     ghost use Rattle.sm_lines.specs.declared.TheConstants.{PIECE};
 
-    ghost Value = { List ℕ };
+    ghost Value = { Writing };
 
-    ghost view = { λ w. w.pending.items };
+    ghost view = { λ w. record {
+      written = W.contents w.writer.inner;
+      waiting = w.pending.items;
+      failed = w.writer.failed;
+    } };
 
     ghost invariant = { λ w. length w.pending.items ≤ PIECE };
 }
 
-impl PieceWriter {
-    /// A writer with nothing to write.
-    pub fn new(alloc: Global) -> Result<PieceWriter, AllocError>
-        ensures { IfOk result (λ pieces. pieces ≡ []) }
+impl<W: Write + Drop> PieceWriter<W> {
+    /// A writer of pieces to `writer` with nothing to write.
+    pub fn new(alloc: Global, writer: W) -> Result<PieceWriter<W>, AllocError>
+        ensures { IfOk result (λ pieces. pieces
+            ≡ record { written = W.contents writer; waiting = []; failed = false }) }
     {
         Ok(PieceWriter {
+            writer: Watched::new(writer),
             pending: Vec::with_capacity(alloc, PIECE)?,
         })
     }
 
+    /// The writer, with what is told of its calls.
+    pub fn writer(&self) -> &Watched<W>
+        ensures failed { result.now.failed ≡ self.now.failed }
+        ensures written { W.contents result.now.inner ≡ self.now.written }
+    {
+        &self.writer
+    }
+
     /// Adds the bytes to what waits, and writes where they don't fit into a piece with it.
-    pub fn write<W: Write>(
-        &mut self,
-        writer: &mut Watched<W>,
-        bytes: &[u8],
-    ) -> Result<(), WriteFault>
-        ensures ok { OnOk result (Sends (W.contents writer.old.inner)
-            (W.contents writer.new.inner) self.old bytes.now self.new) }
-        ensures err { OnErr result (WroteFront (W.contents writer.old.inner)
-            (W.contents writer.new.inner) (self.old ++ bytes.now)) }
-        ensures failed { OnErr result (writer.new.failed ≡ true) }
-        ensures unfailed { OnOk result (writer.new.failed ≡ writer.old.failed) }
+    pub fn write(&mut self, bytes: &[u8]) -> Result<(), WriteFault>
+        ensures ok { OnOk result (Sends self.old self.new bytes.now) }
+        ensures err { OnErr result (WroteShort self.old self.new bytes.now) }
     {
         if self.push(bytes) {
             return Ok(());
         }
-        self.flush(writer)?;
+        self.flush()?;
         if self.push(bytes) {
             return Ok(());
         }
-        write_whole(writer, bytes)
+        self.pass_on(bytes)
     }
 
     /// Adds the bytes to what waits, where they fit into a piece with it.
     fn push(&mut self, bytes: &[u8]) -> bool
-        ensures fits { result ≡ true → self.new ≡ self.old ++ bytes.now }
+        ensures fits { result ≡ true → self.new ≡ record self.old { waiting = self.old.waiting ++ bytes.now } }
         ensures full { result ≡ false → self.new ≡ self.old }
     {
         let room = PIECE - self.pending.len();
         bytes.len() <= room && self.pending.extend_from_slice(bytes).is_ok()
     }
 
-    /// Writes all that waits, and flushes the writer.
-    pub fn flush<W: Write>(&mut self, writer: &mut Watched<W>) -> Result<(), WriteFault>
-        ensures ok { OnOk result (Appends (W.contents writer.old.inner)
-            (W.contents writer.new.inner) self.old) }
-        ensures empty { OnOk result (self.new ≡ []) }
-        ensures err { OnErr result (WroteFront (W.contents writer.old.inner)
-            (W.contents writer.new.inner) self.old) }
-        ensures failed { OnErr result (writer.new.failed ≡ true) }
-        ensures unfailed { OnOk result (writer.new.failed ≡ writer.old.failed) }
+    /// Writes the bytes at once, where nothing waits.
+    fn pass_on(&mut self, bytes: &[u8]) -> Result<(), WriteFault>
+        requires { self.old.waiting ≡ [] }
+        ensures ok { OnOk result (Appends self.old.written self.new.written bytes.now
+            × (self.new.waiting ≡ []) × (self.new.failed ≡ self.old.failed)) }
+        ensures err { OnErr result (WroteFront self.old.written self.new.written bytes.now
+            × (self.new.waiting ≡ []) × (self.new.failed ≡ true)) }
     {
-        write_whole(writer, self.pending.as_slice())?;
+        write_whole(&mut self.writer, bytes)
+    }
+
+    /// Writes all that waits.
+    pub fn send(&mut self) -> Result<(), WriteFault>
+        ensures ok { OnOk result (Wrote self.old self.new []) }
+        ensures err { OnErr result (WroteShort self.old self.new []) }
+    {
+        let sent = write_whole(&mut self.writer, self.pending.as_slice());
         self.pending.clear();
-        match writer.flush() {
+        sent
+    }
+
+    /// Adds the bytes to what waits, and writes all.
+    pub fn write_now(&mut self, bytes: &[u8]) -> Result<(), WriteFault>
+        ensures ok { OnOk result (Wrote self.old self.new bytes.now) }
+        ensures err { OnErr result (WroteShort self.old self.new bytes.now) }
+    {
+        self.write(bytes)?;
+        self.send()
+    }
+
+    /// Writes all that waits, and flushes the writer.
+    pub fn flush(&mut self) -> Result<(), WriteFault>
+        ensures ok { OnOk result (Wrote self.old self.new []) }
+        ensures err { OnErr result (WroteShort self.old self.new []) }
+    {
+        self.send()?;
+        match self.writer.flush() {
             Ok(()) => Ok(()),
             Err(_) => Err(WriteFault),
         }

@@ -1,14 +1,9 @@
-ghost use Rattle.std.specs.Prelude.{◌≡◌, ◌≢◌, ℕ, ◌≤◌, ◌⊎◌, List, [], true, false, IfOk, OnOk, OnErr, Contains, length};
-ghost use Rattle.std.specs.Io.KnownBytes.{IsAtEnd};
-ghost use Rattle.sm_lines.specs.Lines.{LosesLine, TookPart};
-ghost use Rattle.sm_lines.specs.Reading.{unread, CallsFit, EndStands, LinesGiven};
-ghost use Rattle.sm_lines.specs.Sending.{Sends, WroteFront};
+ghost use Rattle.std.specs.Prelude.{◌≡◌, ◌≢◌, ℕ, ◌⊎◌, List, [], ◌∷◌, true, false, IfOk, OnOk, OnErr, Contains};
+ghost use Rattle.sm_lines.specs.Reading.{ReaderStopped, TookLines, TookPart};
+ghost use Rattle.sm_lines.specs.Writing.{Sends, WroteShort};
 ghost use Rattle.sm_lines.specs.Answers.{AnsweredInput, AnsweredLine, AnswersLine};
-ghost use Rattle.sm_lines.specs.Watching.{KeepsReading};
 
-use crate::{
-    AnswerFault, COUNT_LIMIT, LineReader, Next, PIECE, PieceWriter, ReadFault, Watched, WriteFault,
-};
+use crate::{AnswerFault, COUNT_LIMIT, Dialogue, Next, ReadFault, WriteFault};
 use std::alloc::{AllocError, Global};
 use std::io::{Read, Write};
 
@@ -41,57 +36,37 @@ pub trait Responder {
 }
 
 /// Reads the next line and puts its answer into `out`; false where there is no further line.
-fn answer_next<R: Read, E: Responder>(
-    lines: &mut LineReader,
-    reader: &mut Watched<R>,
+fn answer_next<R: Read + Drop, W: Write + Drop, E: Responder>(
+    dialogue: &mut Dialogue<R, W>,
     responder: &mut E,
     limit: usize,
     out: &mut Vec<u8>,
 ) -> Result<bool, ReadFault>
-    requires end_stands { EndStands lines.old (R.remaining reader.old.inner) }
     requires ready { E.ready responder.old }
-    ensures line { IfOk result (λ more. more ≡ true
-        → AnsweredLine (AnswersLine E.gives E.gives_long limit) lines.new.ended
-        (unread lines.old (R.remaining reader.old.inner)) (unread lines.new
-        (R.remaining reader.new.inner)) out.new.items responder.old responder.new) }
-    ensures end { IfOk result (λ more. more ≡ false → IsAtEnd (unread lines.old
-        (R.remaining reader.old.inner))
-        × IsAtEnd (R.remaining reader.new.inner) × (responder.new ≡ responder.old)) }
-    ensures held { Contains lines.old.held 10
+    ensures line { IfOk result (λ more. more ≡ true → AnsweredLine (AnswersLine E.gives E.gives_long limit)
+        dialogue.old.reading dialogue.new.reading out.new.items responder.old responder.new) }
+    ensures end { IfOk result (λ more. more ≡ false → TookLines dialogue.old.reading dialogue.new.reading []
+        × (dialogue.new.reading.ended ≡ true) × (responder.new ≡ responder.old)) }
+    ensures read { result ≡ Err ReadFault.Read → ReaderStopped dialogue.old.reading dialogue.new.reading
+        × (responder.new ≡ responder.old) }
+    ensures no_memory { result ≡ Err ReadFault.NoMemory
+        → TookPart dialogue.old.reading dialogue.new.reading dialogue.new.reading.ended
+        ⊎ ((line : List ℕ) × TookLines dialogue.old.reading dialogue.new.reading (line ∷ [])) }
+    ensures held { Contains dialogue.old.reading.held 10
         → (result ≢ Ok false) × (result ≢ Err ReadFault.Read) }
-    ensures read { result ≡ Err ReadFault.Read → TookPart (unread lines.old
-        (R.remaining reader.old.inner)) (unread lines.new (R.remaining reader.new.inner))
-        × (responder.new ≡ responder.old) × (lines.new.held ≡ []) × (lines.old.ended ≡ false)
-        × ((reader.new.failed ≡ true) ⊎ (COUNT_LIMIT ≤ reader.new.calls)) }
-    ensures err { OnErr result (TookPart (unread lines.old (R.remaining reader.old.inner))
-        (unread lines.new (R.remaining reader.new.inner))
-        ⊎ ((line : List ℕ) × LosesLine (unread lines.old (R.remaining reader.old.inner))
-        (unread lines.new (R.remaining reader.new.inner)) line)) }
-    ensures unfailed { result ≢ Err ReadFault.Read → reader.new.failed ≡ reader.old.failed }
-    ensures stays_ended { lines.old.ended ≡ true → lines.new.ended ≡ true }
-    ensures end_stands { EndStands lines.new (R.remaining reader.new.inner) }
-    ensures calls { result ≢ Err ReadFault.Read → CallsFit lines.old.ended lines.new.ended
-        (R.remaining reader.old.inner) (R.remaining reader.new.inner)
-        reader.old.calls reader.new.calls }
-    ensures last_call { result ≡ Err ReadFault.Read → CallsFit false true
-        (R.remaining reader.old.inner) (R.remaining reader.new.inner)
-        reader.old.calls reader.new.calls }
-    ensures same_end { reader.old.ended ≡ lines.old.ended → reader.new.ended ≡ lines.new.ended }
-    ensures not_past_end { reader.old.ended ≡ lines.old.ended
-        → reader.new.read_past_end ≡ reader.old.read_past_end }
-    ensures given { IfOk result (λ more. more ≡ true → LinesGiven 1 lines.old lines.new
-        reader.old.calls reader.new.calls) }
-    ensures piece { length lines.new.held ≤ PIECE }
+    ensures unfailed { result ≢ Err ReadFault.Read
+        → dialogue.new.reading.failed ≡ dialogue.old.reading.failed }
+    ensures unwritten { dialogue.new.writing ≡ dialogue.old.writing }
     ensures ready { E.ready responder.new }
 {
     out.clear();
-    match lines.next_line(reader, limit) {
+    match dialogue.next_line(limit) {
         Ok(Next::Line) => {
-            responder.respond(lines.line(), out)?;
+            responder.respond(dialogue.line(), out)?;
             Ok(true)
         }
         Ok(Next::LongLine) => {
-            responder.respond_long(lines.line(), out)?;
+            responder.respond_long(dialogue.line(), out)?;
             Ok(true)
         }
         Ok(Next::End) => Ok(false),
@@ -101,23 +76,19 @@ fn answer_next<R: Read, E: Responder>(
 
 /// Writes the answers that wait, where the next line needs a call of the reader: whoever gives that line may wait for
 /// them.
-fn flush_before_read<W: Write>(
-    lines: &LineReader,
-    pieces: &mut PieceWriter,
-    writer: &mut Watched<W>,
+fn flush_before_read<R: Read + Drop, W: Write + Drop>(
+    dialogue: &mut Dialogue<R, W>,
 ) -> Result<(), WriteFault>
-    ensures ok { OnOk result (Sends (W.contents writer.old.inner)
-        (W.contents writer.new.inner) pieces.old [] pieces.new) }
-    ensures none_waits { OnOk result (Contains lines.now.held 10 ⊎ (pieces.new ≡ [])) }
-    ensures err { OnErr result (WroteFront (W.contents writer.old.inner)
-        (W.contents writer.new.inner) pieces.old) }
-    ensures failed { OnErr result (writer.new.failed ≡ true) }
-    ensures unfailed { OnOk result (writer.new.failed ≡ writer.old.failed) }
+    ensures ok { OnOk result (Sends dialogue.old.writing dialogue.new.writing []) }
+    ensures none_waits { OnOk result (Contains dialogue.old.reading.held 10
+        ⊎ (dialogue.new.writing.waiting ≡ [])) }
+    ensures err { OnErr result (WroteShort dialogue.old.writing dialogue.new.writing []) }
+    ensures unread { dialogue.new.reading ≡ dialogue.old.reading }
 {
-    if lines.holds_line() {
+    if dialogue.holds_line() {
         return Ok(());
     }
-    pieces.flush(writer)
+    dialogue.flush()
 }
 
 /// Answers each line to come by the responder, until the input ends. A line beyond the limit is answered by its first
@@ -126,45 +97,38 @@ fn flush_before_read<W: Write>(
 /// Where reading stopped or no memory was left, exactly the answers to the lines before were written; where writing
 /// failed, a front of the answers to the lines that were read. Before the reader is called all answers so far are
 /// written, so that whoever gives the next line may wait for them: no failed write comes after a failed read.
-pub fn answer_lines<R: Read, W: Write, E: Responder>(
+pub fn answer_lines<R: Read + Drop, W: Write + Drop, E: Responder>(
     alloc: Global,
-    lines: &mut LineReader,
-    reader: &mut Watched<R>,
-    writer: &mut Watched<W>,
+    dialogue: &mut Dialogue<R, W>,
     responder: &mut E,
     limit: usize,
 ) -> Result<(), AnswerFault>
-    // A reader that ended is the one that is passed again.
-    requires end_stands { EndStands lines.old (R.remaining reader.old.inner) }
     requires ready { E.ready responder.old }
-
     // Which lines were answered, and that exactly their answers were written.
     ensures answered { AnsweredInput (AnswersLine E.gives E.gives_long limit) result
-        lines.old lines.new reader.new.failed reader.new.calls
-        (unread lines.old (R.remaining reader.old.inner))
-        (unread lines.new (R.remaining reader.new.inner))
-        (W.contents writer.old.inner) (W.contents writer.new.inner) responder.old responder.new }
+        dialogue.old dialogue.new responder.old responder.new }
     // No failed call is hidden by another fault.
-    ensures reading { KeepsReading R.remaining result lines.old lines.new reader.old reader.new }
-    ensures write_failed { result ≡ Err AnswerFault.Write → writer.new.failed ≡ true }
-    ensures write_unfailed { result ≢ Err AnswerFault.Write → writer.new.failed ≡ writer.old.failed }
+    ensures read_unfailed { result ≢ Err AnswerFault.Read
+        → dialogue.new.reading.failed ≡ dialogue.old.reading.failed }
+    ensures write_unfailed { result ≢ Err AnswerFault.Write
+        → dialogue.new.writing.failed ≡ dialogue.old.writing.failed }
     ensures ready { E.ready responder.new }
 {
-    let mut pieces = PieceWriter::new(alloc)?;
     let mut out = Vec::new(alloc);
+    dialogue.stays_orderly();
     'lines: for _count in 0..COUNT_LIMIT {
-        flush_before_read(lines, &mut pieces, writer)?;
-        match answer_next(lines, reader, responder, limit, &mut out) {
-            Ok(true) => pieces.write(writer, out.as_slice())?,
+        flush_before_read(dialogue)?;
+        match answer_next(dialogue, responder, limit, &mut out) {
+            Ok(true) => dialogue.write(out.as_slice())?,
             // No line was held, so nothing waits.
             Ok(false) => return Ok(()),
             Err(ReadFault::Read) => return Err(AnswerFault::Read),
             Err(ReadFault::NoMemory) => {
-                pieces.flush(writer)?;
+                dialogue.flush()?;
                 return Err(AnswerFault::NoMemory);
             }
         }
     }
-    pieces.flush(writer)?;
+    dialogue.flush()?;
     Err(AnswerFault::Read)
 }

@@ -1,7 +1,9 @@
 -- What a run of the model has read and written.
-use Rattle.std.specs.Prelude.{◌≡◌, ℕ, List, Option, IsOk, IsErr}
-use Rattle.std.specs.Io.KnownBytes.{Appends}
+use Rattle.std.specs.Prelude.{◌≡◌, ℕ, List, IsOk, IsErr}
 use Rattle.sm_lines.specs.Lines.{lines_of}
+use Rattle.sm_lines.specs.Reading.{to_come}
+use Rattle.sm_lines.specs.Transcripts.{Transcript}
+use Rattle.sm_lines.specs.Writing.{Wrote}
 use Rattle.sm_model.specs.Script.{script, script_before}
 use Rattle.sm_run.specs.Openings.{IfKnown, settings_in}
 use Rattle.sm_run.specs.declared.begin_fault.BeginFault.{BeginFault}
@@ -9,16 +11,16 @@ use Rattle.sm_run.specs.declared.begin_fault.BeginFault.TheVariants.{NoMemory}
 use Rattle.sm_settings.specs.SettingsLine.{SettingsValues}
 
 -- what was written is the script of the input
-abbrev pub WroteScript : Option (List ℕ) → Option (List ℕ) → Option (List ℕ) → Type 0
-WroteScript input old new = IfKnown input (λ bytes. Appends old new (script bytes))
+abbrev pub WroteScript : Transcript → Transcript → Type 0
+WroteScript was now = IfKnown (to_come was.reading) (λ bytes. Wrote was.writing now.writing (script bytes))
 
 -- the input, where it is known, begins with settings that are accepted
-abbrev pub AcceptsSettings : Option (List ℕ) → Type 0
-AcceptsSettings input = IfKnown input (λ bytes. IsOk (settings_in (lines_of bytes)))
+abbrev pub AcceptsSettings : Transcript → Type 0
+AcceptsSettings was = IfKnown (to_come was.reading) (λ bytes. IsOk (settings_in (lines_of bytes)))
 
 -- the input, where it is known, begins with settings that are refused
-abbrev pub RefusesSettings : Option (List ℕ) → Type 0
-RefusesSettings input = IfKnown input (λ bytes. IsErr (settings_in (lines_of bytes)))
+abbrev pub RefusesSettings : Transcript → Type 0
+RefusesSettings was = IfKnown (to_come was.reading) (λ bytes. IsErr (settings_in (lines_of bytes)))
 
 -- the only reason for which the model begins no session with settings that are accepted
 abbrev pub LacksMemory : SettingsValues → BeginFault → Type 0

@@ -1,11 +1,10 @@
 ghost use Rattle.std.specs.Prelude.{◌≡◌, ◌≢◌, OnOk, Ok, Err};
-ghost use Rattle.std.specs.Io.KnownBytes.{IsAtEnd};
 ghost use Rattle.sm_run.specs.Runs.{StoppedEarly};
 ghost use Rattle.sm_run.specs.Watching.{KeepsWatch};
 ghost use Rattle.sm_model.specs.Runs.{AcceptsSettings, LacksMemory, RefusesSettings, WritesScript, WroteScript};
 
 use crate::session::ModelSession;
-use sm_lines::Watched;
+use sm_lines::Dialogue;
 use sm_run::{BeginFault, Engine, RunFault, Status, run};
 use sm_settings::settings::Settings;
 use std::alloc::Global;
@@ -49,33 +48,27 @@ impl Engine for ModelEngine {
     fn end(&mut self, _session: ModelSession) {}
 }
 
-/// Runs the script of the reader on the model, and writes its answers. What is said of bytes holds of a reader and a
-/// writer that tell theirs.
+/// Runs the script of the dialogue's reader on the model, and writes its answers. What is said of bytes holds of a
+/// reader and a writer that tell theirs.
 ///
 /// `Read` comes only where the reader failed, or 2^32 of its calls or lines were counted; `Write` only where the writer
 /// failed; `NoMemory` only where neither failed. The answers to all lines before the one at which a fault came were
 /// written, and nothing else, but for a front of that line's answer where writing failed. Where memory was refused, all
 /// lines before that one were taken off the reader, and beyond it at most a piece was read.
-pub fn run_model<R: Read, W: Write>(
+pub fn run_model<R: Read + Drop, W: Write + Drop>(
     alloc: Global,
-    reader: &mut Watched<R>,
-    writer: &mut Watched<W>,
+    dialogue: &mut Dialogue<R, W>,
 ) -> Result<Status, RunFault>
     // What was written is the script of what was read, and nothing else.
-    ensures wrote { OnOk result (WroteScript (R.remaining reader.old.inner)
-        (W.contents writer.old.inner) (W.contents writer.new.inner)) }
-    ensures ran { result ≡ Ok Status.Ran → AcceptsSettings (R.remaining reader.old.inner) }
-    ensures read_all { result ≡ Ok Status.Ran → IsAtEnd (R.remaining reader.new.inner) }
-    ensures bad_settings { result ≡ Ok Status.BadSettings
-        → RefusesSettings (R.remaining reader.old.inner) }
+    ensures wrote { OnOk result (WroteScript dialogue.old dialogue.new) }
+    ensures ran { result ≡ Ok Status.Ran → AcceptsSettings dialogue.old }
+    ensures bad_settings { result ≡ Ok Status.BadSettings → RefusesSettings dialogue.old }
 
-    // Exactly the script of all lines before the one at which a fault came was written, but for a front of that line's
-    // answer.
-    ensures stopped { StoppedEarly LacksMemory WritesScript result reader.new.failed reader.new.calls
-        (R.remaining reader.old.inner) (R.remaining reader.new.inner)
-        (W.contents writer.old.inner) (W.contents writer.new.inner) }
+    // Exactly the script of all lines before the one at which a fault came was written, but for a front of that
+    // line's answer.
+    ensures stopped { StoppedEarly LacksMemory WritesScript result dialogue.old dialogue.new }
     ensures no_thread { result ≢ Err RunFault.NoThread }
-    ensures watched { KeepsWatch R.remaining result reader.old reader.new writer.old writer.new }
+    ensures watched { KeepsWatch result dialogue.old dialogue.new }
 {
-    run(alloc, reader, writer, &mut ModelEngine::new(alloc))
+    run(alloc, dialogue, &mut ModelEngine::new(alloc))
 }

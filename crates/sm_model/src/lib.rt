@@ -2,9 +2,8 @@
 //!
 //! ```rust
 //! let mut written = Vec::new(alloc);
-//! let mut reader = Watched::new(script);
-//! let mut writer = Watched::new(&mut written);
-//! let status = run_model(alloc, &mut reader, &mut writer)?;
+//! let mut dialogue = Dialogue::new(alloc, script, &mut written)?;
+//! let status = run_model(alloc, &mut dialogue)?;
 //! assert_eq!(rt; status, Status::Ran);
 //! ```
 #![tactic(auto)]

@@ -1,3 +1,4 @@
 pub mod Openings
 pub mod Stops
 pub mod Watches
+pub mod Refusals

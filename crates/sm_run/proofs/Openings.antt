@@ -1,45 +1,49 @@
--- What the first line gives, and what is left after it.
-use Rattle.std.proofs.Common.{◌≡◌, Bool, ℕ, List, [], ◌++◌, ap, sym, ◌∙◌, inl, inr, arith, Option, Some, None, Err}
-use Rattle.std.specs.Io.KnownBytes.{Consumes, IsAtEnd, prepend_known}
-use Rattle.sm_lines.specs.Answers.{StopsAfter}
-use Rattle.sm_lines.specs.Lines.{LosesLine, TookLongLine, TookPart, lines_of}
-use Rattle.sm_lines.specs.Reading.{CallsFit}
-use Rattle.sm_lines.specs.lemmas.Answering.{LosesLines-none, stops_after}
-use Rattle.sm_settings.specs.declared.settings_fault.SettingsFault.TheVariants.{TooLong}
+-- What the first line gives.
+use Rattle.std.proofs.Common.{◌≡◌, ℕ, List, [], ◌∷◌, subst, sym, inl, inr, refl, Result, Ok, Err, IfOk}
+use Rattle.sm_lines.specs.Reading.{Reading, TookLines, TookNext}
+use Rattle.sm_lines.specs.declared.line_reader.Next.{Next}
+use Rattle.sm_lines.specs.declared.line_reader.Next.TheVariants.{Line, LongLine, End}
+use Rattle.sm_settings.specs.declared.settings_fault.SettingsFault.TheVariants.{BadJson, TooLong}
 use Rattle.sm_settings.specs.lemmas.LongLines.{settings_of_long}
 use Rattle.sm_settings.specs.declared.settings.TheConstants.{MAX_SETTINGS}
-use Rattle.sm_run.specs.Openings.{IfKnown, settings_in}
+use Rattle.sm_run.specs.declared.opening.Opening.{Opening}
+use Rattle.sm_run.specs.declared.opening.Opening.TheVariants.{Accepted, Refused}
+use Rattle.sm_run.specs.declared.run_fault.RunFault.{RunFault}
+use Rattle.sm_run.specs.Openings.{IsOpening, ReadsAs}
+
+-- the first line was read as settings, or refused
+pub read_opening : (was now : Reading) (next : Next) (line : List ℕ) (result : Result Opening RunFault) → next ≡ Line
+    → TookNext MAX_SETTINGS next was now → line ≡ now.line → IfOk result (ReadsAs line)
+    → IfOk result (IsOpening was now)
+read_opening was now next line result is took line_is reads =
+    let P : Next → Type 0 = λ n. TookNext MAX_SETTINGS n was now in
+    let Q : List ℕ → Type 0 = λ l. TookLines was now (l ∷ []) in
+    as_read result (subst Q (sym line_is) (subst P is took).0) reads
+  where
+    as_read : (result : Result Opening RunFault) → TookLines was now (line ∷ []) → IfOk result (ReadsAs line)
+        → IfOk result (IsOpening was now)
+    as_read (Ok (Accepted settings)) one reads = (line, one, reads.0, reads.1)
+    as_read (Ok (Refused fault)) one reads = (line ∷ [], (one, inl refl), reads)
+    as_read (Err fault) one reads = tt
 
 -- input whose first line is too long has no settings in front
-pub long_opening : (ended : Bool) (input left : Option (List ℕ)) (shown : List ℕ) → TookLongLine ended input left shown MAX_SETTINGS
-    → IfKnown input (λ bytes. settings_in (lines_of bytes) ≡ Err TooLong)
-long_opening ended None left shown took = tt
-long_opening ended (Some bytes) None shown took = absurd took.lost
-long_opening ended (Some bytes) (Some after) shown took = ap settings_in took.lost ∙ settings_of_long took.line took.long
+pub long_opening : (was now : Reading) (next : Next) → next ≡ LongLine → TookNext MAX_SETTINGS next was now
+    → IsOpening was now (Refused TooLong)
+long_opening was now next is took =
+    let P : Next → Type 0 = λ n. TookNext MAX_SETTINGS n was now in
+    let long = subst P is took in
+    (long.0 ∷ [], (long.1, inl refl), settings_of_long long.0 long.2)
 
--- a part of the first line was taken off
-pub stops_in_line : (input left : Option (List ℕ)) → TookPart input left → StopsAfter input left []
-stops_in_line input left part = record { next = input; lost = LosesLines-none input; touched = inl part }
+-- nor has input without a line
+pub end_opening : (was now : Reading) (next : Next) → next ≡ End → TookNext MAX_SETTINGS next was now
+    → IsOpening was now (Refused BadJson)
+end_opening was now next is took =
+    let P : Next → Type 0 = λ n. TookNext MAX_SETTINGS n was now in
+    let end = subst P is took in
+    ([], (end.0, inr (refl, end.1)), refl)
 
--- the first line was taken off
-pub stops_at_line : (input left : Option (List ℕ)) (line : List ℕ) → LosesLine input left line → StopsAfter input left []
-stops_at_line input left line lost = record { next = input; lost = LosesLines-none input; touched = inr (line, lost) }
-
--- nothing was taken off
-took_nothing : (input left : Option (List ℕ)) → Consumes input left [] → TookPart input left
-took_nothing input left none = record { part = []; plain = λ k d h. absurd (omega (arith, h)); lost = none }
-
-pub stops_unread : (input : Option (List ℕ)) → StopsAfter input input []
-stops_unread input = stops_after input input [] (LosesLines-none input)
-
--- there was no line
-pub stops_at_end : (was ended : Bool) (held after : List ℕ) (old new : Option (List ℕ)) (calls more : ℕ)
-    → IsAtEnd (prepend_known held old) → IsAtEnd new → after ≡ [] → CallsFit was ended old new calls more → StopsAfter (prepend_known held old) (prepend_known after new) []
-stops_at_end was ended held after old new calls more all left none took =
-    stops_in_line (prepend_known held old) (prepend_known after new) (took_nothing (prepend_known held old) (prepend_known after new) (consumes old new all left took))
-  where
-    consumes : (old new : Option (List ℕ)) → IsAtEnd (prepend_known held old) → IsAtEnd new → CallsFit was ended old new calls more
-        → Consumes (prepend_known held old) (prepend_known after new) []
-    consumes None new all left took = tt
-    consumes (Some bytes) None all left took = absurd took
-    consumes (Some bytes) (Some rest) all left took = all ∙ sym (ap (λ (h : List ℕ). h ++ rest) none ∙ left)
+pub one_line : (was now : Reading) (next : Next) → next ≡ Line → TookNext MAX_SETTINGS next was now → (line : List ℕ)
+    × TookLines was now (line ∷ [])
+one_line was now next is took =
+    let P : Next → Type 0 = λ n. TookNext MAX_SETTINGS n was now in
+    (now.line, (subst P is took).0)

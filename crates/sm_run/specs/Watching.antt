@@ -1,25 +1,29 @@
--- What a run leaves of the reader and the writer that are watched, whatever the script.
-use Rattle.std.specs.Prelude.{◌≡◌, ◌≢◌, ◌⊎◌, ◌*◌, ◌≤◌, true, false, ℕ, List, Option, Result, Err}
-use Rattle.sm_lines.specs.Reading.{CallsFit}
+-- What a run leaves of the reader and the writer, whatever the script.
+use Rattle.std.specs.Prelude.{◌≡◌, ◌≢◌, ◌⊎◌, ◌*◌, ◌≤◌, true, ℕ, List, [], Result, Ok, Err}
+use Rattle.std.specs.Io.KnownBytes.{IsAtEnd}
+use Rattle.sm_lines.specs.Reading.{Reads}
+use Rattle.sm_lines.specs.Transcripts.{Transcript}
 use Rattle.sm_lines.specs.declared.TheConstants.{PIECE}
 use Rattle.sm_lines.specs.declared.watch.TheConstants.{COUNT_LIMIT}
-use Rattle.sm_lines.specs.declared.watch.Watched.{Watched}
 use Rattle.sm_run.specs.declared.run_fault.RunFault.{RunFault}
 use Rattle.sm_run.specs.declared.run_fault.RunFault.TheVariants.{Read, Write}
 use Rattle.sm_run.specs.declared.status.Status.{Status}
+use Rattle.sm_run.specs.declared.status.Status.TheVariants.{Ran}
 
--- the reader before and after the run, and the writer: `remaining` are the bytes that a reader has left
-pub record KeepsWatch {R W : Type 0} (remaining : R → Option (List ℕ)) (result : Result Status RunFault)
-    (reader left : Watched R) (writer wrote : Watched W) : Type 0 where
+-- what the run left of its reader and its writer
+pub record KeepsWatch (result : Result Status RunFault) (was now : Transcript) : Type 0 where
+  -- where the whole script ran, nothing is left to read
+  pub read_all : result ≡ Ok Ran → IsAtEnd now.reading.left
   -- `Write` comes only where the writer failed
-  pub write_failed : result ≡ Err Write → wrote.failed ≡ true
+  pub write_failed : result ≡ Err Write → now.writing.failed ≡ true
   -- no failed call is hidden by another fault: where a read fails, all answers so far are out
-  pub reader_unfailed : result ≢ Err Read → left.failed ≡ reader.failed
-  pub writer_unfailed : result ≢ Err Write → wrote.failed ≡ writer.failed
-  -- the reader is called no more often than it gives bytes, but for one call that sees the end or fails
-  pub calls : CallsFit false true (remaining reader.inner) (remaining left.inner) reader.calls left.calls
-  -- nothing is read again once the end was seen
-  pub not_past_end : reader.ended ≡ false → left.read_past_end ≡ reader.read_past_end
+  pub reader_unfailed : result ≢ Err Read → now.reading.failed ≡ was.reading.failed
+  pub writer_unfailed : result ≢ Err Write → now.writing.failed ≡ was.writing.failed
+  -- the reader is called no more often than it gives bytes, but for one call that sees the end or fails, and not after
+  -- the end
+  pub reads : (taken : List ℕ) × Reads was.reading now.reading taken true
   -- also of unknown bytes, `Read` comes only where the reader failed, or its calls could give as many bytes as lines or
   -- calls are counted
-  pub read_calls : result ≡ Err Read → (left.failed ≡ true) ⊎ (COUNT_LIMIT ≤ PIECE * left.calls)
+  pub read_calls : result ≡ Err Read → (now.reading.failed ≡ true) ⊎ (COUNT_LIMIT ≤ PIECE * now.reading.calls)
+  -- no answer is kept back
+  pub none_waits : was.writing.waiting ≡ [] → now.writing.waiting ≡ []

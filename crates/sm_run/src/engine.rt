@@ -20,8 +20,8 @@ pub trait Engine {
 
     ghost MAX_LINE: { ℕ };
 
-    /// What an engine needs to know while it is used, and no field of it can hold: as that what it was handed may start
-    /// threads. Whoever calls it owes this once, and every call keeps it.
+    /// What an engine needs to know while it is used, and no field of it can hold: as that what it was handed may
+    /// start threads. Whoever calls it owes this once, and every call keeps it.
     ghost ready: { Self → Type 0 } = { λ _. ⊤ };
 
     /// The sessions that may be made from these settings.

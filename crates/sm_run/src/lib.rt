@@ -2,10 +2,9 @@
 //! it.
 //!
 //! ```rust
-//! let mut reader = Watched::new(script.as_slice());
 //! let mut written = Vec::new(alloc);
-//! let mut writer = Watched::new(&mut written);
-//! let status = run(alloc, &mut reader, &mut writer, &mut EchoEngine)?;
+//! let mut dialogue = Dialogue::new(alloc, script.as_slice(), &mut written)?;
+//! let status = run(alloc, &mut dialogue, &mut EchoEngine)?;
 //! assert!(rt; status == Status::Ran);
 //! assert!(rt; written.as_slice() == ANSWERS);
 //! ```

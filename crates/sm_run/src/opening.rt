@@ -1,13 +1,10 @@
-ghost use Rattle.std.specs.Prelude.{◌≡◌, ◌≢◌, ◌⊎◌, ◌≤◌, [], true, length, IfOk, IfErr, OnOk, OnErr};
-ghost use Rattle.std.specs.Io.KnownBytes.{Appends};
-ghost use Rattle.sm_lines.specs.Answers.{StopsAfter};
-ghost use Rattle.sm_lines.specs.Lines.{TookPart};
-ghost use Rattle.sm_lines.specs.Reading.{unread, CallsFit, EndStands, HeldGiven};
-ghost use Rattle.sm_lines.specs.Sending.{WroteFront};
+ghost use Rattle.std.specs.Prelude.{◌≡◌, ◌≢◌, ◌⊎◌, ℕ, List, [], ◌∷◌, IfOk, IfErr, OnOk};
+ghost use Rattle.sm_lines.specs.Reading.{ReaderStopped, TookLines, TookPart};
+ghost use Rattle.sm_lines.specs.Writing.{Wrote, WroteShort};
 ghost use Rattle.sm_run.specs.Openings.{IsOpening, ReadsAs, settings_line};
 
 use crate::{RunFault, Status};
-use sm_lines::{COUNT_LIMIT, LineReader, Next, PIECE, ReadFault, Watched, write_whole};
+use sm_lines::{Dialogue, Next, ReadFault};
 use sm_settings::{MAX_SETTINGS, Settings, SettingsFault};
 use std::alloc::{AllocError, Global};
 use std::io::{Read, Write};
@@ -22,38 +19,22 @@ pub enum Opening {
 }
 
 /// Reads the first line as settings. Input without a line has no settings either.
-pub(crate) fn open<R: Read>(
+pub(crate) fn open<R: Read + Drop, W: Write + Drop>(
     alloc: Global,
-    lines: &mut LineReader,
-    reader: &mut Watched<R>,
+    dialogue: &mut Dialogue<R, W>,
 ) -> Result<Opening, RunFault>
-    requires { EndStands lines.old (R.remaining reader.old.inner) }
-    ensures opening { IfOk result (IsOpening lines.new.ended (unread lines.old (R.remaining reader.old.inner))
-        (unread lines.new (R.remaining reader.new.inner))) }
-    ensures end_stands { OnOk result (EndStands lines.new (R.remaining reader.new.inner)) }
-    ensures read { result ≡ Err RunFault.Read → TookPart (unread lines.old
-        (R.remaining reader.old.inner)) (unread lines.new (R.remaining reader.new.inner))
-        × (lines.new.held ≡ []) × ((reader.new.failed ≡ true) ⊎ (COUNT_LIMIT ≤ reader.new.calls)) }
-    ensures touched { result ≢ Err RunFault.Read → StopsAfter (unread lines.old
-        (R.remaining reader.old.inner)) (unread lines.new (R.remaining reader.new.inner)) [] }
-    ensures piece { length lines.new.held ≤ PIECE }
+    ensures opening { IfOk result (IsOpening dialogue.old.reading dialogue.new.reading) }
+    ensures read { result ≡ Err RunFault.Read → ReaderStopped dialogue.old.reading dialogue.new.reading }
+    ensures no_memory { result ≡ Err RunFault.NoMemory
+        → TookPart dialogue.old.reading dialogue.new.reading dialogue.new.reading.ended
+        ⊎ ((line : List ℕ) × TookLines dialogue.old.reading dialogue.new.reading (line ∷ [])) }
     ensures write { result ≢ Err RunFault.Write }
     ensures no_thread { result ≢ Err RunFault.NoThread }
-    ensures unfailed { result ≢ Err RunFault.Read → reader.new.failed ≡ reader.old.failed }
-    ensures calls { OnOk result (CallsFit lines.old.ended lines.new.ended
-        (R.remaining reader.old.inner) (R.remaining reader.new.inner)
-        reader.old.calls reader.new.calls) }
-    ensures last_call { OnErr result (CallsFit lines.old.ended true
-        (R.remaining reader.old.inner) (R.remaining reader.new.inner)
-        reader.old.calls reader.new.calls) }
-    ensures same_end { reader.old.ended ≡ lines.old.ended → reader.new.ended ≡ lines.new.ended }
-    ensures not_past_end { reader.old.ended ≡ lines.old.ended
-        → reader.new.read_past_end ≡ reader.old.read_past_end }
-    ensures held_given { OnOk result (HeldGiven lines.old reader.old.calls
-        → HeldGiven lines.new reader.new.calls) }
+    ensures unfailed { result ≢ Err RunFault.Read → dialogue.new.reading.failed ≡ dialogue.old.reading.failed }
+    ensures unwritten { dialogue.new.writing ≡ dialogue.old.writing }
 {
-    match lines.next_line(reader, MAX_SETTINGS) {
-        Ok(Next::Line) => read_settings(alloc, lines.line()),
+    match dialogue.next_line(MAX_SETTINGS) {
+        Ok(Next::Line) => read_settings(alloc, dialogue.line()),
         Ok(Next::LongLine) => Ok(Opening::Refused(SettingsFault::TooLong)),
         Ok(Next::End) => Ok(Opening::Refused(SettingsFault::BadJson)),
         Err(ReadFault::Read) => Err(RunFault::Read),
@@ -74,24 +55,22 @@ fn read_settings(alloc: Global, line: &[u8]) -> Result<Opening, RunFault>
 }
 
 /// Writes why the settings in front are refused.
-pub(crate) fn refuse<W: Write>(
+pub(crate) fn refuse<R: Read + Drop, W: Write + Drop>(
     alloc: Global,
-    writer: &mut Watched<W>,
+    dialogue: &mut Dialogue<R, W>,
     fault: SettingsFault,
 ) -> Result<Status, RunFault>
-    ensures wrote { OnOk result (Appends (W.contents writer.old.inner)
-        (W.contents writer.new.inner) (settings_line fault)) }
+    ensures wrote { OnOk result (Wrote dialogue.old.writing dialogue.new.writing (settings_line fault)) }
     ensures status { IfOk result (λ status. status ≡ Status.BadSettings) }
-    ensures write { result ≡ Err RunFault.Write → (writer.new.failed ≡ true)
-        × WroteFront (W.contents writer.old.inner) (W.contents writer.new.inner)
-        (settings_line fault) }
-    ensures unfailed { OnOk result (writer.new.failed ≡ writer.old.failed) }
-    ensures no_memory { result ≡ Err RunFault.NoMemory → writer.new ≡ writer.old }
+    ensures write { result ≡ Err RunFault.Write
+        → WroteShort dialogue.old.writing dialogue.new.writing (settings_line fault) }
+    ensures no_memory { result ≡ Err RunFault.NoMemory → dialogue.new.writing ≡ dialogue.old.writing }
     ensures read { result ≢ Err RunFault.Read }
     ensures no_thread { result ≢ Err RunFault.NoThread }
+    ensures unread { dialogue.new.reading ≡ dialogue.old.reading }
 {
     match settings_text(alloc, fault) {
-        Ok(text) => match write_whole(writer, &text) {
+        Ok(text) => match dialogue.write_now(&text) {
             Ok(()) => Ok(Status::BadSettings),
             Err(_) => Err(RunFault::Write),
         },

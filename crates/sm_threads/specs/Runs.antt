@@ -1,6 +1,7 @@
 -- What a run on a cluster has read and written.
-use Rattle.std.specs.Prelude.{ℕ, List, Option}
+use Rattle.std.specs.Prelude.{ℕ, List}
 use Rattle.sm_lines.specs.Answers.{AnswersLine}
+use Rattle.sm_lines.specs.Transcripts.{Transcript}
 use Rattle.sm_model.specs.LongLines.{RespondsLong}
 use Rattle.sm_run.specs.Runs.{RanScript, WritesFor}
 use Rattle.sm_script.specs.declared.line.TheConstants.{MAX_LINE}
@@ -12,8 +13,8 @@ abbrev pub WritesLine : SessionValue → List ℕ → List ℕ → SessionValue 
 WritesLine = AnswersLine Responds (λ session start text. RespondsLong start text) MAX_LINE
 
 -- the settings in front of the input were accepted, and what was written is a session's answers to the lines after them
-abbrev pub WroteAnswers : Option (List ℕ) → Option (List ℕ) → Option (List ℕ) → Type 0
-WroteAnswers input old new = RanScript IsBegun WritesLine input old new
+abbrev pub WroteAnswers : Transcript → Transcript → Type 0
+WroteAnswers was now = RanScript IsBegun WritesLine was now
 
 -- what a run has to write before it comes to the line after these
 abbrev pub WritesAnswers : List (List ℕ) → List ℕ → Type 0

@@ -1,7 +1,7 @@
 //! Scripts on a cluster: servers are threads, started by the settings in front, and stopped at the script's end.
 //!
 //! ```rust
-//! let status = run_threads(&rt, alloc, &mut reader, &mut writer, &Open)?;
+//! let status = run_threads(&rt, alloc, &mut dialogue, &Open)?;
 //! assert_eq!(rt; status, Status::Ran);
 //! ```
 #![tactic(auto)]

@@ -1,5 +1,4 @@
 ghost use Rattle.std.specs.Prelude.{◌≡◌, Err, IfErr, IfOk, Ok};
-ghost use Rattle.std.specs.Io.KnownBytes.{IsAtEnd};
 ghost use Rattle.sm_run.specs.Openings.{RefusedScript, Unbegun};
 ghost use Rattle.sm_run.specs.Runs.{StoppedEarly};
 ghost use Rattle.sm_run.specs.Watching.{KeepsWatch};
@@ -13,7 +12,7 @@ use crate::engine::{Nobody, ThreadEngine};
 use crate::session::ThreadSession;
 use sm_cluster::Gate;
 use sm_explain::{Explained, Listener};
-use sm_lines::Watched;
+use sm_lines::Dialogue;
 use sm_run::{BeginFault, RunFault, Status, run};
 use sm_settings::settings::Settings;
 use std::alloc::Global;
@@ -21,40 +20,30 @@ use std::io::{Read, Write};
 use std::sync::Wait;
 use std::thread::Threads;
 
-/// Runs the script of the reader on a cluster, one command at a time, and writes its answers. Each server has as many
-/// workers as the settings say, and each of them passes a clone of the gate before it serves a request. The cluster is
-/// stopped at the end. What is said of bytes holds of a reader and a writer that tell theirs.
+/// Runs the script of the dialogue's reader on a cluster, one command at a time, and writes its answers. Each server
+/// has as many workers as the settings say, and each of them passes a clone of the gate before it serves a request.
+/// The cluster is stopped at the end. What is said of bytes holds of a reader and a writer that tell theirs.
 ///
-/// It may wait for the cluster's threads. `Read` comes only where the reader failed, or 2^32 of its calls or lines were
-/// counted; `Write` only where the writer failed; `NoMemory` and `NoThread` only where neither failed. The answers to
-/// all lines before the one at which a fault came were written, and nothing else, but for a front of that line's answer
-/// where writing failed. `NoThread` comes only where no cluster was started for it, before any answer.
+/// It may wait for the cluster's threads. `Read` comes only where the reader failed, or 2^32 of its calls or lines
+/// were counted; `Write` only where the writer failed; `NoMemory` and `NoThread` only where neither failed. The
+/// answers to all lines before the one at which a fault came were written, and nothing else, but for a front of that
+/// line's answer where writing failed. `NoThread` comes only where no cluster was started for it, before any answer.
 pub fn run_threads<
-    I: Read,
-    W: Write,
+    I: Read + Drop,
+    W: Write + Drop,
     R: Threads + Wait + Clone + Send + Sync + Drop + 'static,
     G: Gate + Clone + Send + Sync + Drop + 'static,
->(
-    rt: &R,
-    alloc: Global,
-    reader: &mut Watched<I>,
-    writer: &mut Watched<W>,
-    gate: &G,
-) -> Result<Status, RunFault>
+>(rt: &R, alloc: Global, dialogue: &mut Dialogue<I, W>, gate: &G) -> Result<Status, RunFault>
     // What was written is answers that the cluster may give, one after another, and nothing else.
-    ensures ran { result ≡ Ok Status.Ran → WroteAnswers (I.remaining reader.old.inner)
-        (W.contents writer.old.inner) (W.contents writer.new.inner) }
-    ensures read_all { result ≡ Ok Status.Ran → IsAtEnd (I.remaining reader.new.inner) }
+    ensures ran { result ≡ Ok Status.Ran → WroteAnswers dialogue.old dialogue.new }
     ensures bad_settings { result ≡ Ok Status.BadSettings → RefusedScript MayRefuse
-        (I.remaining reader.old.inner) (W.contents writer.old.inner) (W.contents writer.new.inner) }
+        dialogue.old dialogue.new }
     // Exactly the answers to all lines before the one at which a fault came were written, but for a front of that
     // line's.
-    ensures stopped { StoppedEarly MayRefuse WritesAnswers result reader.new.failed reader.new.calls
-        (I.remaining reader.old.inner) (I.remaining reader.new.inner)
-        (W.contents writer.old.inner) (W.contents writer.new.inner) }
+    ensures stopped { StoppedEarly MayRefuse WritesAnswers result dialogue.old dialogue.new }
     ensures no_thread { result ≡ Err RunFault.NoThread → Unbegun MayRefuse BeginFault.NoThread
-        (I.remaining reader.old.inner) (W.contents writer.old.inner) (W.contents writer.new.inner) }
-    ensures watched { KeepsWatch I.remaining result reader.old reader.new writer.old writer.new }
+        dialogue.old dialogue.new }
+    ensures watched { KeepsWatch result dialogue.old dialogue.new }
 {
     let begin = |settings: Settings| -> Result<ThreadSession<R>, BeginFault>
         requires { KeepsRules (values_of settings) }
@@ -62,14 +51,14 @@ pub fn run_threads<
         ensures refused { IfErr result (MayRefuse (values_of settings)) }
     { begin_with(rt, alloc, settings, gate) };
     let mut plain = ThreadEngine::new(begin, None::<Nobody>);
-    run(alloc, reader, writer, &mut plain)
+    run(alloc, dialogue, &mut plain)
 }
 
 /// The same, and tells the one listener why lines were refused, and the other one what the cluster counted, where it
 /// was started.
 pub fn run_threads_explained<
-    I: Read,
-    W: Write,
+    I: Read + Drop,
+    W: Write + Drop,
     R: Threads + Wait + Clone + Send + Sync + Drop + 'static,
     G: Gate + Clone + Send + Sync + Drop + 'static,
     L: Listener + Copy + Drop,
@@ -77,23 +66,18 @@ pub fn run_threads_explained<
 >(
     rt: &R,
     alloc: Global,
-    reader: &mut Watched<I>,
-    writer: &mut Watched<W>,
+    dialogue: &mut Dialogue<I, W>,
     gate: &G,
     listener: L,
     counts_listener: C,
 ) -> Result<Status, RunFault>
-    ensures ran { result ≡ Ok Status.Ran → WroteAnswers (I.remaining reader.old.inner)
-        (W.contents writer.old.inner) (W.contents writer.new.inner) }
-    ensures read_all { result ≡ Ok Status.Ran → IsAtEnd (I.remaining reader.new.inner) }
+    ensures ran { result ≡ Ok Status.Ran → WroteAnswers dialogue.old dialogue.new }
     ensures bad_settings { result ≡ Ok Status.BadSettings → RefusedScript MayRefuse
-        (I.remaining reader.old.inner) (W.contents writer.old.inner) (W.contents writer.new.inner) }
-    ensures stopped { StoppedEarly MayRefuse WritesAnswers result reader.new.failed reader.new.calls
-        (I.remaining reader.old.inner) (I.remaining reader.new.inner)
-        (W.contents writer.old.inner) (W.contents writer.new.inner) }
+        dialogue.old dialogue.new }
+    ensures stopped { StoppedEarly MayRefuse WritesAnswers result dialogue.old dialogue.new }
     ensures no_thread { result ≡ Err RunFault.NoThread → Unbegun MayRefuse BeginFault.NoThread
-        (I.remaining reader.old.inner) (W.contents writer.old.inner) (W.contents writer.new.inner) }
-    ensures watched { KeepsWatch I.remaining result reader.old reader.new writer.old writer.new }
+        dialogue.old dialogue.new }
+    ensures watched { KeepsWatch result dialogue.old dialogue.new }
 {
     let begin = |settings: Settings| -> Result<ThreadSession<R>, BeginFault>
         requires { KeepsRules (values_of settings) }
@@ -101,7 +85,7 @@ pub fn run_threads_explained<
         ensures refused { IfErr result (MayRefuse (values_of settings)) }
     { begin_with(rt, alloc, settings, gate) };
     let mut engine = Explained::new(ThreadEngine::new(begin, Some(counts_listener)), listener);
-    run(alloc, reader, writer, &mut engine)
+    run(alloc, dialogue, &mut engine)
 }
 
 /// A session on a cluster with a clone of the gate, or why there is none.

@@ -3,7 +3,7 @@
 // It answers each line by itself, so that a line may say what it is answered.
 use crate::run::{EchoEngine as Repeating, script_of};
 use sm_explain::{Beginning, Console, Explained, Listener, Sentence};
-use sm_lines::Watched;
+use sm_lines::Dialogue;
 use sm_run::{Status, run};
 use std::alloc::Global;
 use std::cell::Cell;
@@ -28,12 +28,11 @@ const LINES: &[u8] = b"refused Busy\nplain\n\nerror BadLine\nplain\n";
 fn explained_run_answers_alike(rt: HostRuntime) -> Result<(), Fail> {
     let alloc = rt.alloc();
     let script = script_of(alloc, LINES)?;
-    let mut reader = Watched::new(script.as_slice());
     let mut written = Vec::new(alloc);
-    let mut writer = Watched::new(&mut written);
+    let mut dialogue = Dialogue::new(alloc, script.as_slice(), &mut written)?;
     let console = Console::new(&rt);
     let mut engine = Explained::new(Repeating, &console);
-    let status = run(alloc, &mut reader, &mut writer, &mut engine)?;
+    let status = run(alloc, &mut dialogue, &mut engine)?;
     assert!(rt; status == Status::Ran);
     assert!(rt; console.has_heard_error());
     assert!(rt; written.as_slice() == LINES);
@@ -45,10 +44,9 @@ fn last_line_heard(alloc: Global, script: &[u8]) -> Option<u64> {
     let listener = LastLine {
         number: Cell::new(0),
     };
-    let mut reader = Watched::new(script);
-    let mut writer = Watched::new(Vec::new(alloc));
+    let mut dialogue = Dialogue::new(alloc, script, Vec::new(alloc)).ok()?;
     let mut engine = Explained::new(Repeating, &listener);
-    match run(alloc, &mut reader, &mut writer, &mut engine) {
+    match run(alloc, &mut dialogue, &mut engine) {
         Ok(_) => Some(listener.number.get()),
         Err(_) => None,
     }

@@ -2,7 +2,7 @@
 
 use crate::fakes::{FailingFlush, FailingReader, FailingWriter};
 use sm_lines::{
-    AnswerFault, LineReader, Next, PIECE, PieceWriter, Responder, Watched, answer_lines,
+    AnswerFault, Dialogue, LineReader, Next, PIECE, PieceWriter, Responder, Watched, answer_lines,
     write_whole,
 };
 use std::alloc::{AllocError, Global};
@@ -41,10 +41,8 @@ fn answer<R: Read + Drop>(
     written: &mut Vec<u8>,
     writes: usize,
 ) -> Result<(), AnswerFault> {
-    let mut lines = LineReader::new(alloc)?;
-    let mut reader = Watched::new(inner);
-    let mut writer = Watched::new(FailingWriter::new(written, writes));
-    answer_lines(alloc, &mut lines, &mut reader, &mut writer, &mut Echo, 4)
+    let mut dialogue = Dialogue::new(alloc, inner, FailingWriter::new(written, writes))?;
+    answer_lines(alloc, &mut dialogue, &mut Echo, 4)
 }
 
 /// Whether all lines of the reader are answered by these texts, where the writer takes so many pieces of two bytes.
@@ -128,9 +126,8 @@ fn long_line(alloc: Global, length: usize) -> Result<Vec<u8>, AllocError> {
 #[test]
 fn reads_a_line_of_two_pieces(rt: HostRuntime) -> Result<(), Fail> {
     let input = long_line(rt.alloc(), 2 * PIECE)?;
-    let mut reader = Watched::new(input.as_slice());
-    let mut lines = LineReader::new(rt.alloc())?;
-    assert!(rt; lines.next_line(&mut reader, 2 * PIECE) == Ok(Next::Line));
+    let mut lines = LineReader::new(rt.alloc(), input.as_slice())?;
+    assert!(rt; lines.next_line(2 * PIECE) == Ok(Next::Line));
     assert!(rt; lines.line().len() == 2 * PIECE);
     assert!(rt; !lines.holds_line());
     Ok(())
@@ -139,9 +136,8 @@ fn reads_a_line_of_two_pieces(rt: HostRuntime) -> Result<(), Fail> {
 #[test]
 fn keeps_the_front_of_a_line_of_two_pieces(rt: HostRuntime) -> Result<(), Fail> {
     let input = long_line(rt.alloc(), 2 * PIECE)?;
-    let mut reader = Watched::new(input.as_slice());
-    let mut lines = LineReader::new(rt.alloc())?;
-    assert!(rt; lines.next_line(&mut reader, 2 * PIECE - 1) == Ok(Next::LongLine));
+    let mut lines = LineReader::new(rt.alloc(), input.as_slice())?;
+    assert!(rt; lines.next_line(2 * PIECE - 1) == Ok(Next::LongLine));
     assert!(rt; lines.line().len() == 2 * PIECE - 1);
     assert!(rt; !lines.holds_line());
     Ok(())
@@ -149,14 +145,13 @@ fn keeps_the_front_of_a_line_of_two_pieces(rt: HostRuntime) -> Result<(), Fail> 
 
 #[test]
 fn the_end_is_read_once(rt: HostRuntime) -> Result<(), Fail> {
-    let mut reader = Watched::new(b"a\n".as_slice());
-    let mut lines = LineReader::new(rt.alloc())?;
-    assert!(rt; lines.next_line(&mut reader, 4) == Ok(Next::Line));
-    assert!(rt; lines.next_line(&mut reader, 4) == Ok(Next::End));
-    assert!(rt; lines.next_line(&mut reader, 4) == Ok(Next::End));
-    assert!(rt; reader.calls() == 2);
-    assert!(rt; reader.has_ended());
-    assert!(rt; !reader.has_read_past_end());
+    let mut lines = LineReader::new(rt.alloc(), b"a\n".as_slice())?;
+    assert!(rt; lines.next_line(4) == Ok(Next::Line));
+    assert!(rt; lines.next_line(4) == Ok(Next::End));
+    assert!(rt; lines.next_line(4) == Ok(Next::End));
+    assert!(rt; lines.reader().calls() == 2);
+    assert!(rt; lines.reader().has_ended());
+    assert!(rt; !lines.reader().has_read_past_end());
     Ok(())
 }
 
@@ -200,12 +195,11 @@ fn a_failed_write_is_passed_on_once(rt: HostRuntime) -> Result<(), Fail> {
 #[test]
 fn a_failed_flush_is_passed_on_once(rt: HostRuntime) -> Result<(), Fail> {
     let mut inner = FailingFlush { faults: 0 };
-    let mut writer = Watched::new(&mut inner);
-    let mut pieces = PieceWriter::new(rt.alloc())?;
-    assert!(rt; pieces.write(&mut writer, b"a").is_ok());
-    assert!(rt; !writer.has_failed());
-    assert!(rt; pieces.flush(&mut writer).is_err());
-    assert!(rt; writer.has_failed());
+    let mut pieces = PieceWriter::new(rt.alloc(), &mut inner)?;
+    assert!(rt; pieces.write(b"a").is_ok());
+    assert!(rt; !pieces.writer().has_failed());
+    assert!(rt; pieces.flush().is_err());
+    assert!(rt; pieces.writer().has_failed());
     assert!(rt; inner.faults == 1);
     Ok(())
 }
@@ -214,16 +208,15 @@ fn a_failed_flush_is_passed_on_once(rt: HostRuntime) -> Result<(), Fail> {
 fn writes_in_pieces(rt: HostRuntime) -> Result<(), Fail> {
     let alloc = rt.alloc();
     let mut written = Vec::new(alloc);
-    let mut writer = Watched::new(&mut written);
-    let mut pieces = PieceWriter::new(alloc)?;
+    let mut pieces = PieceWriter::new(alloc, &mut written)?;
     let large = long_line(alloc, PIECE)?;
-    assert!(rt; pieces.write(&mut writer, b"b").is_ok());
-    assert!(rt; writer.calls() == 0);
-    assert!(rt; pieces.write(&mut writer, large.as_slice()).is_ok());
-    assert!(rt; pieces.write(&mut writer, b"c").is_ok());
-    assert!(rt; writer.calls() == 2);
-    assert!(rt; pieces.flush(&mut writer).is_ok());
-    assert!(rt; writer.calls() == 3);
+    assert!(rt; pieces.write(b"b").is_ok());
+    assert!(rt; pieces.writer().calls() == 0);
+    assert!(rt; pieces.write(large.as_slice()).is_ok());
+    assert!(rt; pieces.write(b"c").is_ok());
+    assert!(rt; pieces.writer().calls() == 2);
+    assert!(rt; pieces.flush().is_ok());
+    assert!(rt; pieces.writer().calls() == 3);
     assert!(rt; written.starts_with(b"baa"));
     assert!(rt; written.ends_with(b"a\nc"));
     Ok(())
@@ -242,11 +235,10 @@ fn writes_whole(rt: HostRuntime) -> Result<(), Fail> {
 #[test]
 fn reads_a_line_and_a_front_of_a_longer_one(rt: HostRuntime) -> Result<(), Fail> {
     let alloc = rt.alloc();
-    let mut reader = Watched::new(b"one\nthree".as_slice());
-    let mut lines = LineReader::new(alloc)?;
-    assert!(rt; lines.next_line(&mut reader, 4) == Ok(Next::Line));
+    let mut lines = LineReader::new(alloc, b"one\nthree".as_slice())?;
+    assert!(rt; lines.next_line(4) == Ok(Next::Line));
     assert!(rt; lines.line() == b"one".as_slice());
-    assert!(rt; lines.next_line(&mut reader, 4) == Ok(Next::LongLine));
+    assert!(rt; lines.next_line(4) == Ok(Next::LongLine));
     assert!(rt; lines.line() == b"thre".as_slice());
     Ok(())
 }

@@ -6,7 +6,7 @@ use crate::settings::PLAIN;
 use crate::stops::{
     Runs, is_written, is_written_in_two, wrong_stop_of_reader, wrong_stop_of_writer,
 };
-use sm_lines::Watched;
+use sm_lines::{Dialogue, Watched};
 use sm_run::{BeginFault, Engine, RunFault, Status, run};
 use sm_settings::{MAX_SETTINGS, Settings};
 use std::alloc::{AllocError, Global};
@@ -58,12 +58,8 @@ impl Runs for EchoEngine {
         reader: R,
         writer: W,
     ) -> Result<Status, RunFault> {
-        run(
-            alloc,
-            &mut Watched::new(reader),
-            &mut Watched::new(writer),
-            &mut EchoEngine,
-        )
+        let mut dialogue = Dialogue::new(alloc, reader, writer)?;
+        run(alloc, &mut dialogue, &mut EchoEngine)
     }
 }
 
@@ -71,10 +67,9 @@ impl Runs for EchoEngine {
 fn answers_the_lines_after_the_settings(rt: HostRuntime) -> Result<(), Fail> {
     // A function of its own, whose early exit has few kinds of values to drop.
     fn answer(rt: &impl Abort, alloc: Global, script: &Vec<u8>) -> Result<(), RunFault> {
-        let mut reader = Watched::new(script.as_slice());
         let mut written = Vec::new(alloc);
-        let mut writer = Watched::new(&mut written);
-        let status = run(alloc, &mut reader, &mut writer, &mut EchoEngine)?;
+        let mut dialogue = Dialogue::new(alloc, script.as_slice(), &mut written)?;
+        let status = run(alloc, &mut dialogue, &mut EchoEngine)?;
         assert!(rt; status == Status::Ran);
         assert!(rt; written.as_slice() == ANSWERS);
         Ok(())
@@ -124,10 +119,15 @@ fn has_ended_after<R: Read>(reader: &Watched<R>, calls: usize) -> bool {
 fn reads_each_once(alloc: Global, input: &[u8], line: &[u8]) -> bool {
     let calls = input.len().saturating_add(1);
     let mut written = Vec::new(alloc);
-    let mut writer = Watched::new(&mut written);
-    let mut reader = Watched::new(FailingReader::new(input, calls));
-    let ended = run(alloc, &mut reader, &mut writer, &mut EchoEngine);
-    ended == Ok(Status::Ran) && has_ended_after(&reader, calls) && written.as_slice() == line
+    let reader = FailingReader::new(input, calls);
+    let has_ended = match Dialogue::new(alloc, reader, &mut written) {
+        Ok(mut dialogue) => {
+            let ended = run(alloc, &mut dialogue, &mut EchoEngine);
+            ended == Ok(Status::Ran) && has_ended_after(dialogue.reader(), calls)
+        }
+        Err(_) => false,
+    };
+    has_ended && written.as_slice() == line
 }
 
 // The last line with its line feed, and without it.

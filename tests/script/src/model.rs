@@ -1,6 +1,6 @@
 //! Whole scripts on the model, in memory.
 
-use sm_lines::Watched;
+use sm_lines::Dialogue;
 use sm_model::run_model;
 use sm_run::{RunFault, Status};
 use std::alloc::{AllocError, Global};
@@ -38,7 +38,7 @@ impl Runs for Model {
         reader: R,
         writer: W,
     ) -> Result<Status, RunFault> {
-        run_model(alloc, &mut Watched::new(reader), &mut Watched::new(writer))
+        run_model(alloc, &mut Dialogue::new(alloc, reader, writer)?)
     }
 }
 
@@ -53,9 +53,8 @@ fn documented_example(rt: HostRuntime) -> Result<(), Fail> {
     // A function of its own, whose early exit has few kinds of values to drop.
     fn answer(rt: &impl Abort, alloc: Global, script: &[u8]) -> Result<(), RunFault> {
         let mut written = Vec::new(alloc);
-        let mut reader = Watched::new(script);
-        let mut writer = Watched::new(&mut written);
-        let status = run_model(alloc, &mut reader, &mut writer)?;
+        let mut dialogue = Dialogue::new(alloc, script, &mut written)?;
+        let status = run_model(alloc, &mut dialogue)?;
         assert_eq!(rt; status, Status::Ran);
         assert!(rt; written.as_slice() == FIRST_ANSWERS);
         Ok(())

@@ -2,7 +2,7 @@
 
 use sm_cluster::{Counting, Counts, Open};
 use sm_explain::{Listener, Sentence};
-use sm_lines::Watched;
+use sm_lines::Dialogue;
 use sm_ranges::Key;
 use sm_run::{RunFault, Status};
 use sm_threads::{CountsListener, KeyCount, run_threads_explained};
@@ -45,9 +45,8 @@ impl<T: Threads + Wait + Clone + Send + Sync + Drop + 'static> Runs for Told<'_,
         reader: R,
         writer: W,
     ) -> Result<Status, RunFault> {
-        let mut reader = Watched::new(reader);
-        let mut writer = Watched::new(writer);
-        run_threads_explained(self.rt, alloc, &mut reader, &mut writer, &Open, Ear, Ear)
+        let mut dialogue = Dialogue::new(alloc, reader, writer)?;
+        run_threads_explained(self.rt, alloc, &mut dialogue, &Open, Ear, Ear)
     }
 }
 

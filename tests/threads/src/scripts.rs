@@ -2,7 +2,7 @@
 
 use crate::gate::Counting;
 use sm_cluster::Open;
-use sm_lines::Watched;
+use sm_lines::Dialogue;
 use sm_run::Status;
 use sm_threads::run_threads;
 use std::alloc::Global;
@@ -28,9 +28,8 @@ fn documented_example(rt: HostRuntime) -> Result<(), Fail> {
     let alloc = rt.alloc();
     let script = script_of(alloc, b"assign 1 1\nput m hello\nget m\nlook 1\n")?;
     let mut written = Vec::new(alloc);
-    let mut reader = Watched::new(script.as_slice());
-    let mut writer = Watched::new(&mut written);
-    let status = run_threads(&rt, alloc, &mut reader, &mut writer, &Open)?;
+    let mut dialogue = Dialogue::new(alloc, script.as_slice(), &mut written)?;
+    let status = run_threads(&rt, alloc, &mut dialogue, &Open)?;
     assert_eq!(rt; status, Status::Ran);
     assert_eq!(rt;
         written.as_slice(),
@@ -45,9 +44,8 @@ fn load_calls_the_servers(rt: HostRuntime) -> Result<(), Fail> {
     let script = script_of(alloc, b"assign 0 1\npublish 0\nload a 4 25\nget a\n")?;
     let gate = Counting::new(alloc)?;
     let mut written = Vec::new(alloc);
-    let mut reader = Watched::new(script.as_slice());
-    let mut writer = Watched::new(&mut written);
-    let status = run_threads(&rt, alloc, &mut reader, &mut writer, &gate)?;
+    let mut dialogue = Dialogue::new(alloc, script.as_slice(), &mut written)?;
+    let status = run_threads(&rt, alloc, &mut dialogue, &gate)?;
     assert_eq!(rt; status, Status::Ran);
     assert!(rt; written.starts_with(b"ok\nok\nload ok\ncount "));
     assert!(rt; gate.passed() >= 102);
@@ -58,9 +56,8 @@ fn load_calls_the_servers(rt: HostRuntime) -> Result<(), Fail> {
 fn too_many_workers_are_refused(rt: HostRuntime) -> Result<(), Fail> {
     let alloc = rt.alloc();
     let mut written = Vec::new(alloc);
-    let mut reader = Watched::new(CROWDED);
-    let mut writer = Watched::new(&mut written);
-    let status = run_threads(&rt, alloc, &mut reader, &mut writer, &Open)?;
+    let mut dialogue = Dialogue::new(alloc, CROWDED, &mut written)?;
+    let status = run_threads(&rt, alloc, &mut dialogue, &Open)?;
     assert_eq!(rt; status, Status::BadSettings);
     assert_eq!(rt; written.as_slice(), b"settings TooManyWorkers\n".as_slice());
     Ok(())

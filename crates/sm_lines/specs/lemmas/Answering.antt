@@ -1,9 +1,8 @@
--- Answers to one more line, and no line.
-use Rattle.std.proofs.Common.{◌≡◌, ◌≢◌, ℕ, List, [], ◌∷◌, ◌++◌, Option, Some, None, refl, ap, sym, ◌∙◌, append_assoc}
-use Rattle.std.proofs.Common.{append-nil, subst, inl}
-use Rattle.std.proofs.KnownBytes.{Consumes-nil}
-use Rattle.std.proofs.lemmas.List.Elements.{All-nil}
-use Rattle.sm_lines.specs.Answers.{AnswersAll, LosesLines, StopsAfter}
+-- Answers to one more line, and none.
+use Rattle.std.proofs.Common.{◌≡◌, ℕ, List, [], ◌∷◌, ◌++◌, refl, ap, sym, ◌∙◌, append_assoc, append-nil, subst}
+use Rattle.std.proofs.KnownBytes.{Appends-nil}
+use Rattle.sm_lines.specs.Answers.{AnswersAll}
+use Rattle.sm_lines.specs.Writing.{Writing, Sends}
 
 -- one more line
 pub AnswersAll-more : {E : Type 0} (answers : E → List ℕ → List ℕ → E → Type 0) (before mid after : E)
@@ -17,22 +16,12 @@ AnswersAll-more answers before mid after (l ∷ done) line text more all one = (
   all.0,
   all.1 ++ more,
   all.2,
-  ap (λ t. t ++ more) all.3 ∙ append_assoc all.0 all.1 more,
+  ap (λ t. t ++ more) all.3
+      ∙ append_assoc all.0 all.1 more,
   all.4,
   AnswersAll-more answers all.2 mid after done line all.1 more all.5 one,
 )
 
--- no line was taken off
-pub LosesLines-none : (input : Option (List ℕ)) → LosesLines input input []
-LosesLines-none None = tt
-LosesLines-none (Some bytes) = refl
-
--- nothing of the next line was taken off
-pub stops_after : (input left : Option (List ℕ)) (done : List (List ℕ)) → LosesLines input left done
-    → StopsAfter input left done
-stops_after input left done lost =
-    record {
-      next = left;
-      lost = lost;
-      touched = inl (record { part = []; plain = All-nil (λ b. b ≢ 10); lost = Consumes-nil left });
-    }
+-- nothing was added
+pub sends_none : (now : Writing) → Sends now now []
+sends_none now = record { sent = []; wrote = Appends-nil now.written; split = append-nil now.waiting; unfailed = refl }

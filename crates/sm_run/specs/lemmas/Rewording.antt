@@ -1,6 +1,8 @@
 -- What had to be written, in other words.
-use Rattle.std.proofs.Common.{Bool, ℕ, List, Option, Result, ◌++◌, ◌∷◌, [], inl, inr}
+use Rattle.std.proofs.Common.{ℕ, List, Result, ◌++◌, ◌∷◌, [], inl, inr}
+use Rattle.sm_lines.specs.Transcripts.{Transcript}
 use Rattle.sm_run.specs.Runs.{StoppedAt, StoppedEarly, StoppedReading, StoppedWriting, WroteBefore}
+use Rattle.sm_lines.specs.Writing.{Writing}
 use Rattle.sm_run.specs.declared.begin_fault.BeginFault.{BeginFault}
 use Rattle.sm_run.specs.declared.run_fault.RunFault.{RunFault}
 use Rattle.sm_settings.specs.SettingsLine.{SettingsValues}
@@ -10,34 +12,17 @@ use Rattle.sm_run.specs.declared.status.Status.{Status}
 abbrev pub Rewords : (List (List ℕ) → List ℕ → Type 0) → (List (List ℕ) → List ℕ → Type 0) → Type 0
 Rewords writes says = (before : List (List ℕ)) (text : List ℕ) → writes before text → says before text
 
-wrote_as : (writes says : List (List ℕ) → List ℕ → Type 0) (old new : Option (List ℕ)) (before : List (List ℕ))
-    → Rewords writes says → WroteBefore writes old new before → WroteBefore says old new before
-wrote_as writes says old new before reword w = record { text = w.text; is = reword before w.text w.is; wrote = w.wrote }
+wrote_as : (writes says : List (List ℕ) → List ℕ → Type 0) (was now : Writing) (before : List (List ℕ))
+    → Rewords writes says → WroteBefore writes was now before → WroteBefore says was now before
+wrote_as writes says was now before reword w = (w.0, reword before w.0 w.1, w.2)
 
-reading_as :
-    (writes says : List (List ℕ) → List ℕ → Type 0) (failed : Bool) (calls : ℕ) (input left old new : Option (List ℕ))
-    → Rewords writes says → StoppedReading writes failed calls input left old new
-    → StoppedReading says failed calls input left old new
-reading_as writes says failed calls input left old new reword s =
-    record { before = s.before; why = s.why; wrote = wrote_as writes says old new s.before reword s.wrote }
-
-stopped_as : (writes says : List (List ℕ) → List ℕ → Type 0) (input left old new : Option (List ℕ))
-    → Rewords writes says → StoppedAt writes input left old new → StoppedAt says input left old new
-stopped_as writes says input left old new reword s =
-    record {
-      before = s.before;
-      ahead = s.ahead;
-      few = s.few;
-      stops = s.stops;
-      wrote = wrote_as writes says old new s.before reword s.wrote;
-    }
-
-writing_as : (writes says : List (List ℕ) → List ℕ → Type 0) (input old new : Option (List ℕ)) → Rewords writes says
-    → StoppedWriting writes input old new → StoppedWriting says input old new
-writing_as writes says input old new reword s = record {
+writing_as : (writes says : List (List ℕ) → List ℕ → Type 0) (was now : Transcript) → Rewords writes says
+    → StoppedWriting writes was now → StoppedWriting says was now
+writing_as writes says was now reword s = record {
   before = s.before;
   line = s.line;
-  are = s.are;
+  rest = s.rest;
+  stops = s.stops;
   text = s.text;
   answer = s.answer;
   whole = reword s.before s.text s.whole;
@@ -46,16 +31,26 @@ writing_as writes says input old new reword s = record {
   wrote = s.wrote;
 }
 
+stopped_as : (writes says : List (List ℕ) → List ℕ → Type 0) (was now : Transcript) → Rewords writes says
+    → StoppedAt writes was now → StoppedAt says was now
+stopped_as writes says was now reword s = record
+    { before = s.before; stops = s.stops; wrote = wrote_as writes says was.writing now.writing s.before reword s.wrote }
+
 pub early_as : (refuses : SettingsValues → BeginFault → Type 0) (writes says : List (List ℕ) → List ℕ → Type 0)
-    (result : Result Status RunFault) (failed : Bool) (calls : ℕ) (input left old new : Option (List ℕ))
-    → Rewords writes says → StoppedEarly refuses writes result failed calls input left old new
-    → StoppedEarly refuses says result failed calls input left old new
-early_as refuses writes says result failed calls input left old new reword s = record {
-  read = λ is. reading_as writes says failed calls input left old new reword (s.read is);
-  no_memory = λ is. stopped_as writes says input left old new reword (s.no_memory is);
-  no_thread = λ is. stopped_as writes says input left old new reword (s.no_thread is);
+    (result : Result Status RunFault) (was now : Transcript)
+    → Rewords writes says → StoppedEarly refuses writes result was now → StoppedEarly refuses says result was now
+early_as refuses writes says result was now reword s = record {
+  read = λ is. (let stop = s.read is in
+      record {
+        before = stop.before;
+        why = stop.why;
+        wrote = wrote_as writes says was.writing now.writing stop.before
+            reword stop.wrote;
+      });
+  no_memory = λ is. stopped_as writes says was now reword (s.no_memory is);
+  no_thread = λ is. stopped_as writes says was now reword (s.no_thread is);
   write = λ is. elim (s.write is) [
-    | inl session ↦ inl (writing_as writes says input old new reword session)
+    | inl session ↦ inl (writing_as writes says was now reword session)
     | inr refused ↦ inr refused
   ];
 }

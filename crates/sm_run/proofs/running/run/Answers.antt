@@ -1,84 +1,260 @@
-use Rattle.std.proofs.Common.{◌≡◌, ◌∙◌, Err, ap, refl, sym}
-use Rattle.std.proofs.lemmas.Result.{err_from_is_err_and}
-use Rattle.sm_lines.specs.Reading.{unread}
-use Rattle.sm_run.specs.declared.run_fault.RunFault.TheVariants.{Read, Write, NoThread}
-use Rattle.sm_run.proofs.Stops.{early_memory, early_refused, early_session, early_unread, opened, refused_by_engine, refused_opening, ran_session, none_read, stopped_opening, stopped_unread}
-use Rattle.sm_run.proofs.Watches.{watched_session}
+use Rattle.std.proofs.Common.{◌≡◌, ◌≢◌, ◌∙◌, Ok, Err, ap, refl, sym, inr, subst}
+use Rattle.std.proofs.lemmas.Result.{on_ok_weaker}
+use Rattle.sm_lines.specs.Reading.{Reading}
+use Rattle.sm_lines.specs.Writing.{Writing}
+use Rattle.sm_settings.specs.SettingsLine.{values_of}
+use Rattle.sm_settings.specs.declared.settings_fault.SettingsFault.{SettingsFault}
+use Rattle.sm_run.specs.Openings.{IsRefused}
+use Rattle.sm_run.specs.declared.begin_fault.BeginFault.TheVariants.{Settings as IsOfSettings}
+use Rattle.sm_run.specs.declared.run_fault.RunFault.TheVariants.{Read, Write, NoMemory, NoThread}
+use Rattle.sm_run.proofs.Refusals.{Refusing, refused_early, refused_script, refused_watched}
+use Rattle.sm_run.proofs.Stops.{Opened, Touched, answered_after, early_session, early_unread, none_read, opened}
+use Rattle.sm_run.proofs.Stops.{ran_session, refused_by_engine, refused_opening, stopped_first}
+use Rattle.sm_run.proofs.Watches.{watched_session, watched_unread}
 use Rattle.sm_run.proofs.running.run.Goals as goal
-
-pub returns-in_err-lines-clause-stopped : goal.returns-in_err-lines-clause-stopped
-returns-in_err-lines-clause-stopped g c =
-    let p = err_from_is_err_and c.from_residual.result c.from_residual.ensures.1 in
-    early_memory _ _ _ _ _ _ _ _ _ (p.1 ∙ ap Err p.2) (stopped_unread _ _ _ refl)
 
 pub returns-in-Ok-clause-ran : goal.returns-in-Ok-clause-ran
 returns-in-Ok-clause-ran g c = λ is.
-    let input = g.R.Read.remaining c.args.reader.now.inner in
-    let mid = unread c.open.new.lines (g.R.Read.remaining c.open.new.reader.inner) in
-    let o = opened c.open.new.lines.ended c.in_ok-lines.lines input mid c.in-Ok-Accepted.field-0 c.in-Ok-Accepted.settings (ap (λ r. r.held) c.in_ok-lines.ensures) c.in-Ok-Accepted.field-0-is c.in-Ok-Accepted.ensures.opening in
-    ran_session _ _ _ c.run_session.result c.open.new.lines.ended input mid _ _ c.in-Ok.session c.run_session.ensures.answered.0 o c.in-Ok.ensures.begun
-    (sym c.ending.ensures ∙ is) c.run_session.ensures.answered.1.ran
+    let was = c.args.dialogue.now in
+    let mid = c.open.new.dialogue in
+    let first_line = c.in-Ok-Accepted.ensures in
+    let o = opened was.reading mid.reading c.in-Ok-Accepted.field-0 c.in-Ok-Accepted.settings
+    c.in-Ok-Accepted.field-0-is first_line.opening in
+    let answered = c.run_session.ensures.answered in
+    ran_session _ _ _ c.run_session.result was mid.reading c.run_session.new.dialogue c.in-Ok.session answered.0 o
+    c.in-Ok.ensures.begun (sym c.ending.ensures ∙ is)
+    (answered_after was mid c.run_session.new.dialogue first_line.unwritten answered.1)
 
 pub returns-in-Ok-clause-stopped : goal.returns-in-Ok-clause-stopped
 returns-in-Ok-clause-stopped g c =
-    let input = g.R.Read.remaining c.args.reader.now.inner in
-    let mid = unread c.open.new.lines (g.R.Read.remaining c.open.new.reader.inner) in
-    let left = g.R.Read.remaining c.run_session.new.reader.inner in
-    let o = opened c.open.new.lines.ended c.in_ok-lines.lines input mid c.in-Ok-Accepted.field-0 c.in-Ok-Accepted.settings (ap (λ r. r.held) c.in_ok-lines.ensures) c.in-Ok-Accepted.field-0-is c.in-Ok-Accepted.ensures.opening in
-    let few = c.run_session.ensures.reading.piece c.in-Ok-Accepted.ensures.piece in
-    rw c.ending.ensures (early_session g.E.Engine.refuses g.E.Engine.begins _ _ c.run_session.result c.open.new.lines c.run_session.new.lines c.run_session.new.reader.failed c.run_session.new.reader.calls input mid left
-    (g.W.Write.contents c.args.writer.now.inner) (g.W.Write.contents c.run_session.new.writer.inner) c.in-Ok.session c.run_session.ensures.answered.0 o c.in-Ok.ensures.begun few c.run_session.ensures.answered.1)
+    let was = c.args.dialogue.now in
+    let mid = c.open.new.dialogue in
+    let first_line = c.in-Ok-Accepted.ensures in
+    let o = opened was.reading mid.reading c.in-Ok-Accepted.field-0 c.in-Ok-Accepted.settings
+    c.in-Ok-Accepted.field-0-is first_line.opening in
+    let answered = c.run_session.ensures.answered in
+    rw c.ending.ensures (early_session g.E.Engine.refuses g.E.Engine.begins _ _ c.run_session.result was mid.reading
+    c.run_session.new.dialogue c.in-Ok.session answered.0 o c.in-Ok.ensures.begun
+    (answered_after was mid c.run_session.new.dialogue first_line.unwritten answered.1))
 
 pub returns-in-Ok-clause-watched : goal.returns-in-Ok-clause-watched
 returns-in-Ok-clause-watched g c =
-    rw c.ending.ensures (watched_session g.R.Read.remaining c.run_session.result c.in_ok-lines.lines c.open.new.lines c.run_session.new.lines c.args.reader.now c.open.new.reader c.run_session.new.reader c.args.writer.now c.run_session.new.writer (ap (λ r. r.held) c.in_ok-lines.ensures) (ap (λ r. r.ended) c.in_ok-lines.ensures)
-    (c.in-Ok-Accepted.ensures.unfailed (λ e. cc)) c.in-Ok-Accepted.ensures.calls c.in-Ok-Accepted.ensures.same_end c.in-Ok-Accepted.ensures.not_past_end c.in-Ok-Accepted.ensures.held_given
-    c.run_session.ensures.reading c.run_session.ensures.write_failed c.run_session.ensures.write_unfailed)
+    let was = c.args.dialogue.now in
+    let mid = c.open.new.dialogue in
+    let first_line = c.in-Ok-Accepted.ensures in
+    let o = opened was.reading mid.reading c.in-Ok-Accepted.field-0 c.in-Ok-Accepted.settings
+    c.in-Ok-Accepted.field-0-is first_line.opening in
+    let answered = c.run_session.ensures.answered in
+    rw c.ending.ensures (watched_session _ c.run_session.result was mid.reading c.run_session.new.dialogue
+    c.in-Ok.session answered.0 o.first o.took (first_line.unfailed (λ e. cc))
+    (answered_after was mid c.run_session.new.dialogue first_line.unwritten answered.1)
+    c.run_session.ensures.read_unfailed
+    (λ other. c.run_session.ensures.write_unfailed other ∙ ap (λ w. w.failed) first_line.unwritten))
 
-pub returns-in-Ok-Accepted-clause-stopped : goal.returns-in-Ok-Accepted-clause-stopped
-returns-in-Ok-Accepted-clause-stopped g c =
-    let input = g.R.Read.remaining c.args.reader.now.inner in
-    let left = g.R.Read.remaining c.open.new.reader.inner in
-    let mid = unread c.open.new.lines left in
-    let none_held = ap (λ r. r.held) c.in_ok-lines.ensures in
-    let o = opened c.open.new.lines.ended c.in_ok-lines.lines input mid c.in-Ok-Accepted.field-0 c.in-Ok-Accepted.settings none_held c.in-Ok-Accepted.field-0-is c.in-Ok-Accepted.ensures.opening in
-    let at = c.in-Ok-Accepted.ensures.touched (λ e. cc) in
-    early_refused _ _ c.leave_unbegun.result _ _ input left _ _ c.leave_unbegun.ensures.read
-    (λ is. stopped_opening _ c.in_ok-lines.lines input left _ _ c.open.new.lines.held refl none_held (ap (λ w. g.W.Write.contents w.inner) (c.leave_unbegun.ensures.no_memory is)) c.in-Ok-Accepted.ensures.piece at)
-    (λ is. stopped_opening _ c.in_ok-lines.lines input left _ _ c.open.new.lines.held refl none_held (ap (λ w. g.W.Write.contents w.inner) (c.leave_unbegun.ensures.no_thread is).1) c.in-Ok-Accepted.ensures.piece at)
-    (λ is.
-    let short = (c.leave_unbegun.ensures.write is).1 in
-    record {
-      fault = short.0;
-      refused = refused_by_engine g.E.Engine.refuses c.open.new.lines.ended input mid _ c.in-Err-begin.fault short.0 o c.in-Err-begin.ensures.refused short.1;
-      wrote = short.2;
-    })
+pub returns-in-Err-begin-clause-bad_settings : goal.returns-in-Err-begin-clause-bad_settings
+returns-in-Err-begin-clause-bad_settings g c =
+    let was = c.args.dialogue.now in
+    let mid = c.open.new.dialogue in
+    let now = c.leave_unbegun.new.dialogue in
+    let left = c.leave_unbegun.ensures in
+    let first_line = c.in-Ok-Accepted.ensures in
+    let fault = c.in-Err-begin.fault in
+    let P : Writing → Type 0 = λ w. Refusing c.leave_unbegun.result (λ why. fault ≡ IsOfSettings why) w now.writing in
+    let r = subst P first_line.unwritten (record {
+      wrote = left.wrote;
+      status = left.status;
+      write = left.write;
+      no_memory = left.no_memory;
+      no_thread = λ is. (left.no_thread is).1;
+      read = left.read;
+    }) in
+    let o = opened was.reading mid.reading c.in-Ok-Accepted.field-0 c.in-Ok-Accepted.settings
+    c.in-Ok-Accepted.field-0-is first_line.opening in
+    let Q : Reading → Type 0 = λ x. Touched was.reading x in
+    let touched = subst Q (sym left.unread) (inr (o.first, o.took)) in
+    let R : Reading → Type 0 = λ x. (why : SettingsFault) → fault ≡ IsOfSettings why
+    → IsRefused g.E.Engine.refuses why was.reading x in
+    let refused = subst R (sym left.unread)
+    (λ why is. refused_by_engine g.E.Engine.refuses was.reading mid.reading (values_of c.in-Ok-Accepted.settings)
+    fault why o c.in-Err-begin.ensures.refused is) in
+    refused_script g.E.Engine.refuses c.leave_unbegun.result was now r refused
+
+pub returns-in-Err-begin-clause-stopped : goal.returns-in-Err-begin-clause-stopped
+returns-in-Err-begin-clause-stopped g c =
+    let was = c.args.dialogue.now in
+    let mid = c.open.new.dialogue in
+    let now = c.leave_unbegun.new.dialogue in
+    let left = c.leave_unbegun.ensures in
+    let first_line = c.in-Ok-Accepted.ensures in
+    let fault = c.in-Err-begin.fault in
+    let P : Writing → Type 0 = λ w. Refusing c.leave_unbegun.result (λ why. fault ≡ IsOfSettings why) w now.writing in
+    let r = subst P first_line.unwritten (record {
+      wrote = left.wrote;
+      status = left.status;
+      write = left.write;
+      no_memory = left.no_memory;
+      no_thread = λ is. (left.no_thread is).1;
+      read = left.read;
+    }) in
+    let o = opened was.reading mid.reading c.in-Ok-Accepted.field-0 c.in-Ok-Accepted.settings
+    c.in-Ok-Accepted.field-0-is first_line.opening in
+    let Q : Reading → Type 0 = λ x. Touched was.reading x in
+    let touched = subst Q (sym left.unread) (inr (o.first, o.took)) in
+    let R : Reading → Type 0 = λ x. (why : SettingsFault) → fault ≡ IsOfSettings why
+    → IsRefused g.E.Engine.refuses why was.reading x in
+    let refused = subst R (sym left.unread)
+    (λ why is. refused_by_engine g.E.Engine.refuses was.reading mid.reading (values_of c.in-Ok-Accepted.settings)
+    fault why o c.in-Err-begin.ensures.refused is) in
+    refused_early g.E.Engine.refuses _ c.leave_unbegun.result was now r refused touched refl
+
+pub returns-in-Err-begin-clause-watched : goal.returns-in-Err-begin-clause-watched
+returns-in-Err-begin-clause-watched g c =
+    let was = c.args.dialogue.now in
+    let mid = c.open.new.dialogue in
+    let now = c.leave_unbegun.new.dialogue in
+    let left = c.leave_unbegun.ensures in
+    let first_line = c.in-Ok-Accepted.ensures in
+    let fault = c.in-Err-begin.fault in
+    let P : Writing → Type 0 = λ w. Refusing c.leave_unbegun.result (λ why. fault ≡ IsOfSettings why) w now.writing in
+    let r = subst P first_line.unwritten (record {
+      wrote = left.wrote;
+      status = left.status;
+      write = left.write;
+      no_memory = left.no_memory;
+      no_thread = λ is. (left.no_thread is).1;
+      read = left.read;
+    }) in
+    let o = opened was.reading mid.reading c.in-Ok-Accepted.field-0 c.in-Ok-Accepted.settings
+    c.in-Ok-Accepted.field-0-is first_line.opening in
+    let Q : Reading → Type 0 = λ x. Touched was.reading x in
+    let touched = subst Q (sym left.unread) (inr (o.first, o.took)) in
+    let R : Reading → Type 0 = λ x. (why : SettingsFault) → fault ≡ IsOfSettings why
+    → IsRefused g.E.Engine.refuses why was.reading x in
+    let refused = subst R (sym left.unread)
+    (λ why is. refused_by_engine g.E.Engine.refuses was.reading mid.reading (values_of c.in-Ok-Accepted.settings)
+    fault why o c.in-Err-begin.ensures.refused is) in
+    refused_watched c.leave_unbegun.result was now r touched
+    (ap (λ x. x.failed) left.unread ∙ first_line.unfailed (λ e. cc))
+
+pub returns-in-Ok-Refused-clause-bad_settings : goal.returns-in-Ok-Refused-clause-bad_settings
+returns-in-Ok-Refused-clause-bad_settings g c =
+    let was = c.args.dialogue.now in
+    let mid = c.open.new.dialogue in
+    let now = c.refuse.new.dialogue in
+    let left = c.refuse.ensures in
+    let first_line = c.in-Ok-Refused.ensures in
+    let fault = c.in-Ok-Refused.fault in
+    let P : Writing → Type 0 = λ w. Refusing c.refuse.result (λ why. why ≡ fault) w now.writing in
+    let r = subst P first_line.unwritten (record {
+      wrote = on_ok_weaker c.refuse.result (λ wrote. (fault, refl, wrote)) left.wrote;
+      status = left.status;
+      write = λ is. (fault, refl, left.write is);
+      no_memory = left.no_memory;
+      no_thread = λ is. absurd (left.no_thread is);
+      read = left.read;
+    }) in
+    let o = refused_opening g.E.Engine.refuses was.reading mid.reading c.in-Ok-Refused.field-0 fault
+    c.in-Ok-Refused.field-0-is first_line.opening in
+    let Q : Reading → Type 0 = λ x. Touched was.reading x in
+    let touched = subst Q (sym left.unread) o.0 in
+    let S : SettingsFault → Type 0 = λ why. IsRefused g.E.Engine.refuses why was.reading mid.reading in
+    let R : Reading → Type 0 = λ x. (why : SettingsFault) → why ≡ fault
+    → IsRefused g.E.Engine.refuses why was.reading x in
+    let refused = subst R (sym left.unread) (λ why is. subst S (sym is) o.1) in
+    refused_script g.E.Engine.refuses c.refuse.result was now r refused
 
 pub returns-in-Ok-Refused-clause-stopped : goal.returns-in-Ok-Refused-clause-stopped
 returns-in-Ok-Refused-clause-stopped g c =
-    let input = g.R.Read.remaining c.args.reader.now.inner in
-    let left = g.R.Read.remaining c.open.new.reader.inner in
-    let none_held = ap (λ r. r.held) c.in_ok-lines.ensures in
-    early_refused _ _ c.refuse.result _ _ input left _ _ c.refuse.ensures.read
-    (λ is. stopped_opening _ c.in_ok-lines.lines input left _ _ c.open.new.lines.held refl none_held (ap (λ w. g.W.Write.contents w.inner) (c.refuse.ensures.no_memory is))
-    c.in-Ok-Refused.ensures.piece (c.in-Ok-Refused.ensures.touched (λ e. cc)))
-    (λ is. absurd (c.refuse.ensures.no_thread is))
-    (λ is. record {
-      fault = c.in-Ok-Refused.fault;
-      refused = refused_opening g.E.Engine.refuses c.open.new.lines.ended c.in_ok-lines.lines input (unread c.open.new.lines left) c.in-Ok-Refused.field-0 c.in-Ok-Refused.fault none_held c.in-Ok-Refused.field-0-is c.in-Ok-Refused.ensures.opening;
-      wrote = (c.refuse.ensures.write is).1;
-    })
+    let was = c.args.dialogue.now in
+    let mid = c.open.new.dialogue in
+    let now = c.refuse.new.dialogue in
+    let left = c.refuse.ensures in
+    let first_line = c.in-Ok-Refused.ensures in
+    let fault = c.in-Ok-Refused.fault in
+    let P : Writing → Type 0 = λ w. Refusing c.refuse.result (λ why. why ≡ fault) w now.writing in
+    let r = subst P first_line.unwritten (record {
+      wrote = on_ok_weaker c.refuse.result (λ wrote. (fault, refl, wrote)) left.wrote;
+      status = left.status;
+      write = λ is. (fault, refl, left.write is);
+      no_memory = left.no_memory;
+      no_thread = λ is. absurd (left.no_thread is);
+      read = left.read;
+    }) in
+    let o = refused_opening g.E.Engine.refuses was.reading mid.reading c.in-Ok-Refused.field-0 fault
+    c.in-Ok-Refused.field-0-is first_line.opening in
+    let Q : Reading → Type 0 = λ x. Touched was.reading x in
+    let touched = subst Q (sym left.unread) o.0 in
+    let S : SettingsFault → Type 0 = λ why. IsRefused g.E.Engine.refuses why was.reading mid.reading in
+    let R : Reading → Type 0 = λ x. (why : SettingsFault) → why ≡ fault
+    → IsRefused g.E.Engine.refuses why was.reading x in
+    let refused = subst R (sym left.unread) (λ why is. subst S (sym is) o.1) in
+    refused_early g.E.Engine.refuses _ c.refuse.result was now r refused touched refl
 
-pub returns-clause-stopped : goal.returns-clause-stopped
-returns-clause-stopped g c =
-    let input = g.R.Read.remaining c.args.reader.now.inner in
-    let left = g.R.Read.remaining c.open.new.reader.inner in
-    let none_held = ap (λ r. r.held) c.in_ok-lines.ensures in
-    early_unread _ _ _ _ _ input left _ _
-    (λ is.
-    let fault : c.in-Err.fault ≡ Read = cc in
-    let stop = c.in-Err.ensures.read (ap Err fault) in
-    none_read _ _ _ c.in_ok-lines.lines c.open.new.lines input left _ refl none_held stop.0 stop.1 stop.2)
-    (λ is. stopped_opening _ c.in_ok-lines.lines input left _ _ c.open.new.lines.held refl none_held refl c.in-Err.ensures.piece (c.in-Err.ensures.touched (λ e. cc)))
-    (λ is. let fault : c.in-Err.fault ≡ NoThread = cc in c.in-Err.ensures.no_thread (ap Err fault))
-    (λ is. let fault : c.in-Err.fault ≡ Write = cc in c.in-Err.ensures.write (ap Err fault))
+pub returns-in-Ok-Refused-clause-watched : goal.returns-in-Ok-Refused-clause-watched
+returns-in-Ok-Refused-clause-watched g c =
+    let was = c.args.dialogue.now in
+    let mid = c.open.new.dialogue in
+    let now = c.refuse.new.dialogue in
+    let left = c.refuse.ensures in
+    let first_line = c.in-Ok-Refused.ensures in
+    let fault = c.in-Ok-Refused.fault in
+    let P : Writing → Type 0 = λ w. Refusing c.refuse.result (λ why. why ≡ fault) w now.writing in
+    let r = subst P first_line.unwritten (record {
+      wrote = on_ok_weaker c.refuse.result (λ wrote. (fault, refl, wrote)) left.wrote;
+      status = left.status;
+      write = λ is. (fault, refl, left.write is);
+      no_memory = left.no_memory;
+      no_thread = λ is. absurd (left.no_thread is);
+      read = left.read;
+    }) in
+    let o = refused_opening g.E.Engine.refuses was.reading mid.reading c.in-Ok-Refused.field-0 fault
+    c.in-Ok-Refused.field-0-is first_line.opening in
+    let Q : Reading → Type 0 = λ x. Touched was.reading x in
+    let touched = subst Q (sym left.unread) o.0 in
+    let S : SettingsFault → Type 0 = λ why. IsRefused g.E.Engine.refuses why was.reading mid.reading in
+    let R : Reading → Type 0 = λ x. (why : SettingsFault) → why ≡ fault
+    → IsRefused g.E.Engine.refuses why was.reading x in
+    let refused = subst R (sym left.unread) (λ why is. subst S (sym is) o.1) in
+    refused_watched c.refuse.result was now r touched (ap (λ x. x.failed) left.unread ∙ first_line.unfailed (λ e. cc))
+
+pub returns-in-Err-begin-clause-no_thread : goal.returns-in-Err-begin-clause-no_thread
+returns-in-Err-begin-clause-no_thread g c = λ is.
+    let was = c.args.dialogue.now in
+    let first_line = c.in-Ok-Accepted.ensures in
+    let left = c.leave_unbegun.ensures in
+    let none = left.no_thread is in
+    let P : Reading → Type 0 = λ x. Opened was.reading x (values_of c.in-Ok-Accepted.settings) in
+    let o = subst P (sym left.unread)
+    (opened was.reading c.open.new.dialogue.reading c.in-Ok-Accepted.field-0 c.in-Ok-Accepted.settings
+    c.in-Ok-Accepted.field-0-is first_line.opening) in
+    record {
+      first = o.first;
+      settings = values_of c.in-Ok-Accepted.settings;
+      took = o.took;
+      accepted = o.accepted;
+      refused = rw (← none.0) c.in-Err-begin.ensures.refused;
+      unwritten = none.1 ∙ first_line.unwritten;
+    }
+
+pub returns-in-Err-clause-stopped : goal.returns-in-Err-clause-stopped
+returns-in-Err-clause-stopped g c =
+    let was = c.args.dialogue.now in
+    let now = c.open.new.dialogue in
+    let first_line = c.in-Err.ensures in
+    early_unread _ _ _ was now
+    (λ is. let fault : c.in-Err.fault ≡ Read = cc in
+    none_read _ was now refl first_line.unwritten (first_line.read (ap Err fault)))
+    (λ is. let fault : c.in-Err.fault ≡ NoMemory = cc in
+    stopped_first _ was now refl first_line.unwritten (first_line.no_memory (ap Err fault)))
+    (λ is. let fault : c.in-Err.fault ≡ NoThread = cc in first_line.no_thread (ap Err fault))
+    (λ is. let fault : c.in-Err.fault ≡ Write = cc in first_line.write (ap Err fault))
+
+pub returns-in-Err-clause-watched : goal.returns-in-Err-clause-watched
+returns-in-Err-clause-watched g c =
+    let first_line = c.in-Err.ensures in
+    watched_unread c.in-Err.fault c.args.dialogue.now c.open.new.dialogue (λ is. first_line.write (ap Err is))
+    (λ is. let fault : c.in-Err.fault ≡ Read = cc in first_line.read (ap Err fault))
+    (λ is. let fault : c.in-Err.fault ≡ NoMemory = cc in first_line.no_memory (ap Err fault))
+    (λ is. first_line.no_thread (ap Err is))
+    (λ other. first_line.unfailed (λ is. let fault : c.in-Err.fault ≡ Read = cc in other (ap Err fault)))
+    first_line.unwritten

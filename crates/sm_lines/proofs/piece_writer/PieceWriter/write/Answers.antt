@@ -1,22 +1,28 @@
-use Rattle.std.proofs.Common.{◌∙◌, refl}
-use Rattle.std.proofs.lemmas.Result.{on_ok_weaker, on_err_weaker, err_from_is_err_and}
-use Rattle.sm_lines.proofs.Writing.{front_first, front_more, Sends-all}
+use Rattle.std.proofs.Common.{◌≡◌, [], refl}
+use Rattle.std.proofs.lemmas.Result.{err_from_is_err_and, on_err_weaker, on_ok_weaker}
+use Rattle.sm_lines.proofs.Writing.{passed_on, passed_short, sends_more, sends_short, short_first}
 use Rattle.sm_lines.proofs.piece_writer.PieceWriter.write.Goals as goal
 
 pub returns-in_err-flush-clause-err : goal.returns-in_err-flush-clause-err
 returns-in_err-flush-clause-err g c =
     let p = err_from_is_err_and c.from_residual.result c.from_residual.ensures.1 in
     let full = c.if-push.ensures.full refl in
-    rw (p.1, ← full) (front_first c.args.bytes.now c.in_err-flush.ensures.err)
+    rw (p.1, ← full) (short_first c.push.new.self c.flush.new.self c.args.bytes.now c.in_err-flush.ensures.err)
 
 pub returns-clause-ok : goal.returns-clause-ok
 returns-clause-ok g c =
-    let full = c.if-push.ensures.full refl in
-    let flushed = c.in_ok-flush.ensures in
-    rw (← full) (on_ok_weaker c.write_whole.result
-    (λ wrote. Sends-all _ _ _ c.push.new.self c.args.bytes.now c.push-2.new.self flushed.ok (c.if-push-2.ensures.full refl ∙ flushed.empty) wrote) c.write_whole.ensures.ok)
+    let flushed = c.in_ok-flush.ensures.ok in
+    rw (← c.if-push.ensures.full refl) (on_ok_weaker c.pass_on.result
+    (λ w. sends_more c.push.new.self c.push-2.new.self c.pass_on.new.self [] c.args.bytes.now
+    (rw (c.if-push-2.ensures.full refl) flushed.0)
+    (passed_on c.push-2.new.self c.pass_on.new.self c.args.bytes.now (rw (c.if-push-2.ensures.full refl) flushed.1)
+    w.0 w.1 w.2)) c.pass_on.ensures.ok)
 
 pub returns-clause-err : goal.returns-clause-err
 returns-clause-err g c =
-    let full = c.if-push.ensures.full refl in
-    rw (← full) (on_err_weaker c.write_whole.result (λ front. front_more c.push.new.self c.in_ok-flush.ensures.ok front) c.write_whole.ensures.err)
+    let flushed = c.in_ok-flush.ensures.ok in
+    rw (← c.if-push.ensures.full refl) (on_err_weaker c.pass_on.result
+    (λ w. sends_short c.push.new.self c.push-2.new.self c.pass_on.new.self [] c.args.bytes.now
+    (rw (c.if-push-2.ensures.full refl) flushed.0)
+    (passed_short c.push-2.new.self c.pass_on.new.self c.args.bytes.now (rw (c.if-push-2.ensures.full refl) flushed.1)
+    w.0 w.1 w.2)) c.pass_on.ensures.err)
