@@ -7,7 +7,7 @@ use sm_desk::Command;
 use sm_ownership::Change;
 use sm_ranges::server_id::ServerId;
 use sm_ranges::shard_id::ShardId;
-use sm_threads::TextBody;
+use sm_session::TextBody;
 use std::alloc::Global;
 use std::rt::Clock;
 use std::sync::Wait;

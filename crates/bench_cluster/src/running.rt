@@ -6,7 +6,7 @@ use crate::progress::Progress;
 use crate::starting::{assign_all, start, stop};
 use crate::tally::Tally;
 use sm_cluster::{Client, Cluster};
-use sm_threads::TextBody;
+use sm_session::TextBody;
 use std::alloc::Global;
 use std::rt::Clock;
 use std::sync::Wait;

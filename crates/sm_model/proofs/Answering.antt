@@ -13,7 +13,8 @@ use Rattle.sm_table.specs.declared.world_fault.WorldFault.{WorldFault}
 use Rattle.sm_table.specs.declared.world_fault.WorldFault.TheVariants as fault
 use Rattle.sm_table.specs.Standing.{Follows, WorldView}
 use Rattle.sm_table.specs.World.{WorldState, Mark, Plain, mark_of, outcome}
-use Rattle.sm_model.specs.Calls.{answer_of, counter_text, ends_in_step, stepped}
+use Rattle.sm_session.specs.Service.{counter_text}
+use Rattle.sm_model.specs.Calls.{answer_of, ends_in_step, stepped}
 use Rattle.sm_model.proofs.Planning.{answered-steps}
 use Rattle.sm_model.specs.Sessions.{Ends, GivesAnswer, HasAnswer, IsIdle}
 

@@ -26,7 +26,8 @@ use Rattle.sm_table.specs.declared.world_fault.WorldFault.{WorldFault}
 use Rattle.sm_table.specs.declared.world_fault.WorldFault.TheVariants as fault
 use Rattle.sm_table.specs.Standing.{Follows, GoesAs, StandsFor, WorldView}
 use Rattle.sm_table.specs.World.{WorldState, Mark, Plain, Unmade, Unserved, count_of, ended, is_there, made_unless, mark_of, may_go, outcome, served, with_room, worked, world_record}
-use Rattle.sm_model.specs.Calls.{Stepped, after_arrival, after_hops, after_sending, answer_of, called, counter_text, is_begun, is_sent, requested, shard_for, stepped}
+use Rattle.sm_session.specs.Service.{counter_text}
+use Rattle.sm_model.specs.Calls.{Stepped, after_arrival, after_hops, after_sending, answer_of, called, is_begun, is_sent, requested, shard_for, stepped}
 use Rattle.sm_model.specs.Sessions.{Arrives, Ends, EndsAt, IsIdle, Steps}
 use Rattle.sm_model.proofs.Answering.{follows_plain}
 use Rattle.sm_model.proofs.Settling.{Settles, settles}
@@ -246,7 +247,7 @@ ends_finished before between there after shard server request sent reached resul
 admission_keeps : (w made : WorldState Request) (there known : Bool) (why : Option AdmitFault)
     → made.in_flight ≡ w.in_flight
     → (if there then (if known then made_unless {R = Reply} why w made else (Err fault.UnknownServer, w))
-      else (Err fault.UnknownShard, w)).1.in_flight ≡ w.in_flight
+    else (Err fault.UnknownShard, w)).1.in_flight ≡ w.in_flight
 admission_keeps w made true true (Some why) left = refl
 admission_keeps w made true true None left = left
 admission_keeps w made true false why left = refl

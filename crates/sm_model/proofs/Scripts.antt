@@ -9,6 +9,8 @@ use Rattle.sm_settings.specs.declared.settings_fault.SettingsFault.{SettingsFaul
 use Rattle.sm_run.specs.declared.status.Status.{Status}
 use Rattle.sm_run.specs.declared.status.Status.TheVariants.{Ran, BadSettings}
 use Rattle.std.proofs.lemmas.List.{length-take-le, take-append-drop}
+use Rattle.std.specs.Option.{option_map}
+use Rattle.std.specs.Prelude.{unwrap_or}
 use Rattle.sm_lines.specs.Answers.{AnswersLine, AnswersAll}
 use Rattle.sm_lines.specs.Lines.{lines_of}
 use Rattle.sm_lines.specs.Reading.{to_come, Reading, TookLines}
@@ -19,13 +21,15 @@ use Rattle.sm_script.specs.declared.line.TheConstants.{MAX_LINE}
 use Rattle.sm_script.specs.Lines.{call_of_line}
 use Rattle.sm_script.specs.declared.call.Call.{Call}
 use Rattle.sm_script.specs.declared.fault.LineFault.{LineFault}
+use Rattle.sm_script.specs.declared.line_answer.LineAnswer.{LineAnswer}
 use Rattle.sm_service.specs.declared.request.Request.{Request}
 use Rattle.sm_settings.specs.SettingsLine.{SettingsValues, settings_of}
 use Rattle.sm_table.specs.Standing.{WorldView}
 use Rattle.sm_table.specs.World.{WorldState, empty_world}
 use Rattle.sm_model.specs.Calls.{settings_frame}
-use Rattle.sm_model.specs.LongLines.{IsLongResponse, RespondsLong}
-use Rattle.sm_model.specs.Sessions.{IsAt, IsNew, RespondsAsWorld}
+use Rattle.sm_session.specs.LongLines.{IsLongResponse, RespondsLong}
+use Rattle.sm_session.specs.Responses.{Responds, RespondsTo, answer_line}
+use Rattle.sm_model.specs.Sessions.{GivesAnswer, IsAt, IsNew}
 use Rattle.sm_model.specs.Runs.{AcceptsSettings, LacksMemory, WritesScript, WroteScript, RefusesSettings}
 use Rattle.sm_run.specs.Openings.{IfKnown, ReadIsRefused, RefusedScript, TookFirst, Unbegun, settings_in}
 use Rattle.sm_run.specs.Runs.{RanScript, WritesFor}
@@ -33,7 +37,7 @@ use Rattle.sm_model.specs.Script.{line_response, responded, responses, script, s
 
 -- what a session of the model gives to a line, within the limit or beyond it
 abbrev pub Gives : WorldView Request → List ℕ → List ℕ → WorldView Request → Type 0
-Gives = AnswersLine RespondsAsWorld (λ _ start text. RespondsLong start text) MAX_LINE
+Gives = AnswersLine (Responds GivesAnswer) (λ _ start text. RespondsLong start text) MAX_LINE
 
 pub record IsResponse (w : WorldState Request) (line text : List ℕ) (after : WorldView Request) : Type 0 where
   pub text_is : text ≡ (line_response w line).0
@@ -45,6 +49,15 @@ no_call : (w : WorldState Request) (read : Result (Option Call) LineFault) (text
 no_call w (Err fault) text is = (is, refl)
 no_call w (Ok None) text is = (is, refl)
 no_call w (Ok (Some call)) text is = absurd is
+
+-- a line that was read so has the response of the definitions
+read_response : (before : WorldView Request) (w : WorldState Request) (read : Result (Option Call) LineFault) (text : List ℕ) (after : WorldView Request)
+    → IsAt before w → RespondsTo GivesAnswer before read text after → (text ≡ (responded w read).0) × IsAt after (responded w read).1
+read_response before w (Err fault) text after at gives = (gives.0, subst (λ (view : WorldView Request). IsAt view w) (sym gives.1) at)
+read_response before w (Ok None) text after at gives = (gives.0, subst (λ (view : WorldView Request). IsAt view w) (sym gives.1) at)
+read_response before w (Ok (Some call)) text after at (answer, is, gives) =
+    let given = gives w at in
+    (is ∙ sym (ap (λ (one : Option LineAnswer). unwrap_or (option_map answer_line one) []) given.0), given.1)
 
 -- a line beyond the limit has the response of the definitions, as any line that begins so
 long_response : (before : WorldView Request) (w : WorldState Request) (line text : List ℕ) (after : WorldView Request)
@@ -76,7 +89,8 @@ gives_response before w line text after at gives =
       | inl long ↦ let answered = gives.long long in
           long_response before w line text after line (take-append-drop MAX_LINE line) long at answered.0 answered.1
           (some_front line long)
-      | inr short ↦ let answered = gives.whole short w at in record { text_is = answered.0; stands = answered.1 }
+      | inr short ↦ let answered = read_response before w (call_of_line line) text after at (gives.whole short) in
+          record { text_is = answered.0; stands = answered.1 }
     ]
 
 -- all lines have the responses of the definitions

@@ -34,7 +34,8 @@ use Rattle.sm_ownership.specs.Rules.{admit_fault, forward_to}
 use Rattle.sm_envelope.specs.declared.refusal.Refusal.TheVariants.{KeptFull, Unreachable as NotReached}
 use Rattle.sm_table.specs.Standing.{IsSound}
 use Rattle.sm_table.specs.lemmas.Soundness.{shard_within, sound_next}
-use Rattle.sm_model.specs.Calls.{Stepped, after_arrival, after_hops, after_sending, answer_of, called, counter_text, is_begun, is_forwarded, is_sent, requested, requested_at, requested_by, shard_for, stepped, world_after_calls}
+use Rattle.sm_session.specs.Service.{counter_text}
+use Rattle.sm_model.specs.Calls.{Stepped, after_arrival, after_hops, after_sending, answer_of, called, is_begun, is_forwarded, is_sent, requested, requested_at, requested_by, shard_for, stepped, world_after_calls}
 
 -- the last step answers the script, and no request is under way
 pub record Settles (went : Stepped) : Type 0 where

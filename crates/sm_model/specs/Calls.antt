@@ -2,13 +2,10 @@
 use Rattle.std.specs.Prelude.{ℕ, zero, suc, Bool, true, false, Option, Some, None, Result, Ok, Err, if◌then◌else◌, List}
 use Rattle.std.specs.Prelude.{[], ◌∷◌, length, replicate}
 use Rattle.std.specs.Option.{option_or}
-use Rattle.sm_body.specs.Service.{Service}
 use Rattle.sm_envelope.specs.declared.envelope.TheConstants.{MOST_HOPS}
 use Rattle.sm_envelope.specs.declared.refusal.Refusal.{Refusal}
 use Rattle.sm_envelope.specs.declared.refusal.Refusal.TheVariants as refusal
 use Rattle.sm_ownership.specs.declared.admit_fault.AdmitFault.TheVariants as admit
-use Rattle.sm_desk.specs.Desk.{DeskView}
-use Rattle.sm_place.specs.Books.{new_books}
 use Rattle.sm_place.specs.Plans.{assign_plan, drain_plan}
 use Rattle.sm_ownership.specs.declared.route.Route.{Route}
 use Rattle.sm_ownership.specs.Routes.{routes_of}
@@ -22,9 +19,11 @@ use Rattle.sm_script.specs.declared.fault.LineFault.TheVariants.{NotHere}
 use Rattle.sm_script.specs.declared.call.Call.{Call}
 use Rattle.sm_script.specs.declared.call.Call.TheVariants as call
 use Rattle.sm_script.specs.declared.refused.Refused.TheVariants as refused
-use Rattle.sm_service.specs.Service.{reply_after, key_of_request}
+use Rattle.sm_service.specs.Service.{key_of_request}
 use Rattle.sm_service.specs.declared.reply.Reply.{Reply}
 use Rattle.sm_service.specs.declared.request.Request.{Request}
+use Rattle.sm_session.specs.Beginning.{settings_desk}
+use Rattle.sm_session.specs.Service.{counter_text}
 use Rattle.sm_settings.specs.SettingsLine.{SettingsValues}
 use Rattle.sm_table.specs.declared.step.Step.{Step}
 use Rattle.sm_table.specs.declared.step.Step.TheVariants.{Control, Look, Send, Deliver, Finish, Hold, Free, Checkpoint}
@@ -35,17 +34,6 @@ use Rattle.sm_table.specs.declared.world_answer.WorldAnswer.TheVariants.{Replied
 use Rattle.sm_table.specs.declared.world_fault.WorldFault.{WorldFault}
 use Rattle.sm_table.specs.declared.world_fault.WorldFault.TheVariants as fault
 use Rattle.sm_table.specs.World.{Frame, WorldState, Plain, is_there, outcome, world_record}
-
--- what the sample service means
-abbrev pub counter_text : Service Request Reply
-counter_text = record { reply_of = reply_after; key_of = key_of_request }
-
--- the desk that settings ask for: all servers are up, and all shards vacant
-abbrev pub settings_desk : SettingsValues → DeskView
-settings_desk settings = record {
-  books = new_books settings.servers settings.groups settings.shards settings.domains;
-  ops = settings.ops;
-}
 
 -- the frame of the world that settings ask for
 abbrev pub settings_frame : SettingsValues → Frame

@@ -2,22 +2,17 @@
 use Rattle.std.specs.Prelude.{ℕ, Option, Some, None, Result, Ok, Err, List, [], ◌∷◌, ◌++◌, drop, unwrap_or}
 use Rattle.std.specs.Option.{option_map}
 use Rattle.sm_lines.specs.Lines.{lines_of}
-use Rattle.sm_script.specs.Answers.{answer_text}
 use Rattle.sm_script.specs.Lines.{call_of_line}
-use Rattle.sm_script.specs.declared.line_answer.LineAnswer.{LineAnswer}
 use Rattle.sm_script.specs.declared.line_answer.LineAnswer.TheVariants.{Error}
 use Rattle.sm_script.specs.declared.call.Call.{Call}
 use Rattle.sm_script.specs.declared.fault.LineFault.{LineFault}
 use Rattle.sm_service.specs.declared.request.Request.{Request}
 use Rattle.sm_run.specs.Openings.{settings_in, settings_line}
+use Rattle.sm_session.specs.Responses.{answer_line}
 use Rattle.sm_settings.specs.SettingsLine.{SettingsValues, settings_of}
 use Rattle.sm_settings.specs.declared.settings_fault.SettingsFault.{SettingsFault}
 use Rattle.sm_table.specs.World.{WorldState, empty_world}
 use Rattle.sm_model.specs.Calls.{answered, called, settings_frame}
-
--- an answer, and the line feed that ends it
-abbrev pub answer_line : LineAnswer → List ℕ
-answer_line answer = answer_text answer ++ 10 ∷ []
 
 -- what is written for a line that was read so, and the world that it leaves. Each call has an answer, as the law
 -- `every_call_answered` says

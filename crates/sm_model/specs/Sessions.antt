@@ -1,9 +1,7 @@
--- When a session of the model stands at a world of the definitions, and what it answers there.
+-- When a world's backend stands at a world of the definitions, and what it answers there.
 use Rattle.std.specs.Prelude.{◌≡◌, ℕ, List, [], Some, Result, true, is_some}
 use Rattle.sm_envelope.specs.declared.envelope.TheConstants.{MOST_HOPS}
 use Rattle.sm_model.specs.Calls.{Stepped, after_hops, answer_of, answered, called, settings_frame, stepped}
-use Rattle.sm_model.specs.Script.{responded}
-use Rattle.sm_script.specs.Lines.{call_of_line}
 use Rattle.sm_script.specs.declared.line_answer.LineAnswer.{LineAnswer}
 use Rattle.sm_script.specs.declared.call.Call.{Call}
 use Rattle.sm_service.specs.declared.reply.Reply.{Reply}
@@ -28,18 +26,12 @@ IsIdle view = (w : WorldState Request) × IsAt view w
 abbrev pub IsNew : SettingsValues → WorldView Request → Type 0
 IsNew settings view = IsAt view (empty_world (settings_frame settings))
 
--- ---- a line
+-- ---- a call
 
 -- at every world the call has this answer, and leaves the world that it should
 abbrev pub GivesAnswer : WorldView Request → Call → LineAnswer → WorldView Request → Type 0
 GivesAnswer before call answer after =
     (w : WorldState Request) → IsAt before w → (answered w call ≡ Some answer) × IsAt after (called w call).1
-
--- at every world the line has this response
-abbrev pub RespondsAsWorld : WorldView Request → List ℕ → List ℕ → WorldView Request → Type 0
-RespondsAsWorld before line text after =
-    (w : WorldState Request) → IsAt before w
-    → (text ≡ (responded w (call_of_line line)).0) × IsAt after (responded w (call_of_line line)).1
 
 -- ---- the steps of a call
 

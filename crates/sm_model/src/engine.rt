@@ -3,9 +3,10 @@ ghost use Rattle.sm_run.specs.Runs.{StoppedEarly};
 ghost use Rattle.sm_run.specs.Watching.{KeepsWatch};
 ghost use Rattle.sm_model.specs.Runs.{AcceptsSettings, LacksMemory, RefusesSettings, WritesScript, WroteScript};
 
-use crate::session::ModelSession;
+use crate::world_backend::WorldBackend;
 use sm_lines::Dialogue;
 use sm_run::{BeginFault, Engine, RunFault, Status, run};
+use sm_session::Session;
 use sm_settings::settings::Settings;
 use std::alloc::Global;
 use std::io::{Read, Write};
@@ -28,7 +29,7 @@ impl Engine for ModelEngine {
     ghost use Rattle.sm_model.specs.Runs.{LacksMemory};
     ghost use Rattle.sm_model.specs.Sessions.{IsNew};
 
-    type Session = ModelSession;
+    type Session = Session<WorldBackend>;
 
     const MAX_LINE: usize = sm_script::MAX_LINE;
 
@@ -38,14 +39,14 @@ impl Engine for ModelEngine {
 
     ghost refuses = { LacksMemory };
 
-    fn begin(&mut self, settings: Settings) -> Result<ModelSession, BeginFault> {
-        match ModelSession::new(self.alloc, settings) {
-            Ok(session) => Ok(session),
+    fn begin(&mut self, settings: Settings) -> Result<Session<WorldBackend>, BeginFault> {
+        match WorldBackend::new(self.alloc, settings) {
+            Ok(backend) => Ok(Session::new(self.alloc, backend)),
             Err(_) => Err(BeginFault::NoMemory),
         }
     }
 
-    fn end(&mut self, _session: ModelSession) {}
+    fn end(&mut self, _session: Session<WorldBackend>) {}
 }
 
 /// Runs the script of the dialogue's reader on the model, and writes its answers. What is said of bytes holds of a

@@ -8,11 +8,10 @@
 //! ```
 #![tactic(auto)]
 
-pub mod beginning;
 mod calls;
 pub mod engine;
 pub mod laws;
-pub mod session;
+mod world_backend;
 
 pub use engine::{ModelEngine, run_model};
-pub use session::ModelSession;
+pub use world_backend::WorldBackend;

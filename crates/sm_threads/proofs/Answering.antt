@@ -13,7 +13,7 @@ use Rattle.sm_cluster.specs.declared.publish_refusal.PublishRefusal.{PublishRefu
 use Rattle.sm_cluster.specs.declared.publish_refusal.PublishRefusal.TheVariants.{Publish as Unpublished, Route as Unrouted}
 use Rattle.sm_control.specs.declared.route_fault.RouteFault.{RouteFault}
 use Rattle.sm_desk.specs.Desk.{is_known}
-use Rattle.sm_model.specs.Calls.{counter_text}
+use Rattle.sm_session.specs.Service.{counter_text}
 use Rattle.sm_ownership.specs.Routes.{routes_of}
 use Rattle.sm_ownership.specs.declared.route.Route.{Route}
 use Rattle.sm_publish.specs.Seen.{Extends, RouterView}

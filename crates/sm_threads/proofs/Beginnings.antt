@@ -4,27 +4,14 @@ use Rattle.std.proofs.lemmas.List.{length-replicate}
 use Rattle.std.proofs.lemmas.Bool.{cases_lt}
 use Rattle.sm_cluster.specs.declared.TheConstants.{MAX_WORKERS}
 use Rattle.sm_cluster.specs.Clusters.{ClusterValue}
-use Rattle.std.proofs.lemmas.List.Elements.{All-nil, All-cons}
 use Rattle.sm_desk.specs.Desk.{DeskView}
-use Rattle.sm_model.specs.Calls.{settings_desk}
-use Rattle.sm_place.specs.Books.{vacant_shard}
-use Rattle.sm_place.specs.declared.shard.Shard.{Shard}
-use Rattle.sm_ranges.specs.declared.stand.Stand.TheVariants.{Vacant}
-use Rattle.sm_rows.specs.declared.shard_row.ShardRow.{ShardRow}
+use Rattle.sm_session.specs.Beginning.{settings_desk}
 use Rattle.sm_publish.specs.Publishing.{MapView}
 use Rattle.sm_service.specs.Service.{TextLog}
 use Rattle.sm_settings.specs.SettingsLine.{SettingsValues}
 use Rattle.sm_service.specs.declared.request.Request.{Request}
 use Rattle.sm_threads.specs.Sessions.{IsBegun, IsNewClientOf, SessionValue}
-use Rattle.sm_threads.specs.declared.session.TheConstants.{LOADERS}
-
--- all shards of a new desk are vacant
-vacant_rows : (rows : List ShardRow) → All (λ (shard : Shard). shard.stand ≡ Vacant) (map vacant_shard rows)
-vacant_rows [] = All-nil (λ (shard : Shard). shard.stand ≡ Vacant)
-vacant_rows (row ∷ rows) = All-cons (λ (shard : Shard). shard.stand ≡ Vacant) (vacant_shard row) (map vacant_shard rows) refl (vacant_rows rows)
-
-pub all_vacant : (settings : SettingsValues) (desk : DeskView) → desk ≡ settings_desk settings → All (λ (shard : Shard). shard.stand ≡ Vacant) desk.books.shards
-all_vacant settings desk is = let P : DeskView → Type 0 = λ d. All (λ (shard : Shard). shard.stand ≡ Vacant) d.books.shards in subst P (sym is) (vacant_rows settings.shards)
+use Rattle.sm_threads.specs.declared.cluster_backend.TheConstants.{LOADERS}
 
 -- the limits of bodies that are alike
 pub limits_of : (count : ℕ) (body : TextLog) → map (λ (each : TextLog). each.limit) (replicate count body) ≡ replicate count body.limit

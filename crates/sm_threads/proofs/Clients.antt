@@ -11,7 +11,7 @@ use Rattle.sm_cluster.specs.Clusters.{ClusterValue, IsClientOf}
 use Rattle.sm_cluster.specs.Loads.{AreClientsSince, HaveLoaded, IsClientSince}
 use Rattle.sm_cluster.specs.declared.loading.LoadReport.{LoadReport}
 use Rattle.std.proofs.Math.Seq.{take-append_seam, drop-append_seam}
-use Rattle.sm_model.specs.Calls.{counter_text}
+use Rattle.sm_session.specs.Service.{counter_text}
 use Rattle.sm_publish.specs.Seen.{RouterView}
 use Rattle.sm_rule.specs.Boards.{BoardValue}
 use Rattle.sm_rule.specs.Views.{Begins}

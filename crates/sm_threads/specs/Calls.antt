@@ -19,8 +19,7 @@ use Rattle.sm_control.specs.Controls.{Commanded}
 use Rattle.sm_control.specs.declared.control_fault.ControlFault.{ControlFault}
 use Rattle.sm_desk.specs.declared.command.Command.{Command}
 use Rattle.sm_desk.specs.Desk.{desk_fault, is_known}
-use Rattle.sm_model.specs.Calls.{counter_text}
-use Rattle.sm_model.specs.Script.{answer_line}
+use Rattle.sm_session.specs.Service.{counter_text}
 use Rattle.sm_ownership.specs.Routes.{routes_of}
 use Rattle.sm_ownership.specs.declared.admit_fault.AdmitFault.TheVariants.{Vacant}
 use Rattle.sm_ownership.specs.declared.route.Route.{Route}
@@ -30,13 +29,11 @@ use Rattle.sm_ranges.specs.Ranges.{shard_of}
 use Rattle.sm_ranges.specs.Stand.{owner_of}
 use Rattle.sm_rule.specs.Passes.{PassLooks, PassValue, record_of}
 use Rattle.sm_rule.specs.Views.{Begins, IsMet}
-use Rattle.sm_script.specs.Lines.{call_of_line}
 use Rattle.sm_script.specs.declared.line_answer.LineAnswer.{LineAnswer}
 use Rattle.sm_script.specs.declared.line_answer.LineAnswer.TheVariants.{Made, Refused as IsRefused, Seen, Executed}
-use Rattle.sm_script.specs.declared.line_answer.LineAnswer.TheVariants.{Planned, Way, Loaded, Error}
+use Rattle.sm_script.specs.declared.line_answer.LineAnswer.TheVariants.{Planned, Way, Loaded}
 use Rattle.sm_script.specs.declared.call.Call.{Call}
 use Rattle.sm_script.specs.declared.call.Call.TheVariants as call
-use Rattle.sm_script.specs.declared.fault.LineFault.{LineFault}
 use Rattle.sm_script.specs.declared.refused.Refused.{Refused}
 use Rattle.sm_script.specs.declared.refused.Refused.TheVariants as refused
 use Rattle.sm_envelope.specs.declared.refusal.Refusal.TheVariants.{Admit}
@@ -242,16 +239,3 @@ Answers before (call.Drain server) answer after = (answer ≡ drain_answer befor
 Answers before (call.Request request) answer after = WasRequested before request answer after
 Answers before (call.RequestAt server request) answer after = AnsweredAt before server request answer after
 Answers before (call.RequestByRoute request) answer after = WasRouted before request answer after
-
--- ---- lines
-
--- what is written for a line that was read so: nothing, its fault, or an answer that its call may have
-abbrev pub WasRead : SessionValue → Result (Option Call) LineFault → List ℕ → SessionValue → Type 0
-WasRead before (Err fault) text after = (text ≡ answer_line (Error fault)) × (after ≡ before)
-WasRead before (Ok None) text after = (text ≡ []) × (after ≡ before)
-WasRead before (Ok (Some asked)) text after =
-    (answer : LineAnswer) × (text ≡ answer_line answer) × Answers before asked answer after
-
--- what a line may be answered, and what it leaves
-abbrev pub Responds : SessionValue → List ℕ → List ℕ → SessionValue → Type 0
-Responds before line text after = WasRead before (call_of_line line) text after

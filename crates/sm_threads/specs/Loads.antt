@@ -3,7 +3,7 @@ use Rattle.std.specs.Prelude.{◌≡◌, ◌≢◌, ◌+◌, ℕ, ℤ, pos, ◌+
 use Rattle.sm_cluster.specs.Calls.{ClientValue}
 use Rattle.sm_cluster.specs.Loads.{AreClientsSince, HaveLoaded}
 use Rattle.sm_cluster.specs.declared.loading.LoadReport.{LoadReport}
-use Rattle.sm_model.specs.Calls.{counter_text}
+use Rattle.sm_session.specs.Service.{counter_text}
 use Rattle.sm_script.specs.declared.load_verdict.LoadVerdict.{LoadVerdict}
 use Rattle.sm_script.specs.declared.load_verdict.LoadVerdict.TheVariants.{Agrees, Unknown, Differs}
 use Rattle.sm_service.specs.declared.reply.Reply.{Reply}

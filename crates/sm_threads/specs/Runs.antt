@@ -2,15 +2,16 @@
 use Rattle.std.specs.Prelude.{ℕ, List}
 use Rattle.sm_lines.specs.Answers.{AnswersLine}
 use Rattle.sm_lines.specs.Transcripts.{Transcript}
-use Rattle.sm_model.specs.LongLines.{RespondsLong}
 use Rattle.sm_run.specs.Runs.{RanScript, WritesFor}
 use Rattle.sm_script.specs.declared.line.TheConstants.{MAX_LINE}
-use Rattle.sm_threads.specs.Calls.{Responds}
+use Rattle.sm_session.specs.LongLines.{RespondsLong}
+use Rattle.sm_session.specs.Responses.{Responds}
+use Rattle.sm_threads.specs.Calls.{Answers}
 use Rattle.sm_threads.specs.Sessions.{IsBegun, SessionValue}
 
 -- what may be written for a line, whatever its length, and the session that it leaves
 abbrev pub WritesLine : SessionValue → List ℕ → List ℕ → SessionValue → Type 0
-WritesLine = AnswersLine Responds (λ session start text. RespondsLong start text) MAX_LINE
+WritesLine = AnswersLine (Responds Answers) (λ session start text. RespondsLong start text) MAX_LINE
 
 -- the settings in front of the input were accepted, and what was written is a session's answers to the lines after them
 abbrev pub WroteAnswers : Transcript → Transcript → Type 0

@@ -3,14 +3,14 @@ use Rattle.std.specs.Prelude.{◌≡◌, ◌*◌, ◌<◌, ◌≤◌, ⊤, All, 
 use Rattle.sm_cluster.specs.Calls.{ClientValue}
 use Rattle.sm_cluster.specs.Clusters.{ClusterValue, IsClientOf}
 use Rattle.sm_cluster.specs.declared.TheConstants.{MAX_WORKERS}
-use Rattle.sm_model.specs.Calls.{settings_desk}
+use Rattle.sm_session.specs.Beginning.{settings_desk}
 use Rattle.sm_rule.specs.Views.{Begins}
 use Rattle.sm_run.specs.declared.begin_fault.BeginFault.{BeginFault}
 use Rattle.sm_run.specs.declared.begin_fault.BeginFault.TheVariants as begin
 use Rattle.sm_service.specs.declared.request.Request.{Request}
 use Rattle.sm_settings.specs.SettingsLine.{SettingsValues}
 use Rattle.sm_settings.specs.declared.settings_fault.SettingsFault.TheVariants.{TooManyWorkers}
-use Rattle.sm_threads.specs.declared.session.TheConstants.{LOADERS}
+use Rattle.sm_threads.specs.declared.cluster_backend.TheConstants.{LOADERS}
 
 -- its cluster, the client that makes the script's requests, and the clients that make loads
 pub record SessionValue : Type 0 where

@@ -1,7 +1,8 @@
+use crate::cluster_backend::ClusterBackend;
 use crate::counts_listener::CountsListener;
-use crate::session::ThreadSession;
 use sm_cluster::Counts;
 use sm_run::{BeginFault, Engine};
+use sm_session::Session;
 use sm_settings::settings::Settings;
 use std::marker::PhantomData;
 use std::sync::Wait;
@@ -38,7 +39,7 @@ impl<R, F, L> ThreadEngine<R, F, L> {
 
 impl<
     R: Threads + Wait + Sync + Drop,
-    F: FnMut(Settings) -> Result<ThreadSession<R>, BeginFault>,
+    F: FnMut(Settings) -> Result<Session<ClusterBackend<R>>, BeginFault>,
     L: CountsListener + Drop,
 > Engine for ThreadEngine<R, F, L> {
     ghost use Rattle.std.specs.Thread.{IsSync};
@@ -48,7 +49,7 @@ impl<
     ghost use Rattle.sm_threads.specs.Beginning.{BeginsSessions};
     ghost use Rattle.sm_threads.specs.Sessions.{IsBegun, MayRefuse};
 
-    type Session = ThreadSession<R>;
+    type Session = Session<ClusterBackend<R>>;
 
     const MAX_LINE: usize = sm_script::MAX_LINE;
 
@@ -62,14 +63,14 @@ impl<
 
     ghost refuses = { MayRefuse };
 
-    fn begin(&mut self, settings: Settings) -> Result<ThreadSession<R>, BeginFault> {
+    fn begin(&mut self, settings: Settings) -> Result<Session<ClusterBackend<R>>, BeginFault> {
         (self.begin)(settings)
     }
 
-    fn end(&mut self, session: ThreadSession<R>) {
+    fn end(&mut self, session: Session<ClusterBackend<R>>) {
         if let Some(listener) = &self.listener {
-            session.tell_counts(listener);
+            session.backend().tell_counts(listener);
         }
-        session.stop();
+        session.into_backend().stop();
     }
 }

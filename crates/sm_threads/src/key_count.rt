@@ -1,8 +1,8 @@
-use crate::body::TextBody;
 use sm_cluster::Counting;
 use sm_ranges::key::Key;
 use sm_service::reply::Reply;
 use sm_service::request::Request;
+use sm_session::TextBody;
 use std::alloc::{AllocError, Global};
 
 /// The count that a key holds, as requests of a load.

@@ -6,15 +6,13 @@
 //! ```
 #![tactic(auto)]
 
-mod body;
+mod cluster_backend;
 mod counts_listener;
 mod engine;
 mod key_count;
 mod refusals;
 mod running;
-mod session;
 
-pub use body::TextBody;
 pub use counts_listener::CountsListener;
 pub use key_count::KeyCount;
 pub use running::{run_threads, run_threads_explained};

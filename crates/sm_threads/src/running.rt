@@ -7,13 +7,14 @@ ghost use Rattle.sm_settings.specs.SettingsRules.{KeepsRules};
 ghost use Rattle.sm_threads.specs.Runs.{WritesAnswers, WroteAnswers};
 ghost use Rattle.sm_threads.specs.Sessions.{IsBegun, MayRefuse};
 
+use crate::cluster_backend::ClusterBackend;
 use crate::counts_listener::CountsListener;
 use crate::engine::{Nobody, ThreadEngine};
-use crate::session::ThreadSession;
 use sm_cluster::Gate;
 use sm_explain::{Explained, Listener};
 use sm_lines::Dialogue;
 use sm_run::{BeginFault, RunFault, Status, run};
+use sm_session::Session;
 use sm_settings::settings::Settings;
 use std::alloc::Global;
 use std::io::{Read, Write};
@@ -45,7 +46,7 @@ pub fn run_threads<
         dialogue.old dialogue.new }
     ensures watched { KeepsWatch result dialogue.old dialogue.new }
 {
-    let begin = |settings: Settings| -> Result<ThreadSession<R>, BeginFault>
+    let begin = |settings: Settings| -> Result<Session<ClusterBackend<R>>, BeginFault>
         requires { KeepsRules (values_of settings) }
         ensures begun { IfOk result (IsBegun (values_of settings)) }
         ensures refused { IfErr result (MayRefuse (values_of settings)) }
@@ -79,7 +80,7 @@ pub fn run_threads_explained<
         dialogue.old dialogue.new }
     ensures watched { KeepsWatch result dialogue.old dialogue.new }
 {
-    let begin = |settings: Settings| -> Result<ThreadSession<R>, BeginFault>
+    let begin = |settings: Settings| -> Result<Session<ClusterBackend<R>>, BeginFault>
         requires { KeepsRules (values_of settings) }
         ensures begun { IfOk result (IsBegun (values_of settings)) }
         ensures refused { IfErr result (MayRefuse (values_of settings)) }
@@ -92,11 +93,19 @@ pub fn run_threads_explained<
 fn begin_with<
     R: Threads + Wait + Clone + Send + Drop + 'static,
     G: Gate + Clone + Send + Sync + Drop + 'static,
->(rt: &R, alloc: Global, settings: Settings, gate: &G) -> Result<ThreadSession<R>, BeginFault>
+>(
+    rt: &R,
+    alloc: Global,
+    settings: Settings,
+    gate: &G,
+) -> Result<Session<ClusterBackend<R>>, BeginFault>
     requires { KeepsRules (values_of settings) }
     ensures begun { IfOk result (IsBegun (values_of settings)) }
     ensures refused { IfErr result (MayRefuse (values_of settings)) }
 {
     let gate = gate.clone()?;
-    ThreadSession::start(rt, alloc, settings, gate)
+    match ClusterBackend::start(rt, alloc, settings, gate) {
+        Ok(backend) => Ok(Session::new(alloc, backend)),
+        Err(fault) => Err(fault),
+    }
 }

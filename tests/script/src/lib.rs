@@ -1,4 +1,4 @@
-//! Tests of the lines of scripts, and of whole scripts on the model.
+//! Tests of the lines of scripts, of sessions, and of whole scripts on the model.
 #![tactic(auto)]
 
 #[cfg(test)]
@@ -7,3 +7,5 @@ mod model;
 mod refused;
 #[cfg(test)]
 mod script;
+#[cfg(test)]
+mod session;

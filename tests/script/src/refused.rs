@@ -1,8 +1,8 @@
 //! Lines and answers where memory is refused: the same call made again does its work.
-use sm_model::beginning::write_long_line;
 use sm_ranges::ServerId;
 use sm_script::{Call, LineAnswer, ParseFault, parse};
 use sm_service::{Bytes, Reply, Request};
+use sm_session::writing::write_long_line;
 use std::alloc::Global;
 use std::process::Abort;
 

@@ -1,0 +1,4 @@
+pub mod Beginning
+pub mod LongLines
+pub mod Responses
+pub mod Service

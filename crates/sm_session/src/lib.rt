@@ -1,0 +1,20 @@
+//! A session over a backend: it reads a line, has the backend make the call that the line asks for, and writes the
+//! answer. Backends differ in what each call may answer, and in nothing else.
+//!
+//! ```rust
+//! let mut session = Session::new(alloc, backend);
+//! let mut out = Vec::new(alloc);
+//! session.respond(b"look 0", &mut out)?;
+//! assert_eq!(rt; out.as_slice(), b"error NotHere\n".as_slice());
+//! ```
+#![tactic(auto)]
+
+mod backend;
+pub mod beginning;
+mod session;
+mod text_body;
+pub mod writing;
+
+pub use backend::Backend;
+pub use session::Session;
+pub use text_body::TextBody;
