@@ -8,11 +8,11 @@ use Rattle.sm_map.specs.Slot.{held_in, uses_piece, uses_slot}
 use Rattle.sm_map.specs.declared.key_entry.KeyEntry.{KeyEntry}
 
 -- the pair of an entry: its key's bytes, and what its slot holds
-abbrev pub pair_of : Places → KeyEntry → Pair
+abbrev pub pair_of : Places → KeyEntry → KeyPair
 pair_of placed entry = record { key = bytes_of placed entry.key; value = held_in placed entry.slot }
 
 -- the pairs of entries
-abbrev pub pairs_of : Places → List KeyEntry → List Pair
+abbrev pub pairs_of : Places → List KeyEntry → List KeyPair
 pairs_of placed entries = map (pair_of placed) entries
 
 -- how often an entry, or a list of them, uses the span s

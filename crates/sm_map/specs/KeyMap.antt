@@ -53,7 +53,7 @@ abbrev pub text_at : List KeyPair → List ℕ → List ℕ
 text_at m key = text_of (held_at m key)
 
 -- the key holds a text
-abbrev pub HoldsText : List Pair → List ℕ → Type 0
+abbrev pub HoldsText : List KeyPair → List ℕ → Type 0
 HoldsText m key = held_at m key ≡ Some (Text (text_at m key))
 
 -- how many bytes a pair has, in its key and its text

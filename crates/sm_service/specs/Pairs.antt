@@ -5,6 +5,6 @@ use Rattle.sm_service.specs.declared.held.Held.{Held}
 use Rattle.sm_service.specs.declared.held.Held.TheVariants.{Text, Count}
 
 -- what a key map holds for a text or a count
-abbrev pub stored_as : Held → MapHeld
+abbrev pub stored_as : Held → KeyValue
 stored_as (Text text) = HeldText text
 stored_as (Count count) = HeldCount count
