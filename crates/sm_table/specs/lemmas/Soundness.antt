@@ -253,10 +253,10 @@ module _ {Q : Type 0} (R : Type 0) (w : WorldState Q) (sound : IsSound w) where
   sound_lose place =
       cond_both (nat_lt place (length w.in_flight)) _ _ LeavesSound (λ _. sound_taken w place sound) (λ _. sound)
 
-  sound_made : (made : WorldState Q) (fault : Option AdmitFault) → (fault ≡ None → IsSound made)
+  sound_unless : (made : WorldState Q) (fault : Option AdmitFault) → (fault ≡ None → IsSound made)
       → LeavesSound (made_unless fault w made)
-  sound_made made (Some fault) is = sound
-  sound_made made None is = is refl
+  sound_unless made (Some fault) is = sound
+  sound_unless made None is = is refl
 
   sound_admission : (shard server : ℕ) (made : WorldState Q)
       → (shard < count_of w → IsServer server → admit_fault w.frame.ceiling (world_record w shard) server Direct ≡ None
@@ -264,7 +264,7 @@ module _ {Q : Type 0} (R : Type 0) (w : WorldState Q) (sound : IsSound w) where
       → LeavesSound (after_admission w shard server made)
   sound_admission shard server made is = cond_both (nat_lt shard (count_of w)) _ _ LeavesSound
       (λ within. cond_both (is_there w server) _ _ LeavesSound
-      (λ known. sound_made made _ (is (ltb-true _ _ within) (known_server w server sound known)))
+      (λ known. sound_unless made _ (is (ltb-true _ _ within) (known_server w server sound known)))
       (λ _. sound))
       (λ _. sound)
 
