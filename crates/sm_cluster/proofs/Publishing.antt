@@ -6,7 +6,7 @@ use Rattle.sm_control.specs.Routes.{Routed}
 use Rattle.sm_ownership.specs.declared.route.Route.{Route}
 use Rattle.sm_publish.specs.declared.publish_fault.PublishFault.{PublishFault}
 use Rattle.sm_publish.specs.declared.publish_fault.PublishFault.TheVariants.{NoMemory}
-use Rattle.sm_publish.specs.Publishing.{publish_fault}
+use Rattle.sm_publish.specs.Publishing.{publish_fault, with_route}
 use Rattle.sm_cluster.specs.declared.publish_refusal.PublishRefusal.TheVariants.{Publish as Unpublished}
 use Rattle.sm_cluster.specs.Clusters.{ClusterValue, TellsMore, cluster_publishing}
 use Rattle.sm_cluster.specs.Publications.{IsMapFault, Published}
@@ -25,3 +25,17 @@ map_fault None result refused is some none = subst (λ (one : Result (Unit {0}) 
 pub unpublished : {Q : Type 0} (fault : Option RouteFault) (before after : ClusterValue Q) (shard : ℕ) (route : Route) (refused : PublishFault) → Routed fault before.control after.control shard (Ok route) → IsMapFault (publish_fault before.map.map route) refused → after.map ≡ before.map → TellsMore (cluster_publishing before after.control after.map) after → Published fault before after shard (Err (Unpublished refused))
 unpublished (Some fault) before after shard route refused routed why map frame = absurd (not_ok (Ok route) route fault refl routed.0)
 unpublished None before after shard route refused routed why map frame = (route, (routed.0, routed.1, frame, routed.2), why, map)
+
+-- a route that was published has no fault at the map
+pub map_taken : (first : Option PublishFault) (result : Result (Unit {0}) PublishFault) (x : Unit {0}) → result ≡ Ok x
+    → IfSome first (λ fault. result ≡ Err fault) → first ≡ None
+map_taken (Some fault) result x is some = absurd (not_ok result x fault is some)
+map_taken None result x is some = refl
+
+pub published : {Q : Type 0} (fault : Option RouteFault) (before after : ClusterValue Q) (shard : ℕ) (route : Route)
+    → Routed fault before.control after.control shard (Ok route) → publish_fault before.map.map route ≡ None
+    → after.map.map ≡ with_route before.map.map route
+    → TellsMore (cluster_publishing before after.control after.map) after
+    → Published fault before after shard (Ok route)
+published (Some fault) before after shard route routed none map frame = absurd (not_ok (Ok route) route fault refl routed.0)
+published None before after shard route routed none map frame = ((routed.0, routed.1, frame, routed.2), none, map)
