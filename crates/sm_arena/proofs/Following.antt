@@ -1,4 +1,5 @@
--- What the proofs of a chunk's functions share: their arguments, what they may call, a parameter by its place, and what follows a part of a body. Assumes `Logic`.
+-- What the proofs of a chunk's functions share: their arguments, what they may call, a parameter by its place, and what
+-- follows a part of a body. Assumes `Logic`.
 use Rattle.std.proofs.Common.{ℕ, zero, suc, List, [], ◌∷◌}
 use seplogic.Ra.Ura.{Ura}
 use mir.Syntax.{Args, Body, Dict, a_type, dcons, dnil}

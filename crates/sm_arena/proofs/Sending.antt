@@ -36,5 +36,8 @@ chunk_send A g f =
     let bytes : IsSend u8 = search sendable in
     let marks : IsSend (marker.the_field RawPtr).row = search sendable in
     let all : AllSend (fields O) = (pointers, (numbers, (numbers, (marks, tt)))) in
-    owning_send O all (λ c. (lies (Array u8 c.used) (array_send u8 c.used bytes) c.at c.bytes, (room (chunk_type (c.size - c.used)) (c.at +ₚ c.used), f.frees c.alloc (chunk_type c.size) c.at)))
+    owning_send O all (λ c. (
+      lies (Array u8 c.used) (array_send u8 c.used bytes) c.at c.bytes,
+      (room (chunk_type (c.size - c.used)) (c.at +ₚ c.used), f.frees c.alloc (chunk_type c.size) c.at),
+    ))
     (λ k. quiet (to O) (exits_of k (fields O)) ((struct_send (shape O) all).leaving k))

@@ -18,13 +18,22 @@ not_ok : {X E : Type 0} (result : Result X E) (x : X) (e : E) → result ≡ Ok 
 not_ok result x e is also = search rules
 
 -- a refused route has the map's first fault, or want of memory where there is none
-pub map_fault : (first : Option PublishFault) (result : Result (Unit {0}) PublishFault) (refused : PublishFault) → result ≡ Err refused → IfSome first (λ fault. result ≡ Err fault) → IfNone first (IsOkUnless result NoMemory) → IsMapFault first refused
+pub map_fault : (first : Option PublishFault) (result : Result (Unit {0}) PublishFault) (refused : PublishFault)
+    → result ≡ Err refused → IfSome first (λ fault. result ≡ Err fault) → IfNone first (IsOkUnless result NoMemory)
+    → IsMapFault first refused
 map_fault (Some fault) result refused is some none = same_err result refused fault is some
-map_fault None result refused is some none = subst (λ (one : Result (Unit {0}) PublishFault). IsOkUnless one NoMemory) is none
+map_fault None result refused is some none =
+    subst (λ (one : Result (Unit {0}) PublishFault). IsOkUnless one NoMemory) is none
 
-pub unpublished : {Q : Type 0} (fault : Option RouteFault) (before after : ClusterValue Q) (shard : ℕ) (route : Route) (refused : PublishFault) → Routed fault before.control after.control shard (Ok route) → IsMapFault (publish_fault before.map.map route) refused → after.map ≡ before.map → TellsMore (cluster_publishing before after.control after.map) after → Published fault before after shard (Err (Unpublished refused))
-unpublished (Some fault) before after shard route refused routed why map frame = absurd (not_ok (Ok route) route fault refl routed.0)
-unpublished None before after shard route refused routed why map frame = (route, (routed.0, routed.1, frame, routed.2), why, map)
+pub unpublished : {Q : Type 0} (fault : Option RouteFault) (before after : ClusterValue Q) (shard : ℕ) (route : Route)
+    (refused : PublishFault) → Routed fault before.control after.control shard (Ok route)
+    → IsMapFault (publish_fault before.map.map route) refused → after.map ≡ before.map
+    → TellsMore (cluster_publishing before after.control after.map) after
+    → Published fault before after shard (Err (Unpublished refused))
+unpublished (Some fault) before after shard route refused routed why map frame =
+    absurd (not_ok (Ok route) route fault refl routed.0)
+unpublished None before after shard route refused routed why map frame =
+    (route, (routed.0, routed.1, frame, routed.2), why, map)
 
 -- a route that was published has no fault at the map
 pub map_taken : (first : Option PublishFault) (result : Result (Unit {0}) PublishFault) (x : Unit {0}) → result ≡ Ok x
@@ -37,5 +46,6 @@ pub published : {Q : Type 0} (fault : Option RouteFault) (before after : Cluster
     → after.map.map ≡ with_route before.map.map route
     → TellsMore (cluster_publishing before after.control after.map) after
     → Published fault before after shard (Ok route)
-published (Some fault) before after shard route routed none map frame = absurd (not_ok (Ok route) route fault refl routed.0)
+published (Some fault) before after shard route routed none map frame =
+    absurd (not_ok (Ok route) route fault refl routed.0)
 published None before after shard route routed none map frame = ((routed.0, routed.1, frame, routed.2), none, map)

@@ -26,10 +26,12 @@ begins_same history = ([], sym (append-nil history))
 
 -- the envelope as it was sent is on its way
 pub way_begins : {Q : Type 0} (sent : Sent Q) → IsOnTheWay sent sent
-way_begins sent = record { number = refl; shard = refl; request = refl; board = refl; told = begins_same sent.note.seen }
+way_begins sent =
+    record { number = refl; shard = refl; request = refl; board = refl; told = begins_same sent.note.seen }
 
 -- an envelope that a server hands back or on stays on its way
-pub way_on : {Q : Type 0} (sent envelope back : Sent Q) → IsOnTheWay sent envelope → IsHandedBack envelope back → back.number ≡ envelope.number → back.shard ≡ envelope.shard → IsOnTheWay sent back
+pub way_on : {Q : Type 0} (sent envelope back : Sent Q) → IsOnTheWay sent envelope → IsHandedBack envelope back
+    → back.number ≡ envelope.number → back.shard ≡ envelope.shard → IsOnTheWay sent back
 way_on sent envelope back way handed number shard = record {
   number = number ∙ way.number;
   shard = shard ∙ way.shard;
@@ -39,14 +41,17 @@ way_on sent envelope back way handed number shard = record {
 }
 
 -- an answer to the envelope is one to its call
-answers : {Q R : Type 0} (service : Service Q R) (before : PassValue Q) (envelope sent : Sent Q) (answer : AnswerValue Q R) → envelope.note.board ≡ before.board → IsOnTheWay sent envelope → IsAnswered service before envelope answer → IsAnswerTo service sent answer
+answers : {Q R : Type 0} (service : Service Q R) (before : PassValue Q) (envelope sent : Sent Q)
+    (answer : AnswerValue Q R) → envelope.note.board ≡ before.board → IsOnTheWay sent envelope
+    → IsAnswered service before envelope answer → IsAnswerTo service sent answer
 answers {Q} service before envelope sent answer board way answered = record {
   number = answered.number ∙ way.number;
   board = answered.board ∙ (sym board ∙ way.board);
   told = begins_begins sent.note.seen envelope.note.seen answer.note.seen way.told answered.told;
   untold = none_begins answer.note.number sent.note.seen envelope.note.seen way.told answered.untold;
   mode = envelope.mode;
-  executed = subst (λ (pair : ℕ × Q). IsAnswer service pair.0 envelope.mode pair.1 answer) (λ i. (way.shard i, way.request i)) answered.executed;
+  executed = subst (λ (pair : ℕ × Q). IsAnswer service pair.0 envelope.mode pair.1 answer)
+      (λ i. (way.shard i, way.request i)) answered.executed;
 }
 
 abbrev number_of_shell : ShellView → ℕ
@@ -56,7 +61,8 @@ abbrev shard_of_shell : ShellView → ℕ
 shard_of_shell shell = shell.shard
 
 -- an envelope with another note of what was seen is on its way
-pub way_noted : {Q : Type 0} (sent envelope again : Sent Q) → IsOnTheWay sent envelope → IsNotedAgain envelope again → IsOnTheWay sent again
+pub way_noted : {Q : Type 0} (sent envelope again : Sent Q) → IsOnTheWay sent envelope → IsNotedAgain envelope again
+    → IsOnTheWay sent again
 way_noted sent envelope again way noted = record {
   number = ap number_of_shell noted.shell ∙ way.number;
   shard = ap shard_of_shell noted.shell ∙ way.shard;
@@ -66,7 +72,9 @@ way_noted sent envelope again way noted = record {
 }
 
 -- an envelope that is put together of its parts and another note
-pub noted_again : {Q : Type 0} (envelope again : Sent Q) (shell : ShellView) (request : Q) (note : PassValue Q) → again ≡ whole shell request note → shell ≡ shell_of envelope → request ≡ envelope.request → note.board ≡ envelope.note.board → Begins envelope.note.seen note.seen → IsNotedAgain envelope again
+pub noted_again : {Q : Type 0} (envelope again : Sent Q) (shell : ShellView) (request : Q) (note : PassValue Q)
+    → again ≡ whole shell request note → shell ≡ shell_of envelope → request ≡ envelope.request
+    → note.board ≡ envelope.note.board → Begins envelope.note.seen note.seen → IsNotedAgain envelope again
 noted_again {Q} envelope again shell request note is shell_is request_is board_is told = record {
   shell = ap (λ (one : Sent Q). shell_of one) is ∙ shell_is;
   request = ap (λ (one : Sent Q). one.request) is ∙ request_is;
@@ -75,7 +83,8 @@ noted_again {Q} envelope again shell request note is shell_is request_is board_i
 }
 
 -- what a new pass was told, it was told by less
-pub new_told : {Q : Type 0} (board other : BoardValue) (server : ℕ) (told earlier : List (Entry Q)) (pass : PassValue Q) → board ≡ other → Begins earlier told → IsNewPass board server told pass → IsNewPass other server earlier pass
+pub new_told : {Q : Type 0} (board other : BoardValue) (server : ℕ) (told earlier : List (Entry Q)) (pass : PassValue Q)
+    → board ≡ other → Begins earlier told → IsNewPass board server told pass → IsNewPass other server earlier pass
 new_told board other server told earlier pass board_is begins new = record {
   board_is = new.board_is ∙ board_is;
   server_is = new.server_is;
@@ -86,8 +95,10 @@ new_told board other server told earlier pass board_is begins new = record {
 }
 
 -- a server's step on an envelope, by a new pass that was told what its note had seen
-module _ {Q R : Type 0} (service : Service Q R) (stepped asked : CallValue Q) (board : BoardValue) (server : ℕ) (before after : PassValue Q) (envelope : Sent Q)
-    (board_is : stepped.sent.note.board ≡ board) (new : IsNewPass board server stepped.sent.note.seen before) (noted : IsNotedAgain stepped.sent envelope)
+module _ {Q R : Type 0} (service : Service Q R) (stepped asked : CallValue Q) (board : BoardValue) (server : ℕ)
+    (before after : PassValue Q) (envelope : Sent Q)
+    (board_is : stepped.sent.note.board ≡ board) (new : IsNewPass board server stepped.sent.note.seen before)
+    (noted : IsNotedAgain stepped.sent envelope)
     (bounds : asked.bounds ≡ stepped.bounds) (way : IsOnTheWay asked.sent stepped.sent) where
   board_asked : board ≡ asked.sent.note.board
   board_asked = sym board_is ∙ way.board
@@ -96,19 +107,26 @@ module _ {Q R : Type 0} (service : Service Q R) (stepped asked : CallValue Q) (b
   still = way_noted asked.sent stepped.sent envelope way noted
 
   -- an answer is one to the call
-  pub answered : (answer : AnswerValue Q R) → Served service (is_here service stepped.bounds board.limits.count envelope) before after envelope (Answered answer) → IsAnswerTo service asked.sent answer
+  pub answered : (answer : AnswerValue Q R) → Served service
+      (is_here service stepped.bounds board.limits.count envelope) before after envelope (Answered answer)
+      → IsAnswerTo service asked.sent answer
   answered answer served =
       answers service before envelope asked.sent answer (noted.board ∙ (board_is ∙ sym new.board_is)) still served.1
 
-  pub forwards : (to : ℕ) (back : Sent Q) → Served service (is_here service stepped.bounds board.limits.count envelope) before after envelope (Forward to back) → IsOnTheWay asked.sent back
+  pub forwards : (to : ℕ) (back : Sent Q) → Served service (is_here service stepped.bounds board.limits.count envelope)
+      before after envelope (Forward to back) → IsOnTheWay asked.sent back
   forwards to back served =
-      way_on asked.sent envelope back still served.1 (ap number_of_shell served.2.shell) (ap shard_of_shell served.2.shell)
+      way_on asked.sent envelope back still served.1 (ap number_of_shell served.2.shell)
+      (ap shard_of_shell served.2.shell)
 
   -- a refusal comes back with a note of all by which it was decided
-  pub refuses : (refusal : Refusal) (back again : Sent Q) → PassLooks before after → Served service (is_here service stepped.bounds board.limits.count envelope) before after envelope (Refused refusal back) → IsNotedAgain back again → Begins after.seen again.note.seen
+  pub refuses : (refusal : Refusal) (back again : Sent Q) → PassLooks before after → Served service
+      (is_here service stepped.bounds board.limits.count envelope) before after envelope (Refused refusal back)
+      → IsNotedAgain back again → Begins after.seen again.note.seen
       → IsOnTheWay asked.sent again × IsRefusalTo service asked refusal again.note.seen
   refuses refusal back again looks served noted_back read = (
-    way_noted asked.sent back again (way_on asked.sent envelope back still served.1 (ap number_of_shell served.2) (ap shard_of_shell served.2)) noted_back,
+    way_noted asked.sent back again (way_on asked.sent envelope back still served.1 (ap number_of_shell served.2)
+        (ap shard_of_shell served.2)) noted_back,
     record {
       envelope = envelope;
       back = back;
@@ -116,10 +134,12 @@ module _ {Q R : Type 0} (service : Service Q R) (stepped asked : CallValue Q) (b
       before = before;
       after = after;
       way = still;
-      new = new_told board asked.sent.note.board server stepped.sent.note.seen asked.sent.note.seen before board_asked way.told new;
+      new = new_told board asked.sent.note.board server stepped.sent.note.seen asked.sent.note.seen before board_asked
+          way.told new;
       looks = looks;
       served =
-          subst (λ (pair : List (List ℕ) × BoardValue). Served service (is_here service pair.0 pair.1.limits.count envelope) before after envelope (Refused refusal back))
+          subst (λ (pair : List (List ℕ) × BoardValue). Served service
+          (is_here service pair.0 pair.1.limits.count envelope) before after envelope (Refused refusal back))
           (λ i. (sym bounds i, board_asked i)) served;
       read = read;
       given = noted_back.told;
@@ -127,7 +147,8 @@ module _ {Q R : Type 0} (service : Service Q R) (stepped asked : CallValue Q) (b
   )
 
 -- what holds a message up on its way sends its envelope back
-pub comes_back : {Q R : Type 0} (service : Service Q R) (asked : CallValue Q) (fault : CallFault) (back : Sent Q) → IsOfTheWay fault → ComesBackFor service asked fault back
+pub comes_back : {Q R : Type 0} (service : Service Q R) (asked : CallValue Q) (fault : CallFault) (back : Sent Q)
+    → IsOfTheWay fault → ComesBackFor service asked fault back
 comes_back service asked call.NoRoute back never = never
 comes_back service asked call.Unreachable back way = way
 comes_back service asked (call.Refused refusal) back never = absurd never
@@ -135,5 +156,6 @@ comes_back service asked call.NoMemory back way = way
 comes_back service asked call.Closed back never = never
 
 -- what holds a message up on its way is a reply that fits its call
-pub held_up : {Q R : Type 0} (service : Service Q R) (asked : CallValue Q) (fault : CallFault) (envelope : Sent Q) → IsOnTheWay asked.sent envelope → IsOfTheWay fault → Fits service (Some asked) (reply.Refused fault envelope)
+pub held_up : {Q R : Type 0} (service : Service Q R) (asked : CallValue Q) (fault : CallFault) (envelope : Sent Q)
+    → IsOnTheWay asked.sent envelope → IsOfTheWay fault → Fits service (Some asked) (reply.Refused fault envelope)
 held_up service asked fault envelope on way = (on, comes_back service asked fault envelope way)

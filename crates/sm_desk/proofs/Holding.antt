@@ -1,5 +1,6 @@
 -- Whom a stand names after a change, and why a change that is let through keeps room and caps.
-use Rattle.std.proofs.Common.{ℕ, ◌≡◌, ◌<◌, ◌==◌, ◌⊎◌, Bool, true, false, cond, eqb, Option, Some, None, Result, Ok, Err, length, ltb, refl, ap, sym, ◌∙◌, inl, inr, subst}
+use Rattle.std.proofs.Common.{ℕ, ◌≡◌, ◌<◌, ◌==◌, ◌⊎◌, Bool, true, false, cond, eqb, Option, Some, None, Result, Ok, Err}
+use Rattle.std.proofs.Common.{length, ltb, refl, ap, sym, ◌∙◌, inl, inr, subst}
 use Rattle.std.specs.Prelude.{is_some, unwrap_or, not}
 use Rattle.std.specs.Option.{option_map}
 use Rattle.std.specs.Result.{result_err}
@@ -9,7 +10,8 @@ use Rattle.sm_ranges.specs.declared.stand.Stand.{Stand}
 use Rattle.sm_ranges.specs.declared.stand.Stand.TheVariants.{Vacant, Serving, Prepared, Forwarding, Taken, Paused}
 use Rattle.sm_ranges.specs.Stand.{AllNamed, names, passes, owner_of, other_of, is_paused}
 use Rattle.sm_ownership.specs.declared.change.Change.{Change}
-use Rattle.sm_ownership.specs.declared.change.Change.TheVariants.{Assign, PrepareAddShard, PrepareDropShard, AddShard, DropShard, Cancel, Pause, Resume, Reassign}
+use Rattle.sm_ownership.specs.declared.change.Change.TheVariants.{Assign, PrepareAddShard, PrepareDropShard, AddShard}
+use Rattle.sm_ownership.specs.declared.change.Change.TheVariants.{DropShard, Cancel, Pause, Resume, Reassign}
 use Rattle.sm_ownership.specs.declared.change.PhaseFault.TheVariants.{SameServer, WrongPhase}
 use Rattle.sm_ownership.specs.Rules.{newly_named, phase_fault, stand_after}
 use Rattle.sm_place.specs.declared.place_fault.PlaceFault.TheVariants.{Leaving}
@@ -32,7 +34,8 @@ names-other stand a e =
 
 -- the change newly names the server; or the stand named it, and isn't paused or is resumed
 abbrev Held : Stand → Change → ℕ → Type 0
-Held stand change b = (newly_named change ≡ Some b) ⊎ ((names stand b ≡ true) × ((is_paused stand ≡ false) ⊎ (resumed stand change ≡ Some b)))
+Held stand change b = (newly_named change ≡ Some b)
+    ⊎ ((names stand b ≡ true) × ((is_paused stand ≡ false) ⊎ (resumed stand change ≡ Some b)))
 
 -- where the new server isn't the owner, the change is made
 unless_same : (P : ℕ → Type 0) (same : Bool) (after before : Stand)
@@ -54,7 +57,8 @@ held Vacant Pause e = absurd (cc)
 held Vacant Resume e = absurd (cc)
 held Vacant (Reassign a) e = absurd (cc)
 held (Serving o) (Assign a) e = absurd (cc)
-held (Serving o) (PrepareAddShard a) e = unless_same (Held (Serving o) (PrepareAddShard a)) (a == o) (Prepared o a) (Serving o) e (inr (names-owner (Serving o) o refl, inl refl), inl refl)
+held (Serving o) (PrepareAddShard a) e = unless_same (Held (Serving o) (PrepareAddShard a)) (a == o) (Prepared o a)
+    (Serving o) e (inr (names-owner (Serving o) o refl, inl refl), inl refl)
 held (Serving o) PrepareDropShard e = absurd (cc)
 held (Serving o) AddShard e = absurd (cc)
 held (Serving o) DropShard e = absurd (cc)
@@ -64,7 +68,8 @@ held (Serving o) Resume e = absurd (cc)
 held (Serving o) (Reassign a) e = absurd (cc)
 held (Prepared o n) (Assign a) e = absurd (cc)
 held (Prepared o n) (PrepareAddShard a) e = absurd (cc)
-held (Prepared o n) PrepareDropShard e = (inr (names-owner (Prepared o n) o refl, inl refl), inr (names-other (Prepared o n) n refl, inl refl))
+held (Prepared o n) PrepareDropShard e =
+    (inr (names-owner (Prepared o n) o refl, inl refl), inr (names-other (Prepared o n) n refl, inl refl))
 held (Prepared o n) AddShard e = absurd (cc)
 held (Prepared o n) DropShard e = absurd (cc)
 held (Prepared o n) Cancel e = (inr (names-owner (Prepared o n) o refl, inl refl), tt)
@@ -74,7 +79,8 @@ held (Prepared o n) (Reassign a) e = absurd (cc)
 held (Forwarding o n) (Assign a) e = absurd (cc)
 held (Forwarding o n) (PrepareAddShard a) e = absurd (cc)
 held (Forwarding o n) PrepareDropShard e = absurd (cc)
-held (Forwarding o n) AddShard e = (inr (names-other (Forwarding o n) n refl, inl refl), inr (names-owner (Forwarding o n) o refl, inl refl))
+held (Forwarding o n) AddShard e =
+    (inr (names-other (Forwarding o n) n refl, inl refl), inr (names-owner (Forwarding o n) o refl, inl refl))
 held (Forwarding o n) DropShard e = absurd (cc)
 held (Forwarding o n) Cancel e = (inr (names-owner (Forwarding o n) o refl, inl refl), tt)
 held (Forwarding o n) Pause e = absurd (cc)
@@ -97,7 +103,8 @@ held (Paused o) DropShard e = absurd (cc)
 held (Paused o) Cancel e = absurd (cc)
 held (Paused o) Pause e = absurd (cc)
 held (Paused o) Resume e = (inr (names-owner (Paused o) o refl, inr refl), tt)
-held (Paused o) (Reassign a) e = unless_same (Held (Paused o) (Reassign a)) (a == o) (Serving a) (Paused o) e (inl refl, tt)
+held (Paused o) (Reassign a) e =
+    unless_same (Held (Paused o) (Reassign a)) (a == o) (Serving a) (Paused o) e (inl refl, tt)
 
 -- the new stand of a shard
 abbrev pub stand_of : BooksView → ℕ → Change → Stand
@@ -109,33 +116,39 @@ pub stand_of-leads : (books : BooksView) (k : ℕ) (change : Change) (stand : St
 stand_of-leads books k change stand leads = ap (λ one. unwrap_or one (shard_at books.shards k).stand) leads
 
 -- what holds of the servers that were named and of the one that is newly named holds of each
-after_each : (P : ℕ → Type 0) (Q : ℕ → Type 0) (stand : Stand) → ((b : ℕ) → P b → Q b) → AllNamed P stand → AllNamed Q stand
+after_each : (P : ℕ → Type 0) (Q : ℕ → Type 0) (stand : Stand) → ((b : ℕ) → P b → Q b) → AllNamed P stand
+    → AllNamed Q stand
 after_each P Q stand h all = (IfSome_then (owner_of stand) all.0 h, IfSome_then (other_of stand) all.1 h)
 
 -- a server that isn't unknown is known
-known_some : (books : BooksView) (x : Option ℕ) (b : ℕ) → is_unknown books.servers x ≡ false → x ≡ Some b → IsKnown books.servers b
+known_some : (books : BooksView) (x : Option ℕ) (b : ℕ) → is_unknown books.servers x ≡ false → x ≡ Some b
+    → IsKnown books.servers b
 known_some books None b e is = absurd (cc)
 known_some books (Some a) b e is =
     let same : a ≡ b = cc in
     subst (IsKnown books.servers) same
-    (ltb-true (place_of books.servers a) (length books.servers) (unnot (ltb (place_of books.servers a) (length books.servers)) e))
+    (ltb-true (place_of books.servers a) (length books.servers)
+    (unnot (ltb (place_of books.servers a) (length books.servers)) e))
   where
     unnot : (u : Bool) → not u ≡ false → u ≡ true
     unnot true e = refl
     unnot false e = absurd (cc)
 
 -- a result without a fault is Ok
-pub ok_without : {E : Type 0} (of : E → CommandFault) (r : Result (Unit {0}) E) → option_map of (result_err r) ≡ None → r ≡ Ok tt
+pub ok_without : {E : Type 0} (of : E → CommandFault) (r : Result (Unit {0}) E) → option_map of (result_err r) ≡ None
+    → r ≡ Ok tt
 ok_without of (Ok u) e = refl
 ok_without of (Err fault) e = absurd (cc)
 
-fits_some : (books : BooksView) (k : ℕ) (x : Option ℕ) (b : ℕ) → room_fault books k x ≡ None → x ≡ Some b → fit books k b ≡ Ok tt
+fits_some : (books : BooksView) (k : ℕ) (x : Option ℕ) (b : ℕ) → room_fault books k x ≡ None → x ≡ Some b
+    → fit books k b ≡ Ok tt
 fits_some books k None b e is = absurd (cc)
 fits_some books k (Some a) b e is =
     let same : a ≡ b = cc in
     subst (λ c. fit books k c ≡ Ok tt) same (ok_without Place (fit books k a) e)
 
-stays_some : (books : BooksView) (x : Option ℕ) (b : ℕ) → resume_fault books x ≡ None → x ≡ Some b → is_leaving (state_of books b) ≡ false
+stays_some : (books : BooksView) (x : Option ℕ) (b : ℕ) → resume_fault books x ≡ None → x ≡ Some b
+    → is_leaving (state_of books b) ≡ false
 stays_some books None b e is = absurd (cc)
 stays_some books (Some a) b e is =
     let same : a ≡ b = cc in
@@ -171,22 +184,27 @@ FewerLeaveRoom = (books : BooksView) (k : ℕ) (stand : Stand) → k < length bo
     → HasRoom books.servers books.groups (with_stand books.shards k stand)
 
 -- there is room for the new stand
-pub changes_room : LeavesRoom → FewerLeaveRoom → (books : BooksView) (k : ℕ) (change : Change) → AreSound books → IsLetThrough books k change
+pub changes_room : LeavesRoom → FewerLeaveRoom → (books : BooksView) (k : ℕ) (change : Change) → AreSound books
+    → IsLetThrough books k change
     → HasRoom books.servers books.groups (with_stand books.shards k (stand_of books k change))
 changes_room leaves fewer books k change sound through = by (newly_named change) refl
   where
-    by : (x : Option ℕ) → newly_named change ≡ x → HasRoom books.servers books.groups (with_stand books.shards k (stand_of books k change))
+    by : (x : Option ℕ) → newly_named change ≡ x
+        → HasRoom books.servers books.groups (with_stand books.shards k (stand_of books k change))
     by None e =
         fewer books k (stand_of books k change) through.within sound.room
-        (after_each (Held (shard_at books.shards k).stand change) (λ b. names (shard_at books.shards k).stand b ≡ true) (stand_of books k change)
+        (after_each (Held (shard_at books.shards k).stand change) (λ b. names (shard_at books.shards k).stand b ≡ true)
+        (stand_of books k change)
         (λ b h. elim h [
           | inl new ↦ let none : ◌≡◌ {A = Option ℕ} None (Some b) = sym e ∙ new in absurd (cc)
           | inr old ↦ old.0
         ])
         (held (shard_at books.shards k).stand change through.phase))
     by (Some a) e =
-        leaves books k a (stand_of books k change) through.within sound.room (fits_some books k (newly_named change) a through.room e)
-        (after_each (Held (shard_at books.shards k).stand change) (λ b. (b ≡ a) ⊎ (names (shard_at books.shards k).stand b ≡ true))
+        leaves books k a (stand_of books k change) through.within sound.room
+        (fits_some books k (newly_named change) a through.room e)
+        (after_each (Held (shard_at books.shards k).stand change)
+        (λ b. (b ≡ a) ⊎ (names (shard_at books.shards k).stand b ≡ true))
         (stand_of books k change)
         (λ b h. elim h [
           | inl new ↦ let same : ◌≡◌ {A = Option ℕ} (Some a) (Some b) = sym e ∙ new in let is : b ≡ a = cc in inl is

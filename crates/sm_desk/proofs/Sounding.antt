@@ -1,4 +1,5 @@
--- Books stay sound where a state is set, and where a stand is set that leaves room; and the state of a server without a row.
+-- Books stay sound where a state is set, and where a stand is set that leaves room; and the state of a server without a
+-- row.
 use Rattle.std.proofs.Common.{◌≡◌, ◌≢◌, ℕ, ◌<◌, ◌≤◌, length, refl, sym, ap, subst, ◌∙◌, arith, ⊎_elim}
 use Rattle.std.proofs.lemmas.Bool.{cases_eq}
 use Rattle.std.proofs.lemmas.List.{get_or_past, length-set}
@@ -12,7 +13,8 @@ use Rattle.sm_place.specs.Room.{HasRoom}
 use Rattle.sm_place.specs.Sound.{AreSound}
 use Rattle.sm_place.specs.lemmas.Changed.{length-with_stand, shard_at-other, shard_at-same}
 
-pub sound_state : (books : BooksView) (a : ℕ) (state : ServerState) → AreSound books → AreSound (with_state books a state)
+pub sound_state : (books : BooksView) (a : ℕ) (state : ServerState) → AreSound books
+    → AreSound (with_state books a state)
 sound_state books a state sound = record {
   numbers = sound.numbers;
   servers_rise = sound.servers_rise;
@@ -24,8 +26,10 @@ sound_state books a state sound = record {
   room = sound.room;
 }
 
-pub sound_stand : (books : BooksView) (k : ℕ) (stand : Stand) → AreSound books → k < length books.shards → AllNamed (IsKnown books.servers) stand
-    → HasRoom books.servers books.groups (with_stand books.shards k stand) → AreSound (record books { shards = with_stand books.shards k stand })
+pub sound_stand : (books : BooksView) (k : ℕ) (stand : Stand) → AreSound books → k < length books.shards
+    → AllNamed (IsKnown books.servers) stand
+    → HasRoom books.servers books.groups (with_stand books.shards k stand)
+    → AreSound (record books { shards = with_stand books.shards k stand })
 sound_stand books k stand sound within known room = record {
   numbers = sound.numbers;
   servers_rise = sound.servers_rise;
@@ -34,9 +38,12 @@ sound_stand books k stand sound within known room = record {
   shards = rw (length-with_stand books.shards k stand) sound.shards;
   group = λ j inside. subst (λ g. g < length books.groups) (sym (row_at j)) (sound.group j (as_before j inside));
   known = λ j inside. ⊎_elim
-      (λ (same : j ≡ k). subst (λ i. AllNamed (IsKnown books.servers) (shard_at (with_stand books.shards k stand) i).stand) (sym same)
-      (subst (λ (one : Shard). AllNamed (IsKnown books.servers) one.stand) (sym (shard_at-same books.shards k stand within)) known))
-      (λ (apart : j ≢ k). subst (λ (one : Shard). AllNamed (IsKnown books.servers) one.stand) (sym (shard_at-other books.shards k j stand apart)) (sound.known j (as_before j inside)))
+      (λ (same : j ≡ k). subst
+      (λ i. AllNamed (IsKnown books.servers) (shard_at (with_stand books.shards k stand) i).stand) (sym same)
+      (subst (λ (one : Shard). AllNamed (IsKnown books.servers) one.stand)
+      (sym (shard_at-same books.shards k stand within)) known))
+      (λ (apart : j ≢ k). subst (λ (one : Shard). AllNamed (IsKnown books.servers) one.stand)
+      (sym (shard_at-other books.shards k j stand apart)) (sound.known j (as_before j inside)))
       (cases_eq j k);
   room = room;
 }
@@ -47,10 +54,12 @@ sound_stand books k stand sound within known room = record {
     row_at : (j : ℕ) → (shard_at (with_stand books.shards k stand) j).row.group ≡ (shard_at books.shards j).row.group
     row_at j = ⊎_elim
         (λ (same : j ≡ k). ap (λ i. (shard_at (with_stand books.shards k stand) i).row.group) same
-        ∙ ap (λ (one : Shard). one.row.group) (shard_at-same books.shards k stand within) ∙ ap (λ i. (shard_at books.shards i).row.group) (sym same))
+        ∙ ap (λ (one : Shard). one.row.group) (shard_at-same books.shards k stand within)
+        ∙ ap (λ i. (shard_at books.shards i).row.group) (sym same))
         (λ (apart : j ≢ k). ap (λ (one : Shard). one.row.group) (shard_at-other books.shards k j stand apart))
         (cases_eq j k)
 
 -- a server without a row is up
-pub state_of-unknown : (books : BooksView) (a : ℕ) → length books.states ≡ length books.servers → length books.servers ≤ place_of books.servers a → state_of books a ≡ Up
+pub state_of-unknown : (books : BooksView) (a : ℕ) → length books.states ≡ length books.servers
+    → length books.servers ≤ place_of books.servers a → state_of books a ≡ Up
 state_of-unknown books a len past = get_or_past books.states (place_of books.servers a) Up (omega arith)

@@ -1,5 +1,6 @@
 -- Spans in use: what placing and forgetting leave.
-use Rattle.std.proofs.Common.{◌≡◌, ℕ, ◌<◌, ◌≤◌, ◌+◌, Bool, true, false, cond, eqb, List, [], ◌∷◌, ◌++◌, length, Option, Some, None, count_by, unwrap_or, refl, sym, ap, subst, ◌∙◌, arith, inl, inr, ◌⊎◌}
+use Rattle.std.proofs.Common.{◌≡◌, ℕ, ◌<◌, ◌≤◌, ◌+◌, Bool, true, false, cond, eqb, List, [], ◌∷◌, ◌++◌, length, Option}
+use Rattle.std.proofs.Common.{Some, None, count_by, unwrap_or, refl, sym, ap, subst, ◌∙◌, arith, inl, inr, ◌⊎◌}
 use mathlib.Core.Bool.{false≢true}
 use Rattle.std.specs.List.{sum_by}
 use Rattle.std.proofs.lemmas.Bool.{cases_lt, cond_both}
@@ -34,18 +35,23 @@ piece_le span s = by (same_span span s)
     by false = omega arith
 
 -- a placed piece is stored for its span
-pub piece_stored : (old : ArenaValue) (piece : List ℕ) (span : Span) (new : ArenaValue) → IsPlacing old piece span new → IsStored old (uses_piece span) new
+pub piece_stored : (old : ArenaValue) (piece : List ℕ) (span : Span) (new : ArenaValue) → IsPlacing old piece span new
+    → IsStored old (uses_piece span) new
 piece_stored old piece span new p = record {
   keeps = λ s is. ap (λ (es : Places). piece_of es s) p.placed ∙ placed_stays old.placed (span, piece) s is;
   forgotten = p.forgotten;
   placed = λ s used. subst (λ (t : Span). IsPlaced new.placed t) (used_is span s used) (rw p.reads refl);
-  fresh = λ s used long. subst (λ (t : Span). 0 < length (bytes_of new.placed t) → piece_of old.placed t ≡ None) (used_is span s used) (λ l. p.fresh (rw p.reads at l)) long;
+  fresh = λ s used long. subst (λ (t : Span). 0 < length (bytes_of new.placed t) → piece_of old.placed t ≡ None)
+      (used_is span s used) (λ l. p.fresh (rw p.reads at l)) long;
   once = λ s long. piece_le span s;
 }
 
 -- a piece reads what was placed, and still does once more is stored
-pub piece_reads : (old : ArenaValue) (piece : List ℕ) (span : Span) (middle : ArenaValue) → IsPlacing old piece span middle → (uses : Span → ℕ) (new : ArenaValue) → IsStored middle uses new → bytes_of new.placed span ≡ piece
-piece_reads old piece span middle p uses new st = ap (λ (o : Option (List ℕ)). unwrap_or o []) (st.keeps span (rw p.reads refl) ∙ p.reads)
+pub piece_reads : (old : ArenaValue) (piece : List ℕ) (span : Span) (middle : ArenaValue)
+    → IsPlacing old piece span middle → (uses : Span → ℕ) (new : ArenaValue) → IsStored middle uses new
+    → bytes_of new.placed span ≡ piece
+piece_reads old piece span middle p uses new st =
+    ap (λ (o : Option (List ℕ)). unwrap_or o []) (st.keeps span (rw p.reads refl) ∙ p.reads)
 
 -- nothing is stored for a count
 pub nothing_stored : (v : ArenaValue) → IsStored v (λ s. 0) v
@@ -58,11 +64,13 @@ nothing_stored v = record {
 }
 
 -- one after the other
-module _ (old middle new : ArenaValue) (one other : Span → ℕ) (first : IsStored old one middle) (second : IsStored middle other new) where
+module _ (old middle new : ArenaValue) (one other : Span → ℕ) (first : IsStored old one middle)
+    (second : IsStored middle other new) where
   still_there : (s : Span) → IsPlaced old.placed s → IsPlaced middle.placed s
   still_there s is = rw (first.keeps s is) is
 
-  long_before : (s : Span) → IsPlaced middle.placed s → 0 < length (bytes_of new.placed s) → 0 < length (bytes_of middle.placed s)
+  long_before : (s : Span) → IsPlaced middle.placed s → 0 < length (bytes_of new.placed s)
+      → 0 < length (bytes_of middle.placed s)
   long_before s is long = subst (λ (o : Option (List ℕ)). 0 < length (unwrap_or o [])) (second.keeps s is) long
 
   new_to_second : (s : Span) → 0 < other s → 0 < length (bytes_of new.placed s) → IsPlaced middle.placed s → ⊥
@@ -100,7 +108,8 @@ module _ (old middle new : ArenaValue) (one other : Span → ℕ) (first : IsSto
     once = once_in_all;
   }
 
-module _ (old : ArenaValue) (uses : Span → ℕ) (new : ArenaValue) (st : IsStored old uses new) (used : Span → ℕ) (tidy : IsTidy old used) where
+module _ (old : ArenaValue) (uses : Span → ℕ) (new : ArenaValue) (st : IsStored old uses new) (used : Span → ℕ)
+    (tidy : IsTidy old used) where
   same_times : (s : Span) → times_forgotten new s ≡ times_forgotten old s
   same_times s = ap (λ (l : List Span). count_by (λ t. same_span t s) l) st.forgotten
 
@@ -119,11 +128,13 @@ module _ (old : ArenaValue) (uses : Span → ℕ) (new : ArenaValue) (st : IsSto
     ];
   }
     where
-      once_before : (s : Span) → 0 < length (bytes_of new.placed s) → 0 < used s + times_forgotten old s → (0 < uses s) ⊎ (uses s ≤ 0) → used s + uses s + times_forgotten new s ≤ 1
+      once_before : (s : Span) → 0 < length (bytes_of new.placed s) → 0 < used s + times_forgotten old s
+          → (0 < uses s) ⊎ (uses s ≤ 0) → used s + uses s + times_forgotten new s ≤ 1
       once_before s long before (inl here) = absurd (false≢true (rw (st.fresh s here long) at (tidy.placed s before)))
       once_before s long before (inr none) =
           let kept = st.keeps s (tidy.placed s before) in
-          let long_old : 0 < length (bytes_of old.placed s) = subst (λ (o : Option (List ℕ)). 0 < length (unwrap_or o [])) kept long in
+          let long_old : 0 < length (bytes_of old.placed s) =
+          subst (λ (o : Option (List ℕ)). 0 < length (unwrap_or o [])) kept long in
           omega (arith, same_times s, tidy.once s long_old)
 
   -- what is in use reads the same
@@ -132,7 +143,8 @@ module _ (old : ArenaValue) (uses : Span → ℕ) (new : ArenaValue) (st : IsSto
 
   pub dead_stored : dead_of new ≡ dead_of old
   dead_stored =
-      same_sum old.placed new.placed new.forgotten (λ s lt. st.keeps s (tidy.placed s (omega (arith, same_times s)))) ∙ ap (λ (l : List Span). sum_by (λ s. length (bytes_of old.placed s)) l) st.forgotten
+      same_sum old.placed new.placed new.forgotten (λ s lt. st.keeps s (tidy.placed s (omega (arith, same_times s))))
+      ∙ ap (λ (l : List Span). sum_by (λ s. length (bytes_of old.placed s)) l) st.forgotten
 
 -- what forgetting a piece leaves
 record Forgot (v : ArenaValue) (span : Span) (w : ArenaValue) : Type 0 where
@@ -141,8 +153,13 @@ record Forgot (v : ArenaValue) (span : Span) (w : ArenaValue) : Type 0 where
   dead : dead_of w ≡ dead_of v + length (bytes_of v.placed span)
 
 forgot : (v : ArenaValue) (span : Span) → Forgot v span (forgetting v span)
-forgot v span = cond_both (eqb (length (bytes_of v.placed span)) 0) v (record { placed = v.placed; forgotten = v.forgotten ++ span ∷ []; sizes = v.sizes }) (Forgot v span)
-    (λ e. record { placed = refl; times = λ s. omega arith; dead = let none : length (bytes_of v.placed span) ≡ 0 = grind (arith, nat_tests) in omega (arith, none) })
+forgot v span = cond_both (eqb (length (bytes_of v.placed span)) 0) v
+    (record { placed = v.placed; forgotten = v.forgotten ++ span ∷ []; sizes = v.sizes }) (Forgot v span)
+    (λ e. record {
+      placed = refl;
+      times = λ s. omega arith;
+      dead = let none : length (bytes_of v.placed span) ≡ 0 = grind (arith, nat_tests) in omega (arith, none);
+    })
     (λ e. record {
       placed = refl;
       times = λ s. omega (arith, sum_by_push (λ t. cond (same_span t s) 1 0) v.forgotten span);
@@ -159,7 +176,8 @@ pub forgets : (v : ArenaValue) (slot : Slot) → Forgets v slot (forgetting_slot
 forgets v (Text span) = let f = forgot v span in record { placed = f.placed; times = f.times; dead = f.dead }
 forgets v (Count count) = record { placed = refl; times = λ s. omega arith; dead = omega arith }
 
-module _ (v : ArenaValue) (used rest : Span → ℕ) (slot : Slot) (parts : (s : Span) → rest s + uses_slot slot s ≡ used s) (tidy : IsTidy v used) where
+module _ (v : ArenaValue) (used rest : Span → ℕ) (slot : Slot) (parts : (s : Span) → rest s + uses_slot slot s ≡ used s)
+    (tidy : IsTidy v used) where
   pub may_forget : IsForgettable v slot
   may_forget = record {
     placed = λ s lt. tidy.placed s (omega (arith, parts s));
@@ -170,8 +188,10 @@ module _ (v : ArenaValue) (used rest : Span → ℕ) (slot : Slot) (parts : (s :
   tidy_forgot =
       let f = forgets v slot in
       record {
-        placed = λ s lt. subst (λ (es : Places). IsPlaced es s) (sym f.placed) (tidy.placed s (omega (arith, parts s, f.times s)));
+        placed = λ s lt. subst (λ (es : Places). IsPlaced es s) (sym f.placed)
+            (tidy.placed s (omega (arith, parts s, f.times s)));
         once = λ s long.
-            let long_before : 0 < length (bytes_of v.placed s) = subst (λ (es : Places). 0 < length (bytes_of es s)) f.placed long in
+            let long_before : 0 < length (bytes_of v.placed s) =
+            subst (λ (es : Places). 0 < length (bytes_of es s)) f.placed long in
             omega (arith, parts s, f.times s, tidy.once s long_before);
       }

@@ -1,5 +1,6 @@
 -- Calls that may make no step, and the answers to all others.
-use Rattle.std.proofs.Common.{◌≡◌, ◌<◌, ℕ, Bool, true, false, List, Option, Some, None, is_some, length, refl, ap, slice_index_or, subst, sym, ◌∙◌, arith, IfOk, Ok, Err, Result}
+use Rattle.std.proofs.Common.{◌≡◌, ◌<◌, ℕ, Bool, true, false, List, Option, Some, None, is_some, length, refl, ap}
+use Rattle.std.proofs.Common.{slice_index_or, subst, sym, ◌∙◌, arith, IfOk, Ok, Err, Result}
 use Rattle.std.proofs.lemmas.List.FromFn.{get_or-map-range_with_len}
 use Rattle.std.specs.Option.{option_or}
 use Rattle.std.specs.declared.alloc.AllocError.{AllocError}
@@ -17,11 +18,13 @@ use Rattle.sm_service.specs.declared.request.Request.{Request}
 use Rattle.sm_service.specs.Service.{key_of_request}
 use Rattle.sm_table.specs.Standing.{StandsFor, WorldView}
 use Rattle.sm_table.specs.World.{WorldState, count_of, is_there}
-use Rattle.sm_model.specs.Calls.{answer_of, answer_without_steps, answered, called, drained, ends_in_step, requested_by, route_for, shard_for, unless_route}
+use Rattle.sm_model.specs.Calls.{answer_of, answer_without_steps, answered, called, drained, ends_in_step, requested_by}
+use Rattle.sm_model.specs.Calls.{route_for, shard_for, unless_route}
 use Rattle.sm_model.specs.Sessions.{GivesAnswer, IsAt}
 
 -- a call that ends in a step has the answer to that
-pub answered-steps : (w : WorldState Request) (asked : Call) → ends_in_step asked ≡ true → answered w asked ≡ answer_of (called w asked).0
+pub answered-steps : (w : WorldState Request) (asked : Call) → ends_in_step asked ≡ true
+    → answered w asked ≡ answer_of (called w asked).0
 answered-steps w (call.Control command) steps = refl
 answered-steps w (call.Hold shard server) steps = refl
 answered-steps w (call.Free shard) steps = refl
@@ -41,21 +44,28 @@ some_or None second some = some
 some_or (Some x) second some = refl
 
 -- where its last step has an answer, a call has one
-pub answered-some : (w : WorldState Request) (asked : Call) → is_some (answer_of (called w asked).0) ≡ true → is_some (answered w asked) ≡ true
+pub answered-some : (w : WorldState Request) (asked : Call) → is_some (answer_of (called w asked).0) ≡ true
+    → is_some (answered w asked) ≡ true
 answered-some w asked some = some_or (answer_without_steps w asked) (answer_of (called w asked).0) some
 
 -- a plan by the books of a session
-pub gives_plan : (view : WorldView Request) (plan : PlanView) → plan ≡ assign_plan view.desk.books → GivesAnswer view call.Place (Planned plan) view
-gives_plan view plan is = λ w at. (ap (λ one. Some (Planned one)) (sym (is ∙ ap (λ (desk : DeskView). assign_plan desk.books) at.world.desk)), at)
+pub gives_plan : (view : WorldView Request) (plan : PlanView) → plan ≡ assign_plan view.desk.books
+    → GivesAnswer view call.Place (Planned plan) view
+gives_plan view plan is = λ w at.
+    (ap (λ one. Some (Planned one)) (sym (is ∙ ap (λ (desk : DeskView). assign_plan desk.books) at.world.desk)), at)
 
-known_there : (view : WorldView Request) (w : WorldState Request) (server : ℕ) (known : Bool) → IsAt view w → known ≡ is_known view.desk.books.servers server → is_there w server ≡ known
-known_there view w server known at is = ap (λ (desk : DeskView). is_known desk.books.servers server) (sym at.world.desk) ∙ sym is
+known_there : (view : WorldView Request) (w : WorldState Request) (server : ℕ) (known : Bool) → IsAt view w
+    → known ≡ is_known view.desk.books.servers server → is_there w server ≡ known
+known_there view w server known at is =
+    ap (λ (desk : DeskView). is_known desk.books.servers server) (sym at.world.desk) ∙ sym is
 
-pub gives_drain : (view : WorldView Request) (server : ℕ) (plan : PlanView) → true ≡ is_known view.desk.books.servers server → plan ≡ drain_plan view.desk.books server
+pub gives_drain : (view : WorldView Request) (server : ℕ) (plan : PlanView)
+    → true ≡ is_known view.desk.books.servers server → plan ≡ drain_plan view.desk.books server
     → GivesAnswer view (call.Drain server) (Planned plan) view
 gives_drain view server plan knows is = λ w at.
     let there : is_there w server ≡ true = known_there view w server true at knows in
-    let planned : drained w server ≡ Planned plan = rw there (ap (λ one. Planned one) (sym (is ∙ ap (λ (desk : DeskView). drain_plan desk.books server) at.world.desk))) in
+    let planned : drained w server ≡ Planned plan = rw there
+    (ap (λ one. Planned one) (sym (is ∙ ap (λ (desk : DeskView). drain_plan desk.books server) at.world.desk))) in
     (ap (λ one. Some one) planned, at)
 
 -- the server doesn't exist
@@ -69,11 +79,13 @@ gives_unknown view server knows = λ w at.
 -- ---- the published route of a request's shard
 
 route_is : (view : WorldView Request) (w : WorldState Request) (request : Request) (shard : ℕ) (route : Option Route)
-    → StandsFor view w → shard < length view.bounds → shard ≡ shard_of view.bounds (key_of_request request) → route ≡ slice_index_or view.routes shard None
+    → StandsFor view w → shard < length view.bounds → shard ≡ shard_of view.bounds (key_of_request request)
+    → route ≡ slice_index_or view.routes shard None
     → route_for w request ≡ route
 route_is view w request shard route stands within is read =
     let there : shard < count_of w = subst (λ (bounds : List (List ℕ)). shard < length bounds) stands.bounds within in
-    let shard_is : shard ≡ shard_for w request = is ∙ ap (λ bounds. shard_of bounds (key_of_request request)) stands.bounds in
+    let shard_is : shard ≡ shard_for w request =
+    is ∙ ap (λ bounds. shard_of bounds (key_of_request request)) stands.bounds in
     sym (
     read
     ∙ ap (λ (routes : List (Option Route)). slice_index_or routes shard None) stands.routes
@@ -88,18 +100,25 @@ GivesBy w request answer after route =
     (option_or (unless_route route) (answer_of went.0) ≡ Some answer) × IsAt after went.1
 
 -- there is none
-pub gives_no_route : (read before : WorldView Request) → read ≡ before → (request : Request) (shard : ℕ) (route : Option Route)
-    → shard < length read.bounds → shard ≡ shard_of read.bounds (key_of_request request) → route ≡ slice_index_or read.routes shard None → route ≡ None
+pub gives_no_route : (read before : WorldView Request) → read ≡ before
+    → (request : Request) (shard : ℕ) (route : Option Route)
+    → shard < length read.bounds → shard ≡ shard_of read.bounds (key_of_request request)
+    → route ≡ slice_index_or read.routes shard None → route ≡ None
     → GivesAnswer before (call.RequestByRoute request) (IsRefused refused.NoRoute) before
 gives_no_route read before same request shard route within is found none = λ w at.
     let stands : StandsFor read w = subst (λ view. StandsFor view w) (sym same) at.world in
-    subst (GivesBy w request (IsRefused refused.NoRoute) before) (sym (route_is read w request shard route stands within is found ∙ none)) (refl, at)
+    subst (GivesBy w request (IsRefused refused.NoRoute) before)
+    (sym (route_is read w request shard route stands within is found ∙ none)) (refl, at)
 
 -- there is one: the request goes to its server
-pub gives_by_route : (read before after : WorldView Request) → read ≡ before → (request : Request) (shard : ℕ) (found : Option Route) (route : Route) (result : Result LineAnswer AllocError)
-    → shard < length read.bounds → shard ≡ shard_of read.bounds (key_of_request request) → found ≡ slice_index_or read.routes shard None → found ≡ Some route
-    → IfOk result (λ answer. GivesAnswer before (call.RequestAt route.server request) answer after) → IfOk result (λ answer. GivesAnswer before (call.RequestByRoute request) answer after)
+pub gives_by_route : (read before after : WorldView Request) → read ≡ before
+    → (request : Request) (shard : ℕ) (found : Option Route) (route : Route) (result : Result LineAnswer AllocError)
+    → shard < length read.bounds → shard ≡ shard_of read.bounds (key_of_request request)
+    → found ≡ slice_index_or read.routes shard None → found ≡ Some route
+    → IfOk result (λ answer. GivesAnswer before (call.RequestAt route.server request) answer after)
+    → IfOk result (λ answer. GivesAnswer before (call.RequestByRoute request) answer after)
 gives_by_route read before after same request shard found route (Ok answer) within is there some gives = λ w at.
     let stands : StandsFor read w = subst (λ view. StandsFor view w) (sym same) at.world in
-    subst (GivesBy w request answer after) (sym (route_is read w request shard found stands within is there ∙ some)) (gives w at)
+    subst (GivesBy w request answer after) (sym (route_is read w request shard found stands within is there ∙ some))
+    (gives w at)
 gives_by_route read before after same request shard found route (Err fault) within is there some gives = tt

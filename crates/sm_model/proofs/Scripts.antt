@@ -51,10 +51,14 @@ no_call w (Ok None) text is = (is, refl)
 no_call w (Ok (Some call)) text is = absurd is
 
 -- a line that was read so has the response of the definitions
-read_response : (before : WorldView Request) (w : WorldState Request) (read : Result (Option Call) LineFault) (text : List ℕ) (after : WorldView Request)
-    → IsAt before w → RespondsTo GivesAnswer before read text after → (text ≡ (responded w read).0) × IsAt after (responded w read).1
-read_response before w (Err fault) text after at gives = (gives.0, subst (λ (view : WorldView Request). IsAt view w) (sym gives.1) at)
-read_response before w (Ok None) text after at gives = (gives.0, subst (λ (view : WorldView Request). IsAt view w) (sym gives.1) at)
+read_response : (before : WorldView Request) (w : WorldState Request) (read : Result (Option Call) LineFault)
+    (text : List ℕ) (after : WorldView Request)
+    → IsAt before w → RespondsTo GivesAnswer before read text after
+    → (text ≡ (responded w read).0) × IsAt after (responded w read).1
+read_response before w (Err fault) text after at gives =
+    (gives.0, subst (λ (view : WorldView Request). IsAt view w) (sym gives.1) at)
+read_response before w (Ok None) text after at gives =
+    (gives.0, subst (λ (view : WorldView Request). IsAt view w) (sym gives.1) at)
 read_response before w (Ok (Some call)) text after at (answer, is, gives) =
     let given = gives w at in
     (is ∙ sym (ap (λ (one : Option LineAnswer). unwrap_or (option_map answer_line one) []) given.0), given.1)

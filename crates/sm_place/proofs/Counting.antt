@@ -20,7 +20,8 @@ use Rattle.sm_place.specs.Room.{names_domain, is_in, count_in}
 pub eqb-cell : (w g b g' d : ℕ) → b < w → d < w → eqb (g * w + b) (g' * w + d) ≡ (eqb g g' && eqb b d)
 eqb-cell w g b g' d hb hd =
     elim (eqb_tells (g * w + b) (g' * w + d)) [
-      | inl p ↦ let e = same_from_place g b g' d w hb hd p.1 in p.0 ∙ sym (and_from _ _ (eq-eqb g g' e.0) (eq-eqb b d e.1))
+      | inl p ↦ let e = same_from_place g b g' d w hb hd p.1 in
+          p.0 ∙ sym (and_from _ _ (eq-eqb g g' e.0) (eq-eqb b d e.1))
       | inr p ↦ elim (eqb_tells g g') [
         | inl q ↦ elim (eqb_tells b d) [
           | inl r ↦ absurd (p.1 (ap (λ (n : ℕ). n * w + b) q.1 ∙ ap (λ (n : ℕ). g' * w + n) r.1))
@@ -77,9 +78,11 @@ pub hit_in : (servers : List ServerRow) (r : Ranking) (g i : ℕ) (stand : Stand
     → (d : ℕ) × ((rank_of r d < r.width) × (domain_cell r g d ≡ i))
 hit_in servers r g i stand x y at ranked known hit =
     found (owner_of stand) (other_of stand) known.0 known.1
-    (sym (ap (λ v. is_hit v y i) at.owner ∙ ap (λ v. is_hit (option_map (cell_of servers r g) (owner_of stand)) v i) at.other) ∙ hit)
+    (sym (ap (λ v. is_hit v y i) at.owner
+    ∙ ap (λ v. is_hit (option_map (cell_of servers r g) (owner_of stand)) v i) at.other) ∙ hit)
   where
-    one : (a : ℕ) → IsKnown servers a → eqb (cell_of servers r g a) i ≡ true → (d : ℕ) × ((rank_of r d < r.width) × (domain_cell r g d ≡ i))
+    one : (a : ℕ) → IsKnown servers a → eqb (cell_of servers r g a) i ≡ true
+        → (d : ℕ) × ((rank_of r d < r.width) × (domain_cell r g d ≡ i))
     one a row e = (domain_of servers a, (ranked.at a row, eqb-true _ _ e))
 
     found : (p q : Option ℕ) → IfSome p (IsKnown servers) → IfSome q (IsKnown servers)
@@ -99,10 +102,12 @@ hit_in servers r g i stand x y at ranked known hit =
         ]
 
 pub count_in-remove : (servers : List ServerRow) (shards : List Shard) (k g d : ℕ) → k < length shards
-    → count_in servers (remove shards k) g d + cond (is_in servers g d (shard_at shards k)) 1 0 ≡ count_in servers shards g d
+    → count_in servers (remove shards k) g d + cond (is_in servers g d (shard_at shards k)) 1 0
+    ≡ count_in servers shards g d
 count_in-remove servers shards k g d h = sum_by-remove (λ s. cond (is_in servers g d s) 1 0) shards k no_shard h
 
-pub count_in-with_stand : (servers : List ServerRow) (shards : List Shard) (k g d : ℕ) (stand : Stand) → k < length shards
+pub count_in-with_stand : (servers : List ServerRow) (shards : List Shard) (k g d : ℕ) (stand : Stand)
+    → k < length shards
     → count_in servers (with_stand shards k stand) g d + cond (is_in servers g d (shard_at shards k)) 1 0
     ≡ count_in servers shards g d + cond (is_in servers g d (moved (shard_at shards k) stand)) 1 0
 count_in-with_stand servers shards k g d stand h =
@@ -114,17 +119,20 @@ pub HasCounts-moved : (servers : List ServerRow) (r : Ranking) (shards : List Sh
     → k < length shards → AreRanked servers r
     → AllNamed (IsKnown servers) (shard_at shards k).stand → AllNamed (IsKnown servers) stand
     → HasCounts servers shards counts0 r
-    → AreCells servers r (shard_at shards k).row.group (shard_at shards k).stand x y → AreCells servers r (shard_at shards k).row.group stand x' y'
+    → AreCells servers r (shard_at shards k).row.group (shard_at shards k).stand x y
+    → AreCells servers r (shard_at shards k).row.group stand x' y'
     → length counts1 ≡ length counts0 → length counts2 ≡ length counts0
     → ((i : ℕ) → i < length counts0 → slice_index counts1 i + amount_at x y 1 i ≡ slice_index counts0 i)
     → ((i : ℕ) → i < length counts1 → slice_index counts2 i ≡ slice_index counts1 i + amount_at x' y' 1 i)
     → HasCounts servers (with_stand shards k stand) counts2 r
-HasCounts-moved servers r shards k stand counts0 counts1 counts2 x y x' y' inside ranked before after has at at' e1 e2 lowered raised =
+HasCounts-moved servers r shards k stand counts0 counts1 counts2 x y x' y' inside ranked before after has at at' e1 e2
+    lowered raised =
     record {
       at = λ g d hd hi.
           let here : domain_cell r g d < length counts0 = rw (← e2) hi in
           let here1 : domain_cell r g d < length counts1 = rw e1 here in
-          let lost = gets_one servers r (shard_at shards k).row.group g d (shard_at shards k).stand x y at ranked before hd in
+          let lost =
+          gets_one servers r (shard_at shards k).row.group g d (shard_at shards k).stand x y at ranked before hd in
           let gained = gets_one servers r (shard_at shards k).row.group g d stand x' y' at' ranked after hd in
           omega (
             arith,
@@ -137,15 +145,18 @@ HasCounts-moved servers r shards k stand counts0 counts1 counts2 x y x' y' insid
           );
     }
 
-pub AreInside-cell : (servers : List ServerRow) (counts : List ℕ) (r : Ranking) (g : ℕ) (x : Option ℕ) → HasCells counts g r
+pub AreInside-cell : (servers : List ServerRow) (counts : List ℕ) (r : Ranking) (g : ℕ) (x : Option ℕ)
+    → HasCells counts g r
     → AreRanked servers r → IfSome x (IsKnown servers)
     → AreInside (length counts) (option_map (cell_of servers r g) x)
 AreInside-cell servers counts r g None cells ranked row = tt
 AreInside-cell servers counts r g (Some a) cells ranked row = cells.at (domain_of servers a) (ranked.at a row)
 
 -- the cells of a stand are counters
-pub AreInside-AreCells : (servers : List ServerRow) (counts : List ℕ) (n : ℕ) (r : Ranking) (g : ℕ) (stand : Stand) (x y : Option ℕ)
-    → AreCells servers r g stand x y → HasCells counts g r → AreRanked servers r → AllNamed (IsKnown servers) stand → n ≡ length counts
+pub AreInside-AreCells :
+    (servers : List ServerRow) (counts : List ℕ) (n : ℕ) (r : Ranking) (g : ℕ) (stand : Stand) (x y : Option ℕ)
+    → AreCells servers r g stand x y → HasCells counts g r → AreRanked servers r → AllNamed (IsKnown servers) stand
+    → n ≡ length counts
     → AreInside n x × AreInside n y
 AreInside-AreCells servers counts n r g stand x y at cells ranked known e = (
   rw (e, at.owner) (AreInside-cell servers counts r g (owner_of stand) cells ranked known.0),
@@ -153,7 +164,8 @@ AreInside-AreCells servers counts n r g stand x y at cells ranked known e = (
 )
 
 -- a counter that loses the shard has it
-pub lower_one : (servers : List ServerRow) (r : Ranking) (shards : List Shard) (k : ℕ) (counts : List ℕ) (x y : Option ℕ)
+pub lower_one :
+    (servers : List ServerRow) (r : Ranking) (shards : List Shard) (k : ℕ) (counts : List ℕ) (x y : Option ℕ)
     → k < length shards → AreRanked servers r → HasCells counts (shard_at shards k).row.group r
     → AllNamed (IsKnown servers) (shard_at shards k).stand
     → HasCounts servers shards counts r
@@ -167,20 +179,30 @@ lower_one servers r shards k counts x y inside ranked cells before has at i hit 
     let there : amount_at x y 1 (domain_cell r g d) ≡ amount_at x y 1 i = ap (amount_at x y 1) found.1.1 in
     let lost = gets_one servers r g g d (shard_at shards k).stand x y at ranked before found.1.0 in
     let goal : 1 ≤ slice_index counts (domain_cell r g d) =
-    omega (arith, once, there, lost, has.at g d found.1.0 (cells.at d found.1.0), count_in-remove servers shards k g d inside) in
+    omega (
+      arith,
+      once,
+      there,
+      lost,
+      has.at g d found.1.0 (cells.at d found.1.0),
+      count_in-remove servers shards k g d inside,
+    ) in
     rw (← found.1.1) goal
 
 -- what a counter gains fits, since the new count does
-pub raise_one : (servers : List ServerRow) (r : Ranking) (shards : List Shard) (k : ℕ) (stand : Stand) (counts0 counts1 : List ℕ)
+pub raise_one :
+    (servers : List ServerRow) (r : Ranking) (shards : List Shard) (k : ℕ) (stand : Stand) (counts0 counts1 : List ℕ)
     (x y x' y' : Option ℕ) (m : ℕ)
     → k < length shards → AreRanked servers r → HasCells counts0 (shard_at shards k).row.group r
     → AllNamed (IsKnown servers) (shard_at shards k).stand → AllNamed (IsKnown servers) stand
     → HasCounts servers shards counts0 r
-    → AreCells servers r (shard_at shards k).row.group (shard_at shards k).stand x y → AreCells servers r (shard_at shards k).row.group stand x' y'
+    → AreCells servers r (shard_at shards k).row.group (shard_at shards k).stand x y
+    → AreCells servers r (shard_at shards k).row.group stand x' y'
     → ((d : ℕ) → count_in servers (with_stand shards k stand) (shard_at shards k).row.group d < m)
     → ((i : ℕ) → i < length counts0 → slice_index counts1 i + amount_at x y 1 i ≡ slice_index counts0 i)
     → (i : ℕ) → is_hit x' y' i ≡ true → slice_index counts1 i + 1 < m
-raise_one servers r shards k stand counts0 counts1 x y x' y' m inside ranked cells before after has at at' fits lowered i hit =
+raise_one servers r shards k stand counts0 counts1 x y x' y' m inside ranked cells before after has at at' fits lowered
+    i hit =
     let g = (shard_at shards k).row.group in
     let found = hit_in servers r g i stand x' y' at' ranked after hit in
     let d = found.0 in
@@ -214,6 +236,7 @@ count_others servers r shards k a counts inside ranked cells known has =
     let g = (shard_at shards k).row.group in
     let d = domain_of servers a in
     let named = names_domain servers (shard_at shards k).stand d in
-    let own : ◌≡◌ {A = ℕ} (cond (eqb g g && named) 1 0) (cond named 1 0) = ap (λ (p : Bool). cond (p && named) 1 0) (eq-eqb g g refl) in
+    let own : ◌≡◌ {A = ℕ} (cond (eqb g g && named) 1 0) (cond named 1 0) =
+    ap (λ (p : Bool). cond (p && named) 1 0) (eq-eqb g g refl) in
     let hd = ranked.at a known in
     omega (arith, own, has.at g d hd (cells.at d hd), count_in-remove servers shards k g d inside)

@@ -1,5 +1,6 @@
 -- The books stay tallied when a stand changes.
-use Rattle.std.proofs.Common.{ℕ, ◌<◌, ◌≡◌, List, [], ◌∷◌, ◌++◌, length, take, refl, ap, sym, ◌∙◌, arith, inl, inr, subst}
+use Rattle.std.proofs.Common.{ℕ, ◌<◌, ◌≡◌, List, [], ◌∷◌, ◌++◌, length, take, refl, ap, sym, ◌∙◌, arith, inl, inr}
+use Rattle.std.proofs.Common.{subst}
 use Rattle.std.proofs.lemmas.Bool.Decides.{eqb_tells}
 use Rattle.sm_ranges.specs.declared.stand.Stand.{Stand}
 use Rattle.sm_rows.specs.declared.server_row.ServerRow.{ServerRow}
@@ -18,13 +19,16 @@ pub take-all : (xs ys : List ℕ) (n : ℕ) → n ≡ length xs → take n (xs +
 take-all [] ys n e = rw e refl
 take-all (x ∷ xs) ys n e = rw e (ap (λ v. x ∷ v) (take-all xs ys (length xs) refl))
 
-pub HasRows-with_stand : (servers : List ServerRow) (groups : List GroupRow) (shards : List Shard) (k : ℕ) (stand : Stand)
-    → k < length shards → AllNamed (IsKnown servers) stand → HasRows servers groups shards → HasRows servers groups (with_stand shards k stand)
+pub HasRows-with_stand :
+    (servers : List ServerRow) (groups : List GroupRow) (shards : List Shard) (k : ℕ) (stand : Stand)
+    → k < length shards → AllNamed (IsKnown servers) stand → HasRows servers groups shards
+    → HasRows servers groups (with_stand shards k stand)
 HasRows-with_stand servers groups shards k stand inside known rows = record {
   count = rw (length-with_stand shards k stand) rows.count;
   group = λ j h. elim (eqb_tells j k) [
     | inl p ↦ let e : shard_at (with_stand shards k stand) j ≡ moved (shard_at shards k) stand =
-        ap (shard_at (with_stand shards k stand)) p.1 ∙ shard_at-same shards k stand inside in rw e (rows.group k inside)
+        ap (shard_at (with_stand shards k stand)) p.1 ∙ shard_at-same shards k stand inside in
+        rw e (rows.group k inside)
     | inr p ↦ let e = shard_at-other shards k j stand p.1 in let h' : j < length shards =
         omega (arith, length-with_stand shards k stand) in rw e (rows.group j h')
   ];
@@ -33,11 +37,13 @@ HasRows-with_stand servers groups shards k stand inside known rows = record {
         ap (shard_at (with_stand shards k stand)) p.1
         ∙ shard_at-same shards k stand inside in subst (λ (s : Shard). AllNamed (IsKnown servers) s.stand) (sym e) known
     | inr p ↦ let e = shard_at-other shards k j stand p.1 in let h' : j < length shards =
-        omega (arith, length-with_stand shards k stand) in subst (λ (s : Shard). AllNamed (IsKnown servers) s.stand) (sym e) (rows.known j h')
+        omega (arith, length-with_stand shards k stand) in
+        subst (λ (s : Shard). AllNamed (IsKnown servers) s.stand) (sym e) (rows.known j h')
   ];
 }
 
-pub IsTallied-with_stand : (servers : List ServerRow) (groups : List GroupRow) (shards : List Shard) (states : List ServerState)
+pub IsTallied-with_stand :
+    (servers : List ServerRow) (groups : List GroupRow) (shards : List Shard) (states : List ServerState)
     (loads counts loads' counts' : List ℕ) (r : Ranking) (k : ℕ) (stand : Stand)
     → k < length shards → AllNamed (IsKnown servers) stand → HasRoom servers groups (with_stand shards k stand)
     → IsTallied servers groups shards states loads counts r
@@ -45,7 +51,8 @@ pub IsTallied-with_stand : (servers : List ServerRow) (groups : List GroupRow) (
     → HasCounts servers (with_stand shards k stand) counts' r
     → length counts' ≡ length counts
     → IsTallied servers groups (with_stand shards k stand) states loads' counts' r
-IsTallied-with_stand servers groups shards states loads counts loads' counts' r k stand inside known room tallied has_loads has_counts e =
+IsTallied-with_stand servers groups shards states loads counts loads' counts' r k stand inside known room tallied
+    has_loads has_counts e =
     record {
       has_ranges = tallied.has_ranges;
       has_rows = HasRows-with_stand servers groups shards k stand inside known tallied.has_rows;
@@ -56,8 +63,10 @@ IsTallied-with_stand servers groups shards states loads counts loads' counts' r 
     }
 
 -- the counts of a group within its limit fit their type
-pub count_fits : (servers : List ServerRow) (groups : List GroupRow) (shards shards' : List Shard) (states : List ServerState) (r : Ranking) (k : ℕ)
-    → k < length shards → HasRanges servers groups states r → HasRows servers groups shards → HasRoom servers groups shards'
+pub count_fits : (servers : List ServerRow) (groups : List GroupRow) (shards shards' : List Shard)
+    (states : List ServerState) (r : Ranking) (k : ℕ)
+    → k < length shards → HasRanges servers groups states r → HasRows servers groups shards
+    → HasRoom servers groups shards'
     → (d : ℕ) → count_in servers shards' (shard_at shards k).row.group d < 65536
 count_fits servers groups shards shards' states r k inside ranges rows room d =
     let h = rows.group k inside in

@@ -4,7 +4,8 @@ use Rattle.std.proofs.Common.{get_or, set, sym, refl, ap, ◌∙◌, inl, inr, �
 use Rattle.std.specs.Prelude.{replicate}
 use Rattle.std.proofs.lemmas.Bool.{lt-ltb, le-ltb, eq-eqb}
 use Rattle.std.proofs.lemmas.Bool.Decides.{eqb_tells}
-use Rattle.std.proofs.lemmas.List.{get_or-set_same, get_or-map, get_or-set_other, length-map, length-set, length-replicate, get_or-replicate}
+use Rattle.std.proofs.lemmas.List.{get_or-set_same, get_or-map, get_or-set_other, length-map, length-set}
+use Rattle.std.proofs.lemmas.List.{length-replicate, get_or-replicate}
 use Rattle.std.proofs.lemmas.List.Kept.{AllPairs-from_increasing}
 use Rattle.std.specs.List.Sorted.{IsStrictlyIncreasing}
 use Rattle.std.proofs.lemmas.List.Sums.{position_or_len_is, prefix_len-le-length}
@@ -28,10 +29,12 @@ place_of-le servers a = prefix_len-le-length (λ row. not (eqb row.id a)) server
 -- the table after so many rows: it has the places below their count
 pub record IsPlacedUpTo (servers : List ServerRow) (m : ℕ) (places : List ℕ) (count : ℕ) : Type 0 where
   pub len : length places ≡ m
-  pub at : (a : ℕ) → a < m → get_or places a 0 ≡ cond (ltb (place_of servers a) count) (place_of servers a) (length servers)
+  pub at : (a : ℕ) → a < m
+      → get_or places a 0 ≡ cond (ltb (place_of servers a) count) (place_of servers a) (length servers)
 
 -- before the first row no server has a place
-pub IsPlacedUpTo-new : (servers : List ServerRow) (m n : ℕ) → n ≡ length servers → IsPlacedUpTo servers m (replicate m n) 0
+pub IsPlacedUpTo-new : (servers : List ServerRow) (m n : ℕ) → n ≡ length servers
+    → IsPlacedUpTo servers m (replicate m n) 0
 IsPlacedUpTo-new servers m n e = record {
   len = length-replicate m n;
   at = λ a h. get_or-replicate m a n 0 h ∙ e
@@ -39,17 +42,21 @@ IsPlacedUpTo-new servers m n e = record {
 }
 
 -- of rising numbers each is below the later ones
-rising : (servers : List ServerRow) → IsStrictlyIncreasing (map (λ row. row.id) servers) → (i j : ℕ) → i < j → j < length servers
+rising : (servers : List ServerRow) → IsStrictlyIncreasing (map (λ row. row.id) servers) → (i j : ℕ) → i < j
+    → j < length servers
     → (get_or servers i no_server).id < (get_or servers j no_server).id
 rising servers rise i j h inside =
     let ids = map (λ row. row.id) servers in
-    let before : get_or ids i 0 ≡ (get_or servers i no_server).id = get_or-map (λ row. row.id) servers i no_server 0 (omega arith) in
-    let after : get_or ids j 0 ≡ (get_or servers j no_server).id = get_or-map (λ row. row.id) servers j no_server 0 inside in
+    let before : get_or ids i 0 ≡ (get_or servers i no_server).id =
+    get_or-map (λ row. row.id) servers i no_server 0 (omega arith) in
+    let after : get_or ids j 0 ≡ (get_or servers j no_server).id =
+    get_or-map (λ row. row.id) servers j no_server 0 inside in
     let within : j < length ids = simp length-map inside in
     omega (arith, before, after, AllPairs-from_increasing ids rise i j 0 h within)
 
 -- the first row with a number is the one that has it
-pub place_of-row : (servers : List ServerRow) (i : ℕ) → IsStrictlyIncreasing (map (λ row. row.id) servers) → i < length servers
+pub place_of-row : (servers : List ServerRow) (i : ℕ) → IsStrictlyIncreasing (map (λ row. row.id) servers)
+    → i < length servers
     → place_of servers (get_or servers i no_server).id ≡ i
 place_of-row servers i rise h =
     position_or_len_is (λ row. eqb row.id (get_or servers i no_server).id) servers i no_server (omega arith)
@@ -63,7 +70,8 @@ place_of-row servers i rise h =
     ]
 
 -- the next row has its place written
-pub IsPlacedUpTo-next : (servers : List ServerRow) (m : ℕ) (places : List ℕ) (i a : ℕ) → IsStrictlyIncreasing (map (λ row. row.id) servers) → i < length servers
+pub IsPlacedUpTo-next : (servers : List ServerRow) (m : ℕ) (places : List ℕ) (i a : ℕ)
+    → IsStrictlyIncreasing (map (λ row. row.id) servers) → i < length servers
     → a ≡ (get_or servers i no_server).id → a < m
     → IsPlacedUpTo servers m places i → IsPlacedUpTo servers m (set places a i) (i + 1)
 IsPlacedUpTo-next servers m places i a rise h e small filled = record {
@@ -98,7 +106,8 @@ pub HasPlaces-filled : (servers : List ServerRow) (places : List ℕ) (n : ℕ) 
     → IsPlacedUpTo servers (MAX_SERVER + 1) places n → HasPlaces servers places
 HasPlaces-filled servers places n e filled = record {
   len = filled.len;
-  at = λ a h. filled.at a (omega (arith, h)) ∙ ap (λ v. cond (ltb (place_of servers a) v) (place_of servers a) (length servers)) e
+  at = λ a h. filled.at a (omega (arith, h))
+      ∙ ap (λ v. cond (ltb (place_of servers a) v) (place_of servers a) (length servers)) e
       ∙ whole a (split (place_of servers a) (length servers));
 }
   where

@@ -26,7 +26,8 @@ get_or-same (suc n) zero v = refl
 get_or-same (suc n) (suc d) v = get_or-same n d v
 
 -- before the first row no domain has a rank
-pub IsRanked-new : (servers : List ServerRow) → IsRanked servers (record { ranks = replicate NO_RANK NO_RANK; width = 0 }) 0
+pub IsRanked-new : (servers : List ServerRow)
+    → IsRanked servers (record { ranks = replicate NO_RANK NO_RANK; width = 0 }) 0
 IsRanked-new servers = record {
   inside = omega arith;
   len = length-replicate NO_RANK NO_RANK;
@@ -75,7 +76,8 @@ IsRanked-raised servers r i d next few small is none ranked = record {
     next_is_free x e = elim (ranked.or_none x) [ inl q ↦ omega (arith, q, e) | inr q ↦ omega (arith, q, e, ranked.few) ]
 
     one : (x y : ℕ) → rank_of (raised r d) x < r.width + 1 → rank_of (raised r d) y ≡ rank_of (raised r d) x
-        → ((eqb x d ≡ true) × (x ≡ d)) ⊎ ((eqb x d ≡ false) × (x ≢ d)) → ((eqb y d ≡ true) × (y ≡ d)) ⊎ ((eqb y d ≡ false) × (y ≢ d)) → y ≡ x
+        → ((eqb x d ≡ true) × (x ≡ d)) ⊎ ((eqb x d ≡ false) × (x ≢ d))
+        → ((eqb y d ≡ true) × (y ≡ d)) ⊎ ((eqb y d ≡ false) × (y ≢ d)) → y ≡ x
     one x y h same (inl p) (inl q) = q.1 ∙ sym p.1
     one x y h same (inl p) (inr q) =
         let at_x : rank_of (raised r d) x ≡ r.width = ap (rank_of (raised r d)) p.1 ∙ here in
@@ -114,7 +116,8 @@ IsRanked-kept servers r i d next is some ranked = record {
     own = elim (ranked.or_none d) [ inl q ↦ q | inr q ↦ absurd (some q) ]
 
 -- after the next row its domain has a rank
-pub IsRanked-next : (servers : List ServerRow) (r : Ranking) (i d : ℕ) → i < length servers → length servers ≤ MAX_SERVER → d < NO_RANK
+pub IsRanked-next : (servers : List ServerRow) (r : Ranking) (i d : ℕ) → i < length servers
+    → length servers ≤ MAX_SERVER → d < NO_RANK
     → d ≡ (get_or servers i no_server).domain
     → IsRanked servers r i → IsRanked servers (with_rank r d) (i + 1)
 IsRanked-next servers r i d next few small is ranked =

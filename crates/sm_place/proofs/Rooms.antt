@@ -22,12 +22,15 @@ use Rattle.sm_place.proofs.Leaving.{IsFit-fit, cond-le}
 pub stays-fit : (books : BooksView) (k a : ℕ) → fit books k a ≡ Ok tt → is_leaving (state_of books a) ≡ false
 stays-fit books k a e =
     first (is_leaving (state_of books a))
-    (nat_lt (row_by_id books.servers a).capacity (load_on (remove books.shards k) a + (shard_at books.shards k).row.load))
+    (nat_lt (row_by_id books.servers a).capacity
+    (load_on (remove books.shards k) a + (shard_at books.shards k).row.load))
     (nat_lt (slice_index_or books.groups (shard_at books.shards k).row.group no_group).limit
-    (count_in books.servers (remove books.shards k) (shard_at books.shards k).row.group (domain_of books.servers a) + 1)) e
+    (count_in books.servers (remove books.shards k) (shard_at books.shards k).row.group (domain_of books.servers a)
+    + 1)) e
   where
     first : (p q r : Bool)
-        → ◌≡◌ {A = Result (Unit {0}) PlaceFault} (cond p (Err Leaving) (cond q (Err NoCapacity) (cond r (Err DomainLimit) (Ok tt)))) (Ok tt)
+        → ◌≡◌ {A = Result (Unit {0}) PlaceFault}
+        (cond p (Err Leaving) (cond q (Err NoCapacity) (cond r (Err DomainLimit) (Ok tt)))) (Ok tt)
         → p ≡ false
     first false q r e = refl
     first true q r e = absurd (cc)
@@ -58,12 +61,14 @@ is_in-within books shard stand g d h =
     (names_one-named (λ b. eqb (domain_of books.servers b) d) shard.stand here.0 (h here.0 here.1.0 here.1.1) here.1.1))
 
 -- a stand that names no further server leaves room
-pub HasRoom-fewer : (books : BooksView) (k : ℕ) (stand : Stand) → k < length books.shards → HasRoom books.servers books.groups books.shards
+pub HasRoom-fewer : (books : BooksView) (k : ℕ) (stand : Stand) → k < length books.shards
+    → HasRoom books.servers books.groups books.shards
     → AllNamed (λ b. names (shard_at books.shards k).stand b ≡ true) stand
     → HasRoom books.servers books.groups (with_stand books.shards k stand)
 HasRoom-fewer books k stand inside room named =
     let s = shard_at books.shards k in
-    let all : (b : ℕ) → names stand b ≡ true → names s.stand b ≡ true = AllNamed-at (λ b. names s.stand b ≡ true) stand named in
+    let all : (b : ℕ) → names stand b ≡ true → names s.stand b ≡ true =
+    AllNamed-at (λ b. names s.stand b ≡ true) stand named in
     record {
       capacity = λ b known.
           let own : load_by b (moved s stand) ≤ load_by b s = load_by-within s stand b (all b) in
@@ -90,7 +95,13 @@ HasRoom-named books k a stand inside room e named =
         | inl p ↦
             let own : load_by a (moved s stand) ≤ s.row.load = cond-le (names stand a) s.row.load in
             let goal : load_on (with_stand books.shards k stand) a ≤ (row_by_id books.servers a).capacity =
-            omega (arith, own, fits.load, load_on-with_stand books.shards k a stand inside, load_on-remove books.shards k a inside) in
+            omega (
+              arith,
+              own,
+              fits.load,
+              load_on-with_stand books.shards k a stand inside,
+              load_on-remove books.shards k a inside,
+            ) in
             rw p.1 goal
         | inr p ↦
             let own : load_by b (moved s stand) ≤ load_by b s = load_by-within s stand b (λ n. other b p.1 (all b n)) in
@@ -101,8 +112,10 @@ HasRoom-named books k a stand inside room e named =
           | inl q ↦
               let g' = s.row.group in
               let d' = domain_of books.servers a in
-              let own : cond (is_in books.servers g' d' (moved s stand)) 1 0 ≤ 1 = cond-le (is_in books.servers g' d' (moved s stand)) 1 in
-              let goal : count_in books.servers (with_stand books.shards k stand) g' d' ≤ (slice_index_or books.groups g' no_group).limit =
+              let own : cond (is_in books.servers g' d' (moved s stand)) 1 0 ≤ 1 =
+              cond-le (is_in books.servers g' d' (moved s stand)) 1 in
+              let goal : count_in books.servers (with_stand books.shards k stand) g' d'
+              ≤ (slice_index_or books.groups g' no_group).limit =
               omega (
                 arith,
                 own,
@@ -115,7 +128,8 @@ HasRoom-named books k a stand inside room e named =
               let own : cond (is_in books.servers g d (moved s stand)) 1 0 ≤ cond (is_in books.servers g d s) 1 0 =
               is_in-within books s stand g d
               (λ b n t. other b
-              (λ same. q.1 (ap (domain_of books.servers) (sym same) ∙ eqb-true (domain_of books.servers b) d t)) (all b n)) in
+              (λ same. q.1 (ap (domain_of books.servers) (sym same) ∙ eqb-true (domain_of books.servers b) d t))
+              (all b n)) in
               omega (arith, own, room.limit g d h, count_in-with_stand books.servers books.shards k g d stand inside)
         ]
         | inr p ↦

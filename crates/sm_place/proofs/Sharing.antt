@@ -16,7 +16,8 @@ use Rattle.sm_place.specs.lemmas.Changed.{same_place}
 use Rattle.sm_place.specs.Room.{load_on, load_by}
 
 -- places tell servers apart
-pub eqb-place : (servers : List ServerRow) (a b : ℕ) → IsKnown servers a → eqb (place_of servers b) (place_of servers a) ≡ eqb b a
+pub eqb-place : (servers : List ServerRow) (a b : ℕ) → IsKnown servers a
+    → eqb (place_of servers b) (place_of servers a) ≡ eqb b a
 eqb-place servers a b known =
     elim (eqb_tells b a) [
       | inl p ↦ eq-eqb _ _ (ap (place_of servers) p.1) ∙ sym p.0
@@ -42,7 +43,8 @@ amount_at-place servers a known x y n =
 
 -- the server gets the shard's load at its place where the stand names it
 pub amount_at-load : (servers : List ServerRow) (a : ℕ) → IsKnown servers a → (stand : Stand) (n : ℕ)
-    → amount_at (option_map (place_of servers) (owner_of stand)) (option_map (place_of servers) (other_of stand)) n (place_of servers a)
+    → amount_at (option_map (place_of servers) (owner_of stand)) (option_map (place_of servers) (other_of stand)) n
+    (place_of servers a)
     ≡ cond (names stand a) n 0
 amount_at-load servers a known stand n = amount_at-place servers a known (owner_of stand) (other_of stand) n
 
@@ -62,9 +64,11 @@ AreInside-place servers None h = tt
 AreInside-place servers (Some a) h = h
 
 -- a place that is hit is that of a server of the two
-pub hit_place : (servers : List ServerRow) (x y : Option ℕ) (i : ℕ) → IfSome x (IsKnown servers) → IfSome y (IsKnown servers)
+pub hit_place : (servers : List ServerRow) (x y : Option ℕ) (i : ℕ) → IfSome x (IsKnown servers)
+    → IfSome y (IsKnown servers)
     → is_hit (option_map (place_of servers) x) (option_map (place_of servers) y) i ≡ true
-    → (a : ℕ) × (IsKnown servers a × (place_of servers a ≡ i) × ((passes (λ b. eqb b a) x || passes (λ b. eqb b a) y) ≡ true))
+    → (a : ℕ)
+    × (IsKnown servers a × (place_of servers a ≡ i) × ((passes (λ b. eqb b a) x || passes (λ b. eqb b a) y) ≡ true))
 hit_place servers None None i hx hy e = absurd (cc)
 hit_place servers (Some a) None i hx hy e =
     elim (eqb_tells (place_of servers a) i) [
@@ -89,7 +93,8 @@ hit_place servers (Some a) (Some b) i hx hy e =
 pub load_by-named : (a : ℕ) (shard : Shard) → names shard.stand a ≡ true → load_by a shard ≡ shard.row.load
 load_by-named a shard h = ap (λ (p : Bool). cond p shard.row.load 0) h
 
-pub gets : (servers : List ServerRow) (stand : Stand) (x y : Option ℕ) (n a : ℕ) → ArePlaces servers stand x y → IsKnown servers a
+pub gets : (servers : List ServerRow) (stand : Stand) (x y : Option ℕ) (n a : ℕ) → ArePlaces servers stand x y
+    → IsKnown servers a
     → amount_at x y n (place_of servers a) ≡ cond (names stand a) n 0
 gets servers stand x y n a at known =
     ap (λ v. amount_at v y n (place_of servers a)) at.owner
@@ -101,10 +106,12 @@ pub hit_named : (servers : List ServerRow) (stand : Stand) (x y : Option ℕ) (i
     → (a : ℕ) × (IsKnown servers a × (place_of servers a ≡ i) × (names stand a ≡ true))
 hit_named servers stand x y i at known hit =
     hit_place servers (owner_of stand) (other_of stand) i known.0 known.1
-    (sym (ap (λ v. is_hit v y i) at.owner ∙ ap (λ v. is_hit (option_map (place_of servers) (owner_of stand)) v i) at.other) ∙ hit)
+    (sym (ap (λ v. is_hit v y i) at.owner
+    ∙ ap (λ v. is_hit (option_map (place_of servers) (owner_of stand)) v i) at.other) ∙ hit)
 
 -- the counters of loads, after the servers of one stand lost the shard's load and those of another gained it
-pub HasLoads-moved : (servers : List ServerRow) (shards : List Shard) (k : ℕ) (stand : Stand) (loads0 loads1 loads2 : List ℕ)
+pub HasLoads-moved :
+    (servers : List ServerRow) (shards : List Shard) (k : ℕ) (stand : Stand) (loads0 loads1 loads2 : List ℕ)
     (x y x' y' : Option ℕ) (n : ℕ)
     → k < length shards
     → HasLoads servers shards loads0
@@ -113,25 +120,27 @@ pub HasLoads-moved : (servers : List ServerRow) (shards : List Shard) (k : ℕ) 
     → ((i : ℕ) → i < length loads0 → slice_index loads1 i + amount_at x y n i ≡ slice_index loads0 i)
     → ((i : ℕ) → i < length loads1 → slice_index loads2 i ≡ slice_index loads1 i + amount_at x' y' n i)
     → HasLoads servers (with_stand shards k stand) loads2
-HasLoads-moved servers shards k stand loads0 loads1 loads2 x y x' y' n inside has at at' en e1 e2 lowered raised = record {
-  len = e2 ∙ has.len;
-  at = λ a known.
-      let here : place_of servers a < length loads0 = rw has.len known in
-      let here1 : place_of servers a < length loads1 = rw e1 here in
-      let lost : amount_at x y n (place_of servers a) ≡ load_by a (shard_at shards k) =
-      gets servers (shard_at shards k).stand x y n a at known ∙ ap (λ m. cond (names (shard_at shards k).stand a) m 0) en in
-      let gained : amount_at x' y' n (place_of servers a) ≡ load_by a (moved (shard_at shards k) stand) =
-      gets servers stand x' y' n a at' known ∙ ap (λ m. cond (names stand a) m 0) en in
-      omega (
-        arith,
-        lowered (place_of servers a) here,
-        raised (place_of servers a) here1,
-        lost,
-        gained,
-        has.at a known,
-        load_on-with_stand shards k a stand inside,
-      );
-}
+HasLoads-moved servers shards k stand loads0 loads1 loads2 x y x' y' n inside has at at' en e1 e2 lowered raised =
+    record {
+      len = e2 ∙ has.len;
+      at = λ a known.
+          let here : place_of servers a < length loads0 = rw has.len known in
+          let here1 : place_of servers a < length loads1 = rw e1 here in
+          let lost : amount_at x y n (place_of servers a) ≡ load_by a (shard_at shards k) =
+          gets servers (shard_at shards k).stand x y n a at known
+          ∙ ap (λ m. cond (names (shard_at shards k).stand a) m 0) en in
+          let gained : amount_at x' y' n (place_of servers a) ≡ load_by a (moved (shard_at shards k) stand) =
+          gets servers stand x' y' n a at' known ∙ ap (λ m. cond (names stand a) m 0) en in
+          omega (
+            arith,
+            lowered (place_of servers a) here,
+            raised (place_of servers a) here1,
+            lost,
+            gained,
+            has.at a known,
+            load_on-with_stand shards k a stand inside,
+          );
+    }
 
 -- what is raised fits, since the new sum does
 pub raise_fits : (servers : List ServerRow) (shards : List Shard) (k : ℕ) (stand : Stand) (loads0 loads1 : List ℕ)
@@ -148,8 +157,10 @@ raise_fits servers shards k stand loads0 loads1 x y x' y' n m inside known has a
     let a = found.0 in
     let here : place_of servers a < length loads0 = rw has.len found.1.0 in
     let lost : amount_at x y n (place_of servers a) ≡ load_by a (shard_at shards k) =
-    gets servers (shard_at shards k).stand x y n a at found.1.0 ∙ ap (λ m. cond (names (shard_at shards k).stand a) m 0) en in
-    let gained : load_by a (moved (shard_at shards k) stand) ≡ n = load_by-named a (moved (shard_at shards k) stand) found.1.2 ∙ sym en in
+    gets servers (shard_at shards k).stand x y n a at found.1.0
+    ∙ ap (λ m. cond (names (shard_at shards k).stand a) m 0) en in
+    let gained : load_by a (moved (shard_at shards k) stand) ≡ n =
+    load_by-named a (moved (shard_at shards k) stand) found.1.2 ∙ sym en in
     let goal : slice_index loads1 (place_of servers a) + n < m =
     omega (
       arith,
@@ -173,11 +184,13 @@ lower_fits servers shards k loads x y n inside known has at en i hit =
     let found = hit_named servers (shard_at shards k).stand x y i at known hit in
     let a = found.0 in
     let share : load_by a (shard_at shards k) ≡ n = load_by-named a (shard_at shards k) found.1.2 ∙ sym en in
-    let goal : n ≤ slice_index loads (place_of servers a) = omega (arith, share, has.at a found.1.0, load_on-remove shards k a inside) in
+    let goal : n ≤ slice_index loads (place_of servers a) =
+    omega (arith, share, has.at a found.1.0, load_on-remove shards k a inside) in
     rw (← found.1.1) goal
 
 -- what an index gives is the shard
-pub shard_is : (shards : List Shard) (k : ℕ) (shard : Shard) → k < length shards → shard ≡ get_or shards k shard → shard ≡ shard_at shards k
+pub shard_is : (shards : List Shard) (k : ℕ) (shard : Shard) → k < length shards → shard ≡ get_or shards k shard
+    → shard ≡ shard_at shards k
 shard_is [] k shard h e = absurd (omega arith)
 shard_is (x ∷ xs) zero shard h e = e
 shard_is (x ∷ xs) (suc k) shard h e = shard_is xs k shard (omega arith) e

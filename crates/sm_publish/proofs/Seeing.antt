@@ -1,5 +1,6 @@
 -- A step after which all that was published still is keeps what each has seen.
-use Rattle.std.proofs.Common.{◌≡◌, ℕ, ◌≢◌, Bool, true, false, cond, nat_lt, List, [], ◌∷◌, ◌++◌, fold, refl, sym, ap, subst, ◌∙◌, ⊎_elim}
+use Rattle.std.proofs.Common.{◌≡◌, ℕ, ◌≢◌, Bool, true, false, cond, nat_lt, List, [], ◌∷◌, ◌++◌, fold, refl, sym, ap}
+use Rattle.std.proofs.Common.{subst, ◌∙◌, ⊎_elim}
 use mathlib.Core.Option.{some}
 use mathlib.Core.List.{append_assoc}
 use Rattle.std.proofs.lemmas.List.{append-nil}
@@ -18,22 +19,27 @@ extends_trans xs ys zs a b = (b.0 ++ a.0, a.1 ∙ ap (λ l. l ++ a.0) b.1 ∙ ap
 
 -- a new router has seen nothing
 pub admits : Admits IsSeen []
-admits map views h seat seen at = ⊎_elim (h seat seen) (λ (e : [] ≡ seen). subst (λ (z : List Route). Extends map.published z) e (map.published, refl)) (at_snoc views [] seen seat at)
+admits map views h seat seen at = ⊎_elim (h seat seen) (λ (e : [] ≡ seen). subst
+    (λ (z : List Route). Extends map.published z) e (map.published, refl)) (at_snoc views [] seen seat at)
 
-pub sees : (seat : ℕ) (seen : List Route) (map after : MapView) → Extends after.published map.published → TurnsAt IsSeen seat seen map after Sees
+pub sees : (seat : ℕ) (seen : List Route) (map after : MapView) → Extends after.published map.published
+    → TurnsAt IsSeen seat seen map after Sees
 sees seat seen map after up views h at = (
   after.published,
-  (λ j u e. ⊎_elim (λ (t : (j ≡ seat) × (after.published ≡ u)). subst (λ (z : List Route). Extends after.published z) t.1 (extends_self after.published))
+  (λ j u e. ⊎_elim (λ (t : (j ≡ seat) × (after.published ≡ u)). subst
+      (λ (z : List Route). Extends after.published z) t.1 (extends_self after.published))
       (λ (t : (j ≢ seat) × (get_elem? views j ≡ some u)). extends_trans after.published map.published u up (h j u t.1))
       (at_set views seat j after.published u e)),
   (extends_trans after.published map.published seen up (h seat seen at), refl),
 )
 
-extends_taken : (map : MapView) (route : Route) (known : Bool) → Extends (cond known (map.published ++ route ∷ []) map.published) map.published
+extends_taken : (map : MapView) (route : Route) (known : Bool)
+    → Extends (cond known (map.published ++ route ∷ []) map.published) map.published
 extends_taken map route true = (route ∷ [], refl)
 extends_taken map route false = extends_self map.published
 
-taken_published : (map : MapView) (route : Route) (known : Bool) → nat_lt route.shard map.count ≡ known → (taken map route).published ≡ cond known (map.published ++ route ∷ []) map.published
+taken_published : (map : MapView) (route : Route) (known : Bool) → nat_lt route.shard map.count ≡ known
+    → (taken map route).published ≡ cond known (map.published ++ route ∷ []) map.published
 taken_published map route true e = rw e refl
 taken_published map route false e = rw e refl
 
@@ -41,5 +47,7 @@ taken_published map route false e = rw e refl
 pub extends_fold : (map : MapView) (routes : List Route) → Extends (fold taken map routes).published map.published
 extends_fold map [] = extends_self map.published
 extends_fold map (route ∷ routes) =
-    extends_trans (fold taken (taken map route) routes).published (taken map route).published map.published (extends_fold (taken map route) routes)
-    (rw (taken_published map route (nat_lt route.shard map.count) refl) (extends_taken map route (nat_lt route.shard map.count)))
+    extends_trans (fold taken (taken map route) routes).published (taken map route).published map.published
+    (extends_fold (taken map route) routes)
+    (rw (taken_published map route (nat_lt route.shard map.count) refl)
+    (extends_taken map route (nat_lt route.shard map.count)))

@@ -1,5 +1,6 @@
 -- The one range that covers a key.
-use Rattle.std.proofs.Common.{◌≡◌, ◌==◌, ℕ, zero, suc, ◌+◌, ◌-◌, ◌<◌, ◌≤◌, Bool, true, false, List, [], length, get_or, refl, subst, sym, ap, ◌∙◌, arith, inl, inr}
+use Rattle.std.proofs.Common.{◌≡◌, ◌==◌, ℕ, zero, suc, ◌+◌, ◌-◌, ◌<◌, ◌≤◌, Bool, true, false, List, [], length, get_or}
+use Rattle.std.proofs.Common.{refl, subst, sym, ap, ◌∙◌, arith, inl, inr}
 use Rattle.std.specs.Prelude.{not, IsTrue}
 use Rattle.std.specs.List.{suffix_len}
 use Rattle.std.specs.List.Sorted.{IsPartitionedBy, IsPartitionPoint, IsSortedBy}
@@ -28,9 +29,11 @@ le_from_index Equal h = refl
 le_from_index Greater h = absurd (omega arith)
 
 -- no bound that is at most the key comes after one that is above it
-pub parted : (bounds : List (List ℕ)) (key : List ℕ) → IsLayout bounds → IsPartitionedBy (λ bound. is_at_most bound key) bounds
+pub parted : (bounds : List (List ℕ)) (key : List ℕ) → IsLayout bounds
+    → IsPartitionedBy (λ bound. is_at_most bound key) bounds
 parted bounds key layout i j d le lt h =
-    let sorted : IsSortedBy (λ a b. is_lt (slice_cmp nat_cmp a b)) bounds = λ k e low high. below_back (get_or bounds k e) (get_or bounds (k + 1) e) (layout.rising k e high) in
+    let sorted : IsSortedBy (λ a b. is_lt (slice_cmp nat_cmp a b)) bounds =
+    λ k e low high. below_back (get_or bounds k e) (get_or bounds (k + 1) e) (layout.rising k e high) in
     let rise = searchable_from_sorted nat_list_cmp_total (λ bound. bound) bounds key sorted i j d le lt in
     let last = index_of_le (slice_cmp nat_cmp (get_or bounds j d) key) h in
     le_from_index (slice_cmp nat_cmp (get_or bounds i d) key) (omega arith)
@@ -63,8 +66,10 @@ between_covers bounds k key covers =
     }
 
 -- a search that stopped after all bounds that are at most the key
-module _ (bounds : List (List ℕ)) (key : List ℕ) (layout : IsLayout bounds) (reached : ℕ) (within : reached ≤ length bounds)
-    (point : IsPartitionPoint (λ bound. is_at_most bound key ≡ true) (λ bound. is_at_most bound key ≡ false) bounds reached) where
+module _ (bounds : List (List ℕ)) (key : List ℕ) (layout : IsLayout bounds) (reached : ℕ)
+    (within : reached ≤ length bounds)
+    (point : IsPartitionPoint (λ bound. is_at_most bound key ≡ true)
+    (λ bound. is_at_most bound key ≡ false) bounds reached) where
   pub some_reached : 1 ≤ reached
   some_reached = elim (cases_lt 0 reached) [
     | inl lt ↦ omega arith
@@ -87,7 +92,8 @@ module _ (bounds : List (List ℕ)) (key : List ℕ) (layout : IsLayout bounds) 
   covering = covers_between bounds (reached - 1) key (record {
     within = omega (arith, some_reached);
     low = point.0 (reached - 1) [] (omega arith) (omega (arith, some_reached));
-    high = λ lt. is_below-flip (get_or bounds (reached - 1 + 1) []) key ∙ ap not (point.1 (reached - 1 + 1) [] (omega (arith, some_reached)) lt);
+    high = λ lt. is_below-flip (get_or bounds (reached - 1 + 1) []) key
+        ∙ ap not (point.1 (reached - 1 + 1) [] (omega (arith, some_reached)) lt);
   })
 
   pub only : (k : ℕ) → Covers bounds k key → k ≡ reached - 1
@@ -117,16 +123,23 @@ module _ (bounds : List (List ℕ)) (key : List ℕ) (layout : IsLayout bounds) 
   same_bound : (n : ℕ) (d : List ℕ) → n < length bounds → get_or bounds n d ≡ get_or bounds n []
   same_bound n d within = get_or_from_slice_get bounds n (get_or bounds n []) d (slice_get-get_or bounds n [] within)
 
-  last_low : (n : ℕ) → suc n ≤ length bounds → AllAbove (suc n) → is_at_most (get_or bounds n []) key ≡ true → IsReached bounds key (suc n)
+  last_low : (n : ℕ) → suc n ≤ length bounds → AllAbove (suc n) → is_at_most (get_or bounds n []) key ≡ true
+      → IsReached bounds key (suc n)
   last_low n within above low = record {
     within = within;
-    point = (λ i d from before. parted bounds key layout i n d (omega arith) (omega arith) (ap (λ bound. is_at_most bound key) (same_bound n d (omega arith)) ∙ low), above);
+    point = (
+      λ i d from before. parted bounds key layout i n d (omega arith) (omega arith) (ap
+          (λ bound. is_at_most bound key) (same_bound n d (omega arith)) ∙ low),
+      above,
+    );
   }
 
-  one_above : (n : ℕ) → suc n ≤ length bounds → AllAbove (suc n) → is_at_most (get_or bounds n []) key ≡ false → AllAbove n
+  one_above : (n : ℕ) → suc n ≤ length bounds → AllAbove (suc n) → is_at_most (get_or bounds n []) key ≡ false
+      → AllAbove n
   one_above n within above high i d from before = elim (cases_lt n i) [
     | inl after ↦ above i d (omega arith) before
-    | inr upto ↦ (let here : i ≡ n = omega arith in rw here (ap (λ bound. is_at_most bound key) (same_bound n d (omega arith)) ∙ high))
+    | inr upto ↦ (let here : i ≡ n = omega arith in
+        rw here (ap (λ bound. is_at_most bound key) (same_bound n d (omega arith)) ∙ high))
   ]
 
   reached_or : (n : ℕ) (b : Bool) → is_at_most (get_or bounds n []) key ≡ b → suc n ≤ length bounds → AllAbove (suc n)
@@ -135,8 +148,10 @@ module _ (bounds : List (List ℕ)) (key : List ℕ) (layout : IsLayout bounds) 
   reached_or n false high within above further = further (one_above n within above high)
 
   reached_below : (n : ℕ) → n ≤ length bounds → AllAbove n → (reached : ℕ) × IsReached bounds key reached
-  reached_below zero within above = (0, record { within = within; point = (λ i d from before. absurd (omega arith), above) })
-  reached_below (suc n) within above = reached_or n (is_at_most (get_or bounds n []) key) refl within above (reached_below n (omega arith))
+  reached_below zero within above =
+      (0, record { within = within; point = (λ i d from before. absurd (omega arith), above) })
+  reached_below (suc n) within above =
+      reached_or n (is_at_most (get_or bounds n []) key) refl within above (reached_below n (omega arith))
 
   some_place : (reached : ℕ) × IsReached bounds key reached
   some_place = reached_below (length bounds) (omega arith) (λ i d from before. absurd (omega arith))
@@ -144,17 +159,21 @@ module _ (bounds : List (List ℕ)) (key : List ℕ) (layout : IsLayout bounds) 
   pub shard_of-covers : Covers bounds (shard_of bounds key) key
   shard_of-covers =
       let at = some_place in
-      subst (λ k. Covers bounds k key) (last_place bounds key layout at.0 at.1.within at.1.point) (covering bounds key layout at.0 at.1.within at.1.point)
+      subst (λ k. Covers bounds k key) (last_place bounds key layout at.0 at.1.within at.1.point)
+      (covering bounds key layout at.0 at.1.within at.1.point)
 
   pub shard_of-only : (k : ℕ) → Covers bounds k key → shard_of bounds key ≡ k
   shard_of-only k covers =
       let at = some_place in
-      sym (only bounds key layout at.0 at.1.within at.1.point k covers ∙ last_place bounds key layout at.0 at.1.within at.1.point)
+      sym (only bounds key layout at.0 at.1.within at.1.point k covers
+      ∙ last_place bounds key layout at.0 at.1.within at.1.point)
 
   -- a test of its range alone tells whether a shard is the key's
-  pub is_shard_of : (k : ℕ) (within : Bool) → (IsTrue within → Covers bounds k key) → (Covers bounds k key → IsTrue within) → within ≡ (shard_of bounds key == k)
+  pub is_shard_of : (k : ℕ) (within : Bool) → (IsTrue within → Covers bounds k key)
+      → (Covers bounds k key → IsTrue within) → within ≡ (shard_of bounds key == k)
   is_shard_of k true covers back = sym (eq-eqb (shard_of bounds key) k (shard_of-only k (covers refl)))
   is_shard_of k false covers back = elim (cases_Bool (shard_of bounds key == k)) [
-    | inl same ↦ absurd (true≢false (sym (back (subst (λ at. Covers bounds at key) (eqb-true (shard_of bounds key) k same) shard_of-covers))))
+    | inl same ↦ absurd (true≢false
+        (sym (back (subst (λ at. Covers bounds at key) (eqb-true (shard_of bounds key) k same) shard_of-covers))))
     | inr other ↦ sym other
   ]

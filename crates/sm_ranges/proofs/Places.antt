@@ -12,7 +12,8 @@ module _ {X Y : Type 0} (p : Y → Bool) (f : X → Y) where
   pub position-map : (xs : List X) → position p (map f xs) ≡ position (λ x. p (f x)) xs
   position-map xs = rw (position_or_len-map xs, length-map xs f)
 
-pub zip-map : {X Y : Type 0} (f : X → Y) (xs ys : List X) → zip (map f xs) (map f ys) ≡ map (λ pair. (f pair.0, f pair.1)) (zip xs ys)
+pub zip-map : {X Y : Type 0} (f : X → Y) (xs ys : List X)
+    → zip (map f xs) (map f ys) ≡ map (λ pair. (f pair.0, f pair.1)) (zip xs ys)
 zip-map f [] ys = refl
 zip-map f (x ∷ xs) [] = refl
 zip-map f (x ∷ xs) (y ∷ ys) = ap (λ pairs. (f x, f y) ∷ pairs) (zip-map f xs ys)

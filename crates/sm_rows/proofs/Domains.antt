@@ -1,11 +1,13 @@
 -- How the domains that servers are of are found, and compared with rows.
-use Rattle.std.proofs.Common.{ℕ, zero, suc, ◌+◌, ◌-◌, ◌<◌, ◌≤◌, ◌≡◌, ◌≢◌, Bool, true, false, cond, eqb, ltb, List, [], ◌∷◌, ◌++◌, length, get_or, set, take, drop, map}
+use Rattle.std.proofs.Common.{ℕ, zero, suc, ◌+◌, ◌-◌, ◌<◌, ◌≤◌, ◌≡◌, ◌≢◌, Bool, true, false, cond, eqb, ltb, List, []}
+use Rattle.std.proofs.Common.{◌∷◌, ◌++◌, length, get_or, set, take, drop, map}
 use Rattle.std.proofs.Common.{refl, ap, sym, ◌∙◌, append_assoc, append-nil, arith, inl, inr, ◌⊎◌, ◌&&◌, ◌||◌}
 use Rattle.std.specs.Prelude.{replicate, filter}
 use Rattle.std.specs.List.{range_with_len}
 use Rattle.std.proofs.lemmas.Bool.{ltb-true, ltb-false, or_right}
 use Rattle.std.proofs.lemmas.Bool.Decides.{eqb_tells}
-use Rattle.std.proofs.lemmas.List.{length-replicate, get_or-replicate, length-set, get_or-set_same, get_or-set_other, take_all}
+use Rattle.std.proofs.lemmas.List.{length-replicate, get_or-replicate, length-set, get_or-set_same, get_or-set_other}
+use Rattle.std.proofs.lemmas.List.{take_all}
 use Rattle.std.proofs.lemmas.List.Folds.{list_any_more}
 use Rattle.sm_rows.specs.declared.domain_row.DomainRow.{DomainRow}
 use Rattle.sm_rows.specs.declared.limits.TheConstants.{MAX_DOMAIN}
@@ -23,7 +25,8 @@ AreMarked-none servers n = record {
   at = λ d h. get_or-replicate n d false false h;
 }
 
-used_more : (servers : List ServerRow) (i : ℕ) (server : ServerRow) (d : ℕ) → i < length servers → server ≡ get_or servers i server
+used_more : (servers : List ServerRow) (i : ℕ) (server : ServerRow) (d : ℕ) → i < length servers
+    → server ≡ get_or servers i server
     → is_used (take (i + 1) servers) d ≡ (is_used (take i servers) d || eqb server.domain d)
 used_more servers i server d h is =
     list_any_more (λ s. eqb s.domain d) servers i server h
@@ -48,12 +51,14 @@ AreMarked-next servers n i marks server h is small marked = record {
     | inr p ↦
         get_or-set_other marks server.domain d true false (λ same. p.1 (sym same))
         ∙ marked.at d hd
-        ∙ sym (used_more servers i server d h is ∙ ap (λ b. is_used (take i servers) d || b) p.0 ∙ or_not (is_used (take i servers) d))
+        ∙ sym (used_more servers i server d h is ∙ ap (λ b. is_used (take i servers) d || b) p.0
+        ∙ or_not (is_used (take i servers) d))
   ];
 }
 
 -- a domain that is none of so many is marked nowhere
-pub AreMarked-beyond : (servers : List ServerRow) (n i : ℕ) (marks : List Bool) (server : ServerRow) → i < length servers
+pub AreMarked-beyond : (servers : List ServerRow) (n i : ℕ) (marks : List Bool) (server : ServerRow)
+    → i < length servers
     → server ≡ get_or servers i server → n ≤ server.domain
     → AreMarked servers n i marks → AreMarked servers n (i + 1) marks
 AreMarked-beyond servers n i marks server h is beyond marked = record {
@@ -61,14 +66,17 @@ AreMarked-beyond servers n i marks server h is beyond marked = record {
   at = λ d hd. elim (eqb_tells server.domain d) [
     | inl p ↦ absurd (omega (arith, p.1, beyond, hd))
     | inr p ↦ marked.at d hd
-        ∙ sym (used_more servers i server d h is ∙ ap (λ b. is_used (take i servers) d || b) p.0 ∙ or_not (is_used (take i servers) d))
+        ∙ sym (used_more servers i server d h is ∙ ap (λ b. is_used (take i servers) d || b) p.0
+        ∙ or_not (is_used (take i servers) d))
   ];
 }
 
 -- after all servers each mark says whether a server is of the domain
-pub is_used-marked : (servers : List ServerRow) (n i : ℕ) (marks : List Bool) → length servers ≤ i → AreMarked servers n i marks
+pub is_used-marked : (servers : List ServerRow) (n i : ℕ) (marks : List Bool) → length servers ≤ i
+    → AreMarked servers n i marks
     → (d : ℕ) → d < n → get_or marks d false ≡ is_used servers d
-is_used-marked servers n i marks all marked d h = marked.at d h ∙ ap (λ (xs : List ServerRow). is_used xs d) (take_all i servers all)
+is_used-marked servers n i marks all marked d h =
+    marked.at d h ∙ ap (λ (xs : List ServerRow). is_used xs d) (take_all i servers all)
 
 -- the numbers from a up to b begin with a, where a is below b, and else there are none
 range_with_len_first : (a b : ℕ) → a < b → range_with_len a (b - a) ≡ a ∷ range_with_len (a + 1) (b - (a + 1))
@@ -150,30 +158,38 @@ pub IsLeft-other : (servers : List ServerRow) (numbers : List ℕ) (n at low : �
     → is_number_at numbers at low ≡ false
     → IsLeft servers numbers n at low → are_same numbers (domains_from 0 n servers) ≡ false
 IsLeft-other servers numbers n at low h used other left =
-    left.same ∙ ap (are_same (drop at numbers)) (domains_from-used servers low n h used) ∙ by (ltb at (length numbers)) refl
+    left.same ∙ ap (are_same (drop at numbers)) (domains_from-used servers low n h used)
+    ∙ by (ltb at (length numbers)) refl
   where
-    by : (b : Bool) → ltb at (length numbers) ≡ b → are_same (drop at numbers) (low ∷ domains_from (low + 1) n servers) ≡ false
+    by : (b : Bool) → ltb at (length numbers) ≡ b
+        → are_same (drop at numbers) (low ∷ domains_from (low + 1) n servers) ≡ false
     by true e =
-        let differ : eqb (get_or numbers at 0) low ≡ false = sym (ap (λ b. b && eqb (get_or numbers at 0) low) e) ∙ other in
-        ap (λ xs. are_same xs (low ∷ domains_from (low + 1) n servers)) (drop_first numbers at (ltb-true at (length numbers) e))
+        let differ : eqb (get_or numbers at 0) low ≡ false =
+        sym (ap (λ b. b && eqb (get_or numbers at 0) low) e) ∙ other in
+        ap (λ xs. are_same xs (low ∷ domains_from (low + 1) n servers))
+        (drop_first numbers at (ltb-true at (length numbers) e))
         ∙ ap (λ b. b && are_same (drop (at + 1) numbers) (domains_from (low + 1) n servers)) differ
-    by false e = ap (λ xs. are_same xs (low ∷ domains_from (low + 1) n servers)) (drop_past numbers at (ltb-false at (length numbers) e))
+    by false e = ap (λ xs. are_same xs (low ∷ domains_from (low + 1) n servers))
+        (drop_past numbers at (ltb-false at (length numbers) e))
 
 -- after the last domain they are the same where no number is left
 pub IsLeft-end : (servers : List ServerRow) (numbers : List ℕ) (n at low : ℕ) → n ≤ low
     → IsLeft servers numbers n at low → eqb at (length numbers) ≡ are_same numbers (domains_from 0 n servers)
 IsLeft-end servers numbers n at low h left =
-    by (eqb_tells at (length numbers)) ∙ sym (left.same ∙ ap (are_same (drop at numbers)) (domains_from-none servers low n h))
+    by (eqb_tells at (length numbers))
+    ∙ sym (left.same ∙ ap (are_same (drop at numbers)) (domains_from-none servers low n h))
   where
     nothing : (xs : List ℕ) (at : ℕ) → at < length xs → are_same (drop at xs) [] ≡ false
     nothing xs at h = ap (λ ys. are_same ys []) (drop_first xs at h)
 
-    by : ((eqb at (length numbers) ≡ true) × (at ≡ length numbers)) ⊎ ((eqb at (length numbers) ≡ false) × (at ≢ length numbers))
+    by : ((eqb at (length numbers) ≡ true) × (at ≡ length numbers))
+        ⊎ ((eqb at (length numbers) ≡ false) × (at ≢ length numbers))
         → eqb at (length numbers) ≡ are_same (drop at numbers) []
     by (inl p) = p.0 ∙ sym (ap (λ ys. are_same ys []) (drop_past numbers at (omega (arith, p.1))))
     by (inr p) = p.0 ∙ sym (nothing numbers at (omega (arith, p.1, left.inside)))
 
-pub domains_of-all : (servers : List ServerRow) (n : ℕ) → n ≡ MAX_DOMAIN + 1 → domains_of servers ≡ domains_from 0 n servers
+pub domains_of-all : (servers : List ServerRow) (n : ℕ) → n ≡ MAX_DOMAIN + 1
+    → domains_of servers ≡ domains_from 0 n servers
 unfolding domains_of
 domains_of-all servers n e = ap (λ high. domains_from 0 high servers) (sym e)
 
@@ -182,15 +198,18 @@ pub made-start : (servers : List ServerRow) (down n : ℕ) → n ≡ MAX_DOMAIN 
     → [] ++ map (domain_with down) (domains_from 0 n servers) ≡ equal_domains down servers
 made-start servers down n e = ap (map (domain_with down)) (sym (domains_of-all servers n e))
 
-pub made-used : (servers : List ServerRow) (rows : List DomainRow) (down n low : ℕ) → low < n → is_used servers low ≡ true
+pub made-used : (servers : List ServerRow) (rows : List DomainRow) (down n low : ℕ) → low < n
+    → is_used servers low ≡ true
     → rows ++ map (domain_with down) (domains_from low n servers) ≡ equal_domains down servers
-    → (rows ++ domain_with down low ∷ []) ++ map (domain_with down) (domains_from (low + 1) n servers) ≡ equal_domains down servers
+    → (rows ++ domain_with down low ∷ [])
+    ++ map (domain_with down) (domains_from (low + 1) n servers) ≡ equal_domains down servers
 made-used servers rows down n low h used made =
     append_assoc rows (domain_with down low ∷ []) (map (domain_with down) (domains_from (low + 1) n servers))
     ∙ sym (ap (λ ds. rows ++ map (domain_with down) ds) (domains_from-used servers low n h used))
     ∙ made
 
-pub made-unused : (servers : List ServerRow) (rows : List DomainRow) (down n low : ℕ) → low < n → is_used servers low ≡ false
+pub made-unused : (servers : List ServerRow) (rows : List DomainRow) (down n low : ℕ) → low < n
+    → is_used servers low ≡ false
     → rows ++ map (domain_with down) (domains_from low n servers) ≡ equal_domains down servers
     → rows ++ map (domain_with down) (domains_from (low + 1) n servers) ≡ equal_domains down servers
 made-unused servers rows down n low h unused made =
@@ -200,4 +219,5 @@ pub made-end : (servers : List ServerRow) (rows : List DomainRow) (down n low : 
     → rows ++ map (domain_with down) (domains_from low n servers) ≡ equal_domains down servers
     → rows ≡ equal_domains down servers
 made-end servers rows down n low h made =
-    sym (append-nil rows) ∙ sym (ap (λ ds. rows ++ map (domain_with down) ds) (domains_from-none servers low n h)) ∙ made
+    sym (append-nil rows) ∙ sym (ap (λ ds. rows ++ map (domain_with down) ds) (domains_from-none servers low n h))
+    ∙ made

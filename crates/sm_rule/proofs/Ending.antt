@@ -1,5 +1,6 @@
 -- What the last state of a board leaves.
-use Rattle.std.proofs.Common.{◌≡◌, ◌≢◌, append_assoc, ℕ, zero, suc, ◌<◌, ◌^◌, Bool, true, false, List, [], ◌∷◌, ◌++◌, length, refl, sym, ap, ◌∙◌, subst, arith, ⊎_elim}
+use Rattle.std.proofs.Common.{◌≡◌, ◌≢◌, append_assoc, ℕ, zero, suc, ◌<◌, ◌^◌, Bool, true, false, List, [], ◌∷◌, ◌++◌}
+use Rattle.std.proofs.Common.{length, refl, sym, ap, ◌∙◌, subst, arith, ⊎_elim}
 use Rattle.std.specs.Prelude.{Option, Some, None, reverse, slice_index, slice_index_or, slice_set, if◌then◌else◌}
 use Rattle.std.proofs.lemmas.List.{append-nil, length-map}
 use Rattle.std.proofs.lemmas.List.Elements.{All-append}
@@ -36,15 +37,19 @@ index_within (one ∷ words) zero word is = omega arith
 index_within (one ∷ words) (suc at) word is = let more = index_within words at word is in omega arith
 
 -- one more row that was taken
-pub taken_pushed : {S : Type 0} (words : List ℕ) (slots : List (Option S)) (rows : List (Record × Option S)) (row : Record × Option S) → AreTaken words slots rows → IsTaken words slots (length rows) row → AreTaken words slots (rows ++ row ∷ [])
+pub taken_pushed :
+    {S : Type 0} (words : List ℕ) (slots : List (Option S)) (rows : List (Record × Option S)) (row : Record × Option S)
+    → AreTaken words slots rows → IsTaken words slots (length rows) row → AreTaken words slots (rows ++ row ∷ [])
 taken_pushed {S} words slots rows row taken next shard other at =
     ⊎_elim
     (λ (before : get_elem? rows shard ≡ some other). taken shard other before)
-    (λ (last : (shard ≡ length rows) × (row ≡ other)). subst (λ (pair : ℕ × (Record × Option S)). IsTaken words slots pair.0 pair.1) (λ i. (sym last.0 i, last.1 i)) next)
+    (λ (last : (shard ≡ length rows) × (row ≡ other)). subst
+    (λ (pair : ℕ × (Record × Option S)). IsTaken words slots pair.0 pair.1) (λ i. (sym last.0 i, last.1 i)) next)
     (at_last rows row other shard at)
 
 -- a word that has a record, and the record that was made of it
-pub word_taken : (words : List ℕ) → AreWords words → (shard word : ℕ) (state : Record) → get_elem? words shard ≡ some word → ((one : Record) → IsWellFormed one → word_of one ≡ word → state ≡ one)
+pub word_taken : (words : List ℕ) → AreWords words → (shard word : ℕ) (state : Record)
+    → get_elem? words shard ≡ some word → ((one : Record) → IsWellFormed one → word_of one ≡ word → state ≡ one)
     → IsWellFormed state × (get_elem? words shard ≡ some (word_of state))
 word_taken words are shard word state at made =
     let its = are shard word at in
@@ -58,7 +63,9 @@ unset [] (suc at) = refl
 unset (one ∷ marks) zero = refl
 unset (one ∷ marks) (suc at) = unset marks at
 
-module _ {S Q : Type 0} (rests : S → ℕ → List Q → Type 0) (limit : S → ℕ) (limits : Limits) (id : ℕ) (view : View Q) (words : List ℕ) (slots : List (Option S)) (low : limits.ceiling < 2 ^ 36) (last : Final (Seen (Rule rests limit limits) id view) words slots) where
+module _ {S Q : Type 0} (rests : S → ℕ → List Q → Type 0) (limit : S → ℕ) (limits : Limits) (id : ℕ) (view : View Q)
+    (words : List ℕ) (slots : List (Option S)) (low : limits.ceiling < 2 ^ 36)
+    (last : Final (Seen (Rule rests limit limits) id view) words slots) where
   abbrev history : List (Entry Q)
   history = last.1.0.0
 
@@ -66,10 +73,12 @@ module _ {S Q : Type 0} (rests : S → ℕ → List Q → Type 0) (limit : S →
   holds = last.1.0.1
 
   -- the word of a shard is that of its record
-  word_left : (shard word : ℕ) → get_elem? words shard ≡ some word → word_of (record_at (table_in limits history) shard) ≡ word
+  word_left : (shard word : ℕ) → get_elem? words shard ≡ some word
+      → word_of (record_at (table_in limits history) shard) ≡ word
   word_left shard word at =
       let here = index_at words shard word at in
-      sym (word_at last.0.words (table_in limits history) shard holds.words_are) ∙ (ap (λ all. slice_index all shard) last.2 ∙ here)
+      sym (word_at last.0.words (table_in limits history) shard holds.words_are)
+      ∙ (ap (λ all. slice_index all shard) last.2 ∙ here)
 
   formed_left : (shard : ℕ) → IsWellFormed (record_at (table_in limits history) shard)
   formed_left shard = well_formed limits.count limits.ceiling history shard low holds.legal holds.known
@@ -78,15 +87,22 @@ module _ {S Q : Type 0} (rests : S → ℕ → List Q → Type 0) (limit : S →
   are_words shard word at = (record_at (table_in limits history) shard, formed_left shard, word_left shard word at)
 
   words_many : length words ≡ limits.count
-  words_many = ap length (sym last.2) ∙ (ap length holds.words_are ∙ (length-map (table_in limits history) word_of ∙ length-table limits history))
+  words_many = ap length (sym last.2)
+      ∙ (ap length holds.words_are ∙ (length-map (table_in limits history) word_of ∙ length-table limits history))
 
   -- a row that was taken is what is left of its shard
-  row_left : (rows : List (Record × Option S)) → AreTaken words slots rows → (shard : ℕ) (row : Record × Option S) → get_elem? rows shard ≡ some row
-      → (row.0 ≡ record_at (table_in limits history) shard) × (row.0.admitted ≡ true → row.1 ≡ None) × (row.0.admitted ≡ false → (body : S) × (row.1 ≡ Some body) × rests body (first_of (reverse history) shard) (all_of (reverse history) shard) × (limit body ≡ limit_at limits shard))
+  row_left : (rows : List (Record × Option S)) → AreTaken words slots rows → (shard : ℕ) (row : Record × Option S)
+      → get_elem? rows shard ≡ some row
+      → (row.0 ≡ record_at (table_in limits history) shard) × (row.0.admitted ≡ true → row.1 ≡ None)
+      × (row.0.admitted ≡ false → (body : S) × (row.1 ≡ Some body) × rests body (first_of (reverse history) shard)
+      (all_of (reverse history) shard) × (limit body ≡ limit_at limits shard))
   row_left rows taken shard row at =
       let is = taken shard row at in
-      let same : row.0 ≡ record_at (table_in limits history) shard = word_once row.0 (record_at (table_in limits history) shard) is.0 (formed_left shard) (sym (word_left shard (word_of row.0) is.1)) in
-      let within : shard < limits.count = subst (λ many. shard < many) words_many (index_within words shard (word_of row.0) is.1) in (
+      let same : row.0 ≡ record_at (table_in limits history) shard =
+      word_once row.0 (record_at (table_in limits history) shard) is.0 (formed_left shard)
+      (sym (word_left shard (word_of row.0) is.1)) in
+      let within : shard < limits.count =
+      subst (λ many. shard < many) words_many (index_within words shard (word_of row.0) is.1) in (
         same,
         (λ busy. is.2.2 ∙ ap (λ (flag : Bool). if flag then None else is.2.0) busy),
         (λ idle.
@@ -104,39 +120,61 @@ module _ {S Q : Type 0} (rests : S → ℕ → List Q → Type 0) (limit : S →
     whole : reverse history ≡ view.seen ++ reverse fit.later
     whole = in_order fit.later view.seen history fit.seen
 
-    all_left : (rows : List (Record × Option S)) → AreTaken words slots rows → length rows ≡ limits.count → AreLeft rests limit view.limits (reverse history) rows
+    all_left : (rows : List (Record × Option S)) → AreTaken words slots rows → length rows ≡ limits.count
+        → AreLeft rests limit view.limits (reverse history) rows
     all_left rows taken many = (
       many ∙ ap (λ (its : Limits). its.count) (sym fit.limits_are),
       λ shard row at.
-          let left = row_left rows taken shard row at in
-          (left.0 ∙ sym (sees limits id view history fit shard), left.1, λ idle. let body = left.2 idle in (body.0, body.1, body.2, body.3 ∙ ap (λ (its : Limits). limit_at its shard) (sym fit.limits_are))),
+          let left = row_left rows taken shard row at in (
+            left.0 ∙ sym (sees limits id view history fit shard),
+            left.1,
+            λ idle. let body = left.2 idle in (
+              body.0,
+              body.1,
+              body.2,
+              body.3 ∙ ap (λ (its : Limits). limit_at its shard) (sym fit.limits_are),
+            ),
+          ),
     )
 
     -- the seat is the chair's, and has taken in the pass's
-    module _ (first : View Q) (pass : PassValue Q) (looked : Looks first view) (met : IsMet pass.number pass.seen view.seen) where
+    module _ (first : View Q) (pass : PassValue Q) (looked : Looks first view)
+        (met : IsMet pass.number pass.seen view.seen) where
       after_first : reverse history ≡ first.seen ++ (looked.0.0 ++ reverse fit.later)
       after_first =
-          whole ∙ (ap (λ entries. entries ++ reverse fit.later) (looked.0.1 ∙ append-nil (first.seen ++ looked.0.0)) ∙ append_assoc first.seen looked.0.0 (reverse fit.later))
+          whole ∙ (ap (λ entries. entries ++ reverse fit.later) (looked.0.1 ∙ append-nil (first.seen ++ looked.0.0))
+          ∙ append_assoc first.seen looked.0.0 (reverse fit.later))
 
       after_pass : reverse history ≡ pass.seen ++ (met.0 ++ reverse fit.later)
-      after_pass = whole ∙ (ap (λ entries. entries ++ reverse fit.later) met.1 ∙ append_assoc pass.seen met.0 (reverse fit.later))
+      after_pass = whole
+          ∙ (ap (λ entries. entries ++ reverse fit.later) met.1 ∙ append_assoc pass.seen met.0 (reverse fit.later))
 
       same : view.limits ≡ first.limits
       same = ap (λ (one : View Q). one.limits) looked.1
 
-      closed_after : (board : TableId) (rows : List (Record × Option S)) → AreTaken words slots rows → length rows ≡ limits.count → WasClosed rests limit (chair_value board first) pass rows
+      closed_after : (board : TableId) (rows : List (Record × Option S)) → AreTaken words slots rows
+          → length rows ≡ limits.count → WasClosed rests limit (chair_value board first) pass rows
       closed_after board rows taken many =
-          let legal : IsLegal view.limits.count view.limits.ceiling (reverse history) = legal_all limits id view history fit holds.legal in
-          let none : NoneBy 0 (reverse fit.later) = subst (λ n. NoneBy n (reverse fit.later)) chair (others_all limits id view history fit) in
-          let others : NoneBy 0 looked.0.0 = subst (λ n. NoneBy n looked.0.0) (sym (ap (λ (one : View Q). one.number) looked.1) ∙ chair) looked.0.2 in (
+          let legal : IsLegal view.limits.count view.limits.ceiling (reverse history) =
+          legal_all limits id view history fit holds.legal in
+          let none : NoneBy 0 (reverse fit.later) =
+          subst (λ n. NoneBy n (reverse fit.later)) chair (others_all limits id view history fit) in
+          let others : NoneBy 0 looked.0.0 =
+          subst (λ n. NoneBy n looked.0.0) (sym (ap (λ (one : View Q). one.number) looked.1) ∙ chair) looked.0.2 in (
             looked.0.0 ++ reverse fit.later,
-            subst (λ (pair : Limits × List (Entry Q)). IsLegal pair.0.count pair.0.ceiling pair.1) (λ i. (same i, after_first i)) legal,
+            subst (λ (pair : Limits × List (Entry Q)). IsLegal pair.0.count pair.0.ceiling pair.1)
+                (λ i. (same i, after_first i)) legal,
             All-append (λ entry. entry.actor ≢ 0) looked.0.0 (reverse fit.later) others none,
             (met.0 ++ reverse fit.later, sym after_first ∙ after_pass),
-            subst (λ (pair : Limits × List (Entry Q)). AreLeft rests limit pair.0 pair.1 rows) (λ i. (same i, after_first i)) (all_left rows taken many),
+            subst (λ (pair : Limits × List (Entry Q)). AreLeft rests limit pair.0 pair.1 rows)
+                (λ i. (same i, after_first i)) (all_left rows taken many),
           )
 
   -- the same of a chair that acts, and has taken in the pass's seat
-  pub was_closed : (first : View Q) (pass : PassValue Q) → Looks first view → first.stage ≡ Acting → first.number ≡ 0 → IsMet pass.number pass.seen view.seen → (board : TableId) (rows : List (Record × Option S)) → AreTaken words slots rows → length rows ≡ limits.count → WasClosed rests limit (chair_value board first) pass rows
+  pub was_closed : (first : View Q) (pass : PassValue Q) → Looks first view → first.stage ≡ Acting → first.number ≡ 0
+      → IsMet pass.number pass.seen view.seen → (board : TableId) (rows : List (Record × Option S))
+      → AreTaken words slots rows → length rows ≡ limits.count
+      → WasClosed rests limit (chair_value board first) pass rows
   was_closed first pass looked live chair met board rows taken many =
-      closed_after (ap (λ (one : View Q). one.stage) looked.1 ∙ live) (ap (λ (one : View Q). one.number) looked.1 ∙ chair) first pass looked met board rows taken many
+      closed_after (ap (λ (one : View Q). one.stage) looked.1 ∙ live)
+      (ap (λ (one : View Q). one.number) looked.1 ∙ chair) first pass looked met board rows taken many

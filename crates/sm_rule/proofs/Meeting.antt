@@ -25,14 +25,18 @@ joined_unacting is = absurd (cc)
 joined_uncut : Joined ≡ Cut → ⊥
 joined_uncut is = absurd (cc)
 
-below_end : {Q : Type 0} (views : List (View Q)) (n : ℕ) (view : View Q) → get_elem? views n ≡ some view → n < length views
+below_end : {Q : Type 0} (views : List (View Q)) (n : ℕ) (view : View Q) → get_elem? views n ≡ some view
+    → n < length views
 below_end [] n view at = absurd (some-ne-none view (sym at))
 below_end (one ∷ views) zero view at = omega arith
 below_end (one ∷ views) (suc n) view at = let below = below_end views n view at in omega arith
 
 -- a seat that acts takes in another
-module _ {S Q : Type 0} (rests : S → ℕ → List Q → Type 0) (limit : S → ℕ) (limits : Limits) (words : List ℕ) (homes : List (math.Option (Option S))) (views : List (View Q)) (history : List (Entry Q)) (holds : RuleHolds rests limit limits words homes views history)
-    (id other : ℕ) (view one : View Q) (live : view.stage ≡ Acting) (alive : one.stage ≡ Acting) (at : get_elem? views id ≡ some view) (apart : other ≢ id) (there : get_elem? views other ≡ some one) where
+module _ {S Q : Type 0} (rests : S → ℕ → List Q → Type 0) (limit : S → ℕ) (limits : Limits) (words : List ℕ)
+    (homes : List (math.Option (Option S))) (views : List (View Q)) (history : List (Entry Q))
+    (holds : RuleHolds rests limit limits words homes views history)
+    (id other : ℕ) (view one : View Q) (live : view.stage ≡ Acting) (alive : one.stage ≡ Acting)
+    (at : get_elem? views id ≡ some view) (apart : other ≢ id) (there : get_elem? views other ≡ some one) where
   abbrev both : View Q
   both = informed view one
 
@@ -48,7 +52,15 @@ module _ {S Q : Type 0} (rests : S → ℕ → List Q → Type 0) (limit : S →
   fits_both : IsTrueView limits id both history
   fits_both =
       let fit = holds.fit id view at live in
-      record { limits_are = fit.limits_are; number_is = fit.number_is; later = fit.later; seen = fit.seen; others = fit.others; server = fit.server; held = fit.held }
+      record {
+        limits_are = fit.limits_are;
+        number_is = fit.number_is;
+        later = fit.later;
+        seen = fit.seen;
+        others = fit.others;
+        server = fit.server;
+        held = fit.held;
+      }
 
   -- what the seat is told of the other
   tells : IsHeard last (record { by = one.number; seen = one.seen }) history
@@ -63,18 +75,23 @@ module _ {S Q : Type 0} (rests : S → ℕ → List Q → Type 0) (limit : S →
 
   told_last : (heard : Heard Q) → IsHeard views heard history → IsHeard last heard history
   told_last heard is =
-      let apart_from : (n : ℕ) (its : View Q) → get_elem? views n ≡ some its → its.stage ≡ Acting → heard.by ≢ n = λ n its found_it acts same.
-      joined_unacting (sym (ap (λ (it : View Q). it.stage) (some-injective its left_behind (sym found_it ∙ (ap (get_elem? views) (sym same) ∙ is.joined)))) ∙ acts) in
+      let apart_from : (n : ℕ) (its : View Q) → get_elem? views n ≡ some its → its.stage ≡ Acting → heard.by ≢ n =
+      λ n its found_it acts same.
+      joined_unacting (sym (ap (λ (it : View Q). it.stage)
+      (some-injective its left_behind (sym found_it ∙ (ap (get_elem? views) (sym same) ∙ is.joined)))) ∙ acts) in
       record {
         later = is.later;
         seen = is.seen;
         others = is.others;
-        joined = set_else first other heard.by left_behind (apart_from other one there alive) ∙ (set_else views id heard.by both (apart_from id view at live) ∙ is.joined);
+        joined = set_else first other heard.by left_behind (apart_from other one there alive)
+            ∙ (set_else views id heard.by both (apart_from id view at live) ∙ is.joined);
       }
 
   told_both : AreHeard last history
-  told_both = views_set (λ n it. (heard : Heard Q) → it.heard ≡ Some heard → IsHeard last heard history) first other left_behind
-      (λ n it away at_first. views_set (λ m its. (heard : Heard Q) → its.heard ≡ Some heard → IsHeard last heard history) views id both
+  told_both =
+      views_set (λ n it. (heard : Heard Q) → it.heard ≡ Some heard → IsHeard last heard history) first other left_behind
+      (λ n it away at_first. views_set
+      (λ m its. (heard : Heard Q) → its.heard ≡ Some heard → IsHeard last heard history) views id both
       (λ m its off at_views heard is. told_last heard (holds.heard m its at_views heard is))
       (λ heard is. subst (λ its. IsHeard last its history) (same_some _ heard is) tells)
       n it at_first)
@@ -90,22 +107,31 @@ module _ {S Q : Type 0} (rests : S → ℕ → List Q → Type 0) (limit : S →
         slots = holds.slots;
         home = holds.home;
         fit = views_set (λ n it. it.stage ≡ Acting → IsTrueView limits n it history) first other left_behind
-            (λ n it away at_first. views_set (λ m its. its.stage ≡ Acting → IsTrueView limits m its history) views id both (λ m its off at_views. holds.fit m its at_views) (λ _. fits_both) n it at_first)
+            (λ n it away at_first. views_set (λ m its. its.stage ≡ Acting → IsTrueView limits m its history) views id
+            both (λ m its off at_views. holds.fit m its at_views) (λ _. fits_both) n it at_first)
             (λ is. absurd (joined_unacting is));
         cut = views_set (λ n it. it.stage ≡ Cut → IsCut limits n it history) first other left_behind
-            (λ n it away at_first. views_set (λ m its. its.stage ≡ Cut → IsCut limits m its history) views id both (λ m its off at_views. holds.cut m its at_views) (λ is. absurd (acting_uncut view.stage live is)) n it at_first)
+            (λ n it away at_first. views_set (λ m its. its.stage ≡ Cut → IsCut limits m its history) views id both
+            (λ m its off at_views. holds.cut m its at_views)
+            (λ is. absurd (acting_uncut view.stage live is)) n it at_first)
             (λ is. absurd (joined_uncut is));
         heard = told_both;
         unused = λ n past. holds.unused n (subst (λ many. many ≤ n) long past);
         chaired = subst (λ many. 0 < many) (sym long) holds.chaired;
       }
 
-pub joins : {S Q : Type 0} (rests : S → ℕ → List Q → Type 0) (limit : S → ℕ) (limits : Limits) (id other : ℕ) (view one : View Q) → view.stage ≡ Acting → one.stage ≡ Acting → Joins {S = Option S} (Rule rests limit limits) id view other one (informed view one) left_behind
-joins rests limit limits id other view one live alive table rule at apart there =
-    (rule.0, joined rests limit limits table.words table.homes table.views rule.0 rule.1 id other view one live alive at apart (sym (set_else table.views id other (informed view one) apart) ∙ there))
+pub joins : {S Q : Type 0} (rests : S → ℕ → List Q → Type 0) (limit : S → ℕ) (limits : Limits) (id other : ℕ)
+    (view one : View Q) → view.stage ≡ Acting → one.stage ≡ Acting
+    → Joins {S = Option S} (Rule rests limit limits) id view other one (informed view one) left_behind
+joins rests limit limits id other view one live alive table rule at apart there = (
+  rule.0,
+  joined rests limit limits table.words table.homes table.views rule.0 rule.1 id other view one live alive at
+      apart (sym (set_else table.views id other (informed view one) apart) ∙ there),
+)
 
 -- the load after it
-pub meets : {S Q : Type 0} (rests : S → ℕ → List Q → Type 0) (limit : S → ℕ) (limits : Limits) (slots id word : ℕ) (me : Me (Option S) (View Q)) → me.0.stage ≡ Acting
+pub meets : {S Q : Type 0} (rests : S → ℕ → List Q → Type 0) (limit : S → ℕ) (limits : Limits) (slots id word : ℕ)
+    (me : Me (Option S) (View Q)) → me.0.stage ≡ Acting
     → Allows (Rule rests limit limits) slots id me word (λ n. n) (Met (step {S = Option S} slots word 0 0 none) me)
 meets rests limit limits slots id word me live table rule size at small =
     let history = rule.0 in
@@ -118,12 +144,16 @@ meets rests limit limits slots id word me live table rule size at small =
       (
         looks_all limits id me.0 history fit holds.legal,
         (λ heard is.
-            let tells = holds.heard id me.0 at heard is in
-            (reverse tells.later, in_order tells.later heard.seen history tells.seen, NoneBy-reverse heard.by tells.later tells.others)),
+            let tells = holds.heard id me.0 at heard is in (
+              reverse tells.later,
+              in_order tells.later heard.seen history tells.seen,
+              NoneBy-reverse heard.by tells.later tells.others,
+            )),
         refl,
       ),
     )
 
 -- the seat acts on
-pub still_acts : {S Q : Type 0} (me : Me (Option S) (View Q)) (view one : View Q) (slots : List (ℕ × Option S)) → me ≡ (informed view one, slots) → view.stage ≡ Acting → me.0.stage ≡ Acting
+pub still_acts : {S Q : Type 0} (me : Me (Option S) (View Q)) (view one : View Q) (slots : List (ℕ × Option S))
+    → me ≡ (informed view one, slots) → view.stage ≡ Acting → me.0.stage ≡ Acting
 still_acts {S} {Q} me view one slots is live = ap (λ (it : Me (Option S) (View Q)). it.0.stage) is ∙ live

@@ -29,7 +29,8 @@ fault_of_line line words fault answered short view is =
 
 -- why there is no request is why there is no call that makes it
 pub fault_of_request : (made : Request → Call) (none : Option LineFault) (asked : Result Request LineFault)
-    (fault : ParseFault) → ((request : Request) → IsTrue (has_request (made request))) → none ≡ None → IsRequestFault fault asked
+    (fault : ParseFault) → ((request : Request) → IsTrue (has_request (made request))) → none ≡ None
+    → IsRequestFault fault asked
     → IsFaultIn fault (unless_fault none (with_request made asked))
 fault_of_request made (Some other) asked fault has is why = absurd (cc)
 fault_of_request made None (Ok request) (Line fault) has is why = absurd (cc)

@@ -1,5 +1,6 @@
 -- Numbers as a line spells them, and as std reads them.
-use Rattle.std.proofs.Common.{◌≡◌, ℕ, List, [], ◌∷◌, Bool, true, false, length, ◌<◌, ◌^◌, arith, refl, Result, Ok, Err, IsTrue, rules, ◌≢◌, zero, suc, sym, ap, ◌∙◌, slice_index_or, decimal}
+use Rattle.std.proofs.Common.{◌≡◌, ℕ, List, [], ◌∷◌, Bool, true, false, length, ◌<◌, ◌^◌, arith, refl, Result, Ok, Err}
+use Rattle.std.proofs.Common.{IsTrue, rules, ◌≢◌, zero, suc, sym, ap, ◌∙◌, slice_index_or, decimal}
 use Rattle.std.specs.Char.{is_ascii_digit}
 use Rattle.std.specs.List.{list_all}
 use Rattle.std.proofs.lemmas.Result.{OkIff-at_ok, OkIff-at_err}
@@ -7,7 +8,8 @@ use Rattle.std.specs.Str.{IsUtf8}
 use Rattle.std.specs.Str.Parse.{digits_value, ParsesUnsigned}
 use Rattle.std.proofs.lemmas.Str.{IsUtf8-from_ascii}
 use Rattle.std.proofs.lemmas.Str.Parse.{IsNumeralModel, numerals_by_value, parse_digits}
-use Rattle.std.proofs.lemmas.Fmt.{IsAscii-from_digits, decimal-digits_value, decimal_digit, decimal_nonempty, first_decimal, digits_decimal, digits_value-decimal}
+use Rattle.std.proofs.lemmas.Fmt.{IsAscii-from_digits, decimal-digits_value, decimal_digit, decimal_nonempty}
+use Rattle.std.proofs.lemmas.Fmt.{first_decimal, digits_decimal, digits_value-decimal}
 use Rattle.std.proofs.lemmas.Grind.{common_steps}
 use Rattle.sm_script.specs.Numbers.{has_no_leading_zero, is_number, number}
 
@@ -28,10 +30,14 @@ length-number [] h = cc
 length-number (digit ∷ digits) h = grind (arith, common_steps)
 
 -- a number of 64 bits is read
-pub number-read : {E : Type 0} (word text : List ℕ) (r : Result ℕ E) (e : E) → text ≡ word → ParsesUnsigned 64 10 text r → r ≡ Err e → IsTrue (is_number word) × (number word < 2 ^ 64) → ⊥
+pub number-read : {E : Type 0} (word text : List ℕ) (r : Result ℕ E) (e : E) → text ≡ word → ParsesUnsigned 64 10 text r
+    → r ≡ Err e → IsTrue (is_number word) × (number word < 2 ^ 64) → ⊥
 number-read word text r e same parsed is fits =
     OkIff-at_err r ((0 < length word) × (number word < 2 ^ 64)) (number word) e
-    (parse_digits numerals 64 word r (rw same at parsed) (only_digits word fits.0)) is (length-number word fits.0, fits.1)
+    (parse_digits numerals 64 word r (rw same at parsed) (only_digits word fits.0)) is (
+      length-number word fits.0,
+      fits.1,
+    )
 
 -- a number that begins with `0` is no longer
 length-zero : (word : List ℕ) → is_number word ≡ true → slice_index_or word 0 0 ≡ 48 → length word ≡ 1
@@ -61,19 +67,22 @@ is_number-decimal n small =
     rw (plain, digits) refl
 
 -- so is the number that is read
-pub read-is_decimal : {E : Type 0} (word text : List ℕ) (r : Result ℕ E) (n : ℕ) → is_number word ≡ true → text ≡ word → ParsesUnsigned 64 10 text r → r ≡ Ok n → word ≡ decimal n
+pub read-is_decimal : {E : Type 0} (word text : List ℕ) (r : Result ℕ E) (n : ℕ) → is_number word ≡ true → text ≡ word
+    → ParsesUnsigned 64 10 text r → r ≡ Ok n → word ≡ decimal n
 read-is_decimal word text r n h same parsed is =
     let value = OkIff-at_ok r ((0 < length word) × (number word < 2 ^ 64)) (number word) n
     (parse_digits numerals 64 word r (rw same at parsed) (only_digits word h)) is in
     number-is_decimal word h value.0.1 ∙ ap decimal (sym value.1)
 
 -- what is no number of 64 bits isn't what `decimal` writes of one
-pub not_decimal : (word : List ℕ) → (IsTrue (is_number word) × (number word < 2 ^ 64) → ⊥) → (n : ℕ) → n < 2 ^ 64 → word ≢ decimal n
+pub not_decimal : (word : List ℕ) → (IsTrue (is_number word) × (number word < 2 ^ 64) → ⊥) → (n : ℕ) → n < 2 ^ 64
+    → word ≢ decimal n
 not_decimal word other n small is =
     let value : number (decimal n) ≡ n = digits_value-decimal numerals n small in
     let fits : number (decimal n) < 2 ^ 64 = rw value small in
     other (rw is (is_number-decimal n small, fits))
 
 -- nor is what is no number at all
-pub not_number : (word : List ℕ) (answer : Bool) → answer ≡ is_number word → answer ≡ false → (n : ℕ) → n < 2 ^ 64 → word ≢ decimal n
+pub not_number : (word : List ℕ) (answer : Bool) → answer ≡ is_number word → answer ≡ false → (n : ℕ) → n < 2 ^ 64
+    → word ≢ decimal n
 not_number word answer is refused = not_decimal word (λ number. let yes = number.0 in cc)

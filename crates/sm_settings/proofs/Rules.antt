@@ -1,5 +1,6 @@
 -- Settings that a line gives keep every rule, and no line gives out of memory.
-use Rattle.std.proofs.Common.{◌≡◌, ◌≢◌, ◌<◌, ◌&&◌, ℕ, List, [], ◌∷◌, ◌++◌, length, refl, ap, sym, ◌∙◌, subst, Option, Some, None, Ok, Err, Bool, true, false, ◌==◌, if◌then◌else◌, get_or, arith, lit<}
+use Rattle.std.proofs.Common.{◌≡◌, ◌≢◌, ◌<◌, ◌&&◌, ℕ, List, [], ◌∷◌, ◌++◌, length, refl, ap, sym, ◌∙◌, subst, Option}
+use Rattle.std.proofs.Common.{Some, None, Ok, Err, Bool, true, false, ◌==◌, if◌then◌else◌, get_or, arith, lit<}
 use Rattle.std.specs.Prelude.{is_none}
 use Rattle.std.specs.List.{list_all}
 use Rattle.std.proofs.lemmas.Bool.{and_parts, eqb-true}
@@ -13,20 +14,24 @@ use Rattle.sm_rows.specs.declared.domain_row.DomainRow.{DomainRow}
 use Rattle.sm_rows.specs.declared.group_row.GroupRow.{GroupRow}
 use Rattle.sm_rows.specs.declared.server_row.ServerRow.{ServerRow}
 use Rattle.sm_rows.specs.declared.shard_row.ShardRow.{ShardRow}
-use Rattle.sm_rows.specs.lemmas.Keeping.{is_within-true, AreServers-are_servers, AreGroups-are_groups, AreShards-are_shards, AreDomains-are_domains}
+use Rattle.sm_rows.specs.lemmas.Keeping.{is_within-true, AreServers-are_servers, AreGroups-are_groups}
+use Rattle.sm_rows.specs.lemmas.Keeping.{AreShards-are_shards, AreDomains-are_domains}
 use Rattle.sm_settings.specs.declared.settings_fault.SettingsFault.TheVariants.{BadDomains, BadJson, NoMemory}
 use Rattle.sm_settings.specs.declared.settings_fault.SettingsFault.{SettingsFault}
 use Rattle.sm_settings.specs.declared.settings.TheConstants.{MAX_OPS, MAX_KEPT, MIN_CEILING, MAX_CEILING, MAX_WORKERS}
 use Rattle.sm_settings.specs.Members.{when}
-use Rattle.sm_settings.specs.SettingsLine.{SettingsValues, values_in, base_rules, base_verdict, rules, value_or_fault, verdict_of, with_domains}
+use Rattle.sm_settings.specs.SettingsLine.{SettingsValues, values_in, base_rules, base_verdict, rules, value_or_fault}
+use Rattle.sm_settings.specs.SettingsLine.{verdict_of, with_domains}
 use Rattle.sm_settings.specs.SettingsRows.{rule_of_servers, rule_of_groups, rule_of_shards, rule_of_domains}
 use Rattle.sm_settings.specs.SettingsRules.{KeepsRules, PassTests}
 
 -- where a value is given, all tests passed and it is the one to give
-all_hold : {V F : Type 0} (rs : List (Bool × F)) (s v : V) → value_or_fault rs s ≡ Ok v → (list_all (λ r. r.0) rs ≡ true) × (s ≡ v)
+all_hold : {V F : Type 0} (rs : List (Bool × F)) (s v : V) → value_or_fault rs s ≡ Ok v
+    → (list_all (λ r. r.0) rs ≡ true) × (s ≡ v)
 all_hold [] s v h = (refl, cc)
 all_hold (r ∷ rs) s v h =
-    elim r.0 as (λ b. (if b then value_or_fault rs s else Err r.1) ≡ Ok v → ((b && list_all (λ r. r.0) rs) ≡ true) × (s ≡ v))
+    elim r.0 as
+    (λ b. (if b then value_or_fault rs s else Err r.1) ≡ Ok v → ((b && list_all (λ r. r.0) rs) ≡ true) × (s ≡ v))
     [ true ↦ λ h. all_hold rs s v h | false ↦ λ h. cc ] h
 
 has_no_fault : {F : Type 0} (o : Option F) → is_none o ≡ true → o ≡ None
@@ -41,21 +46,28 @@ groups_kept : (rows : List GroupRow) → rule_of_groups rows ≡ true → AreGro
 unfolding rule_of_groups
 groups_kept rows h = AreGroups-are_groups rows h
 
-shards_kept : (bounds groups : ℕ) (rows : List ShardRow) → rule_of_shards bounds groups rows ≡ true → (length rows ≡ bounds) × AreShards groups rows
+shards_kept : (bounds groups : ℕ) (rows : List ShardRow) → rule_of_shards bounds groups rows ≡ true
+    → (length rows ≡ bounds) × AreShards groups rows
 unfolding rule_of_shards
 shards_kept bounds groups rows h =
     let parts = and_parts (length rows == bounds) (are_shards groups rows) h in
     (eqb-true (length rows) bounds parts.0, AreShards-are_shards groups rows parts.1)
 
-domains_kept : (servers : List ServerRow) (rows : List DomainRow) → rule_of_domains servers rows ≡ true → AreDomains servers rows
+domains_kept : (servers : List ServerRow) (rows : List DomainRow) → rule_of_domains servers rows ≡ true
+    → AreDomains servers rows
 unfolding rule_of_domains
 domains_kept servers rows h = AreDomains-are_domains servers rows h
 
 tests_pass : (s : SettingsValues) → rule_of_servers s.servers ≡ true → rule_of_groups s.groups ≡ true
-    → rule_of_shards (length s.bounds) (length s.groups) s.shards ≡ true → rule_of_domains s.servers s.domains ≡ true → PassTests s
+    → rule_of_shards (length s.bounds) (length s.groups) s.shards ≡ true → rule_of_domains s.servers s.domains ≡ true
+    → PassTests s
 unfolding PassTests rule_of_servers rule_of_groups rule_of_shards rule_of_domains
-tests_pass s servers groups shards domains =
-    (servers, groups, (and_parts (length s.shards == length s.bounds) (are_shards (length s.groups) s.shards) shards).1, domains)
+tests_pass s servers groups shards domains = (
+  servers,
+  groups,
+  (and_parts (length s.shards == length s.bounds) (are_shards (length s.groups) s.shards) shards).1,
+  domains,
+)
 
 keeps_rules : (s : SettingsValues) (d : Data) → list_all (λ r. r.0) (rules d s) ≡ true → KeepsRules s
 keeps_rules s d all =
@@ -102,34 +114,44 @@ other_fault (r ∷ rs) s e others h =
 pub verdict_decides : (o : Option Data) → verdict_of o ≢ Err NoMemory
 verdict_decides None h = cc
 verdict_decides (Some d) h =
-    other_fault (rules d (values_in d)) (values_in d) NoMemory
-    (λ e. cc, (λ e. cc, (λ e. cc, (λ e. cc, (λ e. cc, (λ e. cc, (λ e. cc, (λ e. cc, (λ e. cc, (λ e. cc, (λ e. cc, tt))))))))))) h
+    other_fault (rules d (values_in d)) (values_in d) NoMemory (
+      λ e. cc,
+      (
+        λ e. cc,
+        (λ e. cc, (λ e. cc, (λ e. cc, (λ e. cc, (λ e. cc, (λ e. cc, (λ e. cc, (λ e. cc, (λ e. cc, tt))))))))),
+      ),
+    ) h
 
 -- where a value is given the later rules decide, and else its fault is that of all rules
 pub later_rules : {V W F : Type 0} (rs qs : List (Bool × F)) (s v : V) (w : W) → value_or_fault rs s ≡ Ok v
     → value_or_fault (rs ++ qs) w ≡ value_or_fault qs w
 later_rules [] qs s v w h = refl
 later_rules (r ∷ rs) qs s v w h =
-    elim r.0 as (λ b. (if b then value_or_fault rs s else Err r.1) ≡ Ok v → (if b then value_or_fault (rs ++ qs) w else Err r.1) ≡ value_or_fault qs w)
+    elim r.0 as (λ b. (if b then value_or_fault rs s else Err r.1) ≡ Ok v
+    → (if b then value_or_fault (rs ++ qs) w else Err r.1) ≡ value_or_fault qs w)
     [ true ↦ λ h. later_rules rs qs s v w h | false ↦ λ h. cc ] h
 
 pub earlier_fault : {V W F : Type 0} (rs qs : List (Bool × F)) (s : V) (w : W) (e : F) → value_or_fault rs s ≡ Err e
     → value_or_fault (rs ++ qs) w ≡ Err e
 earlier_fault [] qs s w e h = cc
 earlier_fault (r ∷ rs) qs s w e h =
-    elim r.0 as (λ b. (if b then value_or_fault rs s else Err r.1) ≡ Err e → (if b then value_or_fault (rs ++ qs) w else Err r.1) ≡ Err e)
+    elim r.0 as (λ b. (if b then value_or_fault rs s else Err r.1) ≡ Err e
+    → (if b then value_or_fault (rs ++ qs) w else Err r.1) ≡ Err e)
     [ true ↦ λ h. earlier_fault rs qs s w e h | false ↦ λ h. cc ] h
 
 -- where all rules but that of domains hold, it decides
 pub domains_decide : (d : Data) (v : SettingsValues) → base_verdict d ≡ Ok v
-    → verdict_of (Some d) ≡ value_or_fault ((rule_of_domains (values_in d).servers (values_in d).domains, BadDomains) ∷ []) (values_in d)
+    → verdict_of (Some d)
+    ≡ value_or_fault ((rule_of_domains (values_in d).servers (values_in d).domains, BadDomains) ∷ []) (values_in d)
 domains_decide d v h =
-    later_rules (base_rules d (values_in d)) ((rule_of_domains (values_in d).servers (values_in d).domains, BadDomains) ∷ [])
+    later_rules (base_rules d (values_in d))
+    ((rule_of_domains (values_in d).servers (values_in d).domains, BadDomains) ∷ [])
     (with_domains (values_in d) []) v (values_in d) h
 
 pub base_fault : (d : Data) (fault : SettingsFault) → base_verdict d ≡ Err fault → verdict_of (Some d) ≡ Err fault
 base_fault d fault h =
-    earlier_fault (base_rules d (values_in d)) ((rule_of_domains (values_in d).servers (values_in d).domains, BadDomains) ∷ [])
+    earlier_fault (base_rules d (values_in d))
+    ((rule_of_domains (values_in d).servers (values_in d).domains, BadDomains) ∷ [])
     (with_domains (values_in d) []) (values_in d) fault h
 
 -- the values of all rules but that of domains are those of the line
@@ -149,7 +171,8 @@ domains_kept_verdict d v domains h some =
         → value_or_fault {V = SettingsValues} ((keeps, BadDomains) ∷ []) (values_in d) ≡ Ok (with_domains v domains)
     by true some =
         let same : domains ≡ (values_in d).domains = cc in
-        ap (λ (s : SettingsValues). Ok (with_domains s (values_in d).domains)) (base_values d v h) ∙ ap (λ ds. Ok (with_domains v ds)) (sym same)
+        ap (λ (s : SettingsValues). Ok (with_domains s (values_in d).domains)) (base_values d v h)
+        ∙ ap (λ ds. Ok (with_domains v ds)) (sym same)
     by false some = absurd (cc)
 
 pub domains_broken_verdict : (d : Data) (v : SettingsValues) → base_verdict d ≡ Ok v

@@ -1,5 +1,6 @@
 -- What a server knows goes on.
-use Rattle.std.proofs.Common.{◌≡◌, ◌≢◌, ℕ, ◌<◌, true, false, List, [], ◌∷◌, ◌++◌, refl, sym, ap, subst, ◌∙◌, arith, append_assoc, append-nil, inl, ◌+◌}
+use Rattle.std.proofs.Common.{◌≡◌, ◌≢◌, ℕ, ◌<◌, true, false, List, [], ◌∷◌, ◌++◌, refl, sym, ap, subst, ◌∙◌, arith}
+use Rattle.std.proofs.Common.{append_assoc, append-nil, inl, ◌+◌}
 use Rattle.std.specs.Prelude.{Option, Some, None, IfSome, Result, Ok, Err, IfOk, ◌==◌, IsTrue}
 use Rattle.std.specs.List.{AllByRecursion}
 use Rattle.std.proofs.lemmas.Bool.{or_from, or_parts, ne_eqb, eq-eqb}
@@ -10,7 +11,8 @@ use Rattle.sm_store.specs.declared.item.Item.{Item}
 use Rattle.sm_store.specs.Clients.{last_of, reply_in}
 use Rattle.sm_store.specs.declared.head.Head.{Head}
 use Rattle.sm_store.specs.Store.{Transaction, all_hold, head_key, made, record_key, revision_of, stored_record}
-use Rattle.sm_store.specs.Deeds.{AreAccepted, Charter, Executing, MayExecute, MaySend, ShardLog, WasFound, at, shard_log}
+use Rattle.sm_store.specs.Deeds.{AreAccepted, Charter, Executing, MayExecute, MaySend, ShardLog, WasFound, at}
+use Rattle.sm_store.specs.Deeds.{shard_log}
 use Rattle.sm_store.specs.System.{Replies, Overtaken, IsSo}
 use Rattle.sm_store.specs.lemmas.Growth.{so_grows, next_split}
 use Rattle.sm_store.specs.lemmas.Heart.{stood_then}
@@ -24,7 +26,8 @@ use Rattle.sm_shard.specs.declared.replica.MadeReply.{MadeReply}
 use Rattle.sm_shard.specs.declared.shard_state.Decision.{Decision}
 use Rattle.sm_shard.specs.declared.shard_state.Decision.TheVariants.{Replied, Passed, Waits, Forwards, Refused}
 use Rattle.sm_shard.specs.Steps.{transactions_of}
-use Rattle.sm_shard.specs.ShardServers.{IsShardState, HasRead, IsDecided, StoreLog, claimed_by, claimed_all, sent_transaction, has_client, WasMade}
+use Rattle.sm_shard.specs.ShardServers.{IsShardState, HasRead, IsDecided, StoreLog, claimed_by, claimed_all}
+use Rattle.sm_shard.specs.ShardServers.{sent_transaction, has_client, WasMade}
 use Rattle.sm_store.specs.lemmas.Numbers.{last-append, next-append, next_front}
 
 all-append : {A : Type 0} (P : A → Type 0) (xs ys : List A) → AllByRecursion P xs → AllByRecursion P ys

@@ -12,7 +12,8 @@ use Rattle.sm_table.specs.Bodies.{Past}
 use Rattle.sm_table.proofs.Pasts.{past_of-push_none}
 use Rattle.sm_table.proofs.Parts.{parts_of, Keeps}
 
-module _ {Q : Type 0} (w : WorldState Q) (server shard : ℕ) (mode : Mode) (hand : InHand Q) (pasts : List (Past Q)) where
+module _ {Q : Type 0} (w : WorldState Q) (server shard : ℕ) (mode : Mode) (hand : InHand Q)
+    (pasts : List (Past Q)) where
   -- the world after the admission
   abbrev pub entered : WorldState Q
   entered = with_hand (with_entry w server shard (Admit server mode)) shard (Some hand)
@@ -21,9 +22,15 @@ module _ {Q : Type 0} (w : WorldState Q) (server shard : ℕ) (mode : Mode) (han
   pub entered_parts : IsSound entered → with_admission (parts_of w pasts) shard hand ≡ parts_of entered pasts
   entered_parts after =
       let entry : Entry Q = record { actor = server; shard = shard; kind = Admit server mode } in
-      let grown = table_of-push (count_of w) w.frame.ceiling w.history entry (fits-push (count_of w) w.frame.ceiling w.history entry after.legal) in
+      let grown = table_of-push (count_of w) w.frame.ceiling w.history entry
+      (fits-push (count_of w) w.frame.ceiling w.history entry after.legal) in
       ap (λ records. record (with_admission (parts_of w pasts) shard hand) { records = records }) (sym grown)
 
   -- and the pasts that it had
   pub entered_keeps : Keeps w pasts → Keeps entered pasts
-  entered_keeps keeps = record { bodies = keeps.bodies; each = λ other within. keeps.each other within ∙ sym (past_of-push_none w.history (record { actor = server; shard = shard; kind = Admit server mode }) other refl) }
+  entered_keeps keeps =
+      record {
+        bodies = keeps.bodies;
+        each = λ other within. keeps.each other within ∙ sym (past_of-push_none w.history
+            (record { actor = server; shard = shard; kind = Admit server mode }) other refl);
+      }

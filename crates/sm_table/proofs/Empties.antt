@@ -16,32 +16,42 @@ use Rattle.sm_table.specs.Standing.{IsFrame, StandsFor, IsTogether, view_of}
 use Rattle.sm_table.specs.lemmas.Soundness.{sound_empty}
 use Rattle.sm_table.proofs.Routing.{row_of-none}
 
-no_hand : {Q : Type 0} (count shard : ℕ) (hand : InHand Q) → slice_index_or (replicate count None) shard None ≡ Some hand → ⊥
+no_hand : {Q : Type 0} (count shard : ℕ) (hand : InHand Q)
+    → slice_index_or (replicate count None) shard None ≡ Some hand → ⊥
 no_hand {Q = Q} count shard hand is =
     let nothing : Option (InHand Q) = None in
     ⊎_elim
     (λ (within : shard < count). let free = get_or-replicate count shard nothing nothing within in cc)
-    (λ (past : count ≤ shard). let free = get_or_past (replicate count nothing) shard nothing (omega (arith, length-replicate count nothing)) in cc)
+    (λ (past : count ≤ shard). let free =
+    get_or_past (replicate count nothing) shard nothing (omega (arith, length-replicate count nothing)) in cc)
     (cases_lt shard count)
 
 none_yet : (Q : Type 0) (count shard : ℕ) → length (past_at {Q = Q} (replicate count no_past) shard).all ≡ 0
 none_yet Q count shard =
     let nothing : Past Q = no_past in
     ⊎_elim
-    (λ (within : shard < count). ap (λ (p : Past Q). length p.all) (get_or-replicate count shard nothing nothing within))
-    (λ (past : count ≤ shard). ap (λ (p : Past Q). length p.all) (get_or_past (replicate count nothing) shard nothing (omega (arith, length-replicate count nothing))))
+    (λ (within : shard < count). ap (λ (p : Past Q). length p.all)
+    (get_or-replicate count shard nothing nothing within))
+    (λ (past : count ≤ shard). ap (λ (p : Past Q). length p.all)
+    (get_or_past (replicate count nothing) shard nothing (omega (arith, length-replicate count nothing))))
     (cases_lt shard count)
 
-module _ {Q : Type 0} {bounds : List (List ℕ)} {desk : DeskView} {table : TableView} {bodies : BodiesView Q} {routes : List (Option Route)} {in_flight : List (Flight Q)} {in_hand : List (Option (InHand Q))} where
+module _ {Q : Type 0} {bounds : List (List ℕ)} {desk : DeskView} {table : TableView} {bodies : BodiesView Q}
+    {routes : List (Option Route)} {in_flight : List (Flight Q)} {in_hand : List (Option (InHand Q))} where
   -- parts with a vacant record for each shard, where nothing is kept, in flight or in hand
-  pub StandsFor-empty : (frame : Frame) → IsFrame frame → bounds ≡ frame.bounds → desk ≡ frame.start → table.records ≡ replicate (length frame.bounds) vacant → table.ceiling ≡ frame.ceiling → bodies.pasts ≡ replicate (length frame.bounds) no_past → bodies.limits ≡ frame.limits → routes ≡ replicate (length frame.bounds) None → in_flight ≡ [] → in_hand ≡ replicate (length frame.bounds) None → StandsFor (view_of bounds desk table bodies routes in_flight in_hand) (empty_world frame)
+  pub StandsFor-empty : (frame : Frame) → IsFrame frame → bounds ≡ frame.bounds → desk ≡ frame.start
+      → table.records ≡ replicate (length frame.bounds) vacant → table.ceiling ≡ frame.ceiling
+      → bodies.pasts ≡ replicate (length frame.bounds) no_past → bodies.limits ≡ frame.limits
+      → routes ≡ replicate (length frame.bounds) None → in_flight ≡ [] → in_hand ≡ replicate (length frame.bounds) None
+      → StandsFor (view_of bounds desk table bodies routes in_flight in_hand) (empty_world frame)
   StandsFor-empty frame is same start records ceiling empty limits unpublished flights hands = record {
     bounds = same;
     desk = start;
     records = records;
     ceiling = ceiling;
     bodies = ap length empty ∙ length-replicate (length frame.bounds) no_past;
-    pasts = λ shard within. ap (λ all. past_at all shard) empty ∙ get_or-replicate (length frame.bounds) shard no_past no_past within;
+    pasts = λ shard within. ap (λ all. past_at all shard) empty
+        ∙ get_or-replicate (length frame.bounds) shard no_past no_past within;
     limits = limits;
     routes = unpublished ∙ sym (row_of-none 0 (length frame.bounds));
     in_flight = flights;
@@ -49,7 +59,9 @@ module _ {Q : Type 0} {bounds : List (List ℕ)} {desk : DeskView} {table : Tabl
     sound = sound_empty frame is;
   }
 
-  pub IsTogether-empty : (count : ℕ) → length bounds ≡ count → table.records ≡ replicate count vacant → table.ceiling < 2 ^ 36 → bodies.pasts ≡ replicate count no_past → routes ≡ replicate count None → in_flight ≡ [] → in_hand ≡ replicate count None → IsTogether (view_of bounds desk table bodies routes in_flight in_hand)
+  pub IsTogether-empty : (count : ℕ) → length bounds ≡ count → table.records ≡ replicate count vacant
+      → table.ceiling < 2 ^ 36 → bodies.pasts ≡ replicate count no_past → routes ≡ replicate count None → in_flight ≡ []
+      → in_hand ≡ replicate count None → IsTogether (view_of bounds desk table bodies routes in_flight in_hand)
   IsTogether-empty count layout records low pasts unpublished flights hands =
       let long : length in_hand ≡ count = ap length hands ∙ length-replicate count None in
       record {
@@ -57,8 +69,11 @@ module _ {Q : Type 0} {bounds : List (List ℕ)} {desk : DeskView} {table : Tabl
         table = ap length records ∙ length-replicate count vacant ∙ sym long;
         bodies = ap length pasts ∙ length-replicate count no_past ∙ sym long;
         routes = ap length unpublished ∙ length-replicate count None ∙ sym long;
-        flights = subst (λ all. All (λ (flight : Flight Q). flight.envelope.shard < length in_hand) all) (sym flights) (All-nil (λ (flight : Flight Q). flight.envelope.shard < length in_hand));
-        admitted = λ shard hand is. absurd (no_hand count shard hand (ap (λ all. slice_index_or all shard None) (sym hands) ∙ is));
-        few = λ shard. let none : length (past_at bodies.pasts shard).all ≡ 0 = ap (λ all. length (past_at all shard).all) pasts ∙ none_yet Q count shard in omega arith;
+        flights = subst (λ all. All (λ (flight : Flight Q). flight.envelope.shard < length in_hand) all) (sym flights)
+            (All-nil (λ (flight : Flight Q). flight.envelope.shard < length in_hand));
+        admitted = λ shard hand is. absurd
+            (no_hand count shard hand (ap (λ all. slice_index_or all shard None) (sym hands) ∙ is));
+        few = λ shard. let none : length (past_at bodies.pasts shard).all ≡ 0 =
+            ap (λ all. length (past_at all shard).all) pasts ∙ none_yet Q count shard in omega arith;
         low = low;
       }

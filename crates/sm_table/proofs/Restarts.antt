@@ -19,7 +19,8 @@ use Rattle.sm_table.specs.World.{WorldState, Plain, outcome, table_fault, with_c
 use Rattle.sm_table.proofs.Parts.{parts-from_StandsFor, Follows-unchanged, Follows-changed}
 
 -- a step of a restart is for the desk alone: it has no fault of the table, and changes no stand
-spares_table : {Q : Type 0} (w : WorldState Q) (command : Command) → is_restart command ≡ true → (table_fault w command ≡ None) × (with_change w command ≡ w)
+spares_table : {Q : Type 0} (w : WorldState Q) (command : Command) → is_restart command ≡ true
+    → (table_fault w command ≡ None) × (with_change w command ≡ w)
 spares_table w (Change shard change) is = absurd cc
 spares_table w (Ask server) is = (refl, refl)
 spares_table w (Approve server) is = (refl, refl)
@@ -27,7 +28,11 @@ spares_table w (Stopped server) is = (refl, refl)
 spares_table w (Back server) is = (refl, refl)
 spares_table w (Fail server) is = (refl, refl)
 
-module _ {Q R : Type 0} (service : Service Q R) {bounds : List (List ℕ)} {desk_was : DeskView} {table_was : TableView} {bodies_was : BodiesView Q} {routes_was : List (Option Route)} {flights_was : List (Flight Q)} {hands_was : List (Option (InHand Q))} (now : WorldView Q) (same : view_of bounds desk_was table_was bodies_was routes_was flights_was hands_was ≡ now) (w : WorldState Q) (given : StandsFor now w) (command : Command) where
+module _ {Q R : Type 0} (service : Service Q R) {bounds : List (List ℕ)} {desk_was : DeskView} {table_was : TableView}
+    {bodies_was : BodiesView Q} {routes_was : List (Option Route)} {flights_was : List (Flight Q)}
+    {hands_was : List (Option (InHand Q))} (now : WorldView Q)
+    (same : view_of bounds desk_was table_was bodies_was routes_was flights_was hands_was ≡ now) (w : WorldState Q)
+    (given : StandsFor now w) (command : Command) where
   abbrev v : WorldView Q
   v = view_of bounds desk_was table_was bodies_was routes_was flights_was hands_was
 
@@ -35,16 +40,23 @@ module _ {Q R : Type 0} (service : Service Q R) {bounds : List (List ℕ)} {desk
   stands = subst (λ u. StandsFor u w) (sym same) given
 
   -- the desk refuses it
-  pub restart_refused : (fault : CommandFault) → Some fault ≡ desk_fault v.desk command → Follows {R = R} now (Err (CommandRefused fault)) (outcome service w Plain (Control command))
+  pub restart_refused : (fault : CommandFault) → Some fault ≡ desk_fault v.desk command
+      → Follows {R = R} now (Err (CommandRefused fault)) (outcome service w Plain (Control command))
   restart_refused fault is =
-      let refused : desk_fault w.desk command ≡ Some fault = ap (λ desk. desk_fault desk command) (sym stands.desk) ∙ sym is in
-      Follows-unchanged service w Plain (Control command) now now (Err (CommandRefused fault)) given (rw refused refl) refl
+      let refused : desk_fault w.desk command ≡ Some fault =
+      ap (λ desk. desk_fault desk command) (sym stands.desk) ∙ sym is in
+      Follows-unchanged service w Plain (Control command) now now (Err (CommandRefused fault)) given
+      (rw refused refl) refl
 
   -- it is made
-  pub restarted : is_restart command ≡ true → (desk : DeskView) → None ≡ desk_fault v.desk command → desk ≡ commanded v.desk command → Follows {R = R} (record v { desk = desk }) (Ok Made) (outcome service w Plain (Control command))
+  pub restarted : is_restart command ≡ true → (desk : DeskView) → None ≡ desk_fault v.desk command
+      → desk ≡ commanded v.desk command
+      → Follows {R = R} (record v { desk = desk }) (Ok Made) (outcome service w Plain (Control command))
   restarted is desk none noted =
-      let through : desk_fault w.desk command ≡ None = ap (λ one. desk_fault one command) (sym stands.desk) ∙ sym none in
-      Follows-changed service w Plain (Control command) (record v { desk = desk }) (Ok Made) (record w { desk = commanded w.desk command }) v.pasts stands.sound
+      let through : desk_fault w.desk command ≡ None =
+      ap (λ one. desk_fault one command) (sym stands.desk) ∙ sym none in
+      Follows-changed service w Plain (Control command) (record v { desk = desk }) (Ok Made)
+      (record w { desk = commanded w.desk command }) v.pasts stands.sound
       (rw (through, (spares_table w command is).0, (spares_table w command is).1) refl)
       (λ _. ap (λ one. record v { desk = one }) (noted ∙ ap (λ one. commanded one command) stands.desk)
       ∙ ap (λ (u : WorldView Q). record u { desk = commanded w.desk command }) (parts-from_StandsFor v w stands))

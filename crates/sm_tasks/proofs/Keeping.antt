@@ -1,5 +1,6 @@
 -- Steps of restarts keep the caps.
-use Rattle.std.proofs.Common.{ℕ, ◌+◌, ◌<◌, ◌≤◌, ◌≡◌, Bool, true, false, cond, eqb, length, Ok, ap, sym, ◌∙◌, arith, inl, inr, ◌&&◌}
+use Rattle.std.proofs.Common.{ℕ, ◌+◌, ◌<◌, ◌≤◌, ◌≡◌, Bool, true, false, cond, eqb, length, Ok, ap, sym, ◌∙◌, arith, inl}
+use Rattle.std.proofs.Common.{inr, ◌&&◌}
 use Rattle.std.specs.Prelude.{count_by, nat_lt, zip}
 use Rattle.std.proofs.lemmas.Bool.{and_cases, and_from, and_parts, eq-eqb, ltb-false, or_left, or_right}
 use Rattle.std.proofs.lemmas.Bool.Decides.{eqb_tells}
@@ -24,7 +25,8 @@ use Rattle.sm_tasks.proofs.Restarts.{is_leaving-away}
 use Rattle.sm_tasks.proofs.Zipped.{domain_count-with_state, one_server-within}
 
 -- a test of states that the new state passes only if the old one does passes at no further server
-calm : (books : BooksView) (a : ℕ) (state : ServerState) → length books.states ≡ length books.servers → IsKnown books.servers a
+calm : (books : BooksView) (a : ℕ) (state : ServerState) → length books.states ≡ length books.servers
+    → IsKnown books.servers a
     → (test : ServerState → Bool) → (test state ≡ true → test (state_of books a) ≡ true)
     → (b : ℕ) → test (state_of (with_state books a state) b) ≡ true → test (state_of books b) ≡ true
 calm books a state len known test h b e =
@@ -34,7 +36,8 @@ calm books a state len known test h b e =
     ]
 
 -- a test of servers that passes only where another does
-one_within : (p q : ℕ → Bool) (stand : Stand) → ((b : ℕ) → p b ≡ true → q b ≡ true) → names_one p stand ≡ true → names_one q stand ≡ true
+one_within : (p q : ℕ → Bool) (stand : Stand) → ((b : ℕ) → p b ≡ true → q b ≡ true) → names_one p stand ≡ true
+    → names_one q stand ≡ true
 one_within p q stand h e =
     let found = names_one-found p stand e in
     names_one-named q stand found.0 found.1.0 (h found.0 found.1.1)
@@ -45,7 +48,8 @@ of_within p q g shard h e =
     let parts = and_parts (eqb shard.row.group g) (p shard.stand) e in
     and_from (eqb shard.row.group g) (q shard.stand) parts.0 (h parts.1)
 
--- a step to a state that is away only if the old one is, and that is stopped only where the shards are paused, keeps the caps
+-- a step to a state that is away only if the old one is, and that is stopped only where the shards are paused, keeps
+-- the caps
 pub MeetsCaps-calm : (ops : ℕ) (books : BooksView) (a : ℕ) (state : ServerState)
     → length books.states ≡ length books.servers → IsKnown books.servers a
     → (is_away state ≡ true → is_away (state_of books a) ≡ true)
@@ -65,14 +69,19 @@ MeetsCaps-calm ops books a state len known away stopped caps =
           omega (arith, set, less, caps.servers);
       shards = λ k h cap. false_within _ _ (within (shard_at books.shards k).stand) (caps.shards k h cap);
       groups = λ g h.
-          let fewer : group_count (names_away (with_state books a state)) books.shards g ≤ group_count (names_away books) books.shards g =
-          count_by-within (is_in_group (names_away (with_state books a state)) g) (is_in_group (names_away books) g) books.shards
-          (λ shard. of_within (names_away (with_state books a state)) (names_away books) g shard (within shard.stand)) in
+          let fewer : group_count (names_away (with_state books a state)) books.shards g
+          ≤ group_count (names_away books) books.shards g =
+          count_by-within (is_in_group (names_away (with_state books a state)) g)
+          (is_in_group (names_away books) g) books.shards
+          (λ shard. of_within (names_away (with_state books a state)) (names_away books) g shard (within shard.stand))
+          in
           omega (arith, fewer, caps.groups g h);
       stopped = λ k h e.
-          let found = names_one-found (λ b. is_stopped (state_of (with_state books a state) b)) (shard_at books.shards k).stand e in
+          let found = names_one-found (λ b. is_stopped (state_of (with_state books a state) b))
+          (shard_at books.shards k).stand e in
           elim (state_of-set books a found.0 state len known) [
-            | inl p ↦ stopped (sym (ap is_stopped p.1) ∙ found.1.1) k h (sym (ap (names (shard_at books.shards k).stand) p.0) ∙ found.1.0)
+            | inl p ↦ stopped (sym (ap is_stopped p.1) ∙ found.1.1) k h
+                (sym (ap (names (shard_at books.shards k).stand) p.0) ∙ found.1.0)
             | inr p ↦ caps.stopped k h
                 (names_one-named (λ b. is_stopped (state_of books b)) (shard_at books.shards k).stand found.0 found.1.0
                 (sym (ap is_stopped p.1) ∙ found.1.1))
@@ -84,42 +93,55 @@ MeetsCaps-calm ops books a state len known away stopped caps =
     }
 
 -- a server that is asked for, comes back or fails
-pub MeetsCaps-ask : (ops : ℕ) (books : BooksView) (a : ℕ) → length books.states ≡ length books.servers → IsKnown books.servers a
+pub MeetsCaps-ask : (ops : ℕ) (books : BooksView) (a : ℕ) → length books.states ≡ length books.servers
+    → IsKnown books.servers a
     → MeetsCaps ops books → MeetsCaps ops (with_state books a Asked)
-MeetsCaps-ask ops books a len known caps = MeetsCaps-calm ops books a Asked len known (λ e. absurd (cc)) (λ e k h n. absurd (cc)) caps
+MeetsCaps-ask ops books a len known caps =
+    MeetsCaps-calm ops books a Asked len known (λ e. absurd (cc)) (λ e k h n. absurd (cc)) caps
 
-pub MeetsCaps-back : (ops : ℕ) (books : BooksView) (a : ℕ) → length books.states ≡ length books.servers → IsKnown books.servers a
+pub MeetsCaps-back : (ops : ℕ) (books : BooksView) (a : ℕ) → length books.states ≡ length books.servers
+    → IsKnown books.servers a
     → MeetsCaps ops books → MeetsCaps ops (with_state books a Up)
-MeetsCaps-back ops books a len known caps = MeetsCaps-calm ops books a Up len known (λ e. absurd (cc)) (λ e k h n. absurd (cc)) caps
+MeetsCaps-back ops books a len known caps =
+    MeetsCaps-calm ops books a Up len known (λ e. absurd (cc)) (λ e k h n. absurd (cc)) caps
 
-pub MeetsCaps-fail : (ops : ℕ) (books : BooksView) (a : ℕ) → length books.states ≡ length books.servers → IsKnown books.servers a
+pub MeetsCaps-fail : (ops : ℕ) (books : BooksView) (a : ℕ) → length books.states ≡ length books.servers
+    → IsKnown books.servers a
     → MeetsCaps ops books → MeetsCaps ops (with_state books a Failed)
-MeetsCaps-fail ops books a len known caps = MeetsCaps-calm ops books a Failed len known (λ e. absurd (cc)) (λ e k h n. absurd (cc)) caps
+MeetsCaps-fail ops books a len known caps =
+    MeetsCaps-calm ops books a Failed len known (λ e. absurd (cc)) (λ e k h n. absurd (cc)) caps
 
 -- a server that is stopped
-pub MeetsCaps-stopped : (ops : ℕ) (books : BooksView) (a : ℕ) → length books.states ≡ length books.servers → IsKnown books.servers a
+pub MeetsCaps-stopped : (ops : ℕ) (books : BooksView) (a : ℕ) → length books.states ≡ length books.servers
+    → IsKnown books.servers a
     → stoppable books a ≡ Ok tt → MeetsCaps ops books → MeetsCaps ops (with_state books a Stopped)
 MeetsCaps-stopped ops books a len known e caps =
     let may = IsStoppable-stoppable books a e in
-    MeetsCaps-calm ops books a Stopped len known (λ _. is_away-approved (state_of books a) may.approved) (λ _. may.paused) caps
+    MeetsCaps-calm ops books a Stopped len known (λ _. is_away-approved (state_of books a) may.approved)
+    (λ _. may.paused) caps
 
 -- a server that is approved
-pub MeetsCaps-approve : (ops : ℕ) (books : BooksView) (a : ℕ) → length books.states ≡ length books.servers → IsKnown books.servers a
+pub MeetsCaps-approve : (ops : ℕ) (books : BooksView) (a : ℕ) → length books.states ≡ length books.servers
+    → IsKnown books.servers a
     → approvable ops books a ≡ Ok tt → MeetsCaps ops books → MeetsCaps ops (with_state books a Approved)
 MeetsCaps-approve ops books a len known e caps =
     let may = IsApprovable-approvable ops books a e in
     let new = with_state books a Approved in
     let inside : place_of books.servers a < length books.states = rw len known in
-    let unnamed : (stand : Stand) → names stand a ≡ false → names_away new stand ≡ true → names_away books stand ≡ true = λ stand no t.
+    let unnamed : (stand : Stand) → names stand a ≡ false → names_away new stand ≡ true
+    → names_away books stand ≡ true = λ stand no t.
     let found = names_one-found (λ b. is_away (state_of new b)) stand t in
     elim (state_of-set books a found.0 Approved len known) [
       | inl p ↦ let named : names stand a ≡ true = sym (ap (names stand) p.0) ∙ found.1.0 in absurd (cc)
-      | inr p ↦ names_one-named (λ b. is_away (state_of books b)) stand found.0 found.1.0 (sym (ap is_away p.1) ∙ found.1.1)
+      | inr p ↦
+          names_one-named (λ b. is_away (state_of books b)) stand found.0 found.1.0 (sym (ap is_away p.1) ∙ found.1.1)
     ] in
     let down : (stand : Stand) → names_away new stand ≡ true → names_down books a stand ≡ true = λ stand.
-    one_within (λ b. is_away (state_of new b)) (would_be_down books a) stand (λ b t. elim (state_of-set books a b Approved len known) [
+    one_within (λ b. is_away (state_of new b)) (would_be_down books a) stand
+    (λ b t. elim (state_of-set books a b Approved len known) [
       | inl p ↦ or_left (eqb b a) (is_leaving (state_of books b)) (eq-eqb b a p.0)
-      | inr p ↦ or_right (eqb b a) (is_leaving (state_of books b)) (is_leaving-away (state_of books b) (sym (ap is_away p.1) ∙ t))
+      | inr p ↦ or_right (eqb b a) (is_leaving (state_of books b))
+          (is_leaving-away (state_of books b) (sym (ap is_away p.1) ∙ t))
     ]) in
     record {
       servers =
@@ -127,14 +149,16 @@ MeetsCaps-approve ops books a len known e caps =
           let less : count_by is_away books.states ≤ leaving_count books =
           count_by-within is_away is_leaving books.states is_leaving-away in
           omega (arith, one, less, may.few);
-      shards = λ k h cap. false_within _ _ (unnamed (shard_at books.shards k).stand (may.uncapped k h cap)) (caps.shards k h cap);
+      shards = λ k h cap. false_within _ _ (unnamed (shard_at books.shards k).stand (may.uncapped k h cap))
+          (caps.shards k h cap);
       groups = λ g h.
           elim (and_cases (nat_lt 0 (group_count (λ stand. names stand a) books.shards g))
           (nat_lt (down_of books g) (group_count (names_down books a) books.shards g)) (may.groups g h)) [
             | inl p ↦
                 let none : group_count (λ stand. names stand a) books.shards g ≤ 0 =
                 ltb-false 0 (group_count (λ stand. names stand a) books.shards g) p in
-                let fewer : group_count (names_away new) books.shards g ≤ group_count (names_away books) books.shards g =
+                let fewer :
+                group_count (names_away new) books.shards g ≤ group_count (names_away books) books.shards g =
                 count_by-within_but (is_in_group (names_away new) g) (is_in_group (names_away books) g)
                 (is_in_group (λ stand. names stand a) g) books.shards none
                 (λ shard no t. of_within (names_away new) (names_away books) g shard
@@ -145,13 +169,15 @@ MeetsCaps-approve ops books a len known e caps =
             | inr p ↦
                 let few : group_count (names_down books a) books.shards g ≤ down_of books g =
                 ltb-false (down_of books g) (group_count (names_down books a) books.shards g) p in
-                let fewer : group_count (names_away new) books.shards g ≤ group_count (names_down books a) books.shards g =
+                let fewer :
+                group_count (names_away new) books.shards g ≤ group_count (names_down books a) books.shards g =
                 count_by-within (is_in_group (names_away new) g) (is_in_group (names_down books a) g) books.shards
                 (λ shard. of_within (names_away new) (names_down books a) g shard (down shard.stand)) in
                 omega (arith, fewer, few)
           ];
       stopped = λ k h t. caps.stopped k h
-          (one_within (λ b. is_stopped (state_of new b)) (λ b. is_stopped (state_of books b)) (shard_at books.shards k).stand
+          (one_within (λ b. is_stopped (state_of new b)) (λ b. is_stopped (state_of books b))
+          (shard_at books.shards k).stand
           (calm books a Approved len known is_stopped (λ s. absurd (cc))) t);
       domains = λ d.
           let set = domain_count-with_state is_away books a Approved d len known in
@@ -175,7 +201,8 @@ MeetsCaps-approve ops books a len known e caps =
     cond_most true = omega arith
     cond_most false = omega arith
 
-    away_leaves : (d : ℕ) (server : ServerRow × ServerState) → is_server_of is_away d server ≡ true → is_server_of is_leaving d server ≡ true
+    away_leaves : (d : ℕ) (server : ServerRow × ServerState) → is_server_of is_away d server ≡ true
+        → is_server_of is_leaving d server ≡ true
     away_leaves d server e =
         let parts = and_parts (eqb server.0.domain d) (is_away server.1) e in
         and_from (eqb server.0.domain d) (is_leaving server.1) parts.0 (is_leaving-away server.1 parts.1)

@@ -15,10 +15,12 @@ use Rattle.sm_place.specs.Books.{BooksView, domain_of, no_shard, shard_at, state
 use Rattle.sm_ranges.specs.Stand.{names, is_paused}
 use Rattle.sm_place.specs.ServerState.{is_approved, is_asked, is_away, is_failed, is_leaving, is_stopped}
 use Rattle.sm_tasks.specs.declared.task_fault.ApproveFault.{ApproveFault}
-use Rattle.sm_tasks.specs.declared.task_fault.ApproveFault.TheVariants.{NotAsked, GlobalCap, ShardCap, GroupCap, DomainCap}
+use Rattle.sm_tasks.specs.declared.task_fault.ApproveFault.TheVariants.{NotAsked, GlobalCap, ShardCap, GroupCap}
+use Rattle.sm_tasks.specs.declared.task_fault.ApproveFault.TheVariants.{DomainCap}
 use Rattle.sm_tasks.specs.declared.task_fault.StoppedFault.{StoppedFault}
 use Rattle.sm_tasks.specs.declared.task_fault.StoppedFault.TheVariants.{NotApproved, StillServing}
-use Rattle.sm_tasks.specs.Approvals.{approvable, capped_shard, full_domain, full_group, is_full, leaving_count, ok_unless, serving_shard, stoppable}
+use Rattle.sm_tasks.specs.Approvals.{approvable, capped_shard, full_domain, full_group, is_full, leaving_count}
+use Rattle.sm_tasks.specs.Approvals.{ok_unless, serving_shard, stoppable}
 use Rattle.sm_tasks.specs.Domains.{domain_count, domain_down}
 
 no_place : (n len : ℕ) → cond (nat_lt n len) (Some n) None ≡ None → len ≤ n
@@ -41,10 +43,12 @@ cond_within false q n h = omega arith
 cond_within true true n h = omega arith
 cond_within true false n h = let e = h refl in absurd (cc)
 
--- a test that passes only where another does passes no more often, also where it does so only at elements that a third test
--- refuses, which refuses all
-pub count_by-within : {X : Type 0} (p q : X → Bool) (xs : List X) → ((x : X) → p x ≡ true → q x ≡ true) → count_by p xs ≤ count_by q xs
-count_by-within p q xs h = sum_by-le-sum_by (λ x. cond (p x) 1 0) (λ x. cond (q x) 1 0) xs (λ x. cond_within (p x) (q x) 1 (h x))
+-- a test that passes only where another does passes no more often, also where it does so only at elements that a third
+-- test refuses, which refuses all
+pub count_by-within : {X : Type 0} (p q : X → Bool) (xs : List X) → ((x : X) → p x ≡ true → q x ≡ true)
+    → count_by p xs ≤ count_by q xs
+count_by-within p q xs h =
+    sum_by-le-sum_by (λ x. cond (p x) 1 0) (λ x. cond (q x) 1 0) xs (λ x. cond_within (p x) (q x) 1 (h x))
 
 pub count_by-within_but : {X : Type 0} (p q r : X → Bool) (xs : List X) → count_by r xs ≤ 0
     → ((x : X) → r x ≡ false → p x ≡ true → q x ≡ true) → count_by p xs ≤ count_by q xs
@@ -69,32 +73,40 @@ count_by-within_but p q r (x ∷ xs) none h =
 pub record IsApprovable (ops : ℕ) (books : BooksView) (a : ℕ) : Type 0 where
   pub asked : is_asked (state_of books a) ≡ true
   pub few : leaving_count books + 1 ≤ ops
-  pub uncapped : (k : ℕ) → k < length books.shards → (shard_at books.shards k).row.cap ≡ 0 → names (shard_at books.shards k).stand a ≡ false
+  pub uncapped : (k : ℕ) → k < length books.shards → (shard_at books.shards k).row.cap ≡ 0
+      → names (shard_at books.shards k).stand a ≡ false
   pub groups : (g : ℕ) → g < length books.groups → is_full books a g ≡ false
-  pub domain : domain_count is_leaving books (domain_of books.servers a) + 1 ≤ domain_down books (domain_of books.servers a)
+  pub domain :
+      domain_count is_leaving books (domain_of books.servers a) + 1 ≤ domain_down books (domain_of books.servers a)
 
-pub IsApprovable-approvable : (ops : ℕ) (books : BooksView) (a : ℕ) → approvable ops books a ≡ Ok tt → IsApprovable ops books a
+pub IsApprovable-approvable : (ops : ℕ) (books : BooksView) (a : ℕ) → approvable ops books a ≡ Ok tt
+    → IsApprovable ops books a
 IsApprovable-approvable ops books a e =
     let d = domain_of books.servers a in
-    let t = five (is_asked (state_of books a)) (nat_lt ops (leaving_count books + 1)) (capped_shard books a) (full_group books a)
+    let t = five (is_asked (state_of books a)) (nat_lt ops (leaving_count books + 1)) (capped_shard books a)
+    (full_group books a)
     (nat_lt (domain_down books d) (domain_count is_leaving books d + 1)) d e in
     record {
       asked = t.0;
       few = ltb-false ops (leaving_count books + 1) t.1.0;
-      uncapped = λ k h cap. unnamed (eqb (shard_at books.shards k).row.cap 0) (names (shard_at books.shards k).stand a) (eq-eqb _ _ cap)
+      uncapped = λ k h cap. unnamed (eqb (shard_at books.shards k).row.cap 0) (names (shard_at books.shards k).stand a)
+          (eq-eqb _ _ cap)
           (fails_everywhere (λ shard. eqb shard.row.cap 0 && names shard.stand a) books.shards k no_shard t.1.1.0 h);
       groups = λ g h.
-          let inside : g < length (range_with_len 0 (length books.groups)) = rw (length-range_with_len 0 (length books.groups)) h in
+          let inside : g < length (range_with_len 0 (length books.groups)) =
+          rw (length-range_with_len 0 (length books.groups)) h in
           let at : get_or (range_with_len 0 (length books.groups)) g 0 ≡ g =
           get_or-range_with_len 0 (length books.groups) g 0 h ∙ zero-add g in
-          sym (ap (is_full books a) at) ∙ fails_everywhere (is_full books a) (range_with_len 0 (length books.groups)) g 0 t.1.1.1.0 inside;
+          sym (ap (is_full books a) at)
+          ∙ fails_everywhere (is_full books a) (range_with_len 0 (length books.groups)) g 0 t.1.1.1.0 inside;
       domain = ltb-false (domain_down books d) (domain_count is_leaving books d + 1) t.1.1.1.1;
     }
   where
     five : (p q : Bool) (x y : Option ℕ) (r : Bool) (d : ℕ)
         → ◌≡◌ {A = Result (Unit {0}) ApproveFault}
         (cond (not p) (Err NotAsked) (cond q (Err GlobalCap)
-        (ok_unless (option_or (option_map ShardCap x) (option_or (option_map GroupCap y) (option_map DomainCap (cond r (Some d) None)))))))
+        (ok_unless (option_or (option_map ShardCap x)
+        (option_or (option_map GroupCap y) (option_map DomainCap (cond r (Some d) None)))))))
         (Ok tt)
         → (p ≡ true) × ((q ≡ false) × ((x ≡ None) × ((y ≡ None) × (r ≡ false))))
     five false q x y r d e = absurd (cc)
@@ -119,12 +131,15 @@ IsStoppable-stoppable books a e =
     let t = two (is_approved (state_of books a)) (serving_shard books a) e in
     record {
       approved = t.0;
-      paused = λ k h named. held (names (shard_at books.shards k).stand a) (is_paused (shard_at books.shards k).stand) named
-          (fails_everywhere (λ shard. names shard.stand a && not (is_paused shard.stand)) books.shards k no_shard t.1 h);
+      paused =
+          λ k h named. held (names (shard_at books.shards k).stand a) (is_paused (shard_at books.shards k).stand) named
+          (fails_everywhere
+          (λ shard. names shard.stand a && not (is_paused shard.stand)) books.shards k no_shard t.1 h);
     }
   where
     two : (p : Bool) (x : Option ℕ)
-        → ◌≡◌ {A = Result (Unit {0}) StoppedFault} (cond (not p) (Err NotApproved) (ok_unless (option_map StillServing x)))
+        → ◌≡◌ {A = Result (Unit {0}) StoppedFault}
+        (cond (not p) (Err NotApproved) (ok_unless (option_map StillServing x)))
         (Ok tt) → (p ≡ true) × (x ≡ None)
     two false x e = absurd (cc)
     two true (Some k) e = absurd (cc)

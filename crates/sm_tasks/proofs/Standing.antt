@@ -36,7 +36,8 @@ none_counted p xs all =
     zero_where u e = rw e (omega arith)
 
 -- a vacant shard is of no use to a test
-of_vacant : (test : Stand → Bool) (g : ℕ) (shard : Shard) → test Vacant ≡ false → shard.stand ≡ Vacant → is_in_group test g shard ≡ false
+of_vacant : (test : Stand → Bool) (g : ℕ) (shard : Shard) → test Vacant ≡ false → shard.stand ≡ Vacant
+    → is_in_group test g shard ≡ false
 of_vacant test g shard fails e = and_right (eqb shard.row.group g) (test shard.stand) (ap test e ∙ fails)
 
 pub MeetsCaps-all_up : (ops : ℕ) (books : BooksView) → All (λ state. state ≡ Up) books.states
@@ -60,7 +61,8 @@ MeetsCaps-all_up ops books up all = record {
       omega (arith, none);
 }
 
-pub MeetsCaps-new : (ops : ℕ) (servers : List ServerRow) (groups : List GroupRow) (shards : List ShardRow) (domains : List DomainRow)
+pub MeetsCaps-new :
+    (ops : ℕ) (servers : List ServerRow) (groups : List GroupRow) (shards : List ShardRow) (domains : List DomainRow)
     → MeetsCaps ops (new_books servers groups shards domains)
 MeetsCaps-new ops servers groups shards domains =
     MeetsCaps-all_up ops (new_books servers groups shards domains)
@@ -73,7 +75,8 @@ old_away : (books : BooksView) (old stand : Stand) → TakesNoneLeaving books ol
 old_away books old stand takes e =
     let found = names_one-found (λ b. is_away (state_of books b)) stand e in
     elim (AllNamed-at
-    (λ a. (is_leaving (state_of books a) ≡ false) ⊎ ((names old a ≡ true) × (is_paused old ≡ true → is_paused stand ≡ true)))
+    (λ a. (is_leaving (state_of books a) ≡ false)
+    ⊎ ((names old a ≡ true) × (is_paused old ≡ true → is_paused stand ≡ true)))
     stand takes found.0 found.1.0) [
       | inl stays ↦ let leaves = is_leaving-away (state_of books found.0) found.1.1 in absurd (cc)
       | inr named ↦ names_one-named (λ b. is_away (state_of books b)) old found.0 named.0 found.1.1
@@ -81,11 +84,13 @@ old_away books old stand takes e =
 
 -- and one that is stopped only if the old one does, and stays paused
 still_paused : (books : BooksView) (old stand : Stand) → TakesNoneLeaving books old stand
-    → (names_stopped books old ≡ true → is_paused old ≡ true) → names_stopped books stand ≡ true → is_paused stand ≡ true
+    → (names_stopped books old ≡ true → is_paused old ≡ true) → names_stopped books stand ≡ true
+    → is_paused stand ≡ true
 still_paused books old stand takes held e =
     let found = names_one-found (λ b. is_stopped (state_of books b)) stand e in
     elim (AllNamed-at
-    (λ a. (is_leaving (state_of books a) ≡ false) ⊎ ((names old a ≡ true) × (is_paused old ≡ true → is_paused stand ≡ true)))
+    (λ a. (is_leaving (state_of books a) ≡ false)
+    ⊎ ((names old a ≡ true) × (is_paused old ≡ true → is_paused stand ≡ true)))
     stand takes found.0 found.1.0) [
       | inl stays ↦ let leaves =
           is_leaving-away (state_of books found.0) (is_away-stopped (state_of books found.0) found.1.1) in absurd (cc)
@@ -117,11 +122,14 @@ MeetsCaps-taken ops books k stand inside takes caps =
         | inr p ↦
             let e = shard_at-other books.shards k j stand p.1 in
             let h' : j < length books.shards = rw (← length-with_stand books.shards k stand) h in
-            ap (λ (x : Shard). names_away books x.stand) e ∙ caps.shards j h' (sym (ap (λ (x : Shard). x.row.cap) e) ∙ cap)
+            ap (λ (x : Shard). names_away books x.stand) e
+            ∙ caps.shards j h' (sym (ap (λ (x : Shard). x.row.cap) e) ∙ cap)
       ];
       groups = λ g h.
-          let set = sum_by-set (λ x. cond (is_in_group (names_away books) g x) 1 0) books.shards k (moved s stand) no_shard inside in
-          let less : cond (is_in_group (names_away books) g (moved s stand)) 1 0 ≤ cond (is_in_group (names_away books) g s) 1 0 =
+          let set = sum_by-set (λ x. cond (is_in_group (names_away books) g x) 1 0) books.shards k
+          (moved s stand) no_shard inside in
+          let less : cond (is_in_group (names_away books) g (moved s stand)) 1 0
+          ≤ cond (is_in_group (names_away books) g s) 1 0 =
           cond_within (is_in_group (names_away books) g (moved s stand)) (is_in_group (names_away books) g s) 1
           (of_within (names_away books) g s stand away) in
           omega (arith, set, less, caps.groups g h);
@@ -130,17 +138,20 @@ MeetsCaps-taken ops books k stand inside takes caps =
             let e : shard_at (with_stand books.shards k stand) j ≡ moved s stand =
             ap (shard_at (with_stand books.shards k stand)) p.1 ∙ shard_at-same books.shards k stand inside in
             ap (λ (x : Shard). is_paused x.stand) e
-            ∙ still_paused books s.stand stand takes (caps.stopped k inside) (sym (ap (λ (x : Shard). names_stopped books x.stand) e) ∙ t)
+            ∙ still_paused books s.stand stand takes (caps.stopped k inside)
+            (sym (ap (λ (x : Shard). names_stopped books x.stand) e) ∙ t)
         | inr p ↦
             let e = shard_at-other books.shards k j stand p.1 in
             let h' : j < length books.shards = rw (← length-with_stand books.shards k stand) h in
-            ap (λ (x : Shard). is_paused x.stand) e ∙ caps.stopped j h' (sym (ap (λ (x : Shard). names_stopped books x.stand) e) ∙ t)
+            ap (λ (x : Shard). is_paused x.stand) e
+            ∙ caps.stopped j h' (sym (ap (λ (x : Shard). names_stopped books x.stand) e) ∙ t)
       ];
       domains = caps.domains;
     }
 
 -- a server that stays serves the shard
-pub MeetsCaps-serving : (ops : ℕ) (books : BooksView) (k a : ℕ) → k < length books.shards → is_leaving (state_of books a) ≡ false
+pub MeetsCaps-serving : (ops : ℕ) (books : BooksView) (k a : ℕ) → k < length books.shards
+    → is_leaving (state_of books a) ≡ false
     → MeetsCaps ops books → MeetsCaps ops (record books { shards = with_stand books.shards k (Serving a) })
 MeetsCaps-serving ops books k a inside stays caps = MeetsCaps-taken ops books k (Serving a) inside (inl stays, tt) caps
 
@@ -161,5 +172,7 @@ pub MeetsCaps-fewer : (ops : ℕ) (books : BooksView) (k : ℕ) (stand : Stand) 
 MeetsCaps-fewer ops books k stand inside unpaused named caps =
     let old = (shard_at books.shards k).stand in
     let held : is_paused old ≡ true → is_paused stand ≡ true = λ h. absurd (cc) in
-    MeetsCaps-taken ops books k stand inside
-    (IfSome_then (owner_of stand) named.0 (λ a n. inr (n, held)), IfSome_then (other_of stand) named.1 (λ a n. inr (n, held))) caps
+    MeetsCaps-taken ops books k stand inside (
+      IfSome_then (owner_of stand) named.0 (λ a n. inr (n, held)),
+      IfSome_then (other_of stand) named.1 (λ a n. inr (n, held)),
+    ) caps

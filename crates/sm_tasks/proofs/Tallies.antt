@@ -22,8 +22,10 @@ pub record CountsTo (test : Stand → Bool) (shards : List Shard) (i : ℕ) (cou
   pub len : length counts ≡ MAX_GROUPS
   pub at : (g : ℕ) → g < MAX_GROUPS → get_or counts g 0 ≡ group_count test (take i shards) g
 
-group_count-more : (test : Stand → Bool) (shards : List Shard) (i g : ℕ) (shard : Shard) → i < length shards → shard ≡ get_or shards i shard
-    → group_count test (take (i + 1) shards) g ≡ group_count test (take i shards) g + cond (is_in_group test g shard) 1 0
+group_count-more : (test : Stand → Bool) (shards : List Shard) (i g : ℕ) (shard : Shard) → i < length shards
+    → shard ≡ get_or shards i shard
+    → group_count test (take (i + 1) shards) g ≡ group_count test (take i shards) g
+    + cond (is_in_group test g shard) 1 0
 group_count-more test shards i g shard h e =
     sum_by_more (λ s. cond (is_in_group test g s) 1 0) shards i shard h
     ∙ ap (λ s. group_count test (take i shards) g + cond (is_in_group test g s) 1 0) (sym e)
@@ -43,15 +45,18 @@ CountsTo-counted test shards i counts shard n h e pass small en so = record {
         let more = group_count-more test shards i shard.row.group shard h e in
         let one : ◌≡◌ {A = ℕ} (cond (is_in_group test shard.row.group shard) 1 0) 1 =
         ap (λ u. cond u 1 0)
-        (and_from (eqb shard.row.group shard.row.group) (test shard.stand) (eq-eqb shard.row.group shard.row.group refl) pass) in
-        let goal : get_or (set counts shard.row.group (n + 1)) shard.row.group 0 ≡ group_count test (take (i + 1) shards) shard.row.group =
+        (and_from (eqb shard.row.group shard.row.group) (test shard.stand)
+        (eq-eqb shard.row.group shard.row.group refl) pass) in
+        let goal : get_or (set counts shard.row.group (n + 1)) shard.row.group 0
+        ≡ group_count test (take (i + 1) shards) shard.row.group =
         omega (arith, here, more, one, en, so.at shard.row.group small) in
         rw (← p.1) goal
     | inr p ↦
         let there : get_or (set counts shard.row.group (n + 1)) g 0 ≡ get_or counts g 0 =
         get_or-set_other counts shard.row.group g (n + 1) 0 (λ same. p.1 (sym same)) in
         let more = group_count-more test shards i g shard h e in
-        let none : ◌≡◌ {A = ℕ} (cond (is_in_group test g shard) 1 0) 0 = ap (λ u. cond (u && test shard.stand) 1 0) p.0 in
+        let none : ◌≡◌ {A = ℕ} (cond (is_in_group test g shard) 1 0) 0 =
+        ap (λ u. cond (u && test shard.stand) 1 0) p.0 in
         omega (arith, there, more, none, so.at g hg)
   ];
 }
@@ -69,20 +74,23 @@ CountsTo-passed test shards i counts shard h e fail so = record {
       omega (arith, more, none, so.at g hg);
 }
 
-pub CountsTo-none : (test : Stand → Bool) (shards : List Shard) (n : ℕ) → n ≡ MAX_GROUPS → CountsTo test shards 0 (replicate n 0)
+pub CountsTo-none : (test : Stand → Bool) (shards : List Shard) (n : ℕ) → n ≡ MAX_GROUPS
+    → CountsTo test shards 0 (replicate n 0)
 CountsTo-none test shards n e = record {
   len = length-replicate n 0 ∙ e;
   at = λ g hg. get_or-replicate n g 0 0 (omega arith);
 }
 
 -- so many shards count at most so much
-pub CountsTo-le : (test : Stand → Bool) (shards : List Shard) (i : ℕ) (counts : List ℕ) (g : ℕ) → CountsTo test shards i counts
+pub CountsTo-le : (test : Stand → Bool) (shards : List Shard) (i : ℕ) (counts : List ℕ) (g : ℕ)
+    → CountsTo test shards i counts
     → g < MAX_GROUPS → get_or counts g 0 ≤ i
 CountsTo-le test shards i counts g so hg =
     omega (arith, so.at g hg, count_by-le-length (is_in_group test g) (take i shards), length-take i shards)
 
 -- all shards
-pub CountsTo-all : (test : Stand → Bool) (shards : List Shard) (i : ℕ) (counts : List ℕ) → length shards ≤ i → CountsTo test shards i counts
+pub CountsTo-all : (test : Stand → Bool) (shards : List Shard) (i : ℕ) (counts : List ℕ) → length shards ≤ i
+    → CountsTo test shards i counts
     → (g : ℕ) → g < MAX_GROUPS → get_or counts g 0 ≡ group_count test shards g
 CountsTo-all test shards i counts h so g hg = so.at g hg ∙ ap (λ xs. group_count test xs g) (take_all i shards h)
 
@@ -91,7 +99,8 @@ pub position-first : (p : ℕ → Bool) (n i : ℕ) → i < n → ((k : ℕ) →
     → position p (range_with_len 0 n) ≡ Some i
 position-first p n i h before here =
     let len = length-range_with_len 0 n in
-    let at : (k : ℕ) → k < n → get_or (range_with_len 0 n) k 0 ≡ k = λ k hk. get_or-range_with_len 0 n k 0 hk ∙ zero-add k in
+    let at : (k : ℕ) → k < n → get_or (range_with_len 0 n) k 0 ≡ k =
+    λ k hk. get_or-range_with_len 0 n k 0 hk ∙ zero-add k in
     let is : position_or_len p (range_with_len 0 n) ≡ i =
     position_or_len_is p (range_with_len 0 n) i 0 (omega arith) (λ k hk. ap p (at k (omega arith)) ∙ before k hk)
     (λ _. ap p (at i h) ∙ here) in
@@ -101,9 +110,11 @@ position-first p n i h before here =
 pub position-none : (p : ℕ → Bool) (n : ℕ) → ((k : ℕ) → k < n → p k ≡ false) → position p (range_with_len 0 n) ≡ None
 position-none p n all =
     let len = length-range_with_len 0 n in
-    let at : (k : ℕ) → k < n → get_or (range_with_len 0 n) k 0 ≡ k = λ k hk. get_or-range_with_len 0 n k 0 hk ∙ zero-add k in
+    let at : (k : ℕ) → k < n → get_or (range_with_len 0 n) k 0 ≡ k =
+    λ k hk. get_or-range_with_len 0 n k 0 hk ∙ zero-add k in
     let is : position_or_len p (range_with_len 0 n) ≡ n =
-    position_or_len_is p (range_with_len 0 n) n 0 (omega arith) (λ k hk. ap p (at k hk) ∙ all k hk) (λ low. absurd (omega arith)) in
+    position_or_len_is p (range_with_len 0 n) n 0 (omega arith) (λ k hk. ap p (at k hk) ∙ all k hk)
+    (λ low. absurd (omega arith)) in
     rw (is, len, le-ltb n n (omega arith)) refl
 
 -- which groups are full
@@ -111,8 +122,10 @@ pub is_full-yes : (books : BooksView) (a g : ℕ) → 0 < group_count (λ stand.
     → down_of books g < group_count (names_down books a) books.shards g → is_full books a g ≡ true
 is_full-yes books a g named down = rw (lt-ltb _ _ named, lt-ltb _ _ down) refl
 
-pub is_full-unnamed : (books : BooksView) (a g : ℕ) → group_count (λ stand. names stand a) books.shards g ≤ 0 → is_full books a g ≡ false
+pub is_full-unnamed : (books : BooksView) (a g : ℕ) → group_count (λ stand. names stand a) books.shards g ≤ 0
+    → is_full books a g ≡ false
 is_full-unnamed books a g named = rw (le-ltb _ _ named) refl
 
-pub is_full-few : (books : BooksView) (a g : ℕ) → group_count (names_down books a) books.shards g ≤ down_of books g → is_full books a g ≡ false
+pub is_full-few : (books : BooksView) (a g : ℕ) → group_count (names_down books a) books.shards g ≤ down_of books g
+    → is_full books a g ≡ false
 is_full-few books a g down = and_right _ _ (le-ltb _ _ down)

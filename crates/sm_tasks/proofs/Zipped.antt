@@ -1,5 +1,6 @@
 -- Counts of a domain's servers, where the state of one was set.
-use Rattle.std.proofs.Common.{ℕ, zero, suc, ◌+◌, ◌<◌, ◌≤◌, ◌≡◌, Bool, true, false, cond, eqb, List, [], ◌∷◌, length, get_or, set, refl, ap, sym, ◌∙◌, arith, ◌&&◌}
+use Rattle.std.proofs.Common.{ℕ, zero, suc, ◌+◌, ◌<◌, ◌≤◌, ◌≡◌, Bool, true, false, cond, eqb, List, [], ◌∷◌, length}
+use Rattle.std.proofs.Common.{get_or, set, refl, ap, sym, ◌∙◌, arith, ◌&&◌}
 use Rattle.std.specs.Prelude.{All, count_by, zip}
 use Rattle.std.proofs.lemmas.Bool.{and_from, and_parts}
 use Rattle.std.proofs.lemmas.List.Elements.{All-head, All-tail}
@@ -34,7 +35,8 @@ length-zip (x ∷ xs) (y ∷ ys) (suc i) h k = let rest = length-zip xs ys i (om
 -- what the server whose state is set adds to a count before and after
 pub domain_count-with_state : (test : ServerState → Bool) (books : BooksView) (a : ℕ) (state : ServerState) (d : ℕ)
     → length books.states ≡ length books.servers → IsKnown books.servers a
-    → domain_count test (with_state books a state) d + cond (is_server_of test d (row_by_id books.servers a, state_of books a)) 1 0
+    → domain_count test (with_state books a state) d
+    + cond (is_server_of test d (row_by_id books.servers a, state_of books a)) 1 0
     ≡ domain_count test books d + cond (is_server_of test d (row_by_id books.servers a, state)) 1 0
 domain_count-with_state test books a state d len known =
     let at = place_of books.servers a in
@@ -43,7 +45,8 @@ domain_count-with_state test books a state d len known =
     let set_at = sum_by-set count (zip books.servers books.states) at (row_by_id books.servers a, state) (no_server, Up)
     (length-zip books.servers books.states at known inside) in
     let old : ServerRow × ServerState = (row_by_id books.servers a, state_of books a) in
-    let whole : List (ServerRow × ServerState) = set (zip books.servers books.states) at (row_by_id books.servers a, state) in
+    let whole : List (ServerRow × ServerState) =
+    set (zip books.servers books.states) at (row_by_id books.servers a, state) in
     ap (λ (servers : List (ServerRow × ServerState)). count_by (is_server_of test d) servers + count old)
     (zip-set books.servers books.states at state no_server known)
     ∙ ap (λ (server : ServerRow × ServerState). count_by (is_server_of test d) whole + count server)

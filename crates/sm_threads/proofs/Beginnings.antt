@@ -1,5 +1,6 @@
 -- What settings give a cluster at its start.
-use Rattle.std.proofs.Common.{◌≡◌, ◌*◌, ◌<◌, ◌≤◌, ⊎_elim, Result, Ok, Err, OnErr, ℕ, zero, suc, List, [], ◌∷◌, All, map, length, replicate, refl, sym, ap, ◌∙◌, subst, None}
+use Rattle.std.proofs.Common.{◌≡◌, ◌*◌, ◌<◌, ◌≤◌, ⊎_elim, Result, Ok, Err, OnErr, ℕ, zero, suc, List, [], ◌∷◌, All, map}
+use Rattle.std.proofs.Common.{length, replicate, refl, sym, ap, ◌∙◌, subst, None}
 use Rattle.std.proofs.lemmas.List.{length-replicate}
 use Rattle.std.proofs.lemmas.Bool.{cases_lt}
 use Rattle.sm_cluster.specs.declared.TheConstants.{MAX_WORKERS}
@@ -14,7 +15,8 @@ use Rattle.sm_threads.specs.Sessions.{IsBegun, IsNewClientOf, SessionValue}
 use Rattle.sm_threads.specs.declared.cluster_backend.TheConstants.{LOADERS}
 
 -- the limits of bodies that are alike
-pub limits_of : (count : ℕ) (body : TextLog) → map (λ (each : TextLog). each.limit) (replicate count body) ≡ replicate count body.limit
+pub limits_of : (count : ℕ) (body : TextLog)
+    → map (λ (each : TextLog). each.limit) (replicate count body) ≡ replicate count body.limit
 limits_of zero body = refl
 limits_of (suc count) body = ap (λ (rest : List ℕ). body.limit ∷ rest) (limits_of count body)
 
@@ -23,29 +25,41 @@ pub made_is_not_refused : {T E : Type 0} (made : T) (fault : E) → Ok made ≡ 
 made_is_not_refused {T} {E} made fault same = let P : Result T E → Type 0 = λ r. OnErr r ⊥ in subst P same tt
 
 -- a start that gives a cluster had no more workers than there may be
-pub few_workers : (settings : SettingsValues) (desk : DeskView) (workers : ℕ) → desk ≡ settings_desk settings → workers ≡ settings.workers
+pub few_workers : (settings : SettingsValues) (desk : DeskView) (workers : ℕ) → desk ≡ settings_desk settings
+    → workers ≡ settings.workers
     → (MAX_WORKERS < length desk.books.servers * workers → ⊥) → length settings.servers * settings.workers ≤ MAX_WORKERS
 few_workers settings desk workers desk_is same few =
-    let rows : length desk.books.servers ≡ length settings.servers = ap (λ (d : DeskView). length d.books.servers) desk_is in
-    let many : length desk.books.servers * workers ≡ length settings.servers * settings.workers = (λ i. rows i * same i) in
-    ⊎_elim (λ much. absurd (few (subst (λ n. MAX_WORKERS < n) (sym many) much))) (λ most. most) (cases_lt MAX_WORKERS (length settings.servers * settings.workers))
+    let rows : length desk.books.servers ≡ length settings.servers =
+    ap (λ (d : DeskView). length d.books.servers) desk_is in
+    let many : length desk.books.servers * workers ≡ length settings.servers * settings.workers =
+    (λ i. rows i * same i) in
+    ⊎_elim (λ much. absurd (few (subst (λ n. MAX_WORKERS < n) (sym many) much))) (λ most. most)
+    (cases_lt MAX_WORKERS (length settings.servers * settings.workers))
 
 abbrev new_map : ℕ → MapView
 new_map count = record { count = count; published = [] }
 
 -- the session of a cluster that was started from the settings' parts
-pub is_begun : (settings : SettingsValues) (session : SessionValue) (cluster : ClusterValue Request) (desk : DeskView) (bodies : List TextLog) (count : ℕ)
-    → count ≡ length settings.bounds → desk ≡ settings_desk settings → bodies ≡ replicate count (record { base = []; before = 0; requests = []; limit = settings.kept })
-    → session.cluster ≡ cluster → cluster.control.desk ≡ desk → cluster.control.chair.seen ≡ [] → cluster.control.chair.board.limits.ceiling ≡ settings.ceiling
-    → cluster.control.chair.board.limits.bodies ≡ map (λ (body : TextLog). body.limit) bodies → cluster.bounds ≡ settings.bounds → cluster.holds ≡ replicate (length bodies) None
+pub is_begun : (settings : SettingsValues) (session : SessionValue) (cluster : ClusterValue Request) (desk : DeskView)
+    (bodies : List TextLog) (count : ℕ)
+    → count ≡ length settings.bounds → desk ≡ settings_desk settings
+    → bodies ≡ replicate count (record { base = []; before = 0; requests = []; limit = settings.kept })
+    → session.cluster ≡ cluster → cluster.control.desk ≡ desk → cluster.control.chair.seen ≡ []
+    → cluster.control.chair.board.limits.ceiling ≡ settings.ceiling
+    → cluster.control.chair.board.limits.bodies ≡ map (λ (body : TextLog). body.limit) bodies
+    → cluster.bounds ≡ settings.bounds → cluster.holds ≡ replicate (length bodies) None
     → cluster.map.map ≡ new_map (length bodies) → cluster.control.chair.board.limits.count ≡ length bodies
-    → IsNewClientOf cluster session.client → All (IsNewClientOf cluster) session.loaders → length session.loaders ≡ LOADERS
+    → IsNewClientOf cluster session.client → All (IsNewClientOf cluster) session.loaders
+    → length session.loaders ≡ LOADERS
     → length settings.servers * settings.workers ≤ MAX_WORKERS → IsBegun settings session
-is_begun settings session cluster desk bodies count counted desk_is bodies_are same desk_in seen ceiling limits bounds holds map_is shards client loaders enough workers =
+is_begun settings session cluster desk bodies count counted desk_is bodies_are same desk_in seen ceiling limits bounds
+    holds map_is shards client loaders enough workers =
     let body : TextLog = record { base = []; before = 0; requests = []; limit = settings.kept } in
-    let many : length bodies ≡ length settings.bounds = ap length bodies_are ∙ (length-replicate count body ∙ counted) in
+    let many : length bodies ≡ length settings.bounds =
+    ap length bodies_are ∙ (length-replicate count body ∙ counted) in
     let kept : map (λ (each : TextLog). each.limit) bodies ≡ replicate (length settings.bounds) settings.kept =
-    ap (map (λ (each : TextLog). each.limit)) bodies_are ∙ (limits_of count body ∙ ap (λ (n : ℕ). replicate n settings.kept) counted) in
+    ap (map (λ (each : TextLog). each.limit)) bodies_are
+    ∙ (limits_of count body ∙ ap (λ (n : ℕ). replicate n settings.kept) counted) in
     record {
       desk = ap (λ (c : ClusterValue Request). c.control.desk) same ∙ (desk_in ∙ desk_is);
       seen = ap (λ (c : ClusterValue Request). c.control.chair.seen) same ∙ seen;

@@ -1,5 +1,6 @@
 -- Clients stay a cluster's own where its board and its ranges stay.
-use Rattle.std.proofs.Common.{inl, inr, ◌≡◌, ◌<◌, ◌≤◌, ℕ, List, [], ◌∷◌, ◌++◌, All, Option, Some, IfSome, length, map, replicate, take, drop, pos, refl, sym, ap, ◌∙◌, subst, arith, length-append, ◌+◌, ◌-◌}
+use Rattle.std.proofs.Common.{inl, inr, ◌≡◌, ◌<◌, ◌≤◌, ℕ, List, [], ◌∷◌, ◌++◌, All, Option, Some, IfSome, length, map}
+use Rattle.std.proofs.Common.{replicate, take, drop, pos, refl, sym, ap, ◌∙◌, subst, arith, length-append, ◌+◌, ◌-◌}
 use Rattle.std.specs.Prelude.{slice_index_or, ◌⊎◌}
 use Rattle.std.specs.Option.{option_to_list}
 use Rattle.std.proofs.lemmas.Bool.{cases_lt}
@@ -20,20 +21,27 @@ use Rattle.sm_service.specs.declared.request.Request.TheVariants.{Get, Inc}
 use Rattle.sm_threads.specs.Loads.{IsLoadOf, count_replied}
 use Rattle.sm_threads.specs.Sessions.{IsNewClientOf, IsWhole}
 
-pub stays_client : (before after : ClusterValue Request) (client : ClientValue Request) → after.control.chair.board ≡ before.control.chair.board → after.bounds ≡ before.bounds
+pub stays_client : (before after : ClusterValue Request) (client : ClientValue Request)
+    → after.control.chair.board ≡ before.control.chair.board → after.bounds ≡ before.bounds
     → IsClientOf before client → IsClientOf after client
 stays_client before after client board bounds is = (is.0 ∙ sym board, is.1 ∙ sym bounds)
 
-pub stay_clients : (before after : ClusterValue Request) (clients : List (ClientValue Request)) → after.control.chair.board ≡ before.control.chair.board → after.bounds ≡ before.bounds
+pub stay_clients : (before after : ClusterValue Request) (clients : List (ClientValue Request))
+    → after.control.chair.board ≡ before.control.chair.board → after.bounds ≡ before.bounds
     → All (IsClientOf before) clients → All (IsClientOf after) clients
 stay_clients before after clients board bounds all =
-    All-weaker (IsClientOf before) (IsClientOf after) (λ (client : ClientValue Request) is. stays_client before after client board bounds is) clients all
+    All-weaker (IsClientOf before) (IsClientOf after)
+    (λ (client : ClientValue Request) is. stays_client before after client board bounds is) clients all
 
 -- a session whose cluster has made a call, and has then told its client
-pub whole_told : (before after : ClusterValue Request) (client told : ClientValue Request) (loaders : List (ClientValue Request)) → after.control.chair.board ≡ before.control.chair.board
-    → after.bounds ≡ before.bounds → told.pass.board ≡ client.pass.board → told.bounds ≡ client.bounds → Begins after.told told.pass.seen
-    → IsWhole (record { cluster = before; client = client; loaders = loaders }) × All (IsClientOf before) loaders × (length loaders ≡ 17)
-    → IsWhole (record { cluster = after; client = told; loaders = loaders }) × All (IsClientOf after) loaders × (length loaders ≡ 17)
+pub whole_told : (before after : ClusterValue Request) (client told : ClientValue Request)
+    (loaders : List (ClientValue Request)) → after.control.chair.board ≡ before.control.chair.board
+    → after.bounds ≡ before.bounds → told.pass.board ≡ client.pass.board → told.bounds ≡ client.bounds
+    → Begins after.told told.pass.seen
+    → IsWhole (record { cluster = before; client = client; loaders = loaders }) × All (IsClientOf before) loaders
+    × (length loaders ≡ 17)
+    → IsWhole (record { cluster = after; client = told; loaders = loaders }) × All (IsClientOf after) loaders
+    × (length loaders ≡ 17)
 whole_told before after client told loaders board bounds same_board same_bounds seen is =
     let own = stays_client before after client board bounds is.0.0 in (
       (
@@ -46,36 +54,55 @@ whole_told before after client told loaders board bounds same_board same_bounds 
     )
 
 -- so does a client that has learned what its call gave
-pub learned_client : (cluster : ClusterValue Request) (client given learned : ClientValue Request) → given.pass.board ≡ client.pass.board → given.bounds ≡ client.bounds
-    → learned.pass.board ≡ given.pass.board → learned.bounds ≡ given.bounds → IsClientOf cluster client → IsClientOf cluster learned
-learned_client cluster client given learned board bounds same_board same_bounds is = (same_board ∙ (board ∙ is.0), same_bounds ∙ (bounds ∙ is.1))
+pub learned_client : (cluster : ClusterValue Request) (client given learned : ClientValue Request)
+    → given.pass.board ≡ client.pass.board → given.bounds ≡ client.bounds
+    → learned.pass.board ≡ given.pass.board → learned.bounds ≡ given.bounds → IsClientOf cluster client
+    → IsClientOf cluster learned
+learned_client cluster client given learned board bounds same_board same_bounds is =
+    (same_board ∙ (board ∙ is.0), same_bounds ∙ (bounds ∙ is.1))
 
 since_same : (client : ClientValue Request) → IsClientSince client client
-since_same client = record { board = refl; bounds = refl; seen = ([], sym (append-nil client.pass.seen)); read = ([], sym (append-nil client.router.seen)) }
+since_same client = record {
+  board = refl;
+  bounds = refl;
+  seen = ([], sym (append-nil client.pass.seen));
+  read = ([], sym (append-nil client.router.seen));
+}
 
 -- clients behind which others stay as they are
-front_at : (before after back : List (ClientValue Request)) → AreClientsSince before after → (at : ℕ) (d : ClientValue Request) → (at < length before) ⊎ (length before ≤ at)
+front_at : (before after back : List (ClientValue Request)) → AreClientsSince before after
+    → (at : ℕ) (d : ClientValue Request) → (at < length before) ⊎ (length before ≤ at)
     → IsClientSince (slice_index_or (before ++ back) at d) (slice_index_or (after ++ back) at d)
 front_at before after back since at d (inl low) =
     let many = since.0 in
-    let old : slice_index_or (before ++ back) at d ≡ slice_index_or before at d = get_or_append_left before back d at low in
-    let new : slice_index_or (after ++ back) at d ≡ slice_index_or after at d = get_or_append_left after back d at (omega (arith, many)) in
+    let old : slice_index_or (before ++ back) at d ≡ slice_index_or before at d =
+    get_or_append_left before back d at low in
+    let new : slice_index_or (after ++ back) at d ≡ slice_index_or after at d =
+    get_or_append_left after back d at (omega (arith, many)) in
     rw (old, new) (since.1 at d low)
 front_at before after back since at d (inr high) =
-    let old : slice_index_or (before ++ back) at d ≡ slice_index_or back (at - length before) d = get_or-append_right before back (length before) at d refl high in
-    let new : slice_index_or (after ++ back) at d ≡ slice_index_or back (at - length before) d = get_or-append_right after back (length before) at d since.0 high in
+    let old : slice_index_or (before ++ back) at d ≡ slice_index_or back (at - length before) d =
+    get_or-append_right before back (length before) at d refl high in
+    let new : slice_index_or (after ++ back) at d ≡ slice_index_or back (at - length before) d =
+    get_or-append_right after back (length before) at d since.0 high in
     rw (old, new) (since_same (slice_index_or back (at - length before) d))
 
-pub since_front : (before after back : List (ClientValue Request)) → AreClientsSince before after → AreClientsSince (before ++ back) (after ++ back)
-since_front before after back since =
-    (length-append after back ∙ ap (λ n. n + length back) since.0 ∙ sym (length-append before back), λ at d within. front_at before after back since at d (cases_lt at (length before)))
+pub since_front : (before after back : List (ClientValue Request)) → AreClientsSince before after
+    → AreClientsSince (before ++ back) (after ++ back)
+since_front before after back since = (
+  length-append after back ∙ ap (λ n. n + length back) since.0 ∙ sym (length-append before back),
+  λ at d within. front_at before after back since at d (cases_lt at (length before)),
+)
 
 -- the last of the clients that are begun with, and the others
-pub popped_of : (P : ClientValue Request → Type 0) (clients rest : List (ClientValue Request)) (popped : Option (ClientValue Request)) (client : ClientValue Request)
-    → clients ≡ rest ++ option_to_list popped → popped ≡ Some client → All P clients → length clients ≡ 18 → P client × All P rest × (length rest ≡ 17)
+pub popped_of : (P : ClientValue Request → Type 0) (clients rest : List (ClientValue Request))
+    (popped : Option (ClientValue Request)) (client : ClientValue Request)
+    → clients ≡ rest ++ option_to_list popped → popped ≡ Some client → All P clients → length clients ≡ 18
+    → P client × All P rest × (length rest ≡ 17)
 popped_of P clients rest popped client items is all many =
     let both = All-pop P clients rest popped items all in
-    let joined : clients ≡ rest ++ client ∷ [] = subst (λ (o : Option (ClientValue Request)). clients ≡ rest ++ option_to_list o) is items in
+    let joined : clients ≡ rest ++ client ∷ [] =
+    subst (λ (o : Option (ClientValue Request)). clients ≡ rest ++ option_to_list o) is items in
     let counted : length clients ≡ length (rest ++ client ∷ []) = ap length joined in (
       subst (λ (o : Option (ClientValue Request)). IfSome o P) is both.1,
       both.0,
@@ -84,13 +111,15 @@ popped_of P clients rest popped client items is all many =
 
 -- where all have a new router, all are new
 pub new_clients : (cluster : ClusterValue Request) (clients : List (ClientValue Request)) (n : ℕ)
-    → map (λ (each : ClientValue Request). each.router) clients ≡ replicate n (record { table = cluster.map.table; seen = [] })
+    → map (λ (each : ClientValue Request). each.router) clients
+    ≡ replicate n (record { table = cluster.map.table; seen = [] })
     → All (IsClientOf cluster) clients → All (IsNewClientOf cluster) clients
 new_clients cluster clients n same theirs = λ at d within.
     let router : RouterView = record { table = cluster.map.table; seen = [] } in
     let f : ClientValue Request → RouterView = λ each. each.router in
     let IsIt : RouterView → Type 0 = λ r. r ≡ router in
-    let each : All IsIt (map f clients) = subst (λ (list : List RouterView). All IsIt list) (sym same) (All-replicate IsIt n router refl) in
+    let each : All IsIt (map f clients) =
+    subst (λ (list : List RouterView). All IsIt list) (sym same) (All-replicate IsIt n router refl) in
     let place : at < length (map f clients) = omega (arith, length-map clients f, within) in
     (theirs at d within, sym (get_or-map f clients at d) ∙ each at (f d) place)
 
@@ -99,24 +128,33 @@ pub take_all : (front back : List (ClientValue Request)) (n : ℕ) → n ≡ len
 take_all front back n is = ap (λ (k : ℕ). take k (front ++ back)) is ∙ take-append_seam front back
 
 -- the front of a list, and what is behind it
-pub front_of : (n : ℕ) (all front back : List (ClientValue Request)) → all ≡ front ++ back → length front ≡ n → take n all ≡ front
+pub front_of : (n : ℕ) (all front back : List (ClientValue Request)) → all ≡ front ++ back → length front ≡ n
+    → take n all ≡ front
 front_of n all front back split many =
     ap (λ (k : ℕ). take k all) (sym many) ∙ (ap (take (length front)) split ∙ take-append_seam front back)
 
-pub back_of : (n : ℕ) (all front back : List (ClientValue Request)) → all ≡ front ++ back → length front ≡ n → drop n all ≡ back
+pub back_of : (n : ℕ) (all front back : List (ClientValue Request)) → all ≡ front ++ back → length front ≡ n
+    → drop n all ≡ back
 back_of n all front back split many =
     ap (λ (k : ℕ). drop k all) (sym many) ∙ (ap (drop (length front)) split ∙ drop-append_seam front back)
 
 -- a load by the clients in front is one of all
-pub load_of_front : (key : List ℕ) (count each : ℕ) (all front back front' : List (ClientValue Request)) (report : LoadReport)
+pub load_of_front :
+    (key : List ℕ) (count each : ℕ) (all front back front' : List (ClientValue Request)) (report : LoadReport)
     → all ≡ front ++ back → length front ≡ count + 1 → AreClientsSince front front'
-    → HaveLoaded counter_text count_replied (Get key) (Inc key (pos 1)) each front report front' → IsLoadOf key count each all report (front' ++ back)
+    → HaveLoaded counter_text count_replied (Get key) (Inc key (pos 1)) each front report front'
+    → IsLoadOf key count each all report (front' ++ back)
 load_of_front key count each all front back front' report split many since did =
     let many' : length front' ≡ count + 1 = since.0 ∙ many in
-    let Did : List (ClientValue Request) → List (ClientValue Request) → Type 0 = λ before after. HaveLoaded counter_text count_replied (Get key) (Inc key (pos 1)) each before report after in
+    let Did : List (ClientValue Request) → List (ClientValue Request) → Type 0 =
+    λ before after. HaveLoaded counter_text count_replied (Get key) (Inc key (pos 1)) each before report after in
     record {
-      loaded = subst (λ (before : List (ClientValue Request)). Did before (take (count + 1) (front' ++ back))) (sym (front_of (count + 1) all front back split many))
-          (subst (λ (after : List (ClientValue Request)). Did front after) (sym (front_of (count + 1) (front' ++ back) front' back refl many')) did);
-      rest = back_of (count + 1) (front' ++ back) front' back refl many' ∙ sym (back_of (count + 1) all front back split many);
-      since = subst (λ (before : List (ClientValue Request)). AreClientsSince before (front' ++ back)) (sym split) (since_front front front' back since);
+      loaded = subst (λ (before : List (ClientValue Request)). Did before (take (count + 1) (front' ++ back)))
+          (sym (front_of (count + 1) all front back split many))
+          (subst (λ (after : List (ClientValue Request)). Did front after)
+          (sym (front_of (count + 1) (front' ++ back) front' back refl many')) did);
+      rest = back_of (count + 1) (front' ++ back) front' back refl many'
+          ∙ sym (back_of (count + 1) all front back split many);
+      since = subst (λ (before : List (ClientValue Request)). AreClientsSince before (front' ++ back)) (sym split)
+          (since_front front front' back since);
     }

@@ -14,7 +14,9 @@ fn fail(text: &str) -> ! {
 /// Returns where the toolchain keeps its C library: in `c/` beside the `bin/` of `rt`.
 fn kit() -> Option<PathBuf> {
     let paths = env::var_os("PATH")?;
-    let rt = env::split_paths(&paths).map(|it| it.join("rt")).find(|it| it.is_file())?;
+    let rt = env::split_paths(&paths)
+        .map(|it| it.join("rt"))
+        .find(|it| it.is_file())?;
     let folder = rt.canonicalize().ok()?.parent()?.parent()?.join("c");
     folder.join(OF_THE_KIT).is_file().then_some(folder)
 }
@@ -52,6 +54,9 @@ fn main() {
         };
         println!("cargo:rerun-if-changed={}", folder.join(library).display());
         println!("cargo:rustc-link-search=native={}", folder.display());
-        println!("cargo:rustc-link-lib=static={}", &library[3..library.len() - 2]);
+        println!(
+            "cargo:rustc-link-lib=static={}",
+            &library[3..library.len() - 2]
+        );
     }
 }

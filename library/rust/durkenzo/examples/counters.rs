@@ -8,7 +8,11 @@ struct Account {
 }
 
 /// Serves all accounts as this server until it is told to stop, and counts what it did.
-fn serve(board: &Board<Account>, server: u16, stop: &AtomicBool) -> Result<u64, Box<dyn Error + Send + Sync>> {
+fn serve(
+    board: &Board<Account>,
+    server: u16,
+    stop: &AtomicBool,
+) -> Result<u64, Box<dyn Error + Send + Sync>> {
     let mut pass = board.pass(server)?;
     let mut done = 0;
     for shard in (0..8).cycle() {
@@ -37,7 +41,9 @@ fn migrate(control: &Control<Account>, rounds: u16) -> Result<(), Box<dyn Error 
 }
 
 fn main() -> Result<(), Box<dyn Error + Send + Sync>> {
-    let board = Board::builder().servers(4).build((0..8).map(|_| Account::default()))?;
+    let board = Board::builder()
+        .servers(4)
+        .build((0..8).map(|_| Account::default()))?;
     let control = board.control();
     for shard in 0..8 {
         control.assign(shard, shard % 4 + 1)?;
@@ -45,7 +51,9 @@ fn main() -> Result<(), Box<dyn Error + Send + Sync>> {
     let stop = AtomicBool::new(false);
     let done = std::thread::scope(|scope| {
         let (board, stop) = (&board, &stop);
-        let servers: Vec<_> = (1..=4).map(|it| scope.spawn(move || serve(board, it, stop))).collect();
+        let servers: Vec<_> = (1..=4)
+            .map(|it| scope.spawn(move || serve(board, it, stop)))
+            .collect();
         let moved = migrate(&control, 2_000);
         stop.store(true, Ordering::Relaxed);
         let done: Result<u64, _> = servers.into_iter().map(|it| it.join().unwrap()).sum();

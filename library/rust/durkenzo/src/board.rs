@@ -85,7 +85,12 @@ impl Builder {
             )
         };
         match code {
-            0 => Ok(Board { shared: Arc::new(Shared { chief: Mutex::new(chief), bodies }) }),
+            0 => Ok(Board {
+                shared: Arc::new(Shared {
+                    chief: Mutex::new(chief),
+                    bodies,
+                }),
+            }),
             code => Err(BuildFault::of(code)),
         }
     }
@@ -94,7 +99,11 @@ impl Builder {
 impl Board<()> {
     /// The sizes of a new board, whose bodies `build` takes.
     pub fn builder() -> Builder {
-        Builder { servers: 1, restarts: 1, ceiling: MAX_GENERATION }
+        Builder {
+            servers: 1,
+            restarts: 1,
+            ceiling: MAX_GENERATION,
+        }
     }
 }
 
@@ -123,18 +132,27 @@ impl<T> Board<T> {
     /// The bodies, where nothing else belongs to the board: no clone, no pass and no control; else the board again.
     pub fn into_bodies(self) -> Result<Vec<T>, Board<T>> {
         let shared = Arc::try_unwrap(self.shared).map_err(|shared| Board { shared })?;
-        Ok(shared.bodies.into_vec().into_iter().map(UnsafeCell::into_inner).collect())
+        Ok(shared
+            .bodies
+            .into_vec()
+            .into_iter()
+            .map(UnsafeCell::into_inner)
+            .collect())
     }
 }
 
 impl<T> Clone for Board<T> {
     fn clone(&self) -> Board<T> {
-        Board { shared: self.shared.clone() }
+        Board {
+            shared: self.shared.clone(),
+        }
     }
 }
 
 impl<T> fmt::Debug for Board<T> {
     fn fmt(&self, f: &mut fmt::Formatter<'_>) -> fmt::Result {
-        f.debug_struct("Board").field("count", &self.count()).finish_non_exhaustive()
+        f.debug_struct("Board")
+            .field("count", &self.count())
+            .finish_non_exhaustive()
     }
 }

@@ -95,7 +95,9 @@ impl<T> Control<T> {
     fn change(&self, shard: u16, kind: u8, server: u16) -> Result<(), ChangeFault> {
         let mut read = RecordParts::default();
         // SAFETY: the control's handle is locked, and the record is this call's alone.
-        match unsafe { raw::durkenzo_change(&mut *self.shared.chief(), shard, kind, server, &mut read) } {
+        match unsafe {
+            raw::durkenzo_change(&mut *self.shared.chief(), shard, kind, server, &mut read)
+        } {
             0 => Ok(()),
             code => Err(ChangeFault::of(code, Record::of(&read))),
         }
@@ -112,7 +114,9 @@ impl<T> Control<T> {
 
 impl<T> Clone for Control<T> {
     fn clone(&self) -> Control<T> {
-        Control { shared: self.shared.clone() }
+        Control {
+            shared: self.shared.clone(),
+        }
     }
 }
 

@@ -141,7 +141,8 @@ impl AdmitFault {
     pub fn record(&self) -> Option<Record> {
         use AdmitFault::*;
         match *self {
-            Vacant(it) | Paused(it) | NotExecutor(it) | NotYet(it) | Admitted(it) | Spent(it) | Raced(it) => Some(it),
+            Vacant(it) | Paused(it) | NotExecutor(it) | NotYet(it) | Admitted(it) | Spent(it)
+            | Raced(it) => Some(it),
             UnknownShard | BadServer | Holding => None,
         }
     }
@@ -208,7 +209,9 @@ impl fmt::Display for BuildFault {
             BuildFault::NoShard => "a board has at least one shard",
             BuildFault::TooMany => "a board has at most 4,096 shards",
             BuildFault::BadCeiling => "the ceiling of generations is 3 to 68,719,476,735",
-            BuildFault::BadServers => "a board has 1 to 4,095 servers, and as many restarts at once at most",
+            BuildFault::BadServers => {
+                "a board has 1 to 4,095 servers, and as many restarts at once at most"
+            }
             BuildFault::NoMemory => "out of memory",
         })
     }

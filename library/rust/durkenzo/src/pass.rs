@@ -55,10 +55,16 @@ impl<T> Pass<T> {
         };
         let (mut number, mut read) = (0, RecordParts::default());
         // SAFETY: the handle is this pass's, which is borrowed alone.
-        match unsafe { raw::durkenzo_admit(&mut self.handle, shard, from, &mut number, &mut read) } {
+        match unsafe { raw::durkenzo_admit(&mut self.handle, shard, from, &mut number, &mut read) }
+        {
             0 => {
                 let body = self.shared.body(number);
-                Ok(Permit { pass: self, shard, body, borrows: PhantomData })
+                Ok(Permit {
+                    pass: self,
+                    shard,
+                    body,
+                    borrows: PhantomData,
+                })
             }
             code => Err(AdmitFault::of(code, Record::of(&read))),
         }
@@ -125,7 +131,10 @@ impl<T> Permit<'_, T> {
         // SAFETY: the handle is the pass's, which holds this permit.
         let code = unsafe { raw::durkenzo_finish(&mut self.pass.handle, &mut generation) };
         debug_assert_eq!(code, 0, "the pass of a permit holds it");
-        Front { shard: self.shard, generation }
+        Front {
+            shard: self.shard,
+            generation,
+        }
     }
 }
 

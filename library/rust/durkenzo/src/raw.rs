@@ -10,7 +10,10 @@ pub(crate) struct Handle {
 impl Handle {
     /// A handle that keeps nothing.
     pub(crate) const fn empty() -> Handle {
-        Handle { full: false, owned: std::ptr::null_mut() }
+        Handle {
+            full: false,
+            owned: std::ptr::null_mut(),
+        }
     }
 }
 
@@ -64,8 +67,20 @@ extern "C" {
     ) -> u32;
     pub(crate) fn durkenzo_restart(chief: *mut Handle, kind: u8, server: u16) -> u32;
     pub(crate) fn durkenzo_close(handle: *mut Handle);
-    pub(crate) fn durkenzo_changed(word: u64, kind: u8, server: u16, ceiling: u64, next: *mut u64) -> u32;
-    pub(crate) fn durkenzo_admitted(word: u64, server: u16, from: u16, ceiling: u64, next: *mut u64) -> u32;
+    pub(crate) fn durkenzo_changed(
+        word: u64,
+        kind: u8,
+        server: u16,
+        ceiling: u64,
+        next: *mut u64,
+    ) -> u32;
+    pub(crate) fn durkenzo_admitted(
+        word: u64,
+        server: u16,
+        from: u16,
+        ceiling: u64,
+        next: *mut u64,
+    ) -> u32;
     pub(crate) fn durkenzo_ended(word: u64, next: *mut u64) -> u32;
     pub(crate) fn durkenzo_unpack(word: u64, parts: *mut RecordParts) -> u32;
     pub(crate) fn durkenzo_forward(word: u64, server: u16) -> u16;

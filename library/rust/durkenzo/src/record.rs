@@ -36,10 +36,17 @@ impl Record {
             1 => Stand::Serving(owner),
             2 => Stand::Prepared { owner, next: other },
             3 => Stand::Forwarding { owner, next: other },
-            4 => Stand::Taken { owner, previous: other },
+            4 => Stand::Taken {
+                owner,
+                previous: other,
+            },
             _ => Stand::Paused(owner),
         };
-        Record { stand, admitted: parts.admitted, generation: parts.generation }
+        Record {
+            stand,
+            admitted: parts.admitted,
+            generation: parts.generation,
+        }
     }
 
     /// The server that owns the shard.
@@ -47,7 +54,9 @@ impl Record {
         match self.stand {
             Stand::Vacant => None,
             Stand::Serving(owner) | Stand::Paused(owner) => Some(owner),
-            Stand::Prepared { owner, .. } | Stand::Forwarding { owner, .. } | Stand::Taken { owner, .. } => Some(owner),
+            Stand::Prepared { owner, .. }
+            | Stand::Forwarding { owner, .. }
+            | Stand::Taken { owner, .. } => Some(owner),
         }
     }
 

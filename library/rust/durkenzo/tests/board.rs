@@ -3,18 +3,49 @@ use std::error::Error;
 use std::panic::{catch_unwind, AssertUnwindSafe};
 
 fn board(shards: usize) -> Board<Vec<u32>> {
-    Board::builder().servers(3).build(vec![Vec::new(); shards]).unwrap()
+    Board::builder()
+        .servers(3)
+        .build(vec![Vec::new(); shards])
+        .unwrap()
 }
 
 #[test]
 fn sizes_are_checked() {
-    assert_eq!(Board::builder().build(Vec::<u8>::new()).unwrap_err(), BuildFault::NoShard);
-    assert_eq!(Board::builder().build(vec![0; 4097]).unwrap_err(), BuildFault::TooMany);
-    assert_eq!(Board::builder().ceiling(2).build(vec![0]).unwrap_err(), BuildFault::BadCeiling);
-    assert_eq!(Board::builder().ceiling(1 << 36).build(vec![0]).unwrap_err(), BuildFault::BadCeiling);
-    assert_eq!(Board::builder().servers(0).build(vec![0]).unwrap_err(), BuildFault::BadServers);
-    assert_eq!(Board::builder().servers(4096).build(vec![0]).unwrap_err(), BuildFault::BadServers);
-    assert_eq!(Board::builder().servers(4095).build(vec![0; 4096]).unwrap().count(), 4096);
+    assert_eq!(
+        Board::builder().build(Vec::<u8>::new()).unwrap_err(),
+        BuildFault::NoShard
+    );
+    assert_eq!(
+        Board::builder().build(vec![0; 4097]).unwrap_err(),
+        BuildFault::TooMany
+    );
+    assert_eq!(
+        Board::builder().ceiling(2).build(vec![0]).unwrap_err(),
+        BuildFault::BadCeiling
+    );
+    assert_eq!(
+        Board::builder()
+            .ceiling(1 << 36)
+            .build(vec![0])
+            .unwrap_err(),
+        BuildFault::BadCeiling
+    );
+    assert_eq!(
+        Board::builder().servers(0).build(vec![0]).unwrap_err(),
+        BuildFault::BadServers
+    );
+    assert_eq!(
+        Board::builder().servers(4096).build(vec![0]).unwrap_err(),
+        BuildFault::BadServers
+    );
+    assert_eq!(
+        Board::builder()
+            .servers(4095)
+            .build(vec![0; 4096])
+            .unwrap()
+            .count(),
+        4096
+    );
 }
 
 #[test]
@@ -23,24 +54,41 @@ fn a_migration_step_by_step() {
     let control = board.control();
     let (mut one, mut two) = (board.pass(1).unwrap(), board.pass(2).unwrap());
     let vacant = one.admit(0, Mode::Direct).err().unwrap();
-    assert!(matches!(vacant, AdmitFault::Vacant(read) if read.stand == Stand::Vacant && read.generation == 0));
+    assert!(
+        matches!(vacant, AdmitFault::Vacant(read) if read.stand == Stand::Vacant && read.generation == 0)
+    );
     control.assign(0, 1).unwrap();
     one.admit(0, Mode::Direct).unwrap().push(1);
     control.prepare_add_shard(0, 2).unwrap();
-    assert!(matches!(two.admit(0, Mode::Direct), Err(AdmitFault::NotExecutor(_))));
+    assert!(matches!(
+        two.admit(0, Mode::Direct),
+        Err(AdmitFault::NotExecutor(_))
+    ));
     control.prepare_drop_shard(0).unwrap();
     let record = one.look(0).unwrap();
     assert_eq!(record.stand, Stand::Forwarding { owner: 1, next: 2 });
-    assert_eq!((record.executor(), record.forward(1), record.forward(3)), (Some(2), Some(2), None));
-    assert!(matches!(one.admit(0, Mode::Direct), Err(AdmitFault::NotExecutor(_))));
-    assert!(matches!(two.admit(0, Mode::Direct), Err(AdmitFault::NotYet(_))));
+    assert_eq!(
+        (record.executor(), record.forward(1), record.forward(3)),
+        (Some(2), Some(2), None)
+    );
+    assert!(matches!(
+        one.admit(0, Mode::Direct),
+        Err(AdmitFault::NotExecutor(_))
+    ));
+    assert!(matches!(
+        two.admit(0, Mode::Direct),
+        Err(AdmitFault::NotYet(_))
+    ));
     two.admit(0, Mode::Forwarded(1)).unwrap().push(2);
     control.add_shard(0).unwrap();
     two.admit(0, Mode::Direct).unwrap().push(3);
     control.drop_shard(0).unwrap();
     assert_eq!(two.look(0).unwrap().stand, Stand::Serving(2));
     assert_eq!(one.look(2), Err(durkenzo::UnknownShard));
-    assert!(matches!(one.admit(9, Mode::Direct), Err(AdmitFault::UnknownShard)));
+    assert!(matches!(
+        one.admit(9, Mode::Direct),
+        Err(AdmitFault::UnknownShard)
+    ));
     drop((one, two, control));
     assert_eq!(board.into_bodies().unwrap(), vec![vec![1, 2, 3], vec![]]);
 }
@@ -72,7 +120,10 @@ fn refusals_say_what_was_read() {
     assert_eq!(error.to_string(), "the shard is admitted");
     permit.finish();
     control.pause(0).unwrap();
-    assert!(matches!(second.admit(0, Mode::Direct), Err(AdmitFault::Paused(_))));
+    assert!(matches!(
+        second.admit(0, Mode::Direct),
+        Err(AdmitFault::Paused(_))
+    ));
     assert_eq!(control.assign(0, 2), Err(ChangeFault::WrongPhase));
     assert_eq!(control.reassign(0, 9), Err(ChangeFault::UnknownServer));
     assert_eq!(control.resume(7), Err(ChangeFault::UnknownShard));
@@ -109,7 +160,9 @@ fn the_generation_is_a_fencing_token() {
     assert_eq!(permit.generation(), before);
     assert!(permit.finish().generation > before);
     board.control().migrate(0, 2).unwrap();
-    let after = new.with(0, Mode::Direct, |permit| permit.generation()).unwrap();
+    let after = new
+        .with(0, Mode::Direct, |permit| permit.generation())
+        .unwrap();
     assert!(after > before);
 }
 
@@ -137,7 +190,10 @@ fn a_forgotten_permit_keeps_its_shard() {
     std::mem::forget(pass.admit(0, Mode::Direct).unwrap());
     assert_eq!(pass.admit(1, Mode::Direct).err(), Some(AdmitFault::Holding));
     let mut other = board.pass(1).unwrap();
-    assert!(matches!(other.admit(0, Mode::Direct), Err(AdmitFault::Admitted(_))));
+    assert!(matches!(
+        other.admit(0, Mode::Direct),
+        Err(AdmitFault::Admitted(_))
+    ));
     drop(pass);
     assert!(other.admit(0, Mode::Direct).is_ok());
 }
@@ -155,7 +211,9 @@ fn bodies_come_back_once_alone() {
 fn what_may_pass_between_threads() {
     fn is_send<T: Send>(_: &T) {}
     fn is_sync<T: Sync>(_: &T) {}
-    let board = Board::builder().build(vec![std::cell::Cell::new(0)]).unwrap();
+    let board = Board::builder()
+        .build(vec![std::cell::Cell::new(0)])
+        .unwrap();
     is_send(&board);
     is_sync(&board);
     is_sync(&board.control());

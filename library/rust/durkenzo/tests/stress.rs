@@ -22,7 +22,9 @@ fn random(state: &mut u64) -> u16 {
 }
 
 fn serve(board: &Board<Body>, thread: u64, stop: &AtomicBool) -> u64 {
-    let mut pass = board.pass((thread % u64::from(SERVERS)) as u16 + 1).unwrap();
+    let mut pass = board
+        .pass((thread % u64::from(SERVERS)) as u16 + 1)
+        .unwrap();
     let (mut state, mut done) = ((thread + 1) * 88_172_645_463_325_252, 0);
     while !stop.load(Ordering::Relaxed) {
         if let Ok(mut body) = pass.admit(random(&mut state) % SHARDS, Mode::Direct) {
@@ -41,7 +43,10 @@ fn serve(board: &Board<Body>, thread: u64, stop: &AtomicBool) -> u64 {
 fn migrate(board: &Board<Body>, time: Duration) -> u64 {
     let (control, start, mut state, mut moved) = (board.control(), Instant::now(), 99, 0);
     while start.elapsed() < time {
-        let (shard, server) = (random(&mut state) % SHARDS, random(&mut state) % SERVERS + 1);
+        let (shard, server) = (
+            random(&mut state) % SHARDS,
+            random(&mut state) % SERVERS + 1,
+        );
         match control.migrate(shard, server) {
             Ok(()) => moved += 1,
             Err(ChangeFault::SameServer) => {}
@@ -62,13 +67,23 @@ fn admissions_are_as_many_as_racy_counters() {
     let stop = AtomicBool::new(false);
     let (done, moved) = std::thread::scope(|scope| {
         let (board, stop) = (&board, &stop);
-        let threads: Vec<_> = (0..THREADS).map(|it| scope.spawn(move || serve(board, it, stop))).collect();
+        let threads: Vec<_> = (0..THREADS)
+            .map(|it| scope.spawn(move || serve(board, it, stop)))
+            .collect();
         let moved = migrate(board, Duration::from_secs(seconds));
         stop.store(true, Ordering::Relaxed);
-        (threads.into_iter().map(|it| it.join().unwrap()).sum::<u64>(), moved)
+        (
+            threads
+                .into_iter()
+                .map(|it| it.join().unwrap())
+                .sum::<u64>(),
+            moved,
+        )
     });
     let bodies = board.into_bodies().unwrap();
-    let counted = bodies.iter().fold((0, 0), |sum, it| (sum.0 + it.first, sum.1 + it.second));
+    let counted = bodies
+        .iter()
+        .fold((0, 0), |sum, it| (sum.0 + it.first, sum.1 + it.second));
     println!("{done} admissions, {moved} migrations");
     assert_eq!(counted, (done, done));
     assert!(done > 0 && moved > 0);

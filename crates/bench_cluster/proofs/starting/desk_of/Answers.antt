@@ -8,9 +8,11 @@ use Rattle.sm_tasks.specs.Caps.{MeetsCaps}
 use Rattle.bench_cluster.proofs.starting.desk_of.Goals as goal
 
 pub new-requires-3 : goal.new-requires-3
-new-requires-3 c = subst (λ (books : BooksView). MeetsCaps c.new-2.result books) (sym c.in_ok-books.ensures.ok) (c.all_up_meets_caps.ensures.new c.new-2.result _ _ _ _)
+new-requires-3 c = subst (λ (books : BooksView). MeetsCaps c.new-2.result books) (sym c.in_ok-books.ensures.ok)
+    (c.all_up_meets_caps.ensures.new c.new-2.result _ _ _ _)
 
 pub returns-clause-vacant : goal.returns-clause-vacant
 returns-clause-vacant c =
-    subst (λ (books : BooksView). All (λ (shard : Shard). shard.stand ≡ Vacant) books.shards) (sym (c.new-3.ensures.books ∙ c.in_ok-books.ensures.ok))
+    subst (λ (books : BooksView). All (λ (shard : Shard). shard.stand ≡ Vacant) books.shards)
+    (sym (c.new-3.ensures.books ∙ c.in_ok-books.ensures.ok))
     (All-map (λ (shard : Shard). shard.stand ≡ Vacant) vacant_shard _ (λ k d h. refl))

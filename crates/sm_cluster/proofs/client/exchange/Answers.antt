@@ -7,4 +7,5 @@ use Rattle.sm_cluster.proofs.client.exchange.Goals as goal
 pub returns-in-Ok : goal.returns-in-Ok
 returns-in-Ok g c =
     let service = meaning_of g.S.Service.initial g.S.Service.next g.S.Service.answer g.S.Service.key_of in
-    subst (λ (known : Option (CallValue g.row.S-Request.Denot)). IfOk c.receive.result (Fits service known)) c.requires c.receive.ensures
+    subst (λ (known : Option (CallValue g.row.S-Request.Denot)). IfOk c.receive.result (Fits service known)) c.requires
+    c.receive.ensures

@@ -7,4 +7,6 @@ use Rattle.sm_cluster.proofs.inc_counts.count_at_most_one.Goals as goal
 pub returns-in-Some : goal.returns-in-Some
 returns-in-Some g c =
     let cases : IsFirstAndRest c.args.items.now c.in-Some.item.now c.in-Some._none.now = search rules in
-    one_of (MayCount g.F.Fn c.args.f.now) c.args.items.now c.in-Some.item.now c.in-Some._none.now c.count_one.result.acked c.count_one.result.refused c.count_one.new.item cases c.requires.short c.count_one.ensures
+    one_of
+    (MayCount g.F.Fn c.args.f.now) c.args.items.now c.in-Some.item.now c.in-Some._none.now c.count_one.result.acked
+    c.count_one.result.refused c.count_one.new.item cases c.requires.short c.count_one.ensures

@@ -6,4 +6,5 @@ use Rattle.sm_cluster.proofs.laws.answers_last.Goals as goal
 pub returns : goal.returns
 returns g c =
     lasts (meaning_of g.S.Service.initial g.S.Service.next g.S.Service.answer g.S.Service.key_of)
-    (Keeps g.S.Service.initial g.S.Service.next g.S.Service.base g.S.Service.before g.S.Service.requests) g.S.Service.limit
+    (Keeps g.S.Service.initial g.S.Service.next g.S.Service.base g.S.Service.before g.S.Service.requests)
+    g.S.Service.limit

@@ -10,5 +10,7 @@ loop-retry-init g c = (refl, since_same c.args.client.now)
 pub returns-in-Ok-clause-learned : goal.returns-in-Ok-clause-learned
 returns-in-Ok-clause-learned g c =
     let service = meaning_of g.S.Service.initial g.S.Service.next g.S.Service.answer g.S.Service.key_of in
-    let learned = subst (λ (request : g.row.S-Request.Denot). HasLearnedReply service request c.loop-retry.client c.learn.new.client c.in-Ok.reply) c.loop-retry.invariant.0 c.in-Ok.ensures.learned in
-    reply_before service c.args.request c.args.client.now c.loop-retry.client c.learn.new.client c.in-Ok.reply c.loop-retry.invariant.1 learned
+    let learned = subst (λ (request : g.row.S-Request.Denot). HasLearnedReply service request c.loop-retry.client
+    c.learn.new.client c.in-Ok.reply) c.loop-retry.invariant.0 c.in-Ok.ensures.learned in
+    reply_before service c.args.request c.args.client.now c.loop-retry.client c.learn.new.client c.in-Ok.reply
+    c.loop-retry.invariant.1 learned

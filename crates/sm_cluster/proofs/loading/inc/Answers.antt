@@ -12,6 +12,9 @@ returns-in-Some g c =
     let adds = g.C.Counting.adds c.args.counting.now in
     let reply = c.in-Some.reply in
     let same : c.is_some.result ≡ is_some (tells reply) = search rules in
-    let learned = subst (λ (request : g.row.S-Request.Denot). HasLearnedReply service request c.args.client.now c.ask.new.client reply) c.in-Ok.ensures c.in-Some.ensures.learned in
-    told_or_not c.is_some.result (tells reply) (HasLearnedCount service tells adds c.args.client.now c.ask.new.client) (IsClientSince c.args.client.now c.ask.new.client) same
-    (λ told is. record { reply = reply; told = told; learned = learned; tells = is; since = c.ask.ensures.since }) c.ask.ensures.since
+    let learned = subst (λ (request : g.row.S-Request.Denot). HasLearnedReply service request c.args.client.now
+    c.ask.new.client reply) c.in-Ok.ensures c.in-Some.ensures.learned in
+    told_or_not c.is_some.result (tells reply) (HasLearnedCount service tells adds c.args.client.now c.ask.new.client)
+    (IsClientSince c.args.client.now c.ask.new.client) same
+    (λ told is. record { reply = reply; told = told; learned = learned; tells = is; since = c.ask.ensures.since })
+    c.ask.ensures.since

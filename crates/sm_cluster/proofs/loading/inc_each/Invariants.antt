@@ -7,4 +7,5 @@ use Rattle.sm_cluster.proofs.loading.inc_each.Given as goal
 abbrev pub invariant-loop-number : goal.invariant-loop-number
 invariant-loop-number g l =
     (l.counts.acked + l.counts.refused ≡ l.number)
-    × HasLearnedCounts (meaning_of g.S.Service.initial g.S.Service.next g.S.Service.answer g.S.Service.key_of) (g.C.Counting.tells l.counting) (g.C.Counting.adds l.counting) l.fn.client l.counts.acked l.client
+    × HasLearnedCounts (meaning_of g.S.Service.initial g.S.Service.next g.S.Service.answer g.S.Service.key_of)
+    (g.C.Counting.tells l.counting) (g.C.Counting.adds l.counting) l.fn.client l.counts.acked l.client

@@ -4,7 +4,8 @@ use Rattle.sm_tasks.specs.Caps.{MeetsCaps}
 use Rattle.sm_tasks.specs.Approvals.{approvable, stoppable}
 use Rattle.sm_desk.specs.declared.command.Command.{Command}
 use Rattle.sm_desk.specs.declared.command.Command.TheVariants.{Change, Ask, Approve, Stopped, Back, Fail}
-use Rattle.sm_desk.specs.declared.command.CommandFault.TheVariants.{Approve as ApproveRefused, Stopped as StoppedRefused}
+use Rattle.sm_desk.specs.declared.command.CommandFault.TheVariants.{Approve as ApproveRefused}
+use Rattle.sm_desk.specs.declared.command.CommandFault.TheVariants.{Stopped as StoppedRefused}
 use Rattle.sm_desk.specs.Desk.{DeskView, books_commanded, desk_fault}
 use Rattle.sm_desk.specs.lemmas.Changes.{let_through}
 use Rattle.sm_desk.proofs.Holding.{ok_without, restart_through, stand_of, takes_none_leaving}
@@ -20,7 +21,8 @@ returns c = keep
         c.stands_keep_caps.ensures.taken desk.ops desk.books k (stand_of desk.books k change) through.within
         (takes_none_leaving c.fit_leaves_room.ensures.stays desk.books k change through) caps
     keep desk (Ask a) sound caps e =
-        let t = restart_through desk.books a _ e in c.steps_keep_caps.ensures.ask desk.ops desk.books a sound.states t.0 caps
+        let t = restart_through desk.books a _ e in
+        c.steps_keep_caps.ensures.ask desk.ops desk.books a sound.states t.0 caps
     keep desk (Approve a) sound caps e =
         let t = restart_through desk.books a _ e in
         c.steps_keep_caps.ensures.approve desk.ops desk.books a sound.states t.0
@@ -30,6 +32,8 @@ returns c = keep
         c.steps_keep_caps.ensures.stopped desk.ops desk.books a sound.states t.0
         (ok_without StoppedRefused (stoppable desk.books a) t.1) caps
     keep desk (Back a) sound caps e =
-        let t = restart_through desk.books a _ e in c.steps_keep_caps.ensures.back desk.ops desk.books a sound.states t.0 caps
+        let t = restart_through desk.books a _ e in
+        c.steps_keep_caps.ensures.back desk.ops desk.books a sound.states t.0 caps
     keep desk (Fail a) sound caps e =
-        let t = restart_through desk.books a _ e in c.steps_keep_caps.ensures.fail desk.ops desk.books a sound.states t.0 caps
+        let t = restart_through desk.books a _ e in
+        c.steps_keep_caps.ensures.fail desk.ops desk.books a sound.states t.0 caps

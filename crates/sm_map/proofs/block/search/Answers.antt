@@ -11,7 +11,8 @@ loop-low-preserved-in-Less c = record {
 }
 
 pub returns-in-Equal-clause-found : goal.returns-in-Equal-clause-found
-returns-in-Equal-clause-found c = read_equal _ _ _ c.requires.rising _ (omega arith) _ _ c.get.ensures c.in-Equal.ensures
+returns-in-Equal-clause-found c =
+    read_equal _ _ _ c.requires.rising _ (omega arith) _ _ c.get.ensures c.in-Equal.ensures
 
 pub loop-low-preserved : goal.loop-low-preserved
 loop-low-preserved c = record {

@@ -11,7 +11,8 @@ invariant-loop-low l = record {
   ordered : l.low ≤ l.high;
   within : l.high ≤ length l.entries;
   before : AllWithin (λ (pair : KeyPair). key_cmp pair.key l.key ≡ Less) (pairs_of l.arena.placed l.entries) 0 l.low;
-  after : AllWithin (λ (pair : KeyPair). key_cmp pair.key l.key ≡ Greater) (pairs_of l.arena.placed l.entries) l.high (length (pairs_of l.arena.placed l.entries));
+  after : AllWithin (λ (pair : KeyPair). key_cmp pair.key l.key ≡ Greater) (pairs_of l.arena.placed l.entries) l.high
+      (length (pairs_of l.arena.placed l.entries));
 }
 
 abbrev pub decreases-loop-low : goal.decreases-loop-low

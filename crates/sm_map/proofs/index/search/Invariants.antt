@@ -11,8 +11,11 @@ abbrev pub invariant-loop-low : goal.invariant-loop-low
 invariant-loop-low l = record {
   ordered : l.low ≤ l.high;
   within : l.high ≤ length l.blocks;
-  before : 0 < l.low → AllWithin (λ (pair : KeyPair). key_cmp pair.key l.key ≡ Less) (pairs_of l.arena.placed (entries_in l.blocks)) 0 (sum (take (l.low - 1) (lengths_in l.blocks)) + 1);
-  after : AllWithin (λ (pair : KeyPair). key_cmp pair.key l.key ≡ Greater) (pairs_of l.arena.placed (entries_in l.blocks)) (sum (take l.high (lengths_in l.blocks))) (length (pairs_of l.arena.placed (entries_in l.blocks)));
+  before : 0 < l.low → AllWithin (λ (pair : KeyPair). key_cmp pair.key l.key ≡ Less)
+      (pairs_of l.arena.placed (entries_in l.blocks)) 0 (sum (take (l.low - 1) (lengths_in l.blocks)) + 1);
+  after :
+      AllWithin (λ (pair : KeyPair). key_cmp pair.key l.key ≡ Greater) (pairs_of l.arena.placed (entries_in l.blocks))
+      (sum (take l.high (lengths_in l.blocks))) (length (pairs_of l.arena.placed (entries_in l.blocks)));
 }
 
 abbrev pub decreases-loop-low : goal.decreases-loop-low

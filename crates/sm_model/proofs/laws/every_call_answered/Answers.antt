@@ -8,4 +8,5 @@ use Rattle.sm_model.proofs.laws.every_call_answered.Goals as goal
 
 pub returns : goal.returns
 returns c = λ frame calls call is.
-    let settled = settles_after (empty_world frame) calls call (sound_empty frame is) refl in (answered-some (world_after_calls (empty_world frame) calls) call settled.answers, settled.rest)
+    let settled = settles_after (empty_world frame) calls call (sound_empty frame is) refl in
+    (answered-some (world_after_calls (empty_world frame) calls) call settled.answers, settled.rest)

@@ -3,4 +3,5 @@ use Rattle.sm_ownership.proofs.Single.{admitted_executor}
 use Rattle.sm_ownership.proofs.laws.executor_admitted.Goals as goal
 
 pub returns : goal.returns
-returns g c = λ count ceiling history later shard legal. admitted_executor count ceiling history shard (legal_prefix count ceiling history later legal)
+returns g c = λ count ceiling history later shard legal. admitted_executor count ceiling history shard
+    (legal_prefix count ceiling history later legal)

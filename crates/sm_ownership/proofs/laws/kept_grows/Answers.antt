@@ -3,7 +3,8 @@ use Rattle.std.proofs.lemmas.Bool.{ne_eqb}
 use Rattle.sm_ownership.specs.declared.entry.Ending.TheVariants.{Checkpoint}
 use Rattle.sm_ownership.specs.declared.entry.Entry.{Entry}
 use Rattle.sm_ownership.specs.declared.entry.Kind.TheVariants.{Done}
-use Rattle.sm_ownership.specs.lemmas.Requests.{first_of-push_checkpoint, kept-push, kept-push_checkpoint, kept-push_other}
+use Rattle.sm_ownership.specs.lemmas.Requests.{first_of-push_checkpoint, kept-push, kept-push_checkpoint}
+use Rattle.sm_ownership.specs.lemmas.Requests.{kept-push_other}
 use Rattle.sm_ownership.proofs.laws.kept_grows.Goals as goal
 
 pub returns : goal.returns

@@ -11,13 +11,17 @@ use Rattle.sm_place.proofs.Counting.{count_others}
 use Rattle.sm_place.proofs.tallies.other_count.Goals as goal
 
 -- the counter of the server's domain has the other shards, and the shard where it names a server there
-count_of_others : (servers : List ServerRow) (r : Ranking) (shards : List Shard) (k a cell d own count : ℕ) (counts : List ℕ) (shard : Shard)
+count_of_others : (servers : List ServerRow) (r : Ranking) (shards : List Shard) (k a cell d own count : ℕ)
+    (counts : List ℕ) (shard : Shard)
     → k < length shards → AreRanked servers r → HasCells counts (shard_at shards k).row.group r → IsKnown servers a
-    → HasCounts servers shards counts r → shard ≡ shard_at shards k → cell ≡ cell_of servers r shard.row.group a → d ≡ domain_of servers a
+    → HasCounts servers shards counts r → shard ≡ shard_at shards k → cell ≡ cell_of servers r shard.row.group a
+    → d ≡ domain_of servers a
     → own ≡ cond (names_domain servers shard.stand d) 1 0 → count ≡ slice_index counts cell
     → count_in servers (remove shards k) (shard_at shards k).row.group (domain_of servers a) + own ≡ count
-count_of_others servers r shards k a cell d own count counts shard inside ranked cells known has is here there takes holds =
-    let mine : own ≡ cond (names_domain servers (shard_at shards k).stand (domain_of servers a)) 1 0 = rw (is, there) at takes in
+count_of_others servers r shards k a cell d own count counts shard inside ranked cells known has is here there takes
+    holds =
+    let mine : own ≡ cond (names_domain servers (shard_at shards k).stand (domain_of servers a)) 1 0 =
+    rw (is, there) at takes in
     let all : count ≡ slice_index counts (cell_of servers r (shard_at shards k).row.group a) = rw (here, is) at holds in
     omega (arith, mine, all, count_others servers r shards k a counts inside ranked cells known has)
 
@@ -25,14 +29,18 @@ pub overflow_sub-result : goal.overflow_sub-result
 overflow_sub-result c =
     omega (
       arith,
-      count_of_others _ _ _ _ _ _ _ _ _ _ _ c.requires.shard c.requires.domains c.requires.cells c.requires.known c.requires.counts
-          c.shard_at-shard.ensures c.cell-cell.ensures (ap (λ (r : ServerRow). r.domain) c.row.ensures) c.count_by.ensures c.from.ensures,
+      count_of_others _ _ _ _ _ _ _ _ _ _ _ c.requires.shard c.requires.domains c.requires.cells c.requires.known
+          c.requires.counts
+          c.shard_at-shard.ensures c.cell-cell.ensures
+          (ap (λ (r : ServerRow). r.domain) c.row.ensures) c.count_by.ensures c.from.ensures,
     )
 
 pub returns : goal.returns
 returns c =
     omega (
       arith,
-      count_of_others _ _ _ _ _ _ _ _ _ _ _ c.requires.shard c.requires.domains c.requires.cells c.requires.known c.requires.counts
-          c.shard_at-shard.ensures c.cell-cell.ensures (ap (λ (r : ServerRow). r.domain) c.row.ensures) c.count_by.ensures c.from.ensures,
+      count_of_others _ _ _ _ _ _ _ _ _ _ _ c.requires.shard c.requires.domains c.requires.cells c.requires.known
+          c.requires.counts
+          c.shard_at-shard.ensures c.cell-cell.ensures
+          (ap (λ (r : ServerRow). r.domain) c.row.ensures) c.count_by.ensures c.from.ensures,
     )

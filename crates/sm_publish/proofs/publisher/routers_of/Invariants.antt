@@ -4,4 +4,5 @@ use Rattle.sm_publish.proofs.publisher.routers_of.Given as goal
 
 -- a router for each turn, none has seen anything, and there is room for all
 abbrev pub invariant-loop : goal.invariant-loop
-invariant-loop l = (l.made.items ≡ replicate l.counter (record { table = l.writer.desk.place.table_id; seen = [] })) × (l.count ≤ vec_capacity l.made)
+invariant-loop l = (l.made.items ≡ replicate l.counter (record { table = l.writer.desk.place.table_id; seen = [] }))
+    × (l.count ≤ vec_capacity l.made)

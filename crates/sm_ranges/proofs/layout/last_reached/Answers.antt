@@ -6,9 +6,11 @@ use Rattle.sm_ranges.proofs.Covering.{parted, some_reached, last_place, covering
 use Rattle.sm_ranges.proofs.layout.last_reached.Goals as goal
 
 -- the search stopped after all bounds that are at most the key
-point : (c : goal.After-partition_point) → IsPartitionPoint (λ bound. is_at_most bound c.args.key.now ≡ true) (λ bound. is_at_most bound c.args.key.now ≡ false) c.args.bounds.now c.partition_point.result
+point : (c : goal.After-partition_point) → IsPartitionPoint (λ bound. is_at_most bound c.args.key.now ≡ true)
+    (λ bound. is_at_most bound c.args.key.now ≡ false) c.args.bounds.now c.partition_point.result
 point c =
-    IsPartitionPoint-from_clause (λ bound. is_at_most bound c.args.key.now) c.args.bounds.now c.partition_point.result c.partition_point.ensures.partitioned (parted c.args.bounds.now c.args.key.now c.requires)
+    IsPartitionPoint-from_clause (λ bound. is_at_most bound c.args.key.now) c.args.bounds.now c.partition_point.result
+    c.partition_point.ensures.partitioned (parted c.args.bounds.now c.args.key.now c.requires)
     (λ bound r q k. search rules)
 
 pub overflow_sub-result : goal.overflow_sub-result

@@ -8,7 +8,8 @@ use Rattle.sm_rows.proofs.domain_row.are_those_used.Goals as goal
 use Rattle.sm_rows.proofs.domain_row.are_those_used.Goals.{then-used-domain+else-not-is_at, else-used-domain}
 
 pub loop-domain-init : goal.loop-domain-init
-loop-domain-init c = IsLeft-start c.args.servers.now (map (λ (row : DomainRow). row.domain) c.args.rows.now) (MAX_DOMAIN + 1)
+loop-domain-init c =
+    IsLeft-start c.args.servers.now (map (λ (row : DomainRow). row.domain) c.args.rows.now) (MAX_DOMAIN + 1)
 
 pub returns-then-not-is_at : goal.returns-then-not-is_at
 returns-then-not-is_at c =
@@ -30,11 +31,13 @@ loop-domain-preserved c =
     elim c.if-used-domain.branch [
       | then-used-domain+else-not-is_at w ↦
           rw w.at-is
-          (IsLeft-used servers numbers (MAX_DOMAIN + 1) c.loop-domain.at c.loop-domain.domain inside (sym marked ∙ w.if-used-domain.true)
+          (IsLeft-used servers numbers (MAX_DOMAIN + 1) c.loop-domain.at c.loop-domain.domain inside
+          (sym marked ∙ w.if-used-domain.true)
           (sym w.is_at.ensures ∙ w.if-not-is_at.false) c.loop-domain.invariant)
       | else-used-domain w ↦
           rw w.at-is
-          (IsLeft-unused servers numbers (MAX_DOMAIN + 1) c.loop-domain.at c.loop-domain.domain inside (sym marked ∙ w.if-used-domain.false)
+          (IsLeft-unused servers numbers (MAX_DOMAIN + 1) c.loop-domain.at c.loop-domain.domain inside
+          (sym marked ∙ w.if-used-domain.false)
           c.loop-domain.invariant)
     ]
 
@@ -43,6 +46,7 @@ returns c =
     let servers = c.args.servers.now in
     let numbers = map (λ (row : DomainRow). row.domain) c.args.rows.now in
     ap (nat_eq c.loop-domain.at) (sym (length-map c.args.rows.now (λ (row : DomainRow). row.domain)))
-    ∙ IsLeft-end servers numbers (MAX_DOMAIN + 1) c.loop-domain.at c.loop-domain.domain (omega (arith, c.loop-domain-test.false))
+    ∙ IsLeft-end servers numbers (MAX_DOMAIN + 1) c.loop-domain.at c.loop-domain.domain
+    (omega (arith, c.loop-domain-test.false))
     c.loop-domain.invariant
     ∙ sym (ap (are_same numbers) (domains_of-all servers (MAX_DOMAIN + 1) refl))

@@ -8,5 +8,6 @@ loop-server-init c = AreMarked-none c.args.servers.now (MAX_DOMAIN + 1)
 
 pub returns : goal.returns
 returns c = λ d h.
-    is_used-marked c.args.servers.now (MAX_DOMAIN + 1) c.loop-server.server-index c.loop-server.used (omega (arith, c.loop-server-test.false))
+    is_used-marked c.args.servers.now (MAX_DOMAIN + 1) c.loop-server.server-index c.loop-server.used
+    (omega (arith, c.loop-server-test.false))
     c.loop-server.invariant d (omega (arith, h))

@@ -15,11 +15,13 @@ loop-domain-preserved c =
     elim c.if-used-domain.branch [
       | then-used-domain+in_ok-push w ↦
           rw (w.rows-is, w.in_ok-push.ensures.items)
-          (made-used servers c.loop-domain.rows.items c.args.down (MAX_DOMAIN + 1) c.loop-domain.domain inside (sym marked ∙ w.if-used-domain.true)
+          (made-used servers c.loop-domain.rows.items c.args.down (MAX_DOMAIN + 1) c.loop-domain.domain inside
+          (sym marked ∙ w.if-used-domain.true)
           c.loop-domain.invariant)
       | else-used-domain w ↦
           rw w.rows-is
-          (made-unused servers c.loop-domain.rows.items c.args.down (MAX_DOMAIN + 1) c.loop-domain.domain inside (sym marked ∙ w.if-used-domain.false)
+          (made-unused servers c.loop-domain.rows.items c.args.down (MAX_DOMAIN + 1) c.loop-domain.domain inside
+          (sym marked ∙ w.if-used-domain.false)
           c.loop-domain.invariant)
     ]
 

@@ -5,4 +5,5 @@ use Rattle.sm_script.proofs.reply.append_pairs.Given as goal
 
 abbrev pub invariant-loop-pair : goal.invariant-loop-pair
 invariant-loop-pair l =
-    l.out.items ≡ l.fn.out.items ++ (codes "pairs " ++ decimal (length l.pairs) ++ flat_map pair_text (take l.pair-index l.pairs))
+    l.out.items ≡ l.fn.out.items
+    ++ (codes "pairs " ++ decimal (length l.pairs) ++ flat_map pair_text (take l.pair-index l.pairs))

@@ -10,4 +10,5 @@ no_words (shape ∷ shapes) = refl
 pub returns-in-None : goal.returns-in-None
 returns-in-None c =
     no_words (drop c.loop-shape.shape-index c.args.shapes.now)
-    ∙ sym (c.loop-shape.invariant ∙ ap (first_fault (drop c.loop-shape.shape-index c.args.shapes.now)) c.in-None.ensures.0)
+    ∙ sym (c.loop-shape.invariant
+    ∙ ap (first_fault (drop c.loop-shape.shape-index c.args.shapes.now)) c.in-None.ensures.0)

@@ -7,7 +7,8 @@ use Rattle.sm_session.proofs.beginning.desk_of.Goals as goal
 
 pub want_of_memory-requires : goal.want_of_memory-requires
 want_of_memory-requires c =
-    let none : first_books_fault c.deref.result.now c.deref-2.result.now c.deref-3.result.now c.deref-4.result.now ≡ None =
+    let none :
+    first_books_fault c.deref.result.now c.deref-2.result.now c.deref-3.result.now c.deref-4.result.now ≡ None =
     rw (c.deref.ensures.value, c.deref-2.ensures.value, c.deref-3.ensures.value, c.deref-4.ensures.value)
     (no_books_fault (values_of c.args.settings.now) c.requires) in
     memory_alone c.in-Err.fault

@@ -6,4 +6,5 @@ use Rattle.sm_settings.proofs.members.array.Goals as goal
 pub returns : goal.returns
 returns c =
     ap (λ items. Some (map view items)) c.as_slice.ensures.value
-    ∙ array_of_list c.in_ok-items.items.now.items (view c.in_ok-member.member.now) _ c.in_ok-items.ensures c.in_ok-member.ensures
+    ∙ array_of_list c.in_ok-items.items.now.items
+    (view c.in_ok-member.member.now) _ c.in_ok-items.ensures c.in_ok-member.ensures

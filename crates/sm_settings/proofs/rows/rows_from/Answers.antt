@@ -14,18 +14,22 @@ returns-in_default-clause-rows g c =
 pub returns-then-keep_rule-clause-rows : goal.returns-then-keep_rule-clause-rows
 returns-then-keep_rule-clause-rows g c =
     let rows = map g.T.Row.row_of (map view c.args.values.now) in
-    let some : Some c.in-Some.rows.items ≡ when (list_all (g.T.Row.is_row c.args.groups) rows) rows = search (rules, tests) in
+    let some : Some c.in-Some.rows.items ≡ when (list_all (g.T.Row.is_row c.args.groups) rows) rows =
+    search (rules, tests) in
     judged_rows (g.T.Row.rule c.args.bounds c.args.groups c.args.servers.now) _ true _ rows some (search (rules, tests))
 
 pub returns-else-keep_rule-clause-rows : goal.returns-else-keep_rule-clause-rows
 returns-else-keep_rule-clause-rows g c =
     let rows = map g.T.Row.row_of (map view c.args.values.now) in
-    let some : Some c.in-Some.rows.items ≡ when (list_all (g.T.Row.is_row c.args.groups) rows) rows = search (rules, tests) in
-    judged_rows (g.T.Row.rule c.args.bounds c.args.groups c.args.servers.now) _ false _ rows some (search (rules, tests))
+    let some : Some c.in-Some.rows.items ≡ when (list_all (g.T.Row.is_row c.args.groups) rows) rows =
+    search (rules, tests) in
+    judged_rows (g.T.Row.rule c.args.bounds c.args.groups c.args.servers.now) _ false _ rows some
+    (search (rules, tests))
 
 pub returns-then-keep_rule-clause-few : goal.returns-then-keep_rule-clause-few
 returns-then-keep_rule-clause-few g c =
-    let keeps : g.T.Row.rule c.args.bounds c.args.groups c.args.servers.now c.deref.result.now ≡ true = search (rules, tests) in
+    let keeps : g.T.Row.rule c.args.bounds c.args.groups c.args.servers.now c.deref.result.now ≡ true =
+    search (rules, tests) in
     let few = g.met.T.Row.few c.args.bounds c.args.groups c.args.servers.now c.deref.result.now keeps in
     let len = c.deref.ensures.len in
     omega (arith, few, len)

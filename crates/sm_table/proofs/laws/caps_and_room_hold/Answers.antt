@@ -16,16 +16,19 @@ record AreKept (ops : ℕ) (books : BooksView) : Type 0 where
   caps : MeetsCaps ops books
 
 abbrev KeepCaps : Type 0
-KeepCaps = (desk : DeskView) (command : Command) → AreSound desk.books → MeetsCaps desk.ops desk.books → desk_fault desk command ≡ None → MeetsCaps desk.ops (books_commanded desk.books command)
+KeepCaps = (desk : DeskView) (command : Command) → AreSound desk.books → MeetsCaps desk.ops desk.books
+    → desk_fault desk command ≡ None → MeetsCaps desk.ops (books_commanded desk.books command)
 
 abbrev KeepSoundness : Type 0
-KeepSoundness = (desk : DeskView) (command : Command) → AreSound desk.books → desk_fault desk command ≡ None → AreSound (commanded desk command).books
+KeepSoundness = (desk : DeskView) (command : Command) → AreSound desk.books → desk_fault desk command ≡ None
+    → AreSound (commanded desk command).books
 
 ops_after : (start : DeskView) (commands : List Command) → (desk_after start commands).ops ≡ start.ops
 ops_after start [] = refl
 ops_after start (command ∷ earlier) = ops_after start earlier
 
-kept_after : KeepCaps → KeepSoundness → (start : DeskView) (commands : List Command) → AreLetThrough start commands → AreSound start.books → MeetsCaps start.ops start.books → AreKept start.ops (desk_after start commands).books
+kept_after : KeepCaps → KeepSoundness → (start : DeskView) (commands : List Command) → AreLetThrough start commands
+    → AreSound start.books → MeetsCaps start.ops start.books → AreKept start.ops (desk_after start commands).books
 kept_after keep_caps keep_sound start [] through sound caps = record { sound = sound; caps = caps }
 kept_after keep_caps keep_sound start (command ∷ earlier) through sound caps =
     let before = kept_after keep_caps keep_sound start earlier through.1 sound caps in
@@ -34,22 +37,28 @@ kept_after keep_caps keep_sound start (command ∷ earlier) through sound caps =
     let own : MeetsCaps desk.ops desk.books = subst (λ ops. MeetsCaps ops desk.books) (sym same) before.caps in
     record {
       sound = keep_sound desk command before.sound through.0;
-      caps = subst (λ ops. MeetsCaps ops (books_commanded desk.books command)) same (keep_caps desk command before.sound own through.0);
+      caps = subst (λ ops. MeetsCaps ops (books_commanded desk.books command)) same
+          (keep_caps desk command before.sound own through.0);
     }
 
-kept_of_world : {Q : Type 0} → KeepCaps → KeepSoundness → (w : WorldState Q) → IsSound w → AreKept w.frame.start.ops w.desk.books
+kept_of_world : {Q : Type 0} → KeepCaps → KeepSoundness → (w : WorldState Q) → IsSound w
+    → AreKept w.frame.start.ops w.desk.books
 kept_of_world keep_caps keep_sound w sound =
     subst (λ (desk : DeskView). AreKept w.frame.start.ops desk.books) sound.desk.leads
-    (kept_after keep_caps keep_sound w.frame.start sound.desk.commands sound.desk.through sound.frame.books sound.frame.caps)
+    (kept_after keep_caps keep_sound w.frame.start sound.desk.commands sound.desk.through sound.frame.books
+    sound.frame.caps)
 
 pub returns-clause-stands : goal.returns-clause-stands
 returns-clause-stands g c = λ service frame steps is. (sound_world service frame steps is).stands
 
 pub returns-clause-room : goal.returns-clause-room
 returns-clause-room g c = λ service frame steps is.
-    (kept_of_world c.commands_keep_caps.ensures c.commands_keep_soundness.ensures (world_of service frame steps) (sound_world service frame steps is)).sound.room
+    (kept_of_world c.commands_keep_caps.ensures c.commands_keep_soundness.ensures (world_of service frame steps)
+    (sound_world service frame steps is)).sound.room
 
 pub returns-clause-caps : goal.returns-clause-caps
 returns-clause-caps g c = λ service frame steps is.
-    subst (λ (f : Frame). MeetsCaps f.start.ops (world_of service frame steps).desk.books) (extends_after service (empty_world frame) steps).frame
-    (kept_of_world c.commands_keep_caps.ensures c.commands_keep_soundness.ensures (world_of service frame steps) (sound_world service frame steps is)).caps
+    subst (λ (f : Frame). MeetsCaps f.start.ops (world_of service frame steps).desk.books)
+    (extends_after service (empty_world frame) steps).frame
+    (kept_of_world c.commands_keep_caps.ensures c.commands_keep_soundness.ensures (world_of service frame steps)
+    (sound_world service frame steps is)).caps

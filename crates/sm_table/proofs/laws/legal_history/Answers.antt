@@ -7,4 +7,5 @@ use Rattle.sm_table.proofs.laws.legal_history.Goals as goal
 
 pub returns : goal.returns
 returns g c = λ service frame steps is.
-    subst (λ f. IsLegal (length f.bounds) f.ceiling (world_of service frame steps).history) (extends_after service (empty_world frame) steps).frame (sound_world service frame steps is).legal
+    subst (λ f. IsLegal (length f.bounds) f.ceiling (world_of service frame steps).history)
+    (extends_after service (empty_world frame) steps).frame (sound_world service frame steps is).legal

@@ -11,6 +11,7 @@ pub returns : goal.returns
 returns c =
     let test = λ (shard : Shard). names shard.stand c.args.a && not (is_paused shard.stand) in
     c.shard_id.ensures
-    ∙ position_from_yields_List test _ _ c.position-place.result c.position-place.ensures.ran (YieldsList-from_slice c.shards.result.now (cc))
+    ∙ position_from_yields_List test _ _ c.position-place.result c.position-place.ensures.ran
+    (YieldsList-from_slice c.shards.result.now (cc))
     (λ x b q k. search (rules, tests))
     ∙ ap (position test) c.shards.ensures

@@ -15,8 +15,10 @@ returns-then-down-g c =
     let small : g < MAX_GROUPS = omega (arith, c.soundness.ensures.groups) in
     let named : 0 < group_count (λ stand. names stand c.args.a) c.args.books.now.shards g =
     rw (← c.named_by_group-named.ensures g small) c.if-named-g-gt0.true in
-    let down : down_of c.args.books.now g < slice_index c.down_by_group-down.result g = rw c.groups-row-items.ensures at c.if-down-g.true in
-    let over : down_of c.args.books.now g < group_count (names_down c.args.books.now c.args.a) c.args.books.now.shards g =
+    let down : down_of c.args.books.now g < slice_index c.down_by_group-down.result g =
+    rw c.groups-row-items.ensures at c.if-down-g.true in
+    let over :
+    down_of c.args.books.now g < group_count (names_down c.args.books.now c.args.a) c.args.books.now.shards g =
     rw (← c.down_by_group-down.ensures g small) down in
     sym (position-first (is_full c.args.books.now c.args.a) (length c.args.books.now.groups) g inside c.loop-g.invariant
     (is_full-yes c.args.books.now c.args.a g named over))
@@ -40,4 +42,5 @@ loop-g-preserved c =
 pub returns : goal.returns
 returns c =
     let done : length c.args.books.now.groups ≤ c.loop-g.g = rw c.groups-row-items.ensures at c.loop-g-test.false in
-    sym (position-none (is_full c.args.books.now c.args.a) (length c.args.books.now.groups) (λ k h. c.loop-g.invariant k (omega arith)))
+    sym (position-none (is_full c.args.books.now c.args.a) (length c.args.books.now.groups)
+    (λ k h. c.loop-g.invariant k (omega arith)))

@@ -15,13 +15,26 @@ write_joined-requires c =
 pub overflow_add-self : goal.overflow_add-self
 overflow_add-self c =
     let written = c.in_ok-span.ensures.written in
-    record { fits = omega (arith, c.self.invariant.bounded, written.whole, written.total, total_fits c.write_joined.new.self) }
+    record {
+      fits = omega (
+        arith,
+        c.self.invariant.bounded,
+        written.whole,
+        written.total,
+        total_fits c.write_joined.new.self,
+      );
+    }
 
 pub invariant_of-self-2 : goal.invariant_of-self-2
 invariant_of-self-2 c =
     let written = c.in_ok-span.ensures.written in
-    let longer = subst (λ (n : ℕ). IsArena (chunks_of c.write_joined.new.self) (c.self.inside.live + n) c.self.inside.gone (lying (chunks_of c.write_joined.new.self) (sizes_of c.write_joined.new.self) (c.self.inside.placed.items ++ c.in_ok-span.span ∷ []) c.self.inside.forgotten.items)) (sym written.whole) (
-    held_written (chunks_of c.self.inside.blocks) (chunks_of c.write_joined.new.self) (sizes_of c.self.inside.blocks) (sizes_of c.write_joined.new.self) c.self.inside.live c.self.inside.gone c.self.inside.placed.items c.self.inside.forgotten.items c.self.invariant c.in_ok-span.span (bytes_at (chunks_of c.self.inside.blocks) c.args.head ++ c.args.tail.now) written
+    let longer = subst (λ (n : ℕ). IsArena (chunks_of c.write_joined.new.self) (c.self.inside.live + n)
+    c.self.inside.gone (lying (chunks_of c.write_joined.new.self) (sizes_of c.write_joined.new.self)
+    (c.self.inside.placed.items ++ c.in_ok-span.span ∷ []) c.self.inside.forgotten.items)) (sym written.whole) (
+    held_written (chunks_of c.self.inside.blocks) (chunks_of c.write_joined.new.self) (sizes_of c.self.inside.blocks)
+    (sizes_of c.write_joined.new.self) c.self.inside.live c.self.inside.gone c.self.inside.placed.items
+    c.self.inside.forgotten.items c.self.invariant c.in_ok-span.span
+    (bytes_at (chunks_of c.self.inside.blocks) c.args.head ++ c.args.tail.now) written
     ) in
     rw c.push.ensures longer
 
@@ -30,7 +43,10 @@ returns-clause-placed c =
     let is = subst (λ v. IsPlaced v.placed c.args.head) (sym c.self.view_is) c.requires in
     let lies = lies_at (chunks_of c.self.inside.blocks) _ c.args.head c.self.invariant.lies is in
     rw (← c.self.view_is, lies.0, c.push.ensures) (
-    is_placing_written (chunks_of c.self.inside.blocks) (chunks_of c.write_joined.new.self) (sizes_of c.self.inside.blocks) (sizes_of c.write_joined.new.self) c.self.inside.live c.self.inside.gone c.self.inside.placed.items c.self.inside.forgotten.items c.self.invariant c.in_ok-span.span (bytes_at (chunks_of c.self.inside.blocks) c.args.head ++ c.args.tail.now) c.in_ok-span.ensures.written
+    is_placing_written (chunks_of c.self.inside.blocks) (chunks_of c.write_joined.new.self)
+    (sizes_of c.self.inside.blocks) (sizes_of c.write_joined.new.self) c.self.inside.live c.self.inside.gone
+    c.self.inside.placed.items c.self.inside.forgotten.items c.self.invariant c.in_ok-span.span
+    (bytes_at (chunks_of c.self.inside.blocks) c.args.head ++ c.args.tail.now) c.in_ok-span.ensures.written
     )
 
 pub returns-clause-sizes : goal.returns-clause-sizes

@@ -11,10 +11,15 @@ overflow_add-self c =
 
 pub invariant_of-self-2 : goal.invariant_of-self-2
 invariant_of-self-2 c =
-    rw c.push.ensures (held_written (chunks_of c.self.inside.blocks) (chunks_of c.write.new.self) (sizes_of c.self.inside.blocks) (sizes_of c.write.new.self) c.self.inside.live c.self.inside.gone c.self.inside.placed.items c.self.inside.forgotten.items c.self.invariant c.in_ok-span.span c.args.piece.now c.in_ok-span.ensures.written)
+    rw c.push.ensures
+    (held_written (chunks_of c.self.inside.blocks) (chunks_of c.write.new.self) (sizes_of c.self.inside.blocks)
+    (sizes_of c.write.new.self) c.self.inside.live c.self.inside.gone c.self.inside.placed.items
+    c.self.inside.forgotten.items c.self.invariant c.in_ok-span.span c.args.piece.now c.in_ok-span.ensures.written)
 
 pub returns-clause-placed : goal.returns-clause-placed
 returns-clause-placed c =
     rw (← c.self.view_is, c.push.ensures) (
-    is_placing_written (chunks_of c.self.inside.blocks) (chunks_of c.write.new.self) (sizes_of c.self.inside.blocks) (sizes_of c.write.new.self) c.self.inside.live c.self.inside.gone c.self.inside.placed.items c.self.inside.forgotten.items c.self.invariant c.in_ok-span.span c.args.piece.now c.in_ok-span.ensures.written
+    is_placing_written (chunks_of c.self.inside.blocks) (chunks_of c.write.new.self) (sizes_of c.self.inside.blocks)
+    (sizes_of c.write.new.self) c.self.inside.live c.self.inside.gone c.self.inside.placed.items
+    c.self.inside.forgotten.items c.self.invariant c.in_ok-span.span c.args.piece.now c.in_ok-span.ensures.written
     )

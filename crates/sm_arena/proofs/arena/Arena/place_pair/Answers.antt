@@ -7,21 +7,43 @@ use Rattle.sm_arena.proofs.arena.Arena.place_pair.Goals as goal
 pub overflow_add-self : goal.overflow_add-self
 overflow_add-self c =
     let written = c.in_ok-first_span.ensures.written in
-    record { fits = omega (arith, c.self.invariant.bounded, written.one.total, written.other.total, total_fits c.write_pair.new.self) }
+    record {
+      fits = omega (
+        arith,
+        c.self.invariant.bounded,
+        written.one.total,
+        written.other.total,
+        total_fits c.write_pair.new.self,
+      );
+    }
 
 pub overflow_add-self-2 : goal.overflow_add-self-2
 overflow_add-self-2 c =
     let written = c.in_ok-first_span.ensures.written in
-    record { fits = omega (arith, c.self.invariant.bounded, written.one.total, written.other.total, total_fits c.write_pair.new.self) }
+    record {
+      fits = omega (
+        arith,
+        c.self.invariant.bounded,
+        written.one.total,
+        written.other.total,
+        total_fits c.write_pair.new.self,
+      );
+    }
 
 pub invariant_of-self-2 : goal.invariant_of-self-2
 invariant_of-self-2 c =
     rw (c.push-2.ensures, c.push.ensures) (
-    held_pair (chunks_of c.self.inside.blocks) (chunks_of c.write_pair.new.self) (sizes_of c.self.inside.blocks) (sizes_of c.write_pair.new.self) c.self.inside.live c.self.inside.gone c.self.inside.placed.items c.self.inside.forgotten.items c.self.invariant c.in_ok-first_span.first_span c.in_ok-first_span.second_span c.args.first.now c.args.second.now c.in_ok-first_span.ensures.written
+    held_pair (chunks_of c.self.inside.blocks) (chunks_of c.write_pair.new.self) (sizes_of c.self.inside.blocks)
+    (sizes_of c.write_pair.new.self) c.self.inside.live c.self.inside.gone c.self.inside.placed.items
+    c.self.inside.forgotten.items c.self.invariant c.in_ok-first_span.first_span c.in_ok-first_span.second_span
+    c.args.first.now c.args.second.now c.in_ok-first_span.ensures.written
     )
 
 pub returns-clause-placed : goal.returns-clause-placed
 returns-clause-placed c =
     rw (← c.self.view_is, c.push-2.ensures, c.push.ensures) (
-    is_placing_pair (chunks_of c.self.inside.blocks) (chunks_of c.write_pair.new.self) (sizes_of c.self.inside.blocks) (sizes_of c.write_pair.new.self) c.self.inside.live c.self.inside.gone c.self.inside.placed.items c.self.inside.forgotten.items c.self.invariant c.in_ok-first_span.first_span c.in_ok-first_span.second_span c.args.first.now c.args.second.now c.in_ok-first_span.ensures.written
+    is_placing_pair (chunks_of c.self.inside.blocks) (chunks_of c.write_pair.new.self) (sizes_of c.self.inside.blocks)
+    (sizes_of c.write_pair.new.self) c.self.inside.live c.self.inside.gone c.self.inside.placed.items
+    c.self.inside.forgotten.items c.self.invariant c.in_ok-first_span.first_span c.in_ok-first_span.second_span
+    c.args.first.now c.args.second.now c.in_ok-first_span.ensures.written
     )

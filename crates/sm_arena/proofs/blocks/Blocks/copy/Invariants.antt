@@ -6,7 +6,8 @@ use Rattle.sm_arena.proofs.blocks.Blocks.copy.Given as goal
 abbrev pub invariant-loop-copied : goal.invariant-loop-copied
 invariant-loop-copied l = record {
   within : l.copied ≤ l.span.length;
-  filled : IsFilled l.initial.self.blocks.items l.place (take l.copied (bytes_at (chunks_of l.initial.self) l.span)) l.self.blocks.items;
+  filled : IsFilled l.initial.self.blocks.items l.place
+      (take l.copied (bytes_at (chunks_of l.initial.self) l.span)) l.self.blocks.items;
 }
 
 abbrev pub decreases-loop-copied : goal.decreases-loop-copied

@@ -11,6 +11,7 @@ invariant_of-self-2 c =
     let items : c.push.new.self.items ≡ c.args.self.now.blocks.items ++ c.in_ok-block.block ∷ [] = search rules in
     let next = next_pushed c.args.self.now.blocks.items c.in_ok-block.block in
     let all = sum_pushed c.args.self.now.blocks.items c.in_ok-block.block in
-    let least = c.next_least-self.ensures ∙ ((λ i. least_after (c.args.self.now.tied.0 i) (sym c.in_ok-block.ensures.0 i)) ∙ sym next) in
+    let least = c.next_least-self.ensures
+    ∙ ((λ i. least_after (c.args.self.now.tied.0 i) (sym c.in_ok-block.ensures.0 i)) ∙ sym next) in
     let held = (λ i. c.args.self.now.tied.1 i + sym c.in_ok-block.ensures.0 i) ∙ sym all in
     rw items (record { tied = (least, held) })

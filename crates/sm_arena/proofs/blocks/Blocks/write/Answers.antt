@@ -11,5 +11,7 @@ returns-then-is_empty-clause-written c =
 pub returns-clause-written : goal.returns-clause-written
 returns-clause-written c =
     rw c.fill.ensures.span (
-    writes (chunks_of c.args.self.now) c.block_for.new.self.blocks.items c.fill.new.self.blocks.items c.block_for.ensures.grown.0 c.in_ok-chunk.chunk c.args.piece.now c.block_for.ensures.grown.1 c.in_ok-chunk.ensures.room.0 c.fill.ensures.filled
+    writes (chunks_of c.args.self.now) c.block_for.new.self.blocks.items c.fill.new.self.blocks.items
+    c.block_for.ensures.grown.0 c.in_ok-chunk.chunk c.args.piece.now c.block_for.ensures.grown.1
+    c.in_ok-chunk.ensures.room.0 c.fill.ensures.filled
     )

@@ -11,7 +11,8 @@ returns-then-length-eq0-clause-written c = record {
 }
 
 pub fill-second_span-requires : goal.fill-second_span-requires
-fill-second_span-requires c = c.fill-first_span.ensures.filled.room (length c.args.second.now) c.in_ok-chunk.ensures.room
+fill-second_span-requires c =
+    c.fill-first_span.ensures.filled.room (length c.args.second.now) c.in_ok-chunk.ensures.room
 
 pub returns-clause-written : goal.returns-clause-written
 returns-clause-written c =
@@ -19,6 +20,9 @@ returns-clause-written c =
     let room = first.room (length c.args.second.now) c.in_ok-chunk.ensures.room in
     rw (c.fill-first_span.ensures.span, c.fill-second_span.ensures.span) (record {
       middle = chunks_of c.fill-first_span.new.self;
-      one = writes (chunks_of c.args.self.now) c.block_for.new.self.blocks.items c.fill-first_span.new.self.blocks.items c.block_for.ensures.grown.0 c.in_ok-chunk.chunk c.args.first.now c.block_for.ensures.grown.1 c.in_ok-chunk.ensures.room.0 first;
-      other = writes_next c.fill-first_span.new.self.blocks.items c.fill-second_span.new.self.blocks.items c.in_ok-chunk.chunk c.args.second.now room.0 c.fill-second_span.ensures.filled;
+      one = writes (chunks_of c.args.self.now) c.block_for.new.self.blocks.items c.fill-first_span.new.self.blocks.items
+          c.block_for.ensures.grown.0 c.in_ok-chunk.chunk c.args.first.now c.block_for.ensures.grown.1
+          c.in_ok-chunk.ensures.room.0 first;
+      other = writes_next c.fill-first_span.new.self.blocks.items c.fill-second_span.new.self.blocks.items
+          c.in_ok-chunk.chunk c.args.second.now room.0 c.fill-second_span.ensures.filled;
     })

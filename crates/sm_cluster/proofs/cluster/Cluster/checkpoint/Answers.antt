@@ -15,7 +15,13 @@ returns-in_err-made-clause-known g c within known =
     let fault = err_from_is_err_and c.from_residual.result c.from_residual.ensures.1 in
     let inside = c.self-2.inside in
     let told = c.meet.new.pass.seen in
-    let later : ClusterValue g.row.S-Request.Denot = record { control = inside.control; map = inside.publisher; bounds = (arc_value inside.ground).layout; holds = inside.holds; told = told } in
+    let later : ClusterValue g.row.S-Request.Denot = record {
+      control = inside.control;
+      map = inside.publisher;
+      bounds = (arc_value inside.ground).layout;
+      holds = inside.holds;
+      told = told;
+    } in
     let based : IsBasedBy c.args.self.now c.args.k c.args.a (Err (Checkpoint c.in_err-made.field-0.0)) later =
     record {
       before = c.pass_of-pass.result;
@@ -25,7 +31,8 @@ returns-in_err-made-clause-known g c within known =
       told =
           subst (λ (pass : PassValue g.row.S-Request.Denot). Begins pass.seen told) c.into_note.ensures
           (met_begins c.into_note.result.number c.into_note.result.seen told c.meet.ensures.met);
-      others = tells_more _ c.args.self.now told (c.self-2.view_is ∙ c.pass_of-pass.ensures.unchanged) (looks_begins inside.teller c.meet.new.pass c.meet.ensures.looks);
+      others = tells_more _ c.args.self.now told (c.self-2.view_is ∙ c.pass_of-pass.ensures.unchanged)
+          (looks_begins inside.teller c.meet.new.pass c.meet.ensures.looks);
     } in
     rw (fault.1, fault.2) based
 
@@ -41,5 +48,6 @@ returns-clause-known g c within known =
       told =
           subst (λ (pass : PassValue g.row.S-Request.Denot). Begins pass.seen told) c.into_note.ensures
           (met_begins c.into_note.result.number c.into_note.result.seen told c.meet.ensures.met);
-      others = tells_more _ c.args.self.now told (c.self-2.view_is ∙ c.pass_of-pass.ensures.unchanged) (looks_begins c.self-2.inside.teller c.meet.new.pass c.meet.ensures.looks);
+      others = tells_more _ c.args.self.now told (c.self-2.view_is ∙ c.pass_of-pass.ensures.unchanged)
+          (looks_begins c.self-2.inside.teller c.meet.new.pass c.meet.ensures.looks);
     }

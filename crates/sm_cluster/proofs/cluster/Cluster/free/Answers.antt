@@ -21,12 +21,14 @@ invariant_of-self g c =
     let board : (arc_value c.self.inside.ground).board ≡ c.deref-2.result.now.board = search rules in (
       c.self.invariant.0,
       subst (λ (one : BoardValue). AreHoldsOn one c.take.new.self) (sym board) c.take.ensures.theirs,
-      teller_stays (arc_value c.self.inside.ground).board c.self.inside.control.chair.seen c.self.inside.teller c.meet.new.pass c.self.invariant.2 c.meet.ensures.looks,
+      teller_stays (arc_value c.self.inside.ground).board c.self.inside.control.chair.seen c.self.inside.teller
+          c.meet.new.pass c.self.invariant.2 c.meet.ensures.looks,
     )
 
 pub returns-in-Some-clause-freed : goal.returns-in-Some-clause-freed
 returns-in-Some-clause-freed g c =
-    let holds : c.self.inside.holds ≡ c.args.self.now.holds = ap (λ (cluster : ClusterValue g.row.S-Request.Denot). cluster.holds) c.self.view_is in
+    let holds : c.self.inside.holds ≡ c.args.self.now.holds =
+    ap (λ (cluster : ClusterValue g.row.S-Request.Denot). cluster.holds) c.self.view_is in
     let hold = c.in-Some.hold in
     let found : hold_at c.self.inside.holds c.args.k ≡ Some hold = sym c.in-Some.ensures.taken in
     let note = c.end-note.result in
@@ -37,9 +39,13 @@ returns-in-Some-clause-freed g c =
       ends_here hold note c.args.k (c.self.invariant.1.each c.args.k hold found).1 c.end-note.ensures,
       met_begins note.number note.seen told c.meet.ensures.met,
       (
-        subst (λ (cluster : ClusterValue g.row.S-Request.Denot). Begins cluster.told told) c.self.view_is (looks_begins c.self.inside.teller c.meet.new.pass c.meet.ensures.looks),
-        ap (λ (cluster : ClusterValue g.row.S-Request.Denot). cluster_telling (record cluster { holds = c.take.new.self }) told) c.self.view_is
-            ∙ ap (λ (all : List (Option (PassValue g.row.S-Request.Denot))). cluster_telling (record c.args.self.now { holds = all }) told)
-            (c.take.ensures.left ∙ ap (λ (all : List (Option (PassValue g.row.S-Request.Denot))). slice_set all c.args.k None) holds),
+        subst (λ (cluster : ClusterValue g.row.S-Request.Denot). Begins cluster.told told) c.self.view_is
+            (looks_begins c.self.inside.teller c.meet.new.pass c.meet.ensures.looks),
+        ap (λ (cluster : ClusterValue g.row.S-Request.Denot). cluster_telling
+            (record cluster { holds = c.take.new.self }) told) c.self.view_is
+            ∙ ap (λ (all : List (Option (PassValue g.row.S-Request.Denot))). cluster_telling
+            (record c.args.self.now { holds = all }) told)
+            (c.take.ensures.left
+            ∙ ap (λ (all : List (Option (PassValue g.row.S-Request.Denot))). slice_set all c.args.k None) holds),
       ),
     )

@@ -20,14 +20,20 @@ returns g c =
     let keeps = Keeps g.S.Service.initial g.S.Service.next g.S.Service.base g.S.Service.before g.S.Service.requests in
     let limit = g.S.Service.limit in
     let closer = c.end.new.closer in
-    let chair : c.self.inside.control.chair ≡ c.args.self.control.chair = ap (λ (cluster : ClusterValue g.row.S-Request.Denot). cluster.control.chair) c.self.view_is in
-    let holds : c.self.inside.holds ≡ c.args.self.holds = ap (λ (cluster : ClusterValue g.row.S-Request.Denot). cluster.holds) c.self.view_is in
-    let ended = subst (λ (all : List (Option (PassValue g.row.S-Request.Denot))). AreEndedIn closer.seen all) holds c.end.ensures.ended in
-    let first = subst (λ (cluster : ClusterValue g.row.S-Request.Denot). Begins cluster.told c.told-closer.result.seen) c.self.view_is c.told-closer.ensures.told in
+    let chair : c.self.inside.control.chair ≡ c.args.self.control.chair =
+    ap (λ (cluster : ClusterValue g.row.S-Request.Denot). cluster.control.chair) c.self.view_is in
+    let holds : c.self.inside.holds ≡ c.args.self.holds =
+    ap (λ (cluster : ClusterValue g.row.S-Request.Denot). cluster.holds) c.self.view_is in
+    let ended = subst (λ (all : List (Option (PassValue g.row.S-Request.Denot))). AreEndedIn closer.seen all) holds
+    c.end.ensures.ended in
+    let first = subst (λ (cluster : ClusterValue g.row.S-Request.Denot). Begins cluster.told c.told-closer.result.seen)
+    c.self.view_is c.told-closer.ensures.told in
     record {
       stopped =
-          ok_then c.closed.result (λ rows. WasClosed keeps limit c.self.inside.control.chair closer rows.items) (λ rows. WasStopped keeps limit c.args.self c.args.clients.items rows.items) c.closed.ensures
+          ok_then c.closed.result (λ rows. WasClosed keeps limit c.self.inside.control.chair closer rows.items)
+          (λ rows. WasStopped keeps limit c.args.self c.args.clients.items rows.items) c.closed.ensures
           (λ rows was.
           closed_stopped keeps limit c.args.self c.told-closer.result closer c.args.clients.items rows.items
-          (subst (λ (one : ChairValue g.row.S-Request.Denot). WasClosed keeps limit one closer rows.items) chair was) c.told-closer.ensures.seen c.end.ensures.seen ended first);
+          (subst (λ (one : ChairValue g.row.S-Request.Denot). WasClosed keeps limit one closer rows.items) chair was)
+          c.told-closer.ensures.seen c.end.ensures.seen ended first);
     }

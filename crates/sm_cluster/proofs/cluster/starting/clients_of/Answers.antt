@@ -16,10 +16,15 @@ loop-router-preserved g c =
     let router : c.new.result.router ≡ c.in-Some.router = search rules in
     let board : c.new.result.pass.board ≡ (arc_value c.args.ground.now).board = search rules in
     let bounds : c.new.result.bounds ≡ (arc_value c.args.ground.now).layout = search rules in (
-      ap length grown ∙ (length-append made (c.new.result ∷ []) ∙ (ap (λ (n : ℕ). n + 1) was.0 ∙ sym (length-append c.loop-router.yielded (c.in-Some.router ∷ [])))),
-      subst (All (λ (client : ClientValue g.row.S-Request.Denot). client.pass.board ≡ (arc_value c.args.ground.now).board)) (sym grown)
-          (All-push (λ (client : ClientValue g.row.S-Request.Denot). client.pass.board ≡ (arc_value c.args.ground.now).board) made c.new.result was.1 board),
-      subst (All (λ (client : ClientValue g.row.S-Request.Denot). client.bounds ≡ (arc_value c.args.ground.now).layout)) (sym grown)
-          (All-push (λ (client : ClientValue g.row.S-Request.Denot). client.bounds ≡ (arc_value c.args.ground.now).layout) made c.new.result was.2 bounds),
+      ap length grown ∙ (length-append made (c.new.result ∷ [])
+          ∙ (ap (λ (n : ℕ). n + 1) was.0 ∙ sym (length-append c.loop-router.yielded (c.in-Some.router ∷ [])))),
+      subst (All (λ (client : ClientValue g.row.S-Request.Denot). client.pass.board
+          ≡ (arc_value c.args.ground.now).board)) (sym grown)
+          (All-push (λ (client : ClientValue g.row.S-Request.Denot). client.pass.board
+          ≡ (arc_value c.args.ground.now).board) made c.new.result was.1 board),
+      subst (All (λ (client : ClientValue g.row.S-Request.Denot). client.bounds ≡ (arc_value c.args.ground.now).layout))
+          (sym grown)
+          (All-push (λ (client : ClientValue g.row.S-Request.Denot). client.bounds
+          ≡ (arc_value c.args.ground.now).layout) made c.new.result was.2 bounds),
       ap (map router_of) grown ∙ (map-append router_of made (c.new.result ∷ []) ∙ (λ i. was.3 i ++ router i ∷ [])),
     )

@@ -16,8 +16,10 @@ loop-client-init g c =
       board = c.requires.board;
       held = refl;
       told = begins_same c.args.teller.seen;
-      left = subst (All (λ (client : ClientValue g.row.S-Request.Denot). client.pass.board ≡ c.args.board.now)) (sym same) c.requires.clients;
-      seen = λ history begins all. subst (All (λ (client : ClientValue g.row.S-Request.Denot). Begins client.pass.seen history)) same all;
+      left = subst (All (λ (client : ClientValue g.row.S-Request.Denot). client.pass.board ≡ c.args.board.now))
+          (sym same) c.requires.clients;
+      seen = λ history begins all. subst
+          (All (λ (client : ClientValue g.row.S-Request.Denot). Begins client.pass.seen history)) same all;
     }
 
 pub loop-client-preserved : goal.loop-client-preserved
@@ -31,7 +33,8 @@ loop-client-preserved g c =
     let after = c.meet.new.pass in
     let note = c.into_note.ensures ∙ c.into_pass.ensures.pass in
     let met : Begins client.pass.seen after.seen =
-    subst (λ (pass : PassValue g.row.S-Request.Denot). Begins pass.seen after.seen) note (met_begins c.into_note.result.number c.into_note.result.seen after.seen c.meet.ensures.met) in
+    subst (λ (pass : PassValue g.row.S-Request.Denot). Begins pass.seen after.seen) note
+    (met_begins c.into_note.result.number c.into_note.result.seen after.seen c.meet.ensures.met) in
     record {
       board = ap (λ (pass : PassValue g.row.S-Request.Denot). pass.board) looks.1 ∙ was.board;
       held = ap (λ (pass : PassValue g.row.S-Request.Denot). pass.held) looks.1 ∙ was.held;
@@ -42,11 +45,13 @@ loop-client-preserved g c =
       seen = λ history begins all.
           was.seen history (begins_begins closer.seen after.seen history (looks_begins closer after looks) begins)
           (subst (All (λ (one : ClientValue g.row.S-Request.Denot). Begins one.pass.seen history)) (sym taken)
-          (All-cons (λ (one : ClientValue g.row.S-Request.Denot). Begins one.pass.seen history) client rest (begins_begins client.pass.seen after.seen history met begins) all));
+          (All-cons (λ (one : ClientValue g.row.S-Request.Denot). Begins one.pass.seen history) client rest
+          (begins_begins client.pass.seen after.seen history met begins) all));
     }
 
 pub returns-clause-seen : goal.returns-clause-seen
 returns-clause-seen g c =
     let none : length c.loop-client.client-iterator.rest.items ≡ 0 = search rules in
     c.loop-client.invariant.seen c.loop-client.closer.seen (begins_same c.loop-client.closer.seen)
-    (all_of_nobody (λ (client : ClientValue g.row.S-Request.Denot). Begins client.pass.seen c.loop-client.closer.seen) c.loop-client.client-iterator.rest.items none)
+    (all_of_nobody (λ (client : ClientValue g.row.S-Request.Denot). Begins client.pass.seen c.loop-client.closer.seen)
+    c.loop-client.client-iterator.rest.items none)

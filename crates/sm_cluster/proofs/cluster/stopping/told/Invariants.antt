@@ -12,6 +12,7 @@ invariant-loop-client g l = record {
   held : l.closer.held ≡ l.fn.teller.held;
   told : Begins l.fn.teller.seen l.closer.seen;
   left : All (λ client. client.pass.board ≡ l.board) l.client-iterator.rest.items;
-  seen : (history : List (Entry g.row.S-Request.Denot)) → Begins l.closer.seen history → All (λ client. Begins client.pass.seen history) l.client-iterator.rest.items
+  seen : (history : List (Entry g.row.S-Request.Denot)) → Begins l.closer.seen history
+      → All (λ client. Begins client.pass.seen history) l.client-iterator.rest.items
       → All (λ client. Begins client.pass.seen history) l.fn.clients.items;
 }

@@ -13,5 +13,6 @@ returns g c =
     subst (λ (one : PassValue g.row.S-Request.Denot). HasEnded one c.into_note.result) c.self.view_is (
       permit.shard,
       (permit.state, c.self.invariant.0.1),
-      subst (λ (after : PassValue g.row.S-Request.Denot). PassAdds pass permit.shard (Done Nothing) after) (sym c.into_note.ensures) added,
+      subst (λ (after : PassValue g.row.S-Request.Denot). PassAdds pass permit.shard (Done Nothing) after)
+          (sym c.into_note.ensures) added,
     )

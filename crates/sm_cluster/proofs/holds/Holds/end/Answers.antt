@@ -14,14 +14,17 @@ loop-slot-init g c = record {
   held = refl;
   seen = begins_same c.args.closer.now.seen;
   left =
-      subst (EachHold (λ shard (pass : PassValue g.row.S-Request.Denot). (pass.board ≡ c.args.board.now) × HoldsShard pass shard)) (sym c.self.view_is)
+      subst (EachHold (λ shard (pass : PassValue g.row.S-Request.Denot). (pass.board ≡ c.args.board.now)
+      × HoldsShard pass shard)) (sym c.self.view_is)
       c.requires.theirs.each;
-  ended = λ history begins all. subst (λ (holds : List (Option (PassValue g.row.S-Request.Denot))). AreEndedIn history holds) c.self.view_is all;
+  ended = λ history begins all. subst
+      (λ (holds : List (Option (PassValue g.row.S-Request.Denot))). AreEndedIn history holds) c.self.view_is all;
 }
 
 pub let_go-requires-clause-hold : goal.let_go-requires-clause-hold
 let_go-requires-clause-hold g c κs within =
-    let theirs = λ (shard : ℕ) (pass : PassValue g.row.S-Request.Denot). (pass.board ≡ c.args.board.now) × HoldsShard pass shard in
+    let theirs = λ (shard : ℕ) (pass : PassValue g.row.S-Request.Denot). (pass.board ≡ c.args.board.now)
+    × HoldsShard pass shard in
     let all = subst (EachHold theirs) c.in-Some.ensures.items c.loop-slot.invariant.left in
     IfSome_then c.in-Some.slot (each_slot theirs c.pop.new.self.items c.in-Some.slot all) (λ hold held. held.0)
 
@@ -34,7 +37,8 @@ loop-slot-preserved g c =
     let after = c.let_go.new.closer.seen in
     let items = c.in-Some.ensures.items in
     let gone = c.let_go.ensures in
-    let theirs = λ (shard : ℕ) (pass : PassValue g.row.S-Request.Denot). (pass.board ≡ c.args.board.now) × HoldsShard pass shard in
+    let theirs = λ (shard : ℕ) (pass : PassValue g.row.S-Request.Denot). (pass.board ≡ c.args.board.now)
+    × HoldsShard pass shard in
     record {
       board = gone.board ∙ was.board;
       held = gone.held ∙ was.held;
@@ -43,7 +47,8 @@ loop-slot-preserved g c =
       ended = λ history begins all.
           was.ended history (begins_begins before after history gone.seen begins)
           (subst (λ (holds : List (Option (PassValue g.row.S-Request.Denot))). AreEndedIn history holds) (sym items)
-          (each_more (λ shard pass. HasEndedIn history pass) front slot all (ended_last slot after history gone.ended begins)));
+          (each_more (λ shard pass. HasEndedIn history pass) front slot all
+          (ended_last slot after history gone.ended begins)));
     }
 
 pub returns-clause-ended : goal.returns-clause-ended

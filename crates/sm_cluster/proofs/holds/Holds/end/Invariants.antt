@@ -12,7 +12,8 @@ invariant-loop-slot g l = record {
   held : l.closer.held ≡ l.fn.closer.held;
   seen : Begins l.fn.closer.seen l.closer.seen;
   left : EachHold (λ shard pass. (pass.board ≡ l.board) × HoldsShard pass shard) l.slots.items;
-  ended : (history : List (Entry g.row.S-Request.Denot)) → Begins l.closer.seen history → AreEndedIn history l.slots.items → AreEndedIn history l.fn.self;
+  ended : (history : List (Entry g.row.S-Request.Denot)) → Begins l.closer.seen history
+      → AreEndedIn history l.slots.items → AreEndedIn history l.fn.self;
 }
 
 abbrev pub decreases-loop-slot : goal.decreases-loop-slot

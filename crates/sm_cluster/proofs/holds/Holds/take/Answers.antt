@@ -18,5 +18,7 @@ returns-clause-held g c =
 
 pub returns-clause-theirs : goal.returns-clause-theirs
 returns-clause-theirs g c =
-    let same : slice_set c.args.self.now c.args.k None ≡ slice_set c.self.inside.slots.items c.index.result c.take.new.self = search rules in
-    subst (AreHoldsOn c.args.board.now) same (holds_taken c.args.board.now c.args.self.now c.args.k c.requires.theirs c.requires.shard)
+    let same : slice_set c.args.self.now c.args.k None
+    ≡ slice_set c.self.inside.slots.items c.index.result c.take.new.self = search rules in
+    subst (AreHoldsOn c.args.board.now) same
+    (holds_taken c.args.board.now c.args.self.now c.args.k c.requires.theirs c.requires.shard)

@@ -4,5 +4,10 @@ use Rattle.sm_cluster.proofs.Travelling.{way_begins}
 use Rattle.sm_cluster.proofs.message.Message.new.Goals as goal
 
 pub invariant_of-result : goal.invariant_of-result
-invariant_of-result g c =
-    (c.requires.board, record { bounds = (arc_value c.args.ground).layout; sent = c.args.envelope }, c.requires.sender, refl, way_begins c.args.envelope)
+invariant_of-result g c = (
+  c.requires.board,
+  record { bounds = (arc_value c.args.ground).layout; sent = c.args.envelope },
+  c.requires.sender,
+  refl,
+  way_begins c.args.envelope,
+)

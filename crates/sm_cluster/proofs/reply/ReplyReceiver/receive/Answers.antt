@@ -3,7 +3,13 @@ use Rattle.sm_cluster.proofs.Replying.{receives}
 use Rattle.sm_cluster.proofs.reply.ReplyReceiver.receive.Goals as goal
 
 pub try_recv_as-requires-clause-rule : goal.try_recv_as-requires-clause-rule
-try_recv_as-requires-clause-rule g c = (receives (meaning_of g.S.Service.initial g.S.Service.next g.S.Service.answer g.S.Service.key_of) _ _, λ _ _ _ _. tt)
+try_recv_as-requires-clause-rule g c = (
+  receives (meaning_of g.S.Service.initial g.S.Service.next g.S.Service.answer g.S.Service.key_of) _ _,
+  λ _ _ _ _. tt,
+)
 
 pub recv_as-requires-clause-rule : goal.recv_as-requires-clause-rule
-recv_as-requires-clause-rule g c = (receives (meaning_of g.S.Service.initial g.S.Service.next g.S.Service.answer g.S.Service.key_of) _ _, λ _ _ _ _. tt)
+recv_as-requires-clause-rule g c = (
+  receives (meaning_of g.S.Service.initial g.S.Service.next g.S.Service.answer g.S.Service.key_of) _ _,
+  λ _ _ _ _. tt,
+)

@@ -10,4 +10,5 @@ invariant_of-self c =
     let allowed : desk_fault desk (ChangeOf c.args.k c.args.change.now) ≡ None =
     ap (λ one. desk_fault one (ChangeOf c.args.k c.args.change.now)) c.self.view_is ∙ c.requires.allowed in
     subst (MeetsCaps c.self.inside.tasks) (sym c.commit_change.ensures)
-    (c.commands_keep_caps.ensures desk (ChangeOf c.args.k c.args.change.now) c.soundness.ensures c.self.invariant allowed)
+    (c.commands_keep_caps.ensures desk
+    (ChangeOf c.args.k c.args.change.now) c.soundness.ensures c.self.invariant allowed)

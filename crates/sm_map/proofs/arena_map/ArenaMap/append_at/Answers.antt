@@ -16,12 +16,15 @@ pub returns-clause-ok : goal.returns-clause-ok
 returns-clause-ok c =
     let there = place_there _ c.args.position c.requires.position _ c.in-Ok.is in
     let any : KeyPair = record { key = c.args.position.key.now; value = HeldText [] } in
-    rw (text_here _ _ c.requires.position.rising _ there.1 any) (rewrite_holds _ _ _ c.requires.position.rising _ _ there.1 (λ (pair : KeyPair). HeldText (text_of (Some pair.value) ++ c.args.tail.now)) any c.lengthen_at.ensures.ok)
+    rw (text_here _ _ c.requires.position.rising _ there.1 any)
+    (rewrite_holds _ _ _ c.requires.position.rising _ _ there.1
+    (λ (pair : KeyPair). HeldText (text_of (Some pair.value) ++ c.args.tail.now)) any c.lengthen_at.ensures.ok)
 
 pub returns-clause-dead : goal.returns-clause-dead
 returns-clause-dead c =
     let there = place_there _ c.args.position c.requires.position _ c.in-Ok.is in
-    rewrite_dead _ _ _ c.requires.position.rising _ _ there.1 (λ (pair : KeyPair). HeldText (text_of (Some pair.value) ++ c.args.tail.now)) (record { key = c.args.position.key.now; value = HeldText [] }) c.lengthen_at.ensures.ok
+    rewrite_dead _ _ _ c.requires.position.rising _ _ there.1 (λ (pair : KeyPair). HeldText (text_of (Some pair.value)
+    ++ c.args.tail.now)) (record { key = c.args.position.key.now; value = HeldText [] }) c.lengthen_at.ensures.ok
 
 -- the key holds a text, so it is there
 pub unreachable-requires : goal.unreachable-requires

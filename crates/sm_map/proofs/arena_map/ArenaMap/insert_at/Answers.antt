@@ -9,10 +9,17 @@ use Rattle.sm_map.proofs.arena_map.ArenaMap.insert_at.Goals as goal
 pub invariant_of-self-2 : goal.invariant_of-self-2
 invariant_of-self-2 c =
     let gap = rw (← c.self.view_is) at c.requires.absent in
-    kept_by c.place.new.arena c.place.new.arena _ _ refl (inserted_in c.self.inside.index.blocks c.reserve.new.self.blocks c.insert.new.self.blocks c.args.place _ c.insert.ensures c.reserve.ensures.entries c.reserve.ensures.lengths) (addition_kept _ _ c.self.invariant _ c.place.new.arena c.in_ok-entry.ensures.stored _ c.in_ok-entry.ensures.reads _ gap)
+    kept_by c.place.new.arena c.place.new.arena _ _ refl
+    (inserted_in c.self.inside.index.blocks c.reserve.new.self.blocks c.insert.new.self.blocks c.args.place _
+    c.insert.ensures c.reserve.ensures.entries c.reserve.ensures.lengths) (addition_kept _ _ c.self.invariant _
+    c.place.new.arena c.in_ok-entry.ensures.stored _ c.in_ok-entry.ensures.reads _ gap)
 
 pub returns-clause-ok : goal.returns-clause-ok
 returns-clause-ok c =
     let gap = rw (← c.self.view_is) at c.requires.absent in
-    through (λ (old new : MapValue). IsAddition old (number_of old.blocks c.args.place) (record { key = c.args.key.now; value = held_of c.args.value }) new) _ _ _ _ c.self.view_is (same_map c.place.new.arena c.place.new.arena _ _ _ refl (inserted_in c.self.inside.index.blocks c.reserve.new.self.blocks c.insert.new.self.blocks c.args.place _ c.insert.ensures c.reserve.ensures.entries c.reserve.ensures.lengths))
-    (added _ _ c.self.invariant _ c.place.new.arena c.in_ok-entry.ensures.stored _ c.in_ok-entry.ensures.reads _ gap _ _)
+    through (λ (old new : MapValue). IsAddition old (number_of old.blocks c.args.place)
+    (record { key = c.args.key.now; value = held_of c.args.value }) new) _ _ _ _ c.self.view_is (same_map
+    c.place.new.arena c.place.new.arena _ _ _ refl (inserted_in c.self.inside.index.blocks c.reserve.new.self.blocks
+    c.insert.new.self.blocks c.args.place _ c.insert.ensures c.reserve.ensures.entries c.reserve.ensures.lengths))
+    (added _ _ c.self.invariant _ c.place.new.arena c.in_ok-entry.ensures.stored _ c.in_ok-entry.ensures.reads _ gap _
+    _)

@@ -8,12 +8,14 @@ use Rattle.sm_map.proofs.arena_map.ArenaMap.put_at.Goals as goal
 pub returns-in-Ok-clause-ok : goal.returns-in-Ok-clause-ok
 returns-in-Ok-clause-ok c =
     let there = place_there _ c.args.position c.requires _ c.in-Ok.is in
-    rewrite_holds _ _ _ c.requires.rising _ _ there.1 (λ (pair : KeyPair). held_of c.args.value) (record { key = c.args.position.key.now; value = held_of c.args.value }) c.write_at.ensures.ok
+    rewrite_holds _ _ _ c.requires.rising _ _ there.1 (λ (pair : KeyPair). held_of c.args.value)
+    (record { key = c.args.position.key.now; value = held_of c.args.value }) c.write_at.ensures.ok
 
 pub returns-in-Ok-clause-dead : goal.returns-in-Ok-clause-dead
 returns-in-Ok-clause-dead c =
     let there = place_there _ c.args.position c.requires _ c.in-Ok.is in
-    rewrite_dead _ _ _ c.requires.rising _ _ there.1 (λ (pair : KeyPair). held_of c.args.value) (record { key = c.args.position.key.now; value = held_of c.args.value }) c.write_at.ensures.ok
+    rewrite_dead _ _ _ c.requires.rising _ _ there.1 (λ (pair : KeyPair). held_of c.args.value)
+    (record { key = c.args.position.key.now; value = held_of c.args.value }) c.write_at.ensures.ok
 
 -- the key is new
 pub returns-in-Err-clause-ok : goal.returns-in-Err-clause-ok

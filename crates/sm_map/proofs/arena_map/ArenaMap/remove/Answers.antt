@@ -13,12 +13,14 @@ returns-in-Ok-clause-pairs c =
 pub returns-in-Ok-clause-dead : goal.returns-in-Ok-clause-dead
 returns-in-Ok-clause-dead c =
     let any : KeyPair = record { key = c.args.key.now; value = HeldText [] } in
-    (c.remove_at.ensures any).dead ∙ ap (λ (n : ℕ). c.args.self.now.dead + n) (sym (size_here _ _ c.find.ensures.rising _ c.in-Ok.ensures.found any))
+    (c.remove_at.ensures any).dead ∙ ap (λ (n : ℕ). c.args.self.now.dead + n)
+    (sym (size_here _ _ c.find.ensures.rising _ c.in-Ok.ensures.found any))
 
 pub returns-in-Ok-clause-held : goal.returns-in-Ok-clause-held
 returns-in-Ok-clause-held c =
     let any : KeyPair = record { key = c.args.key.now; value = HeldText [] } in
-    sym (ap (λ (held : Option KeyValue). is_some held) (held_here _ _ c.find.ensures.rising _ c.in-Ok.ensures.found any))
+    sym (ap (λ (held : Option KeyValue). is_some held)
+    (held_here _ _ c.find.ensures.rising _ c.in-Ok.ensures.found any))
 
 -- the key was not there
 pub returns-in-Err-clause-pairs : goal.returns-in-Err-clause-pairs
@@ -28,4 +30,5 @@ pub returns-in-Err-clause-dead : goal.returns-in-Err-clause-dead
 returns-in-Err-clause-dead c = omega (arith, size_nowhere _ _ c.find.ensures.rising _ c.in-Err.ensures.absent)
 
 pub returns-in-Err-clause-held : goal.returns-in-Err-clause-held
-returns-in-Err-clause-held c = sym (ap (λ (held : Option KeyValue). is_some held) (held_nowhere _ _ c.find.ensures.rising _ c.in-Err.ensures.absent))
+returns-in-Err-clause-held c = sym
+    (ap (λ (held : Option KeyValue). is_some held) (held_nowhere _ _ c.find.ensures.rising _ c.in-Err.ensures.absent))

@@ -5,4 +5,10 @@ use Rattle.sm_map.proofs.Indexes.{small_offset}
 use Rattle.sm_map.proofs.index.Index.after.Goals as goal
 
 pub overflow_add-place : goal.overflow_add-place
-overflow_add-place c = record { fits = omega (arith, small_offset c.self.inside.blocks.items c.self.inside.len c.self.invariant c.args.place (subst (λ (x : IndexValue). HasEntry (lengths_in x.blocks) c.args.place) (sym c.self.view_is) c.requires)) }
+overflow_add-place c = record {
+  fits = omega (
+    arith,
+    small_offset c.self.inside.blocks.items c.self.inside.len c.self.invariant c.args.place (subst
+        (λ (x : IndexValue). HasEntry (lengths_in x.blocks) c.args.place) (sym c.self.view_is) c.requires),
+  );
+}

@@ -5,7 +5,22 @@ use Rattle.sm_map.proofs.Blocks.{end_number, past_number}
 use Rattle.sm_map.proofs.index.Index.end.Goals as goal
 
 pub returns-then-offset-lt-MOST_ENTRIES-clause-end : goal.returns-then-offset-lt-MOST_ENTRIES-clause-end
-returns-then-offset-lt-MOST_ENTRIES-clause-end c = subst (λ (x : IndexValue). number_of (lengths_in x.blocks) (record { block = c.len-count.result - 1; offset = c.len-offset.result }) ≡ length (entries_in x.blocks)) c.self.view_is (end_number c.self.inside.blocks.items (c.len-count.result - 1) c.index.result.now (omega (arith, c.if-count-gt0.true, c.len-count.ensures, c.self.inside.blocks.ok.0)) c.index.ensures c.len-offset.result c.len-offset.ensures)
+returns-then-offset-lt-MOST_ENTRIES-clause-end c =
+    subst (λ (x : IndexValue). number_of (lengths_in x.blocks) (record {
+      block = c.len-count.result - 1;
+      offset = c.len-offset.result;
+    }) ≡ length (entries_in x.blocks)) c.self.view_is (end_number
+    c.self.inside.blocks.items (c.len-count.result - 1) c.index.result.now (omega (
+      arith,
+      c.if-count-gt0.true,
+      c.len-count.ensures,
+      c.self.inside.blocks.ok.0,
+    )) c.index.ensures c.len-offset.result c.len-offset.ensures)
 
 pub returns-else-offset-lt-MOST_ENTRIES-clause-end : goal.returns-else-offset-lt-MOST_ENTRIES-clause-end
-returns-else-offset-lt-MOST_ENTRIES-clause-end c = subst (λ (x : IndexValue). number_of (lengths_in x.blocks) (record { block = c.len-count.result; offset = 0 }) ≡ length (entries_in x.blocks)) c.self.view_is (past_number c.self.inside.blocks.items (record { block = c.len-count.result; offset = 0 }) (omega (arith, c.len-count.ensures, c.self.inside.blocks.ok.0)) refl)
+returns-else-offset-lt-MOST_ENTRIES-clause-end c =
+    subst (λ (x : IndexValue). number_of (lengths_in x.blocks) (record { block = c.len-count.result; offset = 0 })
+    ≡ length (entries_in x.blocks)) c.self.view_is (past_number c.self.inside.blocks.items (record {
+      block = c.len-count.result;
+      offset = 0;
+    }) (omega (arith, c.len-count.ensures, c.self.inside.blocks.ok.0)) refl)

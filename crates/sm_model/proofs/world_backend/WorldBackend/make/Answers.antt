@@ -13,5 +13,6 @@ invariant_of-self c = idle_after _ _ _ _ c.self.invariant c.carry_out.ensures
 
 pub returns : goal.returns
 returns c =
-    subst (λ (before : WorldView Request). IfOk c.answer_of.result (λ answer. GivesAnswer before c.args.call answer c.carry_out.new.world)) c.self.view_is
+    subst (λ (before : WorldView Request). IfOk c.answer_of.result
+    (λ answer. GivesAnswer before c.args.call answer c.carry_out.new.world)) c.self.view_is
     (gives_answer _ _ _ _ c.answer_of.result c.answer_of.ensures.ok c.requires c.carry_out.ensures)

@@ -8,7 +8,8 @@ new-requires-clause-vacant c = λ _. c.in_ok-desk.ensures.vacant
 
 pub returns : goal.returns
 returns c =
-    is_at_begin (values_of c.args.settings) c.args.settings.layout c.in_ok-desk.desk c.in_ok-bodies.bodies.items c.count-count.result c.in_ok-world.world
+    is_at_begin (values_of c.args.settings) c.args.settings.layout c.in_ok-desk.desk c.in_ok-bodies.bodies.items
+    c.count-count.result c.in_ok-world.world
     refl
     c.in_ok-desk.ensures.desk
     c.in_ok-bodies.ensures

@@ -16,14 +16,16 @@ returns c =
     let shards = c.self.inside.shards.items in
     let g = (shard_at shards c.args.k).row.group in
     let inside : c.args.k < length shards = rw (← c.self.view_is) at c.requires.shard in
-    let is : c.shard_at.result.now ≡ shard_at shards c.args.k = rw (c.deref-3.ensures.value, c.index-at.ensures.value) at c.shard_at.ensures in
+    let is : c.shard_at.result.now ≡ shard_at shards c.args.k =
+    rw (c.deref-3.ensures.value, c.index-at.ensures.value) at c.shard_at.ensures in
     let others : c.other_count-others.result
     ≡ count_in c.self.inside.roster (remove shards c.args.k) g (domain_of c.self.inside.roster c.args.a) =
     rw (c.deref-2.ensures.value, c.index-at.ensures.value) at c.other_count-others.ensures in
     let there : c.index.result.now ≡ get_or c.self.inside.groups.items g c.index.result.now =
     rw (c.from.ensures, is) at c.index.ensures in
     let group = there
-    ∙ get_or_default c.self.inside.groups.items g c.index.result.now no_group (c.self.invariant.has_rows.group c.args.k inside) in
+    ∙ get_or_default c.self.inside.groups.items g c.index.result.now no_group
+    (c.self.invariant.has_rows.group c.args.k inside) in
     let limit : c.from-2.result ≡ (slice_index_or c.self.inside.groups.items g no_group).limit =
     c.from-2.ensures ∙ ap (λ (r : GroupRow). r.limit) group in
     rw (← c.self.view_is) (rw (limit, others) (reached _ _))

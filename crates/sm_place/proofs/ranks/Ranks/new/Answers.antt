@@ -38,5 +38,6 @@ loop-row-preserved c =
 
 pub returns : goal.returns
 returns c =
-    AreRanked-all c.args.rows.now c.loop-row.ranks c.loop-row.row-index (omega (arith, c.loop-row-test.false)) c.requires.few
+    AreRanked-all c.args.rows.now c.loop-row.ranks c.loop-row.row-index
+    (omega (arith, c.loop-row-test.false)) c.requires.few
     c.loop-row.invariant

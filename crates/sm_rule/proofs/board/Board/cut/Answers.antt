@@ -6,7 +6,8 @@ use Rattle.sm_rule.proofs.board.Board.cut.Goals as goal
 
 pub split_seat-new-requires : goal.split_seat-new-requires
 split_seat-new-requires g c =
-    let limits = limits_of g.S.Service.limit c.self.inside.count c.self.inside.ceiling c.self.inside.table.shared.key.bodies.value.items in
+    let limits = limits_of g.S.Service.limit c.self.inside.count c.self.inside.ceiling
+    c.self.inside.table.shared.key.bodies.value.items in
     let words = c.self.invariant.2 in
     let some = c.self.invariant.4 in (
       same_table c.self.inside.table.shared.table_id limits _ c.self.view_is _ c.requires.table,
@@ -16,7 +17,8 @@ split_seat-new-requires g c =
 
 pub load-requires : goal.load-requires
 load-requires g c =
-    let limits = limits_of g.S.Service.limit c.self.inside.count c.self.inside.ceiling c.self.inside.table.shared.key.bodies.value.items in
+    let limits = limits_of g.S.Service.limit c.self.inside.count c.self.inside.ceiling
+    c.self.inside.table.shared.key.bodies.value.items in
     let words = c.self.invariant.2 in
     let some = c.self.invariant.4 in
     let half = c.split_seat-new.ensures in (

@@ -5,4 +5,5 @@ use Rattle.sm_script.proofs.words.Words.is_empty.Goals as goal
 
 pub returns-in-Some : goal.returns-in-Some
 returns-in-Some c =
-    sym (ap is_nil (words_left-some c.args.self.now c.self.inside.rest c.in-Some.field-0 c.self.view_is c.in-Some.is) ∙ is_nil-words_of c.in-Some.field-0.now)
+    sym (ap is_nil (words_left-some c.args.self.now c.self.inside.rest c.in-Some.field-0 c.self.view_is c.in-Some.is)
+    ∙ is_nil-words_of c.in-Some.field-0.now)

@@ -5,14 +5,19 @@ use Rattle.sm_table.proofs.Maps.{same_shown, ok_shown, err_shown}
 use Rattle.sm_table.proofs.bodies.Bodies.apply.Goals as goal
 
 pub returns-clause-limits : goal.returns-clause-limits
-returns-clause-limits g c = same_shown (λ run. run.limit) _ _ _ _ _ (ap (λ all. all.limits) c.self.view_is) c.index_mut.ensures.value c.apply.ensures.limit
+returns-clause-limits g c = same_shown (λ run. run.limit) _ _ _ _ _
+    (ap (λ all. all.limits) c.self.view_is) c.index_mut.ensures.value c.apply.ensures.limit
 
 pub returns-clause-pasts : goal.returns-clause-pasts
 returns-clause-pasts g c =
     let body = rw c.index.ensures.value at c.index_mut.ensures.value in
-    rw c.index.ensures.value (ok_shown (λ run. run.past) (λ past. past_after past (Request c.args.request)) no_past c.self.inside.bodies.items c.args.k c.index_mut.result.now c.apply.new.self c.args.self.now.pasts c.apply.result (ap (λ all. all.pasts) c.self.view_is) c.requires body c.apply.ensures.past)
+    rw c.index.ensures.value (ok_shown (λ run. run.past) (λ past. past_after past (Request c.args.request)) no_past
+    c.self.inside.bodies.items c.args.k c.index_mut.result.now c.apply.new.self c.args.self.now.pasts c.apply.result
+    (ap (λ all. all.pasts) c.self.view_is) c.requires body c.apply.ensures.past)
 
 pub returns-clause-unchanged : goal.returns-clause-unchanged
 returns-clause-unchanged g c =
     let body = rw c.index.ensures.value at c.index_mut.ensures.value in
-    rw c.index.ensures.value (err_shown (λ run. run.past) c.self.inside.bodies.items c.args.k c.index_mut.result.now c.apply.new.self c.args.self.now.pasts c.apply.result (ap (λ all. all.pasts) c.self.view_is) body c.apply.ensures.unchanged)
+    rw c.index.ensures.value
+    (err_shown (λ run. run.past) c.self.inside.bodies.items c.args.k c.index_mut.result.now c.apply.new.self
+    c.args.self.now.pasts c.apply.result (ap (λ all. all.pasts) c.self.view_is) body c.apply.ensures.unchanged)

@@ -6,4 +6,5 @@ use Rattle.sm_table.proofs.world.World.lose.Goals as goal
 pub returns-clause-stands : goal.returns-clause-stands
 returns-clause-stands g c = λ w stands.
     let there : c.args.place < length c.self.inside.in_flight.items = omega (arith, c.self.inside.in_flight.ok.0) in
-    lost (meaning_of g.S.Service.initial g.S.Service.next g.S.Service.answer g.S.Service.key_of) c.args.self.now c.self.view_is w stands c.args.place there c.remove.new.self.items c.remove.ensures.items
+    lost (meaning_of g.S.Service.initial g.S.Service.next g.S.Service.answer g.S.Service.key_of) c.args.self.now
+    c.self.view_is w stands c.args.place there c.remove.new.self.items c.remove.ensures.items

@@ -8,7 +8,8 @@ use Rattle.sm_table.proofs.world.World.new.Goals as goal
 
 pub invariant_of-result : goal.invariant_of-result
 invariant_of-result g c =
-    let bodies : length c.args.bodies.items ≡ length c.args.setup.layout = omega (arith, c.args.bodies.ok.0, c.requires.bodies) in
+    let bodies : length c.args.bodies.items ≡ length c.args.setup.layout =
+    omega (arith, c.args.bodies.ok.0, c.requires.bodies) in
     IsTogether-empty (length c.args.setup.layout) refl
     (c.in_ok-parts.ensures.records ∙ ap (λ count. replicate count vacant) c.count-count.ensures.value)
     (subst (λ ceiling. ceiling < 2 ^ 36) (sym c.in_ok-parts.ensures.ceiling) c.requires.greatest_ceiling)
@@ -19,9 +20,15 @@ invariant_of-result g c =
 
 pub returns : goal.returns
 returns g c =
-    let bodies : length c.args.bodies.items ≡ length c.args.setup.layout = omega (arith, c.args.bodies.ok.0, c.requires.bodies) in
+    let bodies : length c.args.bodies.items ≡ length c.args.setup.layout =
+    omega (arith, c.args.bodies.ok.0, c.requires.bodies) in
     StandsFor-empty (setup_frame c.args.setup (map g.S.Service.limit c.args.bodies.items))
-    (record { layout = c.count-count.ensures.is_layout; books = c.soundness.ensures.books; caps = c.soundness.ensures.caps; vacant = c.requires.vacant })
+    (record {
+      layout = c.count-count.ensures.is_layout;
+      books = c.soundness.ensures.books;
+      caps = c.soundness.ensures.caps;
+      vacant = c.requires.vacant;
+    })
     refl refl
     (c.in_ok-parts.ensures.records ∙ ap (λ count. replicate count vacant) c.count-count.ensures.value)
     c.in_ok-parts.ensures.ceiling

@@ -7,11 +7,13 @@ use Rattle.sm_table.proofs.world.World.restart.Goals as goal
 pub returns-in_err-check-clause-stands : goal.returns-in_err-check-clause-stands
 returns-in_err-check-clause-stands g c = λ w stands.
     let p = err_from_is_err_and c.from_residual.result c.from_residual.ensures.1 in
-    rw (p.1, p.2) (restart_refused (meaning_of g.S.Service.initial g.S.Service.next g.S.Service.answer g.S.Service.key_of) c.args.self.now c.self.view_is w stands c.args.command _ c.in_err-check.ensures)
+    rw (p.1, p.2) (restart_refused (meaning_of g.S.Service.initial g.S.Service.next g.S.Service.answer
+    g.S.Service.key_of) c.args.self.now c.self.view_is w stands c.args.command _ c.in_err-check.ensures)
 
 pub invariant_of-self : goal.invariant_of-self
 invariant_of-self g c = IsTogether-desk c.self.invariant c.commit.new.self
 
 pub returns-clause-stands : goal.returns-clause-stands
 returns-clause-stands g c = λ w stands.
-    restarted (meaning_of g.S.Service.initial g.S.Service.next g.S.Service.answer g.S.Service.key_of) c.args.self.now c.self.view_is w stands c.args.command c.requires c.commit.new.self c.in_ok-check.ensures c.commit.ensures
+    restarted (meaning_of g.S.Service.initial g.S.Service.next g.S.Service.answer g.S.Service.key_of) c.args.self.now
+    c.self.view_is w stands c.args.command c.requires c.commit.new.self c.in_ok-check.ensures c.commit.ensures

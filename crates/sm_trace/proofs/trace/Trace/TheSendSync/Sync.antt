@@ -6,4 +6,9 @@ use Rattle.sm_trace.specs.contracts.trace.Trace.{the_row, the_type}
 
 pub sync : (A : RattleType) → IsSync A → IsSync (the_row A)
 unfolding part_of
-sync A a = record { shared = λ d b o κ q vs. (cell_keyless q (raw_all (the_row A).mir) vs b o, (owning_send (the_type A) (search sendable, tt) (λ trace. tt) (λ k trace w. tt)).owned d vs) }
+sync A a = record {
+  shared = λ d b o κ q vs. (
+    cell_keyless q (raw_all (the_row A).mir) vs b o,
+    (owning_send (the_type A) (search sendable, tt) (λ trace. tt) (λ k trace w. tt)).owned d vs,
+  );
+}

@@ -36,13 +36,20 @@ and_spec 𝓤 𝓛 𝓜 𝓡 wired A LA =
     let W = walk_of 𝓛 T hs c in
     proved 𝓛 T hs c 𝓜 𝓡 (Goes-dropped 𝓛 3 N yes (λ κs x w. refl), (Goes-dropped 𝓛 3 P yes (λ κs x w. refl), tt))
     (#self args) (inst_fn args compiled.function) (compiled.unfolded 𝓤 𝓛.H 𝓜 𝓡 wired (A, tt))
-    (λ κs. (shr_vals, (shr_vals, tt))) (λ κs. (shr_Tells (named 0) κs.0 (trace.the_row (param 0 A)), (shr_Tells (named 1) κs.1.0 (param 0 A), tt))) (λ κs qs bounds a g are.
+    (λ κs. (shr_vals, (shr_vals, tt))) (λ κs. (
+      shr_Tells (named 0) κs.0 (trace.the_row (param 0 A)),
+      (shr_Tells (named 1) κs.1.0 (param 0 A), tt),
+    )) (λ κs qs bounds a g are.
     let y : W.Ghost = ((κs, qs, bounds, a, (shr_vals a.0, (shr_vals a.1.0, tt))), g) in
     let new : (trace.the_row (param 0 A)).Denot = record { of = record {}; items = a.0.now.items ++ a.1.0.now ∷ [] } in
-    qed 𝓛 ((raw (alive 𝓛 T.signature κs qs) ⊛ ‵ (owns (types_at T.signature.params κs) a y.0.4)) ∷ raw ((c κs a).requires g) ∷ []) ∵
+    qed 𝓛 ((raw (alive 𝓛 T.signature κs qs) ⊛ ‵ (owns (types_at T.signature.params κs) a y.0.4))
+    ∷ raw ((c κs a).requires g) ∷ []) ∵
     split ! $ keep ! (0 ∷ []) $
     enter ! _ _ _ _ _ $ alloc_all ! (λ l. pass_all ! refl ((tt, tt), ((tt, tt), tt)) $
-    sets ! (agg ! (no_more !)) refl (tt, tt) $ sets ! (agg ! (and_then ! (get ! refl) (no_more !))) refl (tt, (tt, tt)) $
+    sets ! (agg ! (no_more !)) refl (tt, tt) $ sets ! (agg ! (and_then ! (get ! refl) (no_more !))) refl (
+      tt,
+      (tt, tt),
+    ) $
     returns ! (look_at ! 0 refl) $ free_all ! refl $
     nothing ! $ use0 𝓛 (‵ (marked_own (param 0 A))) (marked_made 𝓛 (param 0 A)) $ fjoin ! $
     use0 𝓛 (raw (fact 𝓤 (new.items ≡ new.items))) (fact_i 𝓤 (new.items ≡ new.items) (emp 𝓤) refl) $

@@ -34,10 +34,14 @@ empty_spec 𝓤 𝓛 𝓜 𝓡 wired A LA =
     (λ κs. tt) (λ κs. tt) (λ κs qs bounds a g are.
     let y : W.Ghost = ((κs, qs, bounds, a, tt), g) in
     let new : (trace.the_row (param 0 A)).Denot = record { of = record {}; items = [] } in
-    qed 𝓛 ((raw (alive 𝓛 T.signature κs qs) ⊛ ‵ (owns (types_at T.signature.params κs) a y.0.4)) ∷ raw ((c κs a).requires g) ∷ []) ∵
+    qed 𝓛 ((raw (alive 𝓛 T.signature κs qs) ⊛ ‵ (owns (types_at T.signature.params κs) a y.0.4))
+    ∷ raw ((c κs a).requires g) ∷ []) ∵
     split ! $ keep ! (0 ∷ []) $
     enter ! _ _ _ _ _ $ alloc_all ! (λ l. pass_all ! refl tt $
-    sets ! (agg ! (no_more !)) refl (tt, tt) $ sets ! (agg ! (and_then ! (get ! refl) (no_more !))) refl (tt, (tt, tt)) $
+    sets ! (agg ! (no_more !)) refl (tt, tt) $ sets ! (agg ! (and_then ! (get ! refl) (no_more !))) refl (
+      tt,
+      (tt, tt),
+    ) $
     returns ! (look_at ! 0 refl) $ free_all ! refl $
     nothing ! $ use0 𝓛 (‵ (marked_own (param 0 A))) (marked_made 𝓛 (param 0 A)) $ fjoin ! $
     use0 𝓛 (raw (fact 𝓤 (new.items ≡ []))) (fact_i 𝓤 (new.items ≡ []) (emp 𝓤) refl) $

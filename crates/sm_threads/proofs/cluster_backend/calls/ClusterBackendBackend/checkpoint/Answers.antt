@@ -15,7 +15,8 @@ invariant_of-self g c =
     let before = c.self.inside.cluster in
     let made = c.checkpoint-made.new.self in
     let told = c.tell.ensures in
-    told_whole before made c.tell.new.self c.self.inside.client c.tell.new.client told.unchanged told.looks told.client told.told c.self.inside.loaders.items
+    told_whole before made c.tell.new.self c.self.inside.client c.tell.new.client told.unchanged told.looks told.client
+    told.told c.self.inside.loaders.items
     (more_keeps before made c.checkpoint-made.ensures.unchanged) c.self.invariant
 
 pub returns-clause-answers : goal.returns-clause-answers
@@ -30,13 +31,16 @@ returns-clause-answers g c =
     let after = session_with c.tell.new.self loaders c.tell.new.client in
     let Was : SessionValue → LineAnswer → Type 0 = λ s answer. WasBased s c.args.shard c.args.server answer after in
     let was : (answer : LineAnswer) → Says answer → Was (session_with before loaders client) answer = λ answer says.
-    subst (λ (cluster : ClusterValue Request). WasBased (session_with before loaders client) c.args.shard c.args.server answer (session_with cluster loaders c.tell.new.client)) (sym told.unchanged) (
+    subst (λ (cluster : ClusterValue Request). WasBased (session_with before loaders client) c.args.shard c.args.server
+    answer (session_with cluster loaders c.tell.new.client)) (sym told.unchanged) (
       c.checkpoint-made.result,
       made.unknown_shard,
       made.unknown_server,
       made.known,
       says,
-      told_client before middle c.tell.new.self client c.tell.new.client told.unchanged told.looks told.client told.told loaders told.control,
+      told_client before middle c.tell.new.self client c.tell.new.client told.unchanged told.looks told.client told.told
+          loaders told.control,
     ) in
     subst (λ (s : SessionValue). IfOk c.checkpoint_answer.result (Was s)) c.self.view_is
-    (IfOk-weaker c.checkpoint_answer.result Says (Was (session_with before loaders client)) was c.checkpoint_answer.ensures.ok)
+    (IfOk-weaker c.checkpoint_answer.result Says
+    (Was (session_with before loaders client)) was c.checkpoint_answer.ensures.ok)

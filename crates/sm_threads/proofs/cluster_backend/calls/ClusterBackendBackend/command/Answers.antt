@@ -11,7 +11,8 @@ pub invariant_of-self : goal.invariant_of-self
 invariant_of-self g c =
     let made = c.command-made.ensures in
     let told = c.tell.ensures in
-    told_whole c.self.inside.cluster c.command-made.new.self c.tell.new.self c.self.inside.client c.tell.new.client told.unchanged told.looks told.client told.told c.self.inside.loaders.items
+    told_whole c.self.inside.cluster c.command-made.new.self c.tell.new.self c.self.inside.client c.tell.new.client
+    told.unchanged told.looks told.client told.told c.self.inside.loaders.items
     (made.board, ap (λ (cluster : ClusterValue Request). cluster.bounds) made.unchanged.1) c.self.invariant
 
 pub returns-clause-answers : goal.returns-clause-answers
@@ -21,12 +22,17 @@ returns-clause-answers g c =
     let client = c.self.inside.client in
     let made = c.command-made.ensures in
     let told = c.tell.ensures in
-    let was : WasCommanded (session_with before c.self.inside.loaders.items client) c.args.command c.command_answer.result (session_with middle c.self.inside.loaders.items c.tell.new.client) = (
+    let was : WasCommanded (session_with before c.self.inside.loaders.items client) c.args.command
+    c.command_answer.result (session_with middle c.self.inside.loaders.items c.tell.new.client) = (
       c.command-made.result,
       made.answer,
       made.unchanged,
       c.command_answer.ensures,
-      told_client before middle c.tell.new.self client c.tell.new.client told.unchanged told.looks told.client told.told c.self.inside.loaders.items told.control,
+      told_client before middle c.tell.new.self client c.tell.new.client told.unchanged told.looks told.client told.told
+          c.self.inside.loaders.items told.control,
     ) in
-    subst (λ (s : SessionValue). WasCommanded s c.args.command c.command_answer.result (session_with c.tell.new.self c.self.inside.loaders.items c.tell.new.client)) c.self.view_is
-    (subst (λ (cluster : ClusterValue Request). WasCommanded (session_with before c.self.inside.loaders.items client) c.args.command c.command_answer.result (session_with cluster c.self.inside.loaders.items c.tell.new.client)) (sym told.unchanged) was)
+    subst (λ (s : SessionValue). WasCommanded s c.args.command c.command_answer.result
+    (session_with c.tell.new.self c.self.inside.loaders.items c.tell.new.client)) c.self.view_is
+    (subst (λ (cluster : ClusterValue Request). WasCommanded (session_with before c.self.inside.loaders.items client)
+    c.args.command c.command_answer.result (session_with cluster c.self.inside.loaders.items c.tell.new.client))
+    (sym told.unchanged) was)

@@ -11,8 +11,10 @@ pub invariant_of-self : goal.invariant_of-self
 invariant_of-self g c =
     let made = c.free-made.ensures in
     let told = c.tell.ensures in
-    told_whole c.self.inside.cluster c.free-made.new.self c.tell.new.self c.self.inside.client c.tell.new.client told.unchanged told.looks told.client told.told c.self.inside.loaders.items
-    (freed_keeps c.self.inside.cluster c.free-made.new.self c.args.shard c.free-made.result made.freed made.unchanged) c.self.invariant
+    told_whole c.self.inside.cluster c.free-made.new.self c.tell.new.self c.self.inside.client c.tell.new.client
+    told.unchanged told.looks told.client told.told c.self.inside.loaders.items
+    (freed_keeps c.self.inside.cluster c.free-made.new.self c.args.shard c.free-made.result made.freed made.unchanged)
+    c.self.invariant
 
 pub returns-clause-answers : goal.returns-clause-answers
 returns-clause-answers g c =
@@ -21,13 +23,18 @@ returns-clause-answers g c =
     let client = c.self.inside.client in
     let made = c.free-made.ensures in
     let told = c.tell.ensures in
-    let was : WasFreed (session_with before c.self.inside.loaders.items client) c.args.shard c.free_answer.result (session_with middle c.self.inside.loaders.items c.tell.new.client) = (
+    let was : WasFreed (session_with before c.self.inside.loaders.items client) c.args.shard c.free_answer.result
+    (session_with middle c.self.inside.loaders.items c.tell.new.client) = (
       c.free-made.result,
       made.freed,
       made.refused,
       made.unchanged,
       c.free_answer.ensures,
-      told_client before middle c.tell.new.self client c.tell.new.client told.unchanged told.looks told.client told.told c.self.inside.loaders.items told.control,
+      told_client before middle c.tell.new.self client c.tell.new.client told.unchanged told.looks told.client told.told
+          c.self.inside.loaders.items told.control,
     ) in
-    subst (λ (s : SessionValue). WasFreed s c.args.shard c.free_answer.result (session_with c.tell.new.self c.self.inside.loaders.items c.tell.new.client)) c.self.view_is
-    (subst (λ (cluster : ClusterValue Request). WasFreed (session_with before c.self.inside.loaders.items client) c.args.shard c.free_answer.result (session_with cluster c.self.inside.loaders.items c.tell.new.client)) (sym told.unchanged) was)
+    subst (λ (s : SessionValue). WasFreed s c.args.shard c.free_answer.result
+    (session_with c.tell.new.self c.self.inside.loaders.items c.tell.new.client)) c.self.view_is
+    (subst (λ (cluster : ClusterValue Request). WasFreed (session_with before c.self.inside.loaders.items client)
+    c.args.shard c.free_answer.result (session_with cluster c.self.inside.loaders.items c.tell.new.client))
+    (sym told.unchanged) was)

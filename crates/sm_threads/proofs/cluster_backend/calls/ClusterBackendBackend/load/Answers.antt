@@ -14,12 +14,16 @@ returns-clause-answers g c =
     let old = c.self.inside.loaders in
     let many : length after ≡ length old.items = c.load_by-report.auto.clients ∙ ap length c.deref_mut.ensures.value in
     let kept = take_all after (drop (length after) old.items) old.len (old.ok.0 ∙ sym many) in
-    let loaded = subst (λ (n : ℕ). IsLoadOf c.args.key n c.args.each c.deref_mut.result.now report after) c.count.ensures.value c.load_by-report.ensures.loaded in
-    let mine = subst (λ (before : List (ClientValue Request)). IsLoadOf c.args.key c.args.clients c.args.each before report after) c.deref_mut.ensures.value loaded in
+    let loaded = subst (λ (n : ℕ). IsLoadOf c.args.key n c.args.each c.deref_mut.result.now report after)
+    c.count.ensures.value c.load_by-report.ensures.loaded in
+    let mine = subst (λ (before : List (ClientValue Request)). IsLoadOf c.args.key c.args.clients c.args.each before
+    report after) c.deref_mut.ensures.value loaded in
     rw kept (
       report,
-      subst (λ (n : ℕ). report.acked + report.refused ≡ n * c.args.each) c.count.ensures.value c.load_by-report.ensures.total,
-      subst (λ (s : SessionValue). IsLoadOf c.args.key c.args.clients c.args.each s.loaders report after) c.self.view_is mine,
+      subst (λ (n : ℕ). report.acked + report.refused ≡ n * c.args.each) c.count.ensures.value
+          c.load_by-report.ensures.total,
+      subst (λ (s : SessionValue). IsLoadOf c.args.key c.args.clients c.args.each s.loaders report after) c.self.view_is
+          mine,
       c.verdict_on.ensures,
       ap (λ (s : SessionValue). with_loaders s after) c.self.view_is,
     )

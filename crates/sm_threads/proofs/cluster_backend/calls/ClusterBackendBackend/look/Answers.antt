@@ -3,4 +3,5 @@ use Rattle.sm_threads.proofs.cluster_backend.calls.ClusterBackendBackend.look.Go
 
 pub invariant_of-self : goal.invariant_of-self
 invariant_of-self g c =
-    whole_looks c.self.inside.cluster c.self.inside.client c.look.new.self c.self.inside.loaders.items c.look.ensures.seen c.look.ensures.unchanged c.self.invariant
+    whole_looks c.self.inside.cluster c.self.inside.client c.look.new.self c.self.inside.loaders.items
+    c.look.ensures.seen c.look.ensures.unchanged c.self.invariant

@@ -15,7 +15,8 @@ invariant_of-self g c =
     let before = c.self.inside.cluster in
     let made = c.publish-made.new.self in
     let told = c.tell.ensures in
-    told_whole before made c.tell.new.self c.self.inside.client c.tell.new.client told.unchanged told.looks told.client told.told c.self.inside.loaders.items
+    told_whole before made c.tell.new.self c.self.inside.client c.tell.new.client told.unchanged told.looks told.client
+    told.told c.self.inside.loaders.items
     (published_keeps _ before made c.args.shard c.publish-made.result c.publish-made.ensures.published) c.self.invariant
 
 pub returns-clause-answers : goal.returns-clause-answers
@@ -29,11 +30,14 @@ returns-clause-answers g c =
     let after = session_with c.tell.new.self loaders c.tell.new.client in
     let Was : SessionValue → LineAnswer → Type 0 = λ s answer. WasPublished s c.args.shard answer after in
     let was : (answer : LineAnswer) → Says answer → Was (session_with before loaders client) answer = λ answer says.
-    subst (λ (cluster : ClusterValue Request). WasPublished (session_with before loaders client) c.args.shard answer (session_with cluster loaders c.tell.new.client)) (sym told.unchanged) (
+    subst (λ (cluster : ClusterValue Request). WasPublished (session_with before loaders client) c.args.shard answer
+    (session_with cluster loaders c.tell.new.client)) (sym told.unchanged) (
       c.publish-made.result,
       c.publish-made.ensures.published,
       says,
-      told_client before middle c.tell.new.self client c.tell.new.client told.unchanged told.looks told.client told.told loaders told.control,
+      told_client before middle c.tell.new.self client c.tell.new.client told.unchanged told.looks told.client told.told
+          loaders told.control,
     ) in
     subst (λ (s : SessionValue). IfOk c.publish_answer.result (Was s)) c.self.view_is
-    (IfOk-weaker c.publish_answer.result Says (Was (session_with before loaders client)) was c.publish_answer.ensures.ok)
+    (IfOk-weaker c.publish_answer.result Says
+    (Was (session_with before loaders client)) was c.publish_answer.ensures.ok)
