@@ -1,5 +1,5 @@
 //! What a cluster counted, as a table on standard error.
-use sm_cluster::{Counts, ServerCounts};
+use sm_cluster::{Counts, Fate, ServerCounts};
 use sm_threads::CountsListener;
 use std::io;
 use std::io::Eprint;
@@ -41,9 +41,11 @@ fn write_table<R: Eprint>(rt: &R, counts: &Counts) -> io::Result<()> {
 }
 
 fn write_server<R: Eprint>(rt: &R, row: &ServerCounts) -> io::Result<()> {
-    let (server, answered, forwarded) = (row.server.number(), row.answered, row.forwarded);
+    let server = row.server.number();
+    let (answered, forwarded) = (row.of(Fate::Answered), row.of(Fate::Forwarded));
     eprint!(rt; "{server:>6}  {answered:>8}  {forwarded:>9}")?;
-    for (name, count) in row.refused.by_name() {
+    for (fate, name) in Fate::REFUSALS {
+        let count = row.of(fate);
         if count > 0 {
             eprint!(rt; "  {name} {count}")?;
         }

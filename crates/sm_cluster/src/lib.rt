@@ -54,7 +54,7 @@ pub use hold_fault::{FreeFault, HoldFault};
 pub use loading::{LoadReport, load};
 pub use publish_refusal::PublishRefusal;
 pub use setup::Setup;
-pub use sm_counts::{Counts, RefusalCounts, ServerCounts, ShardCounts};
+pub use sm_counts::{Counts, Fate, ServerCounts, ShardCounts};
 pub use start_fault::StartFault;
 pub use stop_fault::StopFault;
 pub use told::Told;

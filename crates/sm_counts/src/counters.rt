@@ -1,9 +1,13 @@
+ghost use Rattle.std.specs.Prelude.{◌≡◌, IfOk, length, map, nat_lt, take};
+ghost use Rattle.std.specs.Option.{is_some};
+
 use crate::counts::ServerCounts;
 use crate::tally::Tally;
 use sm_desk::Command;
 use sm_ranges::server_id::ServerId;
 use sm_ranges::shard_id::ShardId;
 use std::alloc::{AllocError, Global};
+use std::marker::Model;
 use std::sync::atomic::{AtomicU64, Ordering};
 
 /// The counters of a cluster, into which its workers, clients and commands count.
@@ -16,9 +20,23 @@ pub struct Counters {
     retried: AtomicU64,
 }
 
+impl Model for Counters {
+    ghost use Rattle.std.specs.Prelude.{length};
+    ghost use Rattle.sm_counts.specs.Fates.{CountersValue};
+
+    ghost Value = { CountersValue };
+
+    ghost view = { λ counters. record {
+      servers = length counters.tallies.items;
+      shards = length counters.changes.items;
+    } };
+}
+
 impl Counters {
     /// Counters of so many servers and shards, all at 0; an error is want of memory.
-    pub fn new(alloc: Global, servers: usize, shards: usize) -> Result<Counters, AllocError> {
+    pub fn new(alloc: Global, servers: usize, shards: usize) -> Result<Counters, AllocError>
+        ensures { IfOk result (λ made. made ≡ record { servers = servers; shards = shards }) }
+    {
         let mut tallies = Vec::new(alloc);
         for _ in 0..servers {
             tallies.push(Tally::new())?;
@@ -31,7 +49,9 @@ impl Counters {
     }
 
     /// The tally of the server at this place, by rising numbers; `None` where there is no such place.
-    pub fn tally(&self, at: usize) -> Option<&Tally> {
+    pub fn tally(&self, at: usize) -> Option<&Tally>
+        ensures { is_some result ≡ nat_lt at self.now.servers }
+    {
         self.tallies.get(at)
     }
 
@@ -55,7 +75,10 @@ impl Counters {
         &self,
         alloc: Global,
         servers: &[ServerId],
-    ) -> Result<Vec<ServerCounts>, AllocError> {
+    ) -> Result<Vec<ServerCounts>, AllocError>
+        ensures { IfOk result (λ rows. map (λ (row : ServerCounts). row.server) rows.items
+            ≡ take self.now.servers servers.now) }
+    {
         let mut rows = Vec::new(alloc);
         for (server, tally) in servers.iter().zip(&self.tallies) {
             rows.push(tally.counts(*server))?;
@@ -78,7 +101,9 @@ impl Counters {
 }
 
 // So many counters, all at 0.
-fn zeros(alloc: Global, count: usize) -> Result<Vec<AtomicU64>, AllocError> {
+fn zeros(alloc: Global, count: usize) -> Result<Vec<AtomicU64>, AllocError>
+    ensures { IfOk result (λ counters. length counters.items ≡ count) }
+{
     let mut counters = Vec::new(alloc);
     for _ in 0..count {
         counters.push(AtomicU64::new(0))?;

@@ -4,7 +4,7 @@ ghost use Rattle.std.specs.Prelude.{◌≡◌};
 use crate::holding::Holding;
 use crate::loads::Increments;
 use crate::running::{bodies_of, setup_of, shard};
-use sm_cluster::{Client, Cluster, Counts, Open, ServerCounts, load};
+use sm_cluster::{Client, Cluster, Counts, Fate, Open, ServerCounts, load};
 use sm_desk::Command;
 use sm_ownership::Change;
 use sm_ranges::{Key, ServerId};
@@ -35,11 +35,11 @@ fn load_all<R: Threads + Wait + Abort + Sync>(
 
 // How many envelopes the server took. One that was overtaken was served again, and is counted then.
 fn taken(row: &ServerCounts) -> u64 {
-    let mut sum = row.answered.wrapping_add(row.forwarded);
-    for (_, count) in row.refused.by_name() {
+    let mut sum = 0u64;
+    for count in row.by_fate {
         sum = sum.wrapping_add(count);
     }
-    sum.wrapping_sub(row.refused.raced)
+    sum.wrapping_sub(row.of(Fate::Raced))
 }
 
 // The first server took all calls, and those that it forwarded came to the second one, which took no others.
@@ -51,10 +51,10 @@ fn adds_up(counts: &Counts) -> bool {
         return false;
     };
     taken(first) == counts.retried.wrapping_add(306)
-        && taken(second) == first.forwarded
+        && taken(second) == first.of(Fate::Forwarded)
         && taken(third) == 0
-        && first.forwarded > 0
-        && moved.admissions == first.answered.wrapping_add(second.answered)
+        && first.of(Fate::Forwarded) > 0
+        && moved.admissions == first.of(Fate::Answered).wrapping_add(second.of(Fate::Answered))
         && moved.changes == 4
         && other.admissions == 0
         && other.changes == 0

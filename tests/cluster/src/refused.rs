@@ -6,7 +6,7 @@ ghost use Rattle.sm_ranges.specs.declared.stand.Stand.TheVariants.{Vacant};
 use crate::holding::Holding;
 use crate::running::{Running, desk_of, inc_of, pop_client, shard};
 use sm_cluster::{
-    CallFault, CallRefused, CheckpointRefusal, Client, Cluster, Counts, Open, PublishRefusal,
+    CallFault, CallRefused, CheckpointRefusal, Client, Cluster, Counts, Fate, Open, PublishRefusal,
     Setup, StartFault, Told,
 };
 use sm_control::DrainFault;
@@ -262,7 +262,7 @@ fn counts_in_two<R: Abort>(rt: &R, alloc: Global, cluster: &Cluster<Holding>) ->
 fn counts_two<R: Abort>(rt: &R, alloc: Global, cluster: &Cluster<Holding>) {
     let counts = counts_in_two(rt, alloc, cluster);
     assert!(rt; counts.servers.len() == 3 && counts.shards.len() == 2);
-    assert!(rt; counts.servers.first().map(|row| row.answered) == Some(2));
+    assert!(rt; counts.servers.first().map(|row| row.of(Fate::Answered)) == Some(2));
 }
 
 // How many requests came before the base of the first body, and how many are kept since.

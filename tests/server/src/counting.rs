@@ -45,6 +45,6 @@ fn refused_memory_changes_nothing(rt: HostRuntime) {
     let counters = counters_in_two(&rt, alloc);
     counters.count_command(&Command::Change(k, Change::Pause));
     let rows = rows_in_two(&rt, alloc, &counters);
-    assert!(rt; rows.len() == 2 && rows.iter().all(|row| row.answered == 0));
+    assert!(rt; rows.len() == 2 && rows.iter().all(|row| row.by_fate == [0; 14]));
     assert!(rt; counters.changes(k) == 1);
 }
