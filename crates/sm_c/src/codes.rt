@@ -10,7 +10,7 @@ use sm_ownership::admit_fault::AdmitFault;
 use sm_ownership::change_fault::ChangeFault;
 use sm_place::PlaceFault;
 use sm_rule::{AdmitRefusal, MakeFault};
-use sm_tasks::{ApproveFault, StoppedFault};
+use sm_tasks::RestartFault;
 
 /// The handle keeps nothing, or nothing that the call is for.
 pub(crate) const WRONG_HANDLE: u32 = 1;
@@ -120,19 +120,23 @@ fn code_of_command(fault: CommandFault) -> u32
             PlaceFault::NoCapacity => 32,
             PlaceFault::DomainLimit => 33,
         },
-        CommandFault::Ask(_) => 40,
-        CommandFault::Approve(fault) => match fault {
-            ApproveFault::NotAsked => 41,
-            ApproveFault::GlobalCap => 42,
-            ApproveFault::ShardCap(_) => 43,
-            ApproveFault::GroupCap(_) => 44,
-            ApproveFault::DomainCap(_) => 45,
-        },
-        CommandFault::Stopped(fault) => match fault {
-            StoppedFault::NotApproved => 46,
-            StoppedFault::StillServing(_) => 47,
-        },
-        CommandFault::Back(_) => 48,
-        CommandFault::Fail(_) => 49,
+        CommandFault::Restart(fault) => code_of_restart(fault),
+    }
+}
+
+fn code_of_restart(fault: RestartFault) -> u32
+    ensures { result ≢ 0 }
+{
+    match fault {
+        RestartFault::NotUp => 40,
+        RestartFault::NotAsked => 41,
+        RestartFault::GlobalCap => 42,
+        RestartFault::ShardCap(_) => 43,
+        RestartFault::GroupCap(_) => 44,
+        RestartFault::DomainCap(_) => 45,
+        RestartFault::NotApproved => 46,
+        RestartFault::StillServing(_) => 47,
+        RestartFault::AlreadyUp => 48,
+        RestartFault::AlreadyFailed => 49,
     }
 }

@@ -1,6 +1,6 @@
 -- What a cluster tells, and its teller.
 use Rattle.std.proofs.Common.{◌≡◌, ℕ, List, ap, subst, ◌∙◌}
-use Rattle.sm_control.specs.declared.route_fault.RouteFault.{RouteFault}
+use Rattle.sm_ownership.specs.declared.route_fault.RouteFault.{RouteFault}
 use Rattle.sm_control.specs.Controls.{ControlValue}
 use Rattle.sm_control.specs.Routes.{Routed}
 use Rattle.sm_ownership.specs.declared.entry.Entry.{Entry}

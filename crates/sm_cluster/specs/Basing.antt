@@ -5,23 +5,30 @@ use Rattle.sm_rule.specs.declared.permit.Front.{Front}
 use Rattle.sm_rule.specs.Passes.{PassValue, record_of}
 use Rattle.sm_rule.specs.Views.{Begins}
 use Rattle.sm_server.specs.Basing.{CheckpointRefused, HasMadeCheckpoint}
-use Rattle.sm_cluster.specs.declared.checkpoint_refusal.CheckpointRefusal.{CheckpointRefusal}
-use Rattle.sm_cluster.specs.declared.checkpoint_refusal.CheckpointRefusal.TheVariants.{Checkpoint}
+use Rattle.sm_server.specs.declared.checkpoint_fault.CheckpointFault.{CheckpointFault}
+use Rattle.sm_server.specs.declared.checkpoint_fault.CheckpointFault.TheVariants as checkpoint
+use Rattle.sm_cluster.specs.declared.hold_fault.HoldFault.{HoldFault}
+use Rattle.sm_cluster.specs.declared.hold_fault.HoldFault.TheVariants as hold
 use Rattle.sm_cluster.specs.Clusters.{ClusterValue, TellsMore}
 use Rattle.sm_cluster.specs.Passes.{IsNewPass}
 
+-- why a shard makes no checkpoint, as the cluster says it
+abbrev pub hold_fault_of : CheckpointFault → HoldFault
+hold_fault_of (checkpoint.Admit refusal) = hold.Admit refusal
+hold_fault_of checkpoint.NoMemory = hold.NoMemory
+
 -- what the pass that makes a checkpoint, as it was before and is after, leaves and answers
-abbrev pub BasesOrRefuses : {Q : Type 0} → PassValue Q → ℕ → PassValue Q → Result Front CheckpointRefusal → Type 0
+abbrev pub BasesOrRefuses : {Q : Type 0} → PassValue Q → ℕ → PassValue Q → Result Front HoldFault → Type 0
 BasesOrRefuses before shard after (Ok front) =
     HasMadeCheckpoint before shard after × (kept after.seen shard ≡ [])
     × (front ≡ record { shard = shard; generation = (record_of after shard).generation })
-BasesOrRefuses before shard after (Err (Checkpoint fault)) = CheckpointRefused before shard after fault
-BasesOrRefuses before shard after (Err refusal) = ⊥
+BasesOrRefuses before shard after (Err fault) =
+    (refusal : CheckpointFault) × (fault ≡ hold_fault_of refusal) × CheckpointRefused before shard after refusal
 
 -- a new pass of the server, which had seen all that the cluster told, made the checkpoint or was refused; the cluster
 -- then tells all that it has seen
 pub record IsBasedBy {Q : Type 0} (cluster : ClusterValue Q) (shard server : ℕ)
-    (result : Result Front CheckpointRefusal) (later : ClusterValue Q) : Type 0 where
+    (result : Result Front HoldFault) (later : ClusterValue Q) : Type 0 where
   pub before : PassValue Q
   pub after : PassValue Q
   pub new : IsNewPass cluster.control.chair.board server cluster.told before

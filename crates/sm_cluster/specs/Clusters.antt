@@ -11,8 +11,6 @@ use Rattle.sm_publish.specs.Publishing.{PublisherView}
 use Rattle.sm_rule.specs.Closing.{AreLeft}
 use Rattle.sm_rule.specs.Passes.{PassAdds, PassValue}
 use Rattle.sm_rule.specs.Views.{Begins}
-use Rattle.sm_cluster.specs.declared.hold_fault.FreeFault.{FreeFault}
-use Rattle.sm_cluster.specs.declared.hold_fault.FreeFault.TheVariants as free
 use Rattle.sm_cluster.specs.declared.hold_fault.HoldFault.{HoldFault}
 use Rattle.sm_cluster.specs.declared.hold_fault.HoldFault.TheVariants as hold
 use Rattle.sm_cluster.specs.Calls.{ClientValue}
@@ -75,6 +73,7 @@ HoldRefused {Q} before shard server (hold.Admit refusal) after =
     × (pass : PassValue Q) × IsNewPass before.control.chair.board server before.told pass
     × IsTurnedAway pass shard refusal after.told
     × TellsMore before after
+HoldRefused before shard server fault after = ⊥
 
 -- the pass that held the shard has ended its admission with nothing, which the cluster tells, and nothing else has
 -- changed
@@ -85,10 +84,11 @@ HasFreed {Q} before shard after =
     × TellsMore (cluster_holding before shard None) after
 
 -- why a shard isn't freed: the first fault that applies
-abbrev pub FreeRefused : {Q : Type 0} → ClusterValue Q → ℕ → FreeFault → Type 0
-FreeRefused cluster shard free.UnknownShard = cluster.control.chair.board.limits.count ≤ shard
-FreeRefused cluster shard free.NotHeld =
+abbrev pub FreeRefused : {Q : Type 0} → ClusterValue Q → ℕ → HoldFault → Type 0
+FreeRefused cluster shard hold.UnknownShard = cluster.control.chair.board.limits.count ≤ shard
+FreeRefused cluster shard hold.NotHeld =
     (shard < cluster.control.chair.board.limits.count) × (hold_at cluster.holds shard ≡ None)
+FreeRefused cluster shard fault = ⊥
 
 -- a client of the cluster: of its board, and with its bounds
 abbrev pub IsClientOf : {Q : Type 0} → ClusterValue Q → ClientValue Q → Type 0

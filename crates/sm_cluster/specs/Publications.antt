@@ -1,15 +1,11 @@
 -- What a publication of a shard's route leaves.
 use Rattle.std.specs.Prelude.{ℕ, ◌≡◌, Option, Some, None, Result, Ok, Err}
-use Rattle.sm_control.specs.declared.route_fault.RouteFault.{RouteFault}
 use Rattle.sm_control.specs.Routes.{IsRouteOf}
 use Rattle.sm_ownership.specs.declared.route.Route.{Route}
-use Rattle.sm_publish.specs.declared.publish_fault.PublishFault.{PublishFault}
-use Rattle.sm_publish.specs.declared.publish_fault.PublishFault.TheVariants.{NoMemory}
+use Rattle.sm_ownership.specs.declared.route_fault.RouteFault.{RouteFault}
+use Rattle.sm_ownership.specs.declared.route_fault.RouteFault.TheVariants.{NoMemory}
 use Rattle.sm_publish.specs.Publishing.{publish_fault, with_route}
 use Rattle.sm_rule.specs.Changes.{ChairLooks}
-use Rattle.sm_cluster.specs.declared.publish_refusal.PublishRefusal.{PublishRefusal}
-use Rattle.sm_cluster.specs.declared.publish_refusal.PublishRefusal.TheVariants.{Publish as Unpublished}
-use Rattle.sm_cluster.specs.declared.publish_refusal.PublishRefusal.TheVariants.{Route as Unrouted}
 use Rattle.sm_cluster.specs.Clusters.{ClusterValue, TellsMore, cluster_publishing}
 
 -- the chair has looked, and this is the shard's route; the desk stays, and all but the control and the map, and that
@@ -20,18 +16,17 @@ ReadsRoute before after shard route =
     × TellsMore (cluster_publishing before after.control after.map) after × IsRouteOf after.control.chair shard route
 
 -- why the map doesn't take a route whose first fault there is this one, or none
-abbrev pub IsMapFault : Option PublishFault → PublishFault → Type 0
+abbrev pub IsMapFault : Option RouteFault → RouteFault → Type 0
 IsMapFault (Some first) fault = fault ≡ first
 IsMapFault None fault = fault ≡ NoMemory
 
 -- what a publication leaves and answers of a shard that has no route for this reason, or has one
 abbrev pub Published : {Q : Type 0} → Option RouteFault → ClusterValue Q → ClusterValue Q → ℕ
-    → Result Route PublishRefusal → Type 0
-Published (Some fault) before after shard result = (result ≡ Err (Unrouted fault)) × (after ≡ before)
+    → Result Route RouteFault → Type 0
+Published (Some fault) before after shard result = (result ≡ Err fault) × (after ≡ before)
 Published None before after shard (Ok route) =
     ReadsRoute before after shard route × (publish_fault before.map.map route ≡ None)
     × (after.map.map ≡ with_route before.map.map route)
-Published None before after shard (Err (Unpublished fault)) =
+Published None before after shard (Err fault) =
     (route : Route) × ReadsRoute before after shard route × IsMapFault (publish_fault before.map.map route) fault
     × (after.map ≡ before.map)
-Published None before after shard (Err (Unrouted fault)) = ⊥

@@ -1,7 +1,8 @@
 use sm_rule::admit_refusal::AdmitRefusal;
+use sm_server::CheckpointFault;
 use thiserror::Error;
 
-/// Why a shard isn't held: the first reason that applies, in this order.
+/// Why a shard isn't held, isn't freed or makes no checkpoint: the first reason that applies, in this order.
 #[derive(Clone, Copy, Debug, PartialEq, Eq, Drop, Error)]
 pub enum HoldFault {
     /// There is no such shard.
@@ -13,15 +14,24 @@ pub enum HoldFault {
     /// The server was not admitted to the shard.
     #[error("{0}")]
     Admit(AdmitRefusal),
-}
-
-/// Why a shard isn't freed: the first reason that applies, in this order.
-#[derive(Clone, Copy, Debug, PartialEq, Eq, Drop, Error)]
-pub enum FreeFault {
-    /// There is no such shard.
-    #[error("there is no such shard")]
-    UnknownShard,
-    /// The shard isn't held.
+    /// The shard is to be freed, and isn't held.
     #[error("the shard is not held")]
     NotHeld,
+    /// Memory for the checkpoint was refused.
+    #[error("out of memory")]
+    NoMemory,
+}
+
+impl From<CheckpointFault> for HoldFault {
+    ghost use Rattle.std.specs.Prelude.{◌≡◌};
+    ghost use Rattle.sm_cluster.specs.Basing.{hold_fault_of};
+
+    ghost from_gives = { λ fault refused. refused ≡ hold_fault_of fault };
+
+    fn from(fault: CheckpointFault) -> HoldFault {
+        match fault {
+            CheckpointFault::Admit(refusal) => HoldFault::Admit(refusal),
+            CheckpointFault::NoMemory => HoldFault::NoMemory,
+        }
+    }
 }

@@ -20,7 +20,6 @@
 #![tactic(auto)]
 
 pub mod call_refused;
-pub mod checkpoint_refusal;
 pub mod client;
 pub mod cluster;
 pub mod counting;
@@ -36,7 +35,6 @@ pub mod laws;
 pub mod loading;
 mod message;
 mod network;
-pub mod publish_refusal;
 mod reply;
 pub mod setup;
 pub mod start_fault;
@@ -45,14 +43,12 @@ pub mod told;
 mod worker;
 
 pub use call_refused::{CallFault, CallRefused};
-pub use checkpoint_refusal::CheckpointRefusal;
 pub use client::Client;
 pub use cluster::Cluster;
 pub use counting::Counting;
 pub use gate::{Gate, Open};
-pub use hold_fault::{FreeFault, HoldFault};
+pub use hold_fault::HoldFault;
 pub use loading::{LoadReport, load};
-pub use publish_refusal::PublishRefusal;
 pub use setup::Setup;
 pub use sm_counts::{Counts, Fate, ServerCounts, ShardCounts};
 pub use start_fault::StartFault;

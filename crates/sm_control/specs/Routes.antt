@@ -4,8 +4,8 @@ use Rattle.sm_ranges.specs.Stand.{is_vacant, owner_of}
 use Rattle.sm_ownership.specs.declared.route.Route.{Route}
 use Rattle.sm_place.specs.Books.{BooksView, shard_at}
 use Rattle.sm_rule.specs.Changes.{ChairLooks, ChairValue, record_at_chair}
-use Rattle.sm_control.specs.declared.route_fault.RouteFault.{RouteFault}
-use Rattle.sm_control.specs.declared.route_fault.RouteFault.TheVariants.{UnknownShard, WrongPhase}
+use Rattle.sm_ownership.specs.declared.route_fault.RouteFault.{RouteFault}
+use Rattle.sm_ownership.specs.declared.route_fault.RouteFault.TheVariants.{UnknownShard, WrongPhase}
 use Rattle.sm_control.specs.Controls.{ControlValue}
 
 -- the first reason for which a shard has no route

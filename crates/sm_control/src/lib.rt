@@ -14,9 +14,7 @@
 pub mod control;
 pub mod control_fault;
 pub mod drain_fault;
-pub mod route_fault;
 
 pub use control::Control;
 pub use control_fault::ControlFault;
 pub use drain_fault::DrainFault;
-pub use route_fault::RouteFault;

@@ -22,7 +22,8 @@ use Rattle.sm_place.specs.Sound.{AreSound}
 use Rattle.sm_place.specs.lemmas.Named.{AllNamed-at, names-owner}
 use Rattle.sm_tasks.specs.Caps.{TakesNoneLeaving}
 use Rattle.sm_desk.specs.declared.command.CommandFault.{CommandFault}
-use Rattle.sm_desk.specs.declared.command.CommandFault.TheVariants.{Place, UnknownServer}
+use Rattle.sm_desk.specs.declared.command.CommandFault.TheVariants.{Place, Restart, UnknownServer}
+use Rattle.sm_tasks.specs.declared.restart_fault.RestartFault.{RestartFault}
 use Rattle.sm_desk.specs.Desk.{is_unknown, restart_fault, resume_fault, resumed, room_fault}
 use Rattle.sm_desk.specs.lemmas.Changes.{IsLetThrough}
 
@@ -232,11 +233,11 @@ takes_none_leaving stays books k change through =
     (held stand change through.phase)
 
 -- a step of a restart that isn't refused is of a known server, and has no fault of its own
-pub restart_through : (books : BooksView) (a : ℕ) (fault : Option CommandFault) → restart_fault books a fault ≡ None
-    → IsKnown books.servers a × (fault ≡ None)
-restart_through books a fault e =
-    let t = both (ltb (place_of books.servers a) (length books.servers)) fault e in
-    (ltb-true (place_of books.servers a) (length books.servers) t.0, t.1)
+pub restart_through : (books : BooksView) (a : ℕ) (step : Result (Unit {0}) RestartFault)
+    → restart_fault books a step ≡ None → IsKnown books.servers a × (step ≡ Ok tt)
+restart_through books a step e =
+    let t = both (ltb (place_of books.servers a) (length books.servers)) (option_map Restart (result_err step)) e in
+    (ltb-true (place_of books.servers a) (length books.servers) t.0, ok_without Restart step t.1)
   where
     both : (u : Bool) (x : Option CommandFault) → cond u x (Some UnknownServer) ≡ None → (u ≡ true) × (x ≡ None)
     both true x e = (refl, e)

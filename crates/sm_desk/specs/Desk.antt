@@ -1,7 +1,7 @@
 -- The desk: what the control knows when it checks a command. Rules of stands, of room and of approvals are those of the
 -- crates below; here stand their order, and what a command leaves.
 use Rattle.std.specs.Prelude.{ℕ, Bool, true, false, Option, Some, None, nat_lt, not, if◌then◌else◌, unwrap_or, List}
-use Rattle.std.specs.Prelude.{length, map, ◌||◌}
+use Rattle.std.specs.Prelude.{Result, length, map, ◌||◌}
 use Rattle.std.specs.Option.{option_map, option_or}
 use Rattle.std.specs.Result.{result_err}
 use Rattle.sm_ranges.specs.declared.stand.Stand.{Stand}
@@ -19,14 +19,13 @@ use Rattle.sm_place.specs.declared.server_state.ServerState.TheVariants.{Failed 
 use Rattle.sm_place.specs.Books.{BooksView, place_of, shard_at, state_of, with_stand, with_state}
 use Rattle.sm_place.specs.Room.{fit}
 use Rattle.sm_place.specs.ServerState.{is_leaving, is_unreached}
+use Rattle.sm_tasks.specs.declared.restart_fault.RestartFault.{RestartFault}
 use Rattle.sm_tasks.specs.Approvals.{approvable, askable, failable, returnable, stoppable}
 use Rattle.sm_desk.specs.declared.command.Command.{Command}
 use Rattle.sm_desk.specs.declared.command.Command.TheVariants.{Change, Ask, Approve, Stopped, Back, Fail}
 use Rattle.sm_desk.specs.declared.command.CommandFault.{CommandFault}
 use Rattle.sm_desk.specs.declared.command.CommandFault.TheVariants.{UnknownServer, Change as ChangeRefused, Place}
-use Rattle.sm_desk.specs.declared.command.CommandFault.TheVariants.{Ask as AskRefused, Approve as ApproveRefused}
-use Rattle.sm_desk.specs.declared.command.CommandFault.TheVariants.{Stopped as StoppedRefused, Back as BackRefused}
-use Rattle.sm_desk.specs.declared.command.CommandFault.TheVariants.{Fail as FailRefused}
+use Rattle.sm_desk.specs.declared.command.CommandFault.TheVariants.{Restart as RestartRefused}
 
 -- the books, and how many servers may be leaving for an approval
 pub record DeskView : Type 0 where
@@ -80,22 +79,18 @@ desk_change_fault books shard change =
     (option_or (room_fault books shard (newly_named change)) (resume_fault books (resumed stand change)))
 
 -- the fault of a step of the server's restart, where the server has a row
-abbrev pub restart_fault : BooksView → ℕ → Option CommandFault → Option CommandFault
-restart_fault books server fault = if is_known books.servers server then fault else Some UnknownServer
+abbrev pub restart_fault : BooksView → ℕ → Result (Unit {0}) RestartFault → Option CommandFault
+restart_fault books server step =
+    if is_known books.servers server then option_map RestartRefused (result_err step) else Some UnknownServer
 
 -- the first reason for which the desk refuses a command
 abbrev pub desk_fault : DeskView → Command → Option CommandFault
 desk_fault desk (Change shard change) = desk_change_fault desk.books shard change
-desk_fault desk (Ask server) =
-    restart_fault desk.books server (option_map AskRefused (result_err (askable desk.books server)))
-desk_fault desk (Approve server) =
-    restart_fault desk.books server (option_map ApproveRefused (result_err (approvable desk.ops desk.books server)))
-desk_fault desk (Stopped server) =
-    restart_fault desk.books server (option_map StoppedRefused (result_err (stoppable desk.books server)))
-desk_fault desk (Back server) =
-    restart_fault desk.books server (option_map BackRefused (result_err (returnable desk.books server)))
-desk_fault desk (Fail server) =
-    restart_fault desk.books server (option_map FailRefused (result_err (failable desk.books server)))
+desk_fault desk (Ask server) = restart_fault desk.books server (askable desk.books server)
+desk_fault desk (Approve server) = restart_fault desk.books server (approvable desk.ops desk.books server)
+desk_fault desk (Stopped server) = restart_fault desk.books server (stoppable desk.books server)
+desk_fault desk (Back server) = restart_fault desk.books server (returnable desk.books server)
+desk_fault desk (Fail server) = restart_fault desk.books server (failable desk.books server)
 
 -- the books after a change that isn't refused
 abbrev pub books_changed : BooksView → ℕ → AnyChange → BooksView

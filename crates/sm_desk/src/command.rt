@@ -3,7 +3,7 @@ use sm_ownership::change_fault::ChangeFault;
 use sm_place::PlaceFault;
 use sm_ranges::server_id::ServerId;
 use sm_ranges::shard_id::ShardId;
-use sm_tasks::{AlreadyFailed, AlreadyUp, ApproveFault, NotUp, StoppedFault};
+use sm_tasks::RestartFault;
 use thiserror::Error;
 
 /// A command of the control.
@@ -36,21 +36,9 @@ pub enum CommandFault {
     /// The server has no room for the shard, or is leaving.
     #[error("{0}")]
     Place(PlaceFault),
-    /// The restart can't be asked for.
+    /// The server's restart doesn't allow the step.
     #[error("{0}")]
-    Ask(NotUp),
-    /// The restart isn't approved.
-    #[error("{0}")]
-    Approve(ApproveFault),
-    /// The server may not be stopped.
-    #[error("{0}")]
-    Stopped(StoppedFault),
-    /// The server was up.
-    #[error("{0}")]
-    Back(AlreadyUp),
-    /// The server had failed.
-    #[error("{0}")]
-    Fail(AlreadyFailed),
+    Restart(RestartFault),
 }
 
 impl From<ChangeFault> for CommandFault {
@@ -61,5 +49,16 @@ impl From<ChangeFault> for CommandFault {
 
     fn from(fault: ChangeFault) -> CommandFault {
         CommandFault::Change(fault)
+    }
+}
+
+impl From<RestartFault> for CommandFault {
+    ghost use Rattle.std.specs.Prelude.{◌≡◌};
+    ghost use Rattle.sm_desk.specs.declared.command.CommandFault.TheVariants.{Restart};
+
+    ghost from_gives = { λ fault command. command ≡ Restart fault };
+
+    fn from(fault: RestartFault) -> CommandFault {
+        CommandFault::Restart(fault)
     }
 }

@@ -1,9 +1,6 @@
-ghost use Rattle.std.specs.Prelude.{◌≡◌, option_map};
+ghost use Rattle.std.specs.Prelude.{◌≡◌};
 ghost use Rattle.std.specs.Result.{result_err};
 ghost use Rattle.sm_tasks.specs.Approvals.{approvable, askable, failable, returnable, stoppable};
-ghost use Rattle.sm_desk.specs.declared.command.CommandFault.TheVariants.{Ask as AskRefused, Approve as ApproveRefused};
-ghost use Rattle.sm_desk.specs.declared.command.CommandFault.TheVariants.{Stopped as StoppedRefused};
-ghost use Rattle.sm_desk.specs.declared.command.CommandFault.TheVariants.{Back as BackRefused, Fail as FailRefused};
 ghost use Rattle.sm_desk.specs.Desk.{restart_fault};
 
 use crate::command::CommandFault;
@@ -13,69 +10,50 @@ use sm_tasks::Tasks;
 
 /// Whether a restart of the server may be asked for, or the first fault that applies.
 pub(crate) fn check_ask(tasks: &Tasks, books: &Books, a: ServerId) -> Result<(), CommandFault>
-    ensures { result_err result ≡ restart_fault books.now a (option_map AskRefused (result_err (askable books.now a))) }
+    ensures { result_err result ≡ restart_fault books.now a (askable books.now a) }
 {
     if !books.knows(a) {
         return Err(CommandFault::UnknownServer);
     }
-    match tasks.check_ask(books, a) {
-        Ok(()) => Ok(()),
-        Err(fault) => Err(CommandFault::Ask(fault)),
-    }
+    Ok(tasks.check_ask(books, a)?)
 }
 
 /// Whether the restart of the server is approved, or the first fault that applies.
 pub(crate) fn check_approve(tasks: &Tasks, books: &Books, a: ServerId) -> Result<(), CommandFault>
-    ensures { result_err result
-        ≡ restart_fault books.now a (option_map ApproveRefused (result_err (approvable tasks.now books.now a))) }
+    ensures { result_err result ≡ restart_fault books.now a (approvable tasks.now books.now a) }
 {
     if !books.knows(a) {
         return Err(CommandFault::UnknownServer);
     }
-    match tasks.check_approve(books, a) {
-        Ok(()) => Ok(()),
-        Err(fault) => Err(CommandFault::Approve(fault)),
-    }
+    Ok(tasks.check_approve(books, a)?)
 }
 
 /// Whether the server may be stopped, or the first fault that applies.
 pub(crate) fn check_stopped(tasks: &Tasks, books: &Books, a: ServerId) -> Result<(), CommandFault>
-    ensures { result_err result
-        ≡ restart_fault books.now a (option_map StoppedRefused (result_err (stoppable books.now a))) }
+    ensures { result_err result ≡ restart_fault books.now a (stoppable books.now a) }
 {
     if !books.knows(a) {
         return Err(CommandFault::UnknownServer);
     }
-    match tasks.check_stopped(books, a) {
-        Ok(()) => Ok(()),
-        Err(fault) => Err(CommandFault::Stopped(fault)),
-    }
+    Ok(tasks.check_stopped(books, a)?)
 }
 
 /// Whether the server may come back, or the first fault that applies.
 pub(crate) fn check_back(tasks: &Tasks, books: &Books, a: ServerId) -> Result<(), CommandFault>
-    ensures { result_err result
-        ≡ restart_fault books.now a (option_map BackRefused (result_err (returnable books.now a))) }
+    ensures { result_err result ≡ restart_fault books.now a (returnable books.now a) }
 {
     if !books.knows(a) {
         return Err(CommandFault::UnknownServer);
     }
-    match tasks.check_back(books, a) {
-        Ok(()) => Ok(()),
-        Err(fault) => Err(CommandFault::Back(fault)),
-    }
+    Ok(tasks.check_back(books, a)?)
 }
 
 /// Whether the server may be said to have failed, or the first fault that applies.
 pub(crate) fn check_fail(tasks: &Tasks, books: &Books, a: ServerId) -> Result<(), CommandFault>
-    ensures { result_err result
-        ≡ restart_fault books.now a (option_map FailRefused (result_err (failable books.now a))) }
+    ensures { result_err result ≡ restart_fault books.now a (failable books.now a) }
 {
     if !books.knows(a) {
         return Err(CommandFault::UnknownServer);
     }
-    match tasks.check_fail(books, a) {
-        Ok(()) => Ok(()),
-        Err(fault) => Err(CommandFault::Fail(fault)),
-    }
+    Ok(tasks.check_fail(books, a)?)
 }

@@ -47,7 +47,10 @@ settings_frame settings = record {
 -- the answer to a request that was refused; want of memory has none, as it ends the run
 abbrev pub refused_answer : Refusal → Option LineAnswer
 refused_answer refusal.NoMemory = None
-refused_answer why = Some (IsRefused (refused.Request why))
+refused_answer refusal.TooManyHops = Some (IsRefused refused.TooManyHops)
+refused_answer (refusal.Admit fault) = Some (IsRefused (refused.Admit fault))
+refused_answer refusal.KeptFull = Some (IsRefused refused.KeptFull)
+refused_answer refusal.Unreachable = Some (IsRefused refused.Unreachable)
 
 -- the answer to a call that ended in this step; the last step of a call has one, but for want of memory
 abbrev pub answer_of : Result (WorldAnswer Reply) WorldFault → Option LineAnswer

@@ -185,10 +185,11 @@ fn answer_of_refusal(refusal: Refusal) -> Result<LineAnswer, AllocError>
     ensures err { OnErr result (refusal ≡ Refusal.NoMemory) }
 {
     match refusal {
+        Refusal::TooManyHops => Ok(LineAnswer::Refused(Refused::TooManyHops)),
+        Refusal::Admit(fault) => Ok(LineAnswer::Refused(Refused::Admit(fault))),
+        Refusal::KeptFull => Ok(LineAnswer::Refused(Refused::KeptFull)),
+        Refusal::Unreachable => Ok(LineAnswer::Refused(Refused::Unreachable)),
         Refusal::NoMemory => Err(AllocError),
-        Refusal::Admit(_) | Refusal::TooManyHops | Refusal::Unreachable | Refusal::KeptFull => Ok(
-            LineAnswer::Refused(Refused::Request(refusal)),
-        ),
     }
 }
 

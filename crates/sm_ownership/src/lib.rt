@@ -24,6 +24,7 @@ pub mod laws;
 pub mod mode;
 pub mod record;
 pub mod route;
+pub mod route_fault;
 pub mod table;
 
 pub use admit_fault::AdmitFault;
@@ -33,4 +34,5 @@ pub use entry::{Ending, Entry, Kind};
 pub use mode::Mode;
 pub use record::Record;
 pub use route::Route;
+pub use route_fault::RouteFault;
 pub use table::Table;

@@ -3,8 +3,8 @@ use Rattle.std.specs.Prelude.{ℕ, Option, Some, None, nat_lt, not, if◌then◌
 use Rattle.atomic_table.specs.Seated.{TableId}
 use Rattle.sm_ownership.specs.declared.route.Route.{Route}
 use Rattle.sm_ownership.specs.Routes.{is_old, routes_of}
-use Rattle.sm_publish.specs.declared.publish_fault.PublishFault.{PublishFault}
-use Rattle.sm_publish.specs.declared.publish_fault.PublishFault.TheVariants.{UnknownShard, OldRoute}
+use Rattle.sm_ownership.specs.declared.route_fault.RouteFault.{RouteFault}
+use Rattle.sm_ownership.specs.declared.route_fault.RouteFault.TheVariants.{UnknownShard, OldRoute}
 
 -- how many shards a map has, and what was published in it, in order
 pub record MapView : Type 0 where
@@ -25,7 +25,7 @@ abbrev pub taken : MapView → Route → MapView
 taken map route = if nat_lt route.shard map.count then with_route map route else map
 
 -- the first reason for which a route isn't published
-abbrev pub publish_fault : MapView → Route → Option PublishFault
+abbrev pub publish_fault : MapView → Route → Option RouteFault
 publish_fault map route =
     if not (nat_lt route.shard map.count) then Some UnknownShard
     else if is_old (routes_of map.published route.shard) route then Some OldRoute

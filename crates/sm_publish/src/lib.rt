@@ -10,12 +10,10 @@
 //! ```
 #![tactic(auto)]
 
-pub mod publish_fault;
 pub mod publisher;
 mod route_map;
 pub mod router;
 mod rule;
 
-pub use publish_fault::PublishFault;
 pub use publisher::Publisher;
 pub use router::Router;

@@ -2,12 +2,12 @@ ghost use Rattle.std.specs.Prelude.{◌≡◌, ◌<◌, ◌^◌, fold, [], drop,
 ghost use Rattle.std.specs.Prelude.{OnOk, OnErr, IsOkUnless, Err};
 ghost use Rattle.sm_publish.specs.Publishing.{with_route, taken, publish_fault};
 
-use crate::publish_fault::PublishFault;
 use crate::route_map::RouteMap;
 use crate::router::Router;
 use crate::rule::{MapWriter, Seeing};
 use core::mem::replace_with;
 use sm_ownership::route::Route;
+use sm_ownership::route_fault::RouteFault;
 use std::alloc::{AllocError, Global};
 use std::marker::Model;
 use std::sync::Wait;
@@ -64,25 +64,25 @@ impl Publisher {
 
     /// Publishes the route, or answers the first fault that applies; a refused route changes nothing.
     /// It may wait for routers that are reading.
-    pub fn publish<R: Wait>(&mut self, rt: &R, route: Route) -> Result<(), PublishFault>
+    pub fn publish<R: Wait>(&mut self, rt: &R, route: Route) -> Result<(), RouteFault>
         ensures published { OnOk result (self.new.map ≡ with_route self.old.map route) }
         ensures unchanged { OnErr result (self.new ≡ self.old) }
         ensures fault { IfSome (publish_fault self.old.map route) (λ fault. result ≡ Err fault) }
 
         // Only want of memory refuses a newer route of a shard.
-        ensures no_fault { IfNone (publish_fault self.old.map route) (IsOkUnless result PublishFault.NoMemory) }
+        ensures no_fault { IfNone (publish_fault self.old.map route) (IsOkUnless result RouteFault.NoMemory) }
     {
         let map = self.writer.published();
         if route.shard.index() >= map.count() {
-            return Err(PublishFault::UnknownShard);
+            return Err(RouteFault::UnknownShard);
         }
         if let Some(last) = map.route(route.shard)
             && route.generation <= last.generation
         {
-            return Err(PublishFault::OldRoute);
+            return Err(RouteFault::OldRoute);
         }
         if self.writer.append(route).is_err() {
-            return Err(PublishFault::NoMemory);
+            return Err(RouteFault::NoMemory);
         }
         replace_with(&mut self.writer, rt, show::<R>);
         Ok(())

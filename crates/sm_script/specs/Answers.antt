@@ -5,8 +5,6 @@ use Rattle.std.specs.List.{join_with_byte}
 use Rattle.std.specs.Fmt.{signed_decimal}
 use Rattle.sm_desk.specs.declared.command.CommandFault.{CommandFault}
 use Rattle.sm_desk.specs.declared.command.CommandFault.TheVariants as command
-use Rattle.sm_envelope.specs.declared.refusal.Refusal.{Refusal}
-use Rattle.sm_envelope.specs.declared.refusal.Refusal.TheVariants as request
 use Rattle.sm_map.specs.KeyMap.{KeyPair, KeyValue}
 use Rattle.sm_map.specs.KeyMap.{Text as HeldText, Count as HeldCount}
 use Rattle.sm_ownership.specs.declared.admit_fault.AdmitFault.{AdmitFault}
@@ -16,8 +14,8 @@ use Rattle.sm_ownership.specs.declared.record.Record.{Record}
 use Rattle.sm_place.specs.declared.place_fault.PlaceFault.TheVariants as place
 use Rattle.sm_place.specs.declared.plan.Move.{Move}
 use Rattle.sm_place.specs.Plans.{PlanView}
-use Rattle.sm_tasks.specs.declared.task_fault.ApproveFault.TheVariants as approve
-use Rattle.sm_tasks.specs.declared.task_fault.StoppedFault.TheVariants as stopped
+use Rattle.sm_tasks.specs.declared.restart_fault.RestartFault.{RestartFault}
+use Rattle.sm_tasks.specs.declared.restart_fault.RestartFault.TheVariants as restart
 use Rattle.sm_ownership.specs.declared.route.Route.{Route}
 use Rattle.sm_ranges.specs.Stand.{other_of, owner_of}
 use Rattle.sm_ranges.specs.declared.stand.Stand.{Stand}
@@ -45,6 +43,19 @@ line_fault_name BadNumber = codes "BadNumber"
 line_fault_name BadKey = codes "BadKey"
 line_fault_name NotHere = codes "NotHere"
 
+-- the name of the refusal of a step of a restart
+abbrev pub restart_fault_name : RestartFault → List ℕ
+restart_fault_name restart.NotUp = codes "NotUp"
+restart_fault_name restart.NotAsked = codes "NotAsked"
+restart_fault_name restart.GlobalCap = codes "GlobalCap"
+restart_fault_name (restart.ShardCap shard) = codes "ShardCap"
+restart_fault_name (restart.GroupCap group) = codes "GroupCap"
+restart_fault_name (restart.DomainCap domain) = codes "DomainCap"
+restart_fault_name restart.NotApproved = codes "NotApproved"
+restart_fault_name (restart.StillServing shard) = codes "StillServing"
+restart_fault_name restart.AlreadyUp = codes "AlreadyUp"
+restart_fault_name restart.AlreadyFailed = codes "AlreadyFailed"
+
 -- the name of a command's refusal
 abbrev pub command_fault_name : CommandFault → List ℕ
 command_fault_name command.UnknownServer = codes "UnknownServer"
@@ -56,23 +67,19 @@ command_fault_name (command.Change (change.Busy state)) = codes "Busy"
 command_fault_name (command.Place place.Leaving) = codes "Leaving"
 command_fault_name (command.Place place.NoCapacity) = codes "NoCapacity"
 command_fault_name (command.Place place.DomainLimit) = codes "DomainLimit"
-command_fault_name (command.Ask fault) = codes "NotUp"
-command_fault_name (command.Approve approve.NotAsked) = codes "NotAsked"
-command_fault_name (command.Approve approve.GlobalCap) = codes "GlobalCap"
-command_fault_name (command.Approve (approve.ShardCap shard)) = codes "ShardCap"
-command_fault_name (command.Approve (approve.GroupCap group)) = codes "GroupCap"
-command_fault_name (command.Approve (approve.DomainCap domain)) = codes "DomainCap"
-command_fault_name (command.Stopped stopped.NotApproved) = codes "NotApproved"
-command_fault_name (command.Stopped (stopped.StillServing shard)) = codes "StillServing"
-command_fault_name (command.Back fault) = codes "AlreadyUp"
-command_fault_name (command.Fail fault) = codes "AlreadyFailed"
+command_fault_name (command.Restart fault) = restart_fault_name fault
+
+-- the shard, group or domain at which a step of a restart was refused
+abbrev pub restart_fault_number : RestartFault → Option ℕ
+restart_fault_number (restart.ShardCap shard) = Some shard
+restart_fault_number (restart.GroupCap group) = Some group
+restart_fault_number (restart.DomainCap domain) = Some domain
+restart_fault_number (restart.StillServing shard) = Some shard
+restart_fault_number fault = None
 
 -- the shard, group or domain at which a command's refusal came
 abbrev pub command_fault_number : CommandFault → Option ℕ
-command_fault_number (command.Approve (approve.ShardCap shard)) = Some shard
-command_fault_number (command.Approve (approve.GroupCap group)) = Some group
-command_fault_number (command.Approve (approve.DomainCap domain)) = Some domain
-command_fault_number (command.Stopped (stopped.StillServing shard)) = Some shard
+command_fault_number (command.Restart fault) = restart_fault_number fault
 command_fault_number fault = None
 
 -- the name of an admission's refusal
@@ -83,14 +90,6 @@ admit_fault_name admit.NotExecutor = codes "NotExecutor"
 admit_fault_name admit.NotYet = codes "NotYet"
 admit_fault_name admit.Admitted = codes "Admitted"
 admit_fault_name admit.Spent = codes "Spent"
-
--- the name of a request's refusal
-abbrev pub refusal_name : Refusal → List ℕ
-refusal_name request.TooManyHops = codes "TooManyHops"
-refusal_name (request.Admit fault) = admit_fault_name fault
-refusal_name request.KeptFull = codes "KeptFull"
-refusal_name request.Unreachable = codes "Unreachable"
-refusal_name request.NoMemory = codes "NoMemory"
 
 -- the name of a call's refusal
 abbrev pub refused_name : Refused → List ℕ
@@ -106,7 +105,8 @@ refused_name refused.Raced = codes "Raced"
 refused_name refused.Closed = codes "Closed"
 refused_name (refused.Command fault) = command_fault_name fault
 refused_name (refused.Admit fault) = admit_fault_name fault
-refused_name (refused.Request refusal) = refusal_name refusal
+refused_name refused.TooManyHops = codes "TooManyHops"
+refused_name refused.KeptFull = codes "KeptFull"
 
 -- the number that the answer gives after it, where there is one
 abbrev pub refused_number : Refused → Option ℕ

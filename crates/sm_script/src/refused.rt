@@ -1,12 +1,12 @@
 ghost use Rattle.std.specs.Prelude.{◌≡◌};
-ghost use Rattle.sm_script.specs.Answers.{command_fault_name, command_fault_number, admit_fault_name, refusal_name};
+ghost use Rattle.sm_script.specs.Answers.{command_fault_name, command_fault_number, admit_fault_name};
+ghost use Rattle.sm_script.specs.Answers.{restart_fault_name, restart_fault_number};
 
 use sm_desk::command::CommandFault;
-use sm_envelope::refusal::Refusal;
 use sm_ownership::admit_fault::AdmitFault;
 use sm_ownership::change_fault::ChangeFault;
 use sm_place::PlaceFault;
-use sm_tasks::{ApproveFault, StoppedFault};
+use sm_tasks::RestartFault;
 
 /// Why a call of a script was refused.
 #[derive(Clone, Copy, PartialEq, Eq, Drop)]
@@ -35,8 +35,10 @@ pub enum Refused {
     Command(CommandFault),
     /// Why a server was not admitted to a shard.
     Admit(AdmitFault),
-    /// Why a request was refused.
-    Request(Refusal),
+    /// The server forwards requests on the shard, and this one was forwarded as often as it may be.
+    TooManyHops,
+    /// The shard keeps as many requests as it may.
+    KeptFull,
 }
 
 impl Refused {
@@ -59,7 +61,8 @@ impl Refused {
             Refused::Closed => "Closed",
             Refused::Command(fault) => command_fault_name(fault),
             Refused::Admit(fault) => admit_fault_name(fault),
-            Refused::Request(refusal) => refusal_name(refusal),
+            Refused::TooManyHops => "TooManyHops",
+            Refused::KeptFull => "KeptFull",
         }
     }
 
@@ -89,16 +92,7 @@ fn command_fault_name(fault: CommandFault) -> &'static str
         CommandFault::Place(PlaceFault::Leaving) => "Leaving",
         CommandFault::Place(PlaceFault::NoCapacity) => "NoCapacity",
         CommandFault::Place(PlaceFault::DomainLimit) => "DomainLimit",
-        CommandFault::Ask(_) => "NotUp",
-        CommandFault::Approve(ApproveFault::NotAsked) => "NotAsked",
-        CommandFault::Approve(ApproveFault::GlobalCap) => "GlobalCap",
-        CommandFault::Approve(ApproveFault::ShardCap(_)) => "ShardCap",
-        CommandFault::Approve(ApproveFault::GroupCap(_)) => "GroupCap",
-        CommandFault::Approve(ApproveFault::DomainCap(_)) => "DomainCap",
-        CommandFault::Stopped(StoppedFault::NotApproved) => "NotApproved",
-        CommandFault::Stopped(StoppedFault::StillServing(_)) => "StillServing",
-        CommandFault::Back(_) => "AlreadyUp",
-        CommandFault::Fail(_) => "AlreadyFailed",
+        CommandFault::Restart(fault) => restart_fault_name(fault),
     }
 }
 
@@ -107,31 +101,39 @@ fn command_fault_number(fault: CommandFault) -> Option<u16>
     ensures { result ≡ command_fault_number fault }
 {
     match fault {
-        CommandFault::Approve(fault) => approve_fault_number(fault),
-        CommandFault::Stopped(fault) => stopped_fault_number(fault),
+        CommandFault::Restart(fault) => restart_fault_number(fault),
         _ => None,
     }
 }
 
-// The shard, group or domain at which an approval was refused.
-fn approve_fault_number(fault: ApproveFault) -> Option<u16>
-    ensures { result ≡ command_fault_number (CommandFault.Approve fault) }
+// The name that an answer gives to the refusal of a step of a restart.
+fn restart_fault_name(fault: RestartFault) -> &'static str
+    ensures { result.now ≡ restart_fault_name fault }
 {
     match fault {
-        ApproveFault::ShardCap(k) => Some(k.number()),
-        ApproveFault::GroupCap(g) => Some(g),
-        ApproveFault::DomainCap(d) => Some(d),
-        _ => None,
+        RestartFault::NotUp => "NotUp",
+        RestartFault::NotAsked => "NotAsked",
+        RestartFault::GlobalCap => "GlobalCap",
+        RestartFault::ShardCap(_) => "ShardCap",
+        RestartFault::GroupCap(_) => "GroupCap",
+        RestartFault::DomainCap(_) => "DomainCap",
+        RestartFault::NotApproved => "NotApproved",
+        RestartFault::StillServing(_) => "StillServing",
+        RestartFault::AlreadyUp => "AlreadyUp",
+        RestartFault::AlreadyFailed => "AlreadyFailed",
     }
 }
 
-// The shard that kept a server from being stopped.
-fn stopped_fault_number(fault: StoppedFault) -> Option<u16>
-    ensures { result ≡ command_fault_number (CommandFault.Stopped fault) }
+// The shard, group or domain at which a step of a restart was refused.
+fn restart_fault_number(fault: RestartFault) -> Option<u16>
+    ensures { result ≡ restart_fault_number fault }
 {
     match fault {
-        StoppedFault::StillServing(k) => Some(k.number()),
-        StoppedFault::NotApproved => None,
+        RestartFault::ShardCap(k) => Some(k.number()),
+        RestartFault::GroupCap(g) => Some(g),
+        RestartFault::DomainCap(d) => Some(d),
+        RestartFault::StillServing(k) => Some(k.number()),
+        _ => None,
     }
 }
 
@@ -146,18 +148,5 @@ fn admit_fault_name(fault: AdmitFault) -> &'static str
         AdmitFault::NotYet => "NotYet",
         AdmitFault::Admitted => "Admitted",
         AdmitFault::Spent => "Spent",
-    }
-}
-
-// The name that an answer gives to the refusal of a request.
-fn refusal_name(refusal: Refusal) -> &'static str
-    ensures { result.now ≡ refusal_name refusal }
-{
-    match refusal {
-        Refusal::TooManyHops => "TooManyHops",
-        Refusal::Admit(fault) => admit_fault_name(fault),
-        Refusal::KeptFull => "KeptFull",
-        Refusal::Unreachable => "Unreachable",
-        Refusal::NoMemory => "NoMemory",
     }
 }

@@ -14,11 +14,9 @@ use Rattle.sm_place.specs.declared.server_state.ServerState.TheVariants.{Up, Ask
 use Rattle.sm_place.specs.Books.{BooksView, domain_of, no_shard, shard_at, state_of}
 use Rattle.sm_ranges.specs.Stand.{names, is_paused}
 use Rattle.sm_place.specs.ServerState.{is_approved, is_asked, is_away, is_failed, is_leaving, is_stopped}
-use Rattle.sm_tasks.specs.declared.task_fault.ApproveFault.{ApproveFault}
-use Rattle.sm_tasks.specs.declared.task_fault.ApproveFault.TheVariants.{NotAsked, GlobalCap, ShardCap, GroupCap}
-use Rattle.sm_tasks.specs.declared.task_fault.ApproveFault.TheVariants.{DomainCap}
-use Rattle.sm_tasks.specs.declared.task_fault.StoppedFault.{StoppedFault}
-use Rattle.sm_tasks.specs.declared.task_fault.StoppedFault.TheVariants.{NotApproved, StillServing}
+use Rattle.sm_tasks.specs.declared.restart_fault.RestartFault.{RestartFault}
+use Rattle.sm_tasks.specs.declared.restart_fault.RestartFault.TheVariants.{NotAsked, GlobalCap, ShardCap, GroupCap}
+use Rattle.sm_tasks.specs.declared.restart_fault.RestartFault.TheVariants.{DomainCap, NotApproved, StillServing}
 use Rattle.sm_tasks.specs.Approvals.{approvable, capped_shard, full_domain, full_group, is_full, leaving_count}
 use Rattle.sm_tasks.specs.Approvals.{ok_unless, serving_shard, stoppable}
 use Rattle.sm_tasks.specs.Domains.{domain_count, domain_down}
@@ -103,7 +101,7 @@ IsApprovable-approvable ops books a e =
     }
   where
     five : (p q : Bool) (x y : Option ℕ) (r : Bool) (d : ℕ)
-        → ◌≡◌ {A = Result (Unit {0}) ApproveFault}
+        → ◌≡◌ {A = Result (Unit {0}) RestartFault}
         (cond (not p) (Err NotAsked) (cond q (Err GlobalCap)
         (ok_unless (option_or (option_map ShardCap x)
         (option_or (option_map GroupCap y) (option_map DomainCap (cond r (Some d) None)))))))
@@ -138,7 +136,7 @@ IsStoppable-stoppable books a e =
     }
   where
     two : (p : Bool) (x : Option ℕ)
-        → ◌≡◌ {A = Result (Unit {0}) StoppedFault}
+        → ◌≡◌ {A = Result (Unit {0}) RestartFault}
         (cond (not p) (Err NotApproved) (ok_unless (option_map StillServing x)))
         (Ok tt) → (p ≡ true) × (x ≡ None)
     two false x e = absurd (cc)

@@ -7,14 +7,10 @@ use Rattle.sm_ranges.specs.declared.stand.Stand.{Stand}
 use Rattle.sm_place.specs.Books.{BooksView, domain_of, state_of}
 use Rattle.sm_ranges.specs.Stand.{names, names_one, is_paused}
 use Rattle.sm_place.specs.ServerState.{is_leaving, is_up, is_asked, is_approved, is_failed}
-use Rattle.sm_tasks.specs.declared.task_fault.AlreadyFailed.{AlreadyFailed}
-use Rattle.sm_tasks.specs.declared.task_fault.AlreadyUp.{AlreadyUp}
-use Rattle.sm_tasks.specs.declared.task_fault.NotUp.{NotUp}
-use Rattle.sm_tasks.specs.declared.task_fault.ApproveFault.{ApproveFault}
-use Rattle.sm_tasks.specs.declared.task_fault.ApproveFault.TheVariants.{NotAsked, GlobalCap, ShardCap, GroupCap}
-use Rattle.sm_tasks.specs.declared.task_fault.ApproveFault.TheVariants.{DomainCap}
-use Rattle.sm_tasks.specs.declared.task_fault.StoppedFault.{StoppedFault}
-use Rattle.sm_tasks.specs.declared.task_fault.StoppedFault.TheVariants.{NotApproved, StillServing}
+use Rattle.sm_tasks.specs.declared.restart_fault.RestartFault.{RestartFault}
+use Rattle.sm_tasks.specs.declared.restart_fault.RestartFault.TheVariants.{NotUp, NotAsked, GlobalCap, ShardCap}
+use Rattle.sm_tasks.specs.declared.restart_fault.RestartFault.TheVariants.{GroupCap, DomainCap, NotApproved}
+use Rattle.sm_tasks.specs.declared.restart_fault.RestartFault.TheVariants.{StillServing, AlreadyUp, AlreadyFailed}
 use Rattle.sm_tasks.specs.Groups.{group_count, down_of}
 use Rattle.sm_tasks.specs.Domains.{domain_count, domain_down}
 
@@ -24,8 +20,8 @@ ok_unless None = Ok tt
 ok_unless (Some fault) = Err fault
 
 -- whether a restart of the server may be asked for
-abbrev pub askable : BooksView → ℕ → Result (Unit {0}) NotUp
-askable books a = if is_up (state_of books a) then Ok tt else Err (record {})
+abbrev pub askable : BooksView → ℕ → Result (Unit {0}) RestartFault
+askable books a = if is_up (state_of books a) then Ok tt else Err NotUp
 
 -- how many servers are approved to restart, stopped or failed
 abbrev pub leaving_count : BooksView → ℕ
@@ -60,7 +56,7 @@ full_domain books a =
     if nat_lt (domain_down books d) (domain_count is_leaving books d + 1) then Some d else None
 
 -- whether the restart of the server is approved, where at most `ops` servers may be leaving
-abbrev pub approvable : ℕ → BooksView → ℕ → Result (Unit {0}) ApproveFault
+abbrev pub approvable : ℕ → BooksView → ℕ → Result (Unit {0}) RestartFault
 approvable ops books a =
     if not (is_asked (state_of books a)) then Err NotAsked
     else (if nat_lt ops (leaving_count books + 1) then Err GlobalCap
@@ -72,15 +68,15 @@ abbrev pub serving_shard : BooksView → ℕ → Option ℕ
 serving_shard books a = position (λ shard. names shard.stand a && not (is_paused shard.stand)) books.shards
 
 -- whether the server may be stopped
-abbrev pub stoppable : BooksView → ℕ → Result (Unit {0}) StoppedFault
+abbrev pub stoppable : BooksView → ℕ → Result (Unit {0}) RestartFault
 stoppable books a =
     if not (is_approved (state_of books a)) then Err NotApproved
     else ok_unless (option_map StillServing (serving_shard books a))
 
 -- whether the server may come back
-abbrev pub returnable : BooksView → ℕ → Result (Unit {0}) AlreadyUp
-returnable books a = if is_up (state_of books a) then Err (record {}) else Ok tt
+abbrev pub returnable : BooksView → ℕ → Result (Unit {0}) RestartFault
+returnable books a = if is_up (state_of books a) then Err AlreadyUp else Ok tt
 
 -- whether the server may fail
-abbrev pub failable : BooksView → ℕ → Result (Unit {0}) AlreadyFailed
-failable books a = if is_failed (state_of books a) then Err (record {}) else Ok tt
+abbrev pub failable : BooksView → ℕ → Result (Unit {0}) RestartFault
+failable books a = if is_failed (state_of books a) then Err AlreadyFailed else Ok tt

@@ -13,8 +13,8 @@ mod counts;
 mod domains;
 mod groups;
 pub mod laws;
-pub mod task_fault;
+pub mod restart_fault;
 pub mod tasks;
 
-pub use task_fault::{AlreadyFailed, AlreadyUp, ApproveFault, NotUp, StoppedFault};
+pub use restart_fault::RestartFault;
 pub use tasks::Tasks;

@@ -7,7 +7,7 @@ ghost use Rattle.sm_tasks.specs.Approvals.{approvable, askable, failable, return
 use crate::counts::{capped_shard, leaving_count, serving_shard};
 use crate::domains::full_domain;
 use crate::groups::full_group;
-use crate::task_fault::{AlreadyFailed, AlreadyUp, ApproveFault, NotUp, StoppedFault};
+use crate::restart_fault::RestartFault;
 use sm_place::{Books, ServerState};
 use sm_ranges::ServerId;
 use std::marker::Model;
@@ -43,18 +43,18 @@ impl Tasks {
     }
 
     /// Whether `ask` would be made, or why not.
-    pub fn check_ask(&self, books: &Books, a: ServerId) -> Result<(), NotUp>
+    pub fn check_ask(&self, books: &Books, a: ServerId) -> Result<(), RestartFault>
         requires { IsKnown books.now.servers a }
         ensures { result ≡ askable books.now a }
     {
         match books.state(a) {
             ServerState::Up => Ok(()),
-            _ => Err(NotUp),
+            _ => Err(RestartFault::NotUp),
         }
     }
 
     /// Asks for a restart of the server, which is Up.
-    pub fn ask(&self, books: &mut Books, a: ServerId) -> Result<(), NotUp>
+    pub fn ask(&self, books: &mut Books, a: ServerId) -> Result<(), RestartFault>
         requires { IsKnown books.old.servers a }
         ensures answer { result ≡ askable books.old a }
         ensures made { OnOk result (books.new ≡ with_state books.old a Asked) }
@@ -66,30 +66,30 @@ impl Tasks {
     }
 
     /// Whether `approve` would be made, or why not.
-    pub fn check_approve(&self, books: &Books, a: ServerId) -> Result<(), ApproveFault>
+    pub fn check_approve(&self, books: &Books, a: ServerId) -> Result<(), RestartFault>
         requires { IsKnown books.now.servers a }
         ensures { result ≡ approvable self.now books.now a }
     {
         if !matches!(books.state(a), ServerState::Asked) {
-            return Err(ApproveFault::NotAsked);
+            return Err(RestartFault::NotAsked);
         }
         if leaving_count(books) >= usize::from(self.ops) {
-            return Err(ApproveFault::GlobalCap);
+            return Err(RestartFault::GlobalCap);
         }
         if let Some(k) = capped_shard(books, a) {
-            return Err(ApproveFault::ShardCap(k));
+            return Err(RestartFault::ShardCap(k));
         }
         if let Some(g) = full_group(books, a) {
-            return Err(ApproveFault::GroupCap(g));
+            return Err(RestartFault::GroupCap(g));
         }
         if let Some(d) = full_domain(books, a) {
-            return Err(ApproveFault::DomainCap(d));
+            return Err(RestartFault::DomainCap(d));
         }
         Ok(())
     }
 
     /// Approves the restart of the server, which is Asked: it is leaving from then on.
-    pub fn approve(&self, books: &mut Books, a: ServerId) -> Result<(), ApproveFault>
+    pub fn approve(&self, books: &mut Books, a: ServerId) -> Result<(), RestartFault>
         requires { IsKnown books.old.servers a }
         ensures answer { result ≡ approvable self.now books.old a }
         ensures made { OnOk result (books.new ≡ with_state books.old a Approved) }
@@ -101,21 +101,21 @@ impl Tasks {
     }
 
     /// Whether `stopped` would be made, or why not.
-    pub fn check_stopped(&self, books: &Books, a: ServerId) -> Result<(), StoppedFault>
+    pub fn check_stopped(&self, books: &Books, a: ServerId) -> Result<(), RestartFault>
         requires { IsKnown books.now.servers a }
         ensures { result ≡ stoppable books.now a }
     {
         if !matches!(books.state(a), ServerState::Approved) {
-            return Err(StoppedFault::NotApproved);
+            return Err(RestartFault::NotApproved);
         }
         match serving_shard(books, a) {
-            Some(k) => Err(StoppedFault::StillServing(k)),
+            Some(k) => Err(RestartFault::StillServing(k)),
             None => Ok(()),
         }
     }
 
     /// Notes that the server, which is Approved, was stopped.
-    pub fn stopped(&self, books: &mut Books, a: ServerId) -> Result<(), StoppedFault>
+    pub fn stopped(&self, books: &mut Books, a: ServerId) -> Result<(), RestartFault>
         requires { IsKnown books.old.servers a }
         ensures answer { result ≡ stoppable books.old a }
         ensures made { OnOk result (books.new ≡ with_state books.old a Stopped) }
@@ -127,18 +127,18 @@ impl Tasks {
     }
 
     /// Whether `back` would be made, or why not.
-    pub fn check_back(&self, books: &Books, a: ServerId) -> Result<(), AlreadyUp>
+    pub fn check_back(&self, books: &Books, a: ServerId) -> Result<(), RestartFault>
         requires { IsKnown books.now.servers a }
         ensures { result ≡ returnable books.now a }
     {
         match books.state(a) {
-            ServerState::Up => Err(AlreadyUp),
+            ServerState::Up => Err(RestartFault::AlreadyUp),
             _ => Ok(()),
         }
     }
 
     /// Notes that the server, which is not Up, is Up again.
-    pub fn back(&self, books: &mut Books, a: ServerId) -> Result<(), AlreadyUp>
+    pub fn back(&self, books: &mut Books, a: ServerId) -> Result<(), RestartFault>
         requires { IsKnown books.old.servers a }
         ensures answer { result ≡ returnable books.old a }
         ensures made { OnOk result (books.new ≡ with_state books.old a Up) }
@@ -150,18 +150,18 @@ impl Tasks {
     }
 
     /// Whether `fail` would be made, or why not.
-    pub fn check_fail(&self, books: &Books, a: ServerId) -> Result<(), AlreadyFailed>
+    pub fn check_fail(&self, books: &Books, a: ServerId) -> Result<(), RestartFault>
         requires { IsKnown books.now.servers a }
         ensures { result ≡ failable books.now a }
     {
         match books.state(a) {
-            ServerState::Failed => Err(AlreadyFailed),
+            ServerState::Failed => Err(RestartFault::AlreadyFailed),
             _ => Ok(()),
         }
     }
 
     /// Notes that the server failed, whatever its restart had come to. One that is Failed already is refused.
-    pub fn fail(&self, books: &mut Books, a: ServerId) -> Result<(), AlreadyFailed>
+    pub fn fail(&self, books: &mut Books, a: ServerId) -> Result<(), RestartFault>
         requires { IsKnown books.old.servers a }
         ensures answer { result ≡ failable books.old a }
         ensures made { OnOk result (books.new ≡ with_state books.old a Failed) }

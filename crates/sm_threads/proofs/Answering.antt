@@ -10,10 +10,7 @@ use Rattle.sm_cluster.specs.declared.call_refused.CallFault.{CallFault}
 use Rattle.sm_cluster.specs.Clusters.{ClusterValue}
 use Rattle.sm_cluster.specs.Publications.{Published}
 use Rattle.sm_cluster.specs.declared.call_refused.CallRefused.{CallRefused}
-use Rattle.sm_cluster.specs.declared.publish_refusal.PublishRefusal.{PublishRefusal}
-use Rattle.sm_cluster.specs.declared.publish_refusal.PublishRefusal.TheVariants.{Publish as Unpublished}
-use Rattle.sm_cluster.specs.declared.publish_refusal.PublishRefusal.TheVariants.{Route as Unrouted}
-use Rattle.sm_control.specs.declared.route_fault.RouteFault.{RouteFault}
+use Rattle.sm_ownership.specs.declared.route_fault.RouteFault.{RouteFault}
 use Rattle.sm_desk.specs.Desk.{is_known}
 use Rattle.sm_session.specs.Service.{counter_text}
 use Rattle.sm_ownership.specs.Routes.{routes_of}
@@ -35,14 +32,13 @@ abbrev pub session_with : ClusterValue Request → List (ClientValue Request) �
 session_with cluster loaders client = record { cluster = cluster; client = client; loaders = loaders }
 
 pub published_keeps : (fault : Option RouteFault) (before after : ClusterValue Request) (shard : ℕ)
-    (result : Result Route PublishRefusal) → Published fault before after shard result
+    (result : Result Route RouteFault) → Published fault before after shard result
     → (after.control.chair.board ≡ before.control.chair.board) × (after.bounds ≡ before.bounds)
 published_keeps (Some fault) before after shard result p =
     (ap (λ (c : ClusterValue Request). c.control.chair.board) p.1, ap (λ (c : ClusterValue Request). c.bounds) p.1)
 published_keeps None before after shard (Ok route) p = (p.0.0.1, ap (λ (c : ClusterValue Request). c.bounds) p.0.2.1)
-published_keeps None before after shard (Err (Unpublished fault)) p =
+published_keeps None before after shard (Err fault) p =
     (p.1.0.1, ap (λ (c : ClusterValue Request). c.bounds) p.1.2.1)
-published_keeps None before after shard (Err (Unrouted fault)) p = absurd p
 
 -- a route of the client's router
 pub routed_by : (cluster : ClusterValue Request) (loaders : List (ClientValue Request))

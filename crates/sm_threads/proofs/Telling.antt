@@ -3,9 +3,9 @@ use Rattle.std.proofs.Common.{◌≡◌, ℕ, List, All, Result, Ok, Err, IfErr,
 use Rattle.std.specs.Prelude.{OnErr, OnOk}
 use Rattle.sm_cluster.specs.Calls.{ClientValue, client_reading, client_seeing}
 use Rattle.sm_cluster.specs.Clusters.{ClusterValue, HasFreed, HasHeld, HoldRefused, IsClientOf, TellsMore}
-use Rattle.sm_cluster.specs.declared.hold_fault.FreeFault.{FreeFault}
 use Rattle.sm_cluster.specs.declared.hold_fault.HoldFault.{HoldFault}
-use Rattle.sm_cluster.specs.declared.hold_fault.HoldFault.TheVariants.{UnknownShard, UnknownServer, Admit}
+use Rattle.sm_cluster.specs.declared.hold_fault.HoldFault.TheVariants.{UnknownShard, UnknownServer, Admit, NotHeld}
+use Rattle.sm_cluster.specs.declared.hold_fault.HoldFault.TheVariants.{NoMemory}
 use Rattle.sm_rule.specs.Passes.{PassLooks, PassValue}
 use Rattle.sm_rule.specs.Views.{Begins}
 use Rattle.sm_rule.specs.lemmas.Passing.{begins_begins, looks_begins}
@@ -34,6 +34,8 @@ refused_keeps : (before after : ClusterValue Request) (shard server : ℕ) (faul
 refused_keeps before after shard server UnknownShard why = same_keeps before after why.1
 refused_keeps before after shard server UnknownServer why = same_keeps before after why.2
 refused_keeps before after shard server (Admit refusal) why = more_keeps before after why.4
+refused_keeps before after shard server NotHeld never = absurd never
+refused_keeps before after shard server NoMemory never = absurd never
 
 pub held_keeps : (before after : ClusterValue Request) (shard server : ℕ) (made : Result (Unit {0}) HoldFault)
     → OnOk made (HasHeld before shard server after) → IfErr made (λ fault. HoldRefused before shard server fault after)
@@ -44,7 +46,7 @@ held_keeps before after shard server (Ok done) held refused = (
 )
 held_keeps before after shard server (Err fault) held refused = refused_keeps before after shard server fault refused
 
-pub freed_keeps : (before after : ClusterValue Request) (shard : ℕ) (made : Result (Unit {0}) FreeFault)
+pub freed_keeps : (before after : ClusterValue Request) (shard : ℕ) (made : Result (Unit {0}) HoldFault)
     → OnOk made (HasFreed before shard after) → OnErr made (after ≡ before) → Keeps before after
 freed_keeps before after shard (Ok done) freed same = (
   ap (λ (c : ClusterValue Request). c.control.chair.board) freed.5.1,

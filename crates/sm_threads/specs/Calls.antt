@@ -4,16 +4,14 @@ use Rattle.std.specs.Prelude.{OnOk, OnErr, IfErr, List, [], length, if◌then◌
 use Rattle.std.specs.Option.{option_map}
 use Rattle.sm_cluster.specs.Basing.{IsBasedBy}
 use Rattle.sm_cluster.specs.Publications.{Published}
-use Rattle.sm_cluster.specs.declared.checkpoint_refusal.CheckpointRefusal.{CheckpointRefusal}
-use Rattle.sm_cluster.specs.declared.checkpoint_refusal.CheckpointRefusal.TheVariants as base
-use Rattle.sm_cluster.specs.declared.publish_refusal.PublishRefusal.{PublishRefusal}
+use Rattle.sm_cluster.specs.declared.hold_fault.HoldFault.TheVariants as hold
+use Rattle.sm_ownership.specs.declared.route_fault.RouteFault.{RouteFault}
 use Rattle.sm_control.specs.Routes.{route_fault}
 use Rattle.sm_rule.specs.declared.permit.Front.{Front}
 use Rattle.sm_cluster.specs.Calls.{ClientValue, FaultAt, FaultByRoute, Gives, client_reading, client_seeing}
 use Rattle.sm_cluster.specs.Clusters.{ClusterValue, FreeRefused, HasFreed, HasHeld, HoldRefused, TellsMore}
 use Rattle.sm_cluster.specs.Clusters.{cluster_commanded}
 use Rattle.sm_cluster.specs.declared.call_refused.CallFault.{CallFault}
-use Rattle.sm_cluster.specs.declared.hold_fault.FreeFault.{FreeFault}
 use Rattle.sm_cluster.specs.declared.hold_fault.HoldFault.{HoldFault}
 use Rattle.sm_control.specs.Controls.{Commanded}
 use Rattle.sm_control.specs.declared.control_fault.ControlFault.{ControlFault}
@@ -36,15 +34,13 @@ use Rattle.sm_script.specs.declared.call.Call.{Call}
 use Rattle.sm_script.specs.declared.call.Call.TheVariants as call
 use Rattle.sm_script.specs.declared.refused.Refused.{Refused}
 use Rattle.sm_script.specs.declared.refused.Refused.TheVariants as refused
-use Rattle.sm_envelope.specs.declared.refusal.Refusal.TheVariants.{Admit}
 use Rattle.sm_server.specs.Answers.{AnswerValue}
 use Rattle.sm_service.specs.Service.{key_of_request}
 use Rattle.sm_service.specs.declared.reply.Reply.{Reply}
 use Rattle.sm_service.specs.declared.request.Request.{Request}
 use Rattle.sm_threads.specs.Loads.{IsLoadOf, IsVerdictOn}
 use Rattle.sm_cluster.specs.declared.loading.LoadReport.{LoadReport}
-use Rattle.sm_threads.specs.Refusals.{call_refused, checkpoint_refused, command_refused, free_refused, hold_refused}
-use Rattle.sm_threads.specs.Refusals.{publish_refused}
+use Rattle.sm_threads.specs.Refusals.{call_refused, command_refused, hold_refused, publish_refused}
 use Rattle.sm_threads.specs.Sessions.{SessionValue}
 
 -- the session with this cluster, with this client, and with these clients for loads
@@ -113,7 +109,7 @@ AnsweredAt before server request answer after =
 -- a request goes to the shard's owner, and is refused where there is none
 abbrev pub AnsweredByOwner : SessionValue → Option ℕ → Request → LineAnswer → SessionValue → Type 0
 AnsweredByOwner before None request answer after =
-    (answer ≡ IsRefused (refused.Request (Admit Vacant))) × (after ≡ before)
+    (answer ≡ IsRefused (refused.Admit Vacant)) × (after ≡ before)
 AnsweredByOwner before (Some owner) request answer after = AnsweredAt before owner request answer after
 
 -- the session whose client has seen this
@@ -169,32 +165,32 @@ WasHeld before shard server answer after =
     (made : Result (Unit {0}) HoldFault)
     × OnOk made (HasHeld before.cluster shard server after.cluster)
     × IfErr made (λ fault. HoldRefused before.cluster shard server fault after.cluster)
-    × (answer ≡ answer_to hold_refused made) × TellsClient before after
+    × (may_answer hold_refused made ≡ Some answer) × TellsClient before after
 
 -- how the end of a hold may be answered
 abbrev pub WasFreed : SessionValue → ℕ → LineAnswer → SessionValue → Type 0
 WasFreed before shard answer after =
-    (made : Result (Unit {0}) FreeFault)
+    (made : Result (Unit {0}) HoldFault)
     × OnOk made (HasFreed before.cluster shard after.cluster) × IfErr made (FreeRefused before.cluster shard)
     × OnErr made (after.cluster ≡ before.cluster)
-    × (answer ≡ answer_to free_refused made) × TellsClient before after
+    × (may_answer hold_refused made ≡ Some answer) × TellsClient before after
 
 -- a checkpoint was made or refused as the cluster says
 abbrev pub WasBased : SessionValue → ℕ → ℕ → LineAnswer → SessionValue → Type 0
 WasBased before shard server answer after =
     let control = before.cluster.control in
-    (made : Result Front CheckpointRefusal)
-    × (control.chair.board.limits.count ≤ shard → (made ≡ Err base.UnknownShard) × (after.cluster ≡ before.cluster))
+    (made : Result Front HoldFault)
+    × (control.chair.board.limits.count ≤ shard → (made ≡ Err hold.UnknownShard) × (after.cluster ≡ before.cluster))
     × (shard < control.chair.board.limits.count → is_known control.desk.books.servers server ≡ false
-    → (made ≡ Err base.UnknownServer) × (after.cluster ≡ before.cluster))
+    → (made ≡ Err hold.UnknownServer) × (after.cluster ≡ before.cluster))
     × (shard < control.chair.board.limits.count → is_known control.desk.books.servers server ≡ true
     → IsBasedBy before.cluster shard server made after.cluster)
-    × (may_answer checkpoint_refused made ≡ Some answer) × TellsClient before after
+    × (may_answer hold_refused made ≡ Some answer) × TellsClient before after
 
 -- a shard's route was published or refused as the cluster says
 abbrev pub WasPublished : SessionValue → ℕ → LineAnswer → SessionValue → Type 0
 WasPublished before shard answer after =
-    (made : Result Route PublishRefusal)
+    (made : Result Route RouteFault)
     × Published (route_fault before.cluster.control.desk.books shard) before.cluster after.cluster shard made
     × (may_answer publish_refused made ≡ Some answer) × TellsClient before after
 

@@ -2,28 +2,20 @@
 use Rattle.std.specs.Prelude.{Option, Some, None}
 use Rattle.sm_cluster.specs.declared.call_refused.CallFault.{CallFault}
 use Rattle.sm_cluster.specs.declared.call_refused.CallFault.TheVariants as call
-use Rattle.sm_cluster.specs.declared.checkpoint_refusal.CheckpointRefusal.{CheckpointRefusal}
-use Rattle.sm_cluster.specs.declared.checkpoint_refusal.CheckpointRefusal.TheVariants as checkpoint
-use Rattle.sm_cluster.specs.declared.hold_fault.FreeFault.{FreeFault}
-use Rattle.sm_cluster.specs.declared.hold_fault.FreeFault.TheVariants as free
 use Rattle.sm_cluster.specs.declared.hold_fault.HoldFault.{HoldFault}
 use Rattle.sm_cluster.specs.declared.hold_fault.HoldFault.TheVariants as hold
-use Rattle.sm_cluster.specs.declared.publish_refusal.PublishRefusal.{PublishRefusal}
-use Rattle.sm_cluster.specs.declared.publish_refusal.PublishRefusal.TheVariants as publish
 use Rattle.sm_cluster.specs.declared.start_fault.StartFault.{StartFault}
 use Rattle.sm_cluster.specs.declared.start_fault.StartFault.TheVariants as start
 use Rattle.sm_control.specs.declared.control_fault.ControlFault.{ControlFault}
 use Rattle.sm_control.specs.declared.control_fault.ControlFault.TheVariants as control
-use Rattle.sm_control.specs.declared.route_fault.RouteFault.TheVariants as route
-use Rattle.sm_envelope.specs.declared.refusal.Refusal.TheVariants as request
-use Rattle.sm_publish.specs.declared.publish_fault.PublishFault.TheVariants as published
+use Rattle.sm_ownership.specs.declared.route_fault.RouteFault.{RouteFault}
+use Rattle.sm_ownership.specs.declared.route_fault.RouteFault.TheVariants as route
 use Rattle.sm_rule.specs.declared.admit_refusal.AdmitRefusal.{AdmitRefusal}
 use Rattle.sm_rule.specs.declared.admit_refusal.AdmitRefusal.TheVariants as admit
 use Rattle.sm_run.specs.declared.begin_fault.BeginFault.{BeginFault}
 use Rattle.sm_run.specs.declared.begin_fault.BeginFault.TheVariants as begin
 use Rattle.sm_script.specs.declared.refused.Refused.{Refused}
 use Rattle.sm_script.specs.declared.refused.Refused.TheVariants as refused
-use Rattle.sm_server.specs.declared.checkpoint_fault.CheckpointFault.TheVariants as based
 use Rattle.sm_server.specs.declared.refusal.Refusal.{Refusal}
 use Rattle.sm_server.specs.declared.refusal.Refusal.TheVariants as server
 use Rattle.sm_settings.specs.declared.settings_fault.SettingsFault.TheVariants.{TooManyWorkers}
@@ -44,38 +36,27 @@ abbrev pub admit_refused : AdmitRefusal → Refused
 admit_refused (admit.Refused fault state) = refused.Admit fault
 admit_refused (admit.Raced read found) = refused.Raced
 
--- the refusal of a hold, and of its end
-abbrev pub hold_refused : HoldFault → Refused
-hold_refused hold.UnknownShard = refused.UnknownShard
-hold_refused hold.UnknownServer = refused.UnknownServer
-hold_refused (hold.Admit refusal) = admit_refused refusal
-
--- why a hold isn't ended, as an answer says it
-abbrev pub free_refused : FreeFault → Refused
-free_refused free.UnknownShard = refused.UnknownShard
-free_refused free.NotHeld = refused.NotHeld
-
--- the refusal of a checkpoint
-abbrev pub checkpoint_refused : CheckpointRefusal → Option Refused
-checkpoint_refused checkpoint.UnknownShard = Some refused.UnknownShard
-checkpoint_refused checkpoint.UnknownServer = Some refused.UnknownServer
-checkpoint_refused (checkpoint.Checkpoint (based.Admit refusal)) = Some (admit_refused refusal)
-checkpoint_refused (checkpoint.Checkpoint based.NoMemory) = None
+-- the refusal of a hold, of its end, and of a checkpoint
+abbrev pub hold_refused : HoldFault → Option Refused
+hold_refused hold.UnknownShard = Some refused.UnknownShard
+hold_refused hold.UnknownServer = Some refused.UnknownServer
+hold_refused (hold.Admit refusal) = Some (admit_refused refusal)
+hold_refused hold.NotHeld = Some refused.NotHeld
+hold_refused hold.NoMemory = None
 
 -- the refusal of a publication
-abbrev pub publish_refused : PublishRefusal → Option Refused
-publish_refused (publish.Route route.UnknownShard) = Some refused.UnknownShard
-publish_refused (publish.Route route.WrongPhase) = Some refused.WrongPhase
-publish_refused (publish.Publish published.UnknownShard) = Some refused.UnknownShard
-publish_refused (publish.Publish published.OldRoute) = Some refused.OldRoute
-publish_refused (publish.Publish published.NoMemory) = None
+abbrev pub publish_refused : RouteFault → Option Refused
+publish_refused route.UnknownShard = Some refused.UnknownShard
+publish_refused route.WrongPhase = Some refused.WrongPhase
+publish_refused route.OldRoute = Some refused.OldRoute
+publish_refused route.NoMemory = None
 
 -- the refusal of a request by a server
 abbrev pub request_refused : Refusal → Option Refused
 request_refused server.WrongShard = Some refused.WrongShard
-request_refused server.TooManyHops = Some (refused.Request request.TooManyHops)
+request_refused server.TooManyHops = Some refused.TooManyHops
 request_refused (server.Admit refusal) = Some (admit_refused refusal)
-request_refused server.KeptFull = Some (refused.Request request.KeptFull)
+request_refused server.KeptFull = Some refused.KeptFull
 request_refused server.NoMemory = None
 
 -- the refusal of a request

@@ -2,20 +2,17 @@
 ghost use Rattle.std.specs.Prelude.{◌≡◌, IfOk, OnErr, None, Some};
 ghost use Rattle.std.specs.Option.{option_map};
 ghost use Rattle.sm_threads.specs.Calls.{answer_to, may_answer};
-ghost use Rattle.sm_threads.specs.Refusals.{admit_refused, begin_fault, call_refused, checkpoint_refused};
-ghost use Rattle.sm_threads.specs.Refusals.{command_refused, free_refused, hold_refused, publish_refused};
-ghost use Rattle.sm_threads.specs.Refusals.{request_refused};
+ghost use Rattle.sm_threads.specs.Refusals.{admit_refused, begin_fault, call_refused, command_refused};
+ghost use Rattle.sm_threads.specs.Refusals.{hold_refused, publish_refused, request_refused};
 
-use sm_cluster::{CallFault, CheckpointRefusal, FreeFault, HoldFault, PublishRefusal, StartFault};
-use sm_control::{ControlFault, RouteFault};
-use sm_envelope::Refusal as RequestRefusal;
+use sm_cluster::{CallFault, HoldFault, StartFault};
+use sm_control::ControlFault;
 use sm_ownership::route::Route;
-use sm_publish::PublishFault;
+use sm_ownership::route_fault::RouteFault;
 use sm_rule::admit_refusal::AdmitRefusal;
-use sm_rule::permit::Front;
 use sm_run::BeginFault;
 use sm_script::{LineAnswer, Refused};
-use sm_server::{CheckpointFault, Refusal};
+use sm_server::Refusal;
 use sm_settings::SettingsFault;
 use std::alloc::AllocError;
 
@@ -51,65 +48,32 @@ fn admit_refused(refusal: AdmitRefusal) -> Refused
     }
 }
 
-/// The answer to a hold.
-pub(crate) fn hold_answer(made: Result<(), HoldFault>) -> LineAnswer
-    ensures { result ≡ answer_to hold_refused made }
-{
-    match made {
-        Ok(()) => LineAnswer::Made,
-        Err(HoldFault::UnknownShard) => LineAnswer::Refused(Refused::UnknownShard),
-        Err(HoldFault::UnknownServer) => LineAnswer::Refused(Refused::UnknownServer),
-        Err(HoldFault::Admit(refusal)) => LineAnswer::Refused(admit_refused(refusal)),
-    }
-}
-
-/// The answer to the end of a hold.
-pub(crate) fn free_answer(made: Result<(), FreeFault>) -> LineAnswer
-    ensures { result ≡ answer_to free_refused made }
-{
-    match made {
-        Ok(()) => LineAnswer::Made,
-        Err(FreeFault::UnknownShard) => LineAnswer::Refused(Refused::UnknownShard),
-        Err(FreeFault::NotHeld) => LineAnswer::Refused(Refused::NotHeld),
-    }
-}
-
-/// The answer to a checkpoint; an error is want of memory.
-pub(crate) fn checkpoint_answer(
-    made: Result<Front, CheckpointRefusal>,
-) -> Result<LineAnswer, AllocError>
-    ensures ok { IfOk result (λ answer. may_answer checkpoint_refused made ≡ Some answer) }
-    ensures err { OnErr result (may_answer checkpoint_refused made ≡ None) }
+/// The answer to a hold, to its end or to a checkpoint; an error is want of memory.
+pub(crate) fn hold_answer<T: Drop>(made: Result<T, HoldFault>) -> Result<LineAnswer, AllocError>
+    ensures ok { IfOk result (λ answer. may_answer hold_refused made ≡ Some answer) }
+    ensures err { OnErr result (may_answer hold_refused made ≡ None) }
 {
     match made {
         Ok(_) => Ok(LineAnswer::Made),
-        Err(CheckpointRefusal::UnknownShard) => Ok(LineAnswer::Refused(Refused::UnknownShard)),
-        Err(CheckpointRefusal::UnknownServer) => Ok(LineAnswer::Refused(Refused::UnknownServer)),
-        Err(CheckpointRefusal::Checkpoint(CheckpointFault::Admit(refusal))) => {
-            Ok(LineAnswer::Refused(admit_refused(refusal)))
-        }
-        Err(CheckpointRefusal::Checkpoint(CheckpointFault::NoMemory)) => Err(AllocError),
+        Err(HoldFault::UnknownShard) => Ok(LineAnswer::Refused(Refused::UnknownShard)),
+        Err(HoldFault::UnknownServer) => Ok(LineAnswer::Refused(Refused::UnknownServer)),
+        Err(HoldFault::Admit(refusal)) => Ok(LineAnswer::Refused(admit_refused(refusal))),
+        Err(HoldFault::NotHeld) => Ok(LineAnswer::Refused(Refused::NotHeld)),
+        Err(HoldFault::NoMemory) => Err(AllocError),
     }
 }
 
 /// The answer to a publication; an error is want of memory.
-pub(crate) fn publish_answer(made: Result<Route, PublishRefusal>) -> Result<LineAnswer, AllocError>
+pub(crate) fn publish_answer(made: Result<Route, RouteFault>) -> Result<LineAnswer, AllocError>
     ensures ok { IfOk result (λ answer. may_answer publish_refused made ≡ Some answer) }
     ensures err { OnErr result (may_answer publish_refused made ≡ None) }
 {
     match made {
         Ok(_) => Ok(LineAnswer::Made),
-        Err(PublishRefusal::Route(RouteFault::UnknownShard))
-        | Err(PublishRefusal::Publish(PublishFault::UnknownShard)) => {
-            Ok(LineAnswer::Refused(Refused::UnknownShard))
-        }
-        Err(PublishRefusal::Route(RouteFault::WrongPhase)) => {
-            Ok(LineAnswer::Refused(Refused::WrongPhase))
-        }
-        Err(PublishRefusal::Publish(PublishFault::OldRoute)) => {
-            Ok(LineAnswer::Refused(Refused::OldRoute))
-        }
-        Err(PublishRefusal::Publish(PublishFault::NoMemory)) => Err(AllocError),
+        Err(RouteFault::UnknownShard) => Ok(LineAnswer::Refused(Refused::UnknownShard)),
+        Err(RouteFault::WrongPhase) => Ok(LineAnswer::Refused(Refused::WrongPhase)),
+        Err(RouteFault::OldRoute) => Ok(LineAnswer::Refused(Refused::OldRoute)),
+        Err(RouteFault::NoMemory) => Err(AllocError),
     }
 }
 
@@ -134,11 +98,9 @@ fn request_refused(refusal: Refusal) -> Result<LineAnswer, AllocError>
 {
     match refusal {
         Refusal::WrongShard => Ok(LineAnswer::Refused(Refused::WrongShard)),
-        Refusal::TooManyHops => Ok(LineAnswer::Refused(Refused::Request(
-            RequestRefusal::TooManyHops,
-        ))),
+        Refusal::TooManyHops => Ok(LineAnswer::Refused(Refused::TooManyHops)),
         Refusal::Admit(refusal) => Ok(LineAnswer::Refused(admit_refused(refusal))),
-        Refusal::KeptFull => Ok(LineAnswer::Refused(Refused::Request(RequestRefusal::KeptFull))),
+        Refusal::KeptFull => Ok(LineAnswer::Refused(Refused::KeptFull)),
         Refusal::NoMemory => Err(AllocError),
     }
 }

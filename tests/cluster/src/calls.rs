@@ -4,18 +4,17 @@ ghost use Rattle.std.specs.Prelude.{◌≡◌, ◌<◌};
 use crate::holding::Holding;
 use crate::running::{Running, ask, bodies_of, get_of, idle, inc_of, kept_of, setup_of, shard};
 use sm_cluster::{
-    CallFault, CallRefused, CheckpointRefusal, Client, Cluster, Open, PublishRefusal, StartFault,
+    CallFault, CallRefused, Client, Cluster, HoldFault, Open, StartFault,
 };
-use sm_control::{ControlFault, DrainFault, RouteFault};
+use sm_control::{ControlFault, DrainFault};
 use sm_desk::{Command, CommandFault};
-use sm_ownership::{AdmitFault, Change, Route};
+use sm_ownership::{AdmitFault, Change, Route, RouteFault};
 use sm_place::Move;
-use sm_publish::PublishFault;
 use sm_ranges::{ServerId, Stand};
 use sm_rule::AdmitRefusal;
-use sm_server::{Answer, CheckpointFault, Refusal};
+use sm_server::{Answer, Refusal};
 use sm_service::{Reply, Request};
-use sm_tasks::AlreadyFailed;
+use sm_tasks::RestartFault;
 use std::alloc::Global;
 use std::process::Abort;
 use std::sync::Wait;
@@ -77,12 +76,12 @@ pub(crate) fn start<R: Threads + Wait + Abort + Clone + Send + Drop + 'static>(
 
 // Nothing is published of a shard that has no owner, and no route twice.
 fn publish_both<R: Wait + Abort>(rt: &R, running: &mut Running) {
-    let unknown = Err(PublishRefusal::Route(RouteFault::UnknownShard));
+    let unknown = Err(RouteFault::UnknownShard);
     assert!(rt; running.cluster.publish(rt, shard(2)) == unknown);
-    let vacant = Err(PublishRefusal::Route(RouteFault::WrongPhase));
+    let vacant = Err(RouteFault::WrongPhase);
     assert!(rt; running.cluster.publish(rt, shard(0)) == vacant);
     running.assign_both(rt);
-    let old = Err(PublishRefusal::Publish(PublishFault::OldRoute));
+    let old = Err(RouteFault::OldRoute);
     assert!(rt; running.cluster.publish(rt, shard(0)) == old);
 }
 
@@ -124,7 +123,7 @@ fn shut_both<R: Wait + Abort>(rt: &R, alloc: Global, running: &mut Running) {
             Command::Fail(one),
         ],
     );
-    let again = Err(ControlFault::Command(CommandFault::Fail(AlreadyFailed)));
+    let again = Err(ControlFault::Command(CommandFault::Restart(RestartFault::AlreadyFailed)));
     assert!(rt; running.cluster.command(Command::Fail(one)) == again);
     let shut = Some(CallFault::Unreachable);
     assert!(rt; refusal(rt, alloc, &mut running.first, b"a") == shut);
@@ -154,13 +153,11 @@ fn refuse_checkpoints<R: Abort>(rt: &R, running: &mut Running) {
     let (one, two) = (ServerId::of(1), ServerId::of(2));
     let cluster = &mut running.cluster;
     let unknown = cluster.checkpoint(shard(2), one).err();
-    assert!(rt; unknown == Some(CheckpointRefusal::UnknownShard));
+    assert!(rt; unknown == Some(HoldFault::UnknownShard));
     let unknown = cluster.checkpoint(shard(0), ServerId::of(4)).err();
-    assert!(rt; unknown == Some(CheckpointRefusal::UnknownServer));
+    assert!(rt; unknown == Some(HoldFault::UnknownServer));
     let is_elsewhere = match cluster.checkpoint(shard(0), two).err() {
-        Some(
-            CheckpointRefusal::Checkpoint(CheckpointFault::Admit(AdmitRefusal::Refused(fault, _))),
-        ) => fault == AdmitFault::NotExecutor,
+        Some(HoldFault::Admit(AdmitRefusal::Refused(fault, _))) => fault == AdmitFault::NotExecutor,
         _ => false,
     };
     assert!(rt; is_elsewhere);

@@ -1,7 +1,7 @@
 //! Admissions without a request.
 use crate::calls::{is_not_executor, refusal_at, start};
 use crate::running::{Running, ask, idle, inc_of, kept_of, shard};
-use sm_cluster::{CallFault, FreeFault, HoldFault};
+use sm_cluster::{CallFault, HoldFault};
 use sm_ownership::{AdmitFault, Record};
 use sm_ranges::{ServerId, Stand};
 use sm_rule::AdmitRefusal;
@@ -20,8 +20,8 @@ fn refuse_holds<R: Abort>(rt: &R, running: &mut Running) {
         _ => false,
     };
     assert!(rt; is_elsewhere);
-    assert!(rt; running.free(shard(2)) == Err(FreeFault::UnknownShard));
-    assert!(rt; running.free(shard(0)) == Err(FreeFault::NotHeld));
+    assert!(rt; running.free(shard(2)) == Err(HoldFault::UnknownShard));
+    assert!(rt; running.free(shard(0)) == Err(HoldFault::NotHeld));
 }
 
 fn is_admitted(fault: Option<CallFault>) -> bool {

@@ -6,16 +6,14 @@ ghost use Rattle.sm_ranges.specs.declared.stand.Stand.TheVariants.{Vacant};
 use crate::holding::Holding;
 use crate::running::{Running, desk_of, inc_of, pop_client, shard};
 use sm_cluster::{
-    CallFault, CallRefused, CheckpointRefusal, Client, Cluster, Counts, Fate, Open, PublishRefusal,
-    Setup, StartFault, Told,
+    CallFault, CallRefused, Client, Cluster, Counts, Fate, HoldFault, Open, Setup, StartFault, Told,
 };
 use sm_control::DrainFault;
 use sm_desk::Command;
-use sm_ownership::{Change, Record};
+use sm_ownership::{Change, Record, RouteFault};
 use sm_place::{Move, Plan};
-use sm_publish::PublishFault;
 use sm_ranges::{Layout, ServerId};
-use sm_server::{Answer, CheckpointFault, Refusal};
+use sm_server::{Answer, Refusal};
 use sm_service::{Reply, Request, Service};
 use std::alloc::{AllocError, Global};
 use std::process::Abort;
@@ -136,7 +134,7 @@ fn moved(k: u16, to: u16) -> Move
 fn publish_in_two<R: Wait + Abort>(rt: &R, running: &mut Running) {
     let k = shard(0);
     if let Err(refusal) = running.cluster.publish(rt, k) {
-        assert!(rt; refusal == PublishRefusal::Publish(PublishFault::NoMemory));
+        assert!(rt; refusal == RouteFault::NoMemory);
         assert!(rt; running.first.route(b"a").is_none());
         assert!(rt; running.cluster.publish(rt, k).is_ok());
     }
@@ -246,7 +244,7 @@ fn hold_and_base<R: Abort>(rt: &R, running: &mut Running) {
     let (one, k) = (ServerId::of(1), shard(0));
     assert!(rt; running.hold(k, one).is_ok());
     assert!(rt; running.free(k).is_ok());
-    let refused = CheckpointRefusal::Checkpoint(CheckpointFault::NoMemory);
+    let refused = HoldFault::NoMemory;
     assert!(rt; running.cluster.checkpoint(k, one).err() == Some(refused));
     assert!(rt; running.cluster.checkpoint(k, one).is_ok());
 }

@@ -5,7 +5,7 @@ ghost use Rattle.sm_ranges.specs.declared.stand.Stand.TheVariants.{Vacant};
 
 use crate::holding::Holding;
 use crate::latch::Latch;
-use sm_cluster::{Client, Cluster, FreeFault, Gate, HoldFault, Setup, Told};
+use sm_cluster::{Client, Cluster, Gate, HoldFault, Setup, Told};
 use sm_desk::{Command, Desk};
 use sm_ownership::{Change, Record};
 use sm_place::{Books, BooksFault};
@@ -188,7 +188,7 @@ impl Running {
     }
 
     /// Frees the shard.
-    pub(crate) fn free(&mut self, k: ShardId) -> Result<(), FreeFault> {
+    pub(crate) fn free(&mut self, k: ShardId) -> Result<(), HoldFault> {
         match self.cluster.free(k) {
             Ok(()) => Ok(()),
             Err(fault) => Err(fault),

@@ -3,16 +3,17 @@ ghost use Rattle.std.specs.Prelude.{◌<◌};
 
 use crate::common::{idle, new_running, shard};
 use crate::running::{Answer, Running};
-use sm_control::{ControlFault, DrainFault, RouteFault};
+use sm_control::{ControlFault, DrainFault};
 use sm_desk::{Command, CommandFault};
 use sm_ownership::change::Change;
 use sm_ownership::change_fault::ChangeFault;
 use sm_ownership::record::Record;
 use sm_ownership::route::Route;
+use sm_ownership::route_fault::RouteFault;
 use sm_place::{Move, PlaceFault};
 use sm_ranges::{ServerId, Stand};
 use sm_service::Service;
-use sm_tasks::{ApproveFault, StoppedFault};
+use sm_tasks::RestartFault;
 use std::alloc::Global;
 use std::process::Abort;
 
@@ -51,12 +52,12 @@ fn approve_one<S: Service>(rt: &impl Abort, running: &mut Running<S>) {
             (Command::Ask(two), Ok(())),
             (
                 Command::Approve(one),
-                refused(CommandFault::Approve(ApproveFault::ShardCap(shard(0)))),
+                refused(CommandFault::Restart(RestartFault::ShardCap(shard(0)))),
             ),
             (Command::Approve(two), Ok(())),
             (
                 Command::Approve(one),
-                refused(CommandFault::Approve(ApproveFault::GlobalCap)),
+                refused(CommandFault::Restart(RestartFault::GlobalCap)),
             ),
         ],
     );
@@ -65,14 +66,14 @@ fn approve_one<S: Service>(rt: &impl Abort, running: &mut Running<S>) {
 // The server is stopped once its shard is paused, which resumes when the server is back.
 fn restart_one<S: Service>(rt: &impl Abort, running: &mut Running<S>) {
     let two = ServerId::of(2);
-    let serving = StoppedFault::StillServing(shard(1));
+    let serving = RestartFault::StillServing(shard(1));
     give_all(
         rt,
         running,
         &[
             (
                 Command::Stopped(two),
-                refused(CommandFault::Stopped(serving)),
+                refused(CommandFault::Restart(serving)),
             ),
             change(1, Change::Pause),
             (Command::Stopped(two), Ok(())),
@@ -103,11 +104,11 @@ fn move_and_fail<S: Service>(rt: &impl Abort, running: &mut Running<S>) {
             (Command::Ask(one), Ok(())),
             (
                 Command::Approve(one),
-                refused(CommandFault::Approve(ApproveFault::GlobalCap)),
+                refused(CommandFault::Restart(RestartFault::GlobalCap)),
             ),
             (
                 Command::Approve(three),
-                refused(CommandFault::Approve(ApproveFault::NotAsked)),
+                refused(CommandFault::Restart(RestartFault::NotAsked)),
             ),
         ],
     );

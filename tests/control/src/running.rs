@@ -3,11 +3,12 @@ ghost use Rattle.std.specs.Prelude.{◌≡◌, ◌≤◌, [], All, length};
 ghost use Rattle.sm_ranges.specs.declared.stand.Stand.TheVariants.{Vacant};
 
 use crate::common::shard;
-use sm_control::{Control, ControlFault, DrainFault, RouteFault};
+use sm_control::{Control, ControlFault, DrainFault};
 use sm_desk::{Command, Desk};
 use sm_ownership::mode::Mode;
 use sm_ownership::record::Record;
 use sm_ownership::route::Route;
+use sm_ownership::route_fault::RouteFault;
 use sm_place::Plan;
 use sm_ranges::{ServerId, ShardId};
 use sm_rule::Board;

@@ -2,7 +2,8 @@ ghost use Rattle.std.specs.Prelude.{◌<◌};
 ghost use Rattle.sm_ranges.specs.ServerId.{IsServer};
 
 use sm_ownership::route::Route;
-use sm_publish::{PublishFault, Publisher, Router};
+use sm_ownership::route_fault::RouteFault;
+use sm_publish::{Publisher, Router};
 use sm_ranges::layout::Layout;
 use sm_ranges::server_id::ServerId;
 use sm_ranges::shard_id::ShardId;
@@ -41,9 +42,9 @@ fn two_shards(rt: &impl Abort, alloc: Global) -> Layout {
 // An older route and one of an unknown shard are refused.
 fn refuses_routes<R: Wait + Abort>(rt: &R, publisher: &mut Publisher) {
     let equal = publisher.publish(rt, route_of(0, 2, 1));
-    assert!(*rt; equal == Err(PublishFault::OldRoute));
+    assert!(*rt; equal == Err(RouteFault::OldRoute));
     let unknown = publisher.publish(rt, route_of(2, 1, 1));
-    assert!(*rt; unknown == Err(PublishFault::UnknownShard));
+    assert!(*rt; unknown == Err(RouteFault::UnknownShard));
 }
 
 // Whether the router reads this route of shard 0, and none of shard 1.
@@ -282,7 +283,7 @@ fn publish_or_nothing<R: Wait + Abort>(
     for generation in 1..20u64 {
         match publisher.publish(rt, route_of(1, 1, generation)) {
             Ok(()) => newest = generation,
-            Err(fault) => assert!(*rt; fault == PublishFault::NoMemory),
+            Err(fault) => assert!(*rt; fault == RouteFault::NoMemory),
         }
         assert!(*rt; generation_read(router, layout) == newest);
     }

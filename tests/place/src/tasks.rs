@@ -9,7 +9,7 @@ use sm_ranges::limits::MAX_SERVER;
 use sm_ranges::{ServerId, Stand};
 use sm_rows::limits::{MAX_DOMAIN, MAX_GROUPS};
 use sm_rows::{GroupRow, equal_domains};
-use sm_tasks::{AlreadyFailed, AlreadyUp, ApproveFault, NotUp, StoppedFault, Tasks};
+use sm_tasks::{RestartFault, Tasks};
 use std::alloc::Global;
 use std::fmt::Display;
 use std::process::Abort;
@@ -18,11 +18,11 @@ use std::test::Fail;
 // The step of a restart that a test makes, with its answer.
 #[derive(Clone, Copy)]
 enum Step {
-    Ask(Result<(), NotUp>),
-    Approve(Result<(), ApproveFault>),
-    Stopped(Result<(), StoppedFault>),
-    Back(Result<(), AlreadyUp>),
-    Fail(Result<(), AlreadyFailed>),
+    Ask(Result<(), RestartFault>),
+    Approve(Result<(), RestartFault>),
+    Stopped(Result<(), RestartFault>),
+    Back(Result<(), RestartFault>),
+    Fail(Result<(), RestartFault>),
 }
 
 // Whether the step has its answer.
@@ -75,7 +75,7 @@ fn served_books(rt: &impl Abort, alloc: Global) -> Books {
 fn restarts_after_a_pause(rt: HostRuntime) {
     let mut books = served_books(&rt, rt.alloc());
     let second = ServerId::of(2);
-    let serving = StoppedFault::StillServing(numbered(1));
+    let serving = RestartFault::StillServing(numbered(1));
     let steps = [
         (2, Step::Ask(Ok(()))),
         (2, Step::Approve(Ok(()))),
@@ -90,13 +90,13 @@ fn restarts_after_a_pause(rt: HostRuntime) {
 
 // Server 1 may not restart while it serves shard 0, nor while server 2 restarts.
 fn restart_the_second(rt: &impl Abort, books: &mut Books) {
-    let capped = ApproveFault::ShardCap(numbered(0));
+    let capped = RestartFault::ShardCap(numbered(0));
     let steps = [
         (1, Step::Ask(Ok(()))),
         (2, Step::Ask(Ok(()))),
         (1, Step::Approve(Err(capped))),
         (2, Step::Approve(Ok(()))),
-        (1, Step::Approve(Err(ApproveFault::GlobalCap))),
+        (1, Step::Approve(Err(RestartFault::GlobalCap))),
         (2, Step::Back(Ok(()))),
     ];
     make_all(rt, books, &steps);
@@ -109,8 +109,8 @@ fn fail_the_third(rt: &impl Abort, books: &mut Books) {
         (3, Step::Fail(Ok(()))),
         (1, Step::Back(Ok(()))),
         (1, Step::Ask(Ok(()))),
-        (1, Step::Approve(Err(ApproveFault::GlobalCap))),
-        (3, Step::Approve(Err(ApproveFault::NotAsked))),
+        (1, Step::Approve(Err(RestartFault::GlobalCap))),
+        (3, Step::Approve(Err(RestartFault::NotAsked))),
     ];
     make_all(rt, books, &steps);
 }
@@ -127,7 +127,7 @@ fn counts_servers_that_leave(rt: HostRuntime) {
 fn group_cap(rt: HostRuntime) {
     let mut books = new_books(&rt, rt.alloc(), GroupRow { limit: 2, down: 0 }, 2);
     assign_all(&rt, &mut books, &[(1, 2, Ok(()))]);
-    let full = ApproveFault::GroupCap(0);
+    let full = RestartFault::GroupCap(0);
     let steps = [(2, Step::Ask(Ok(()))), (2, Step::Approve(Err(full)))];
     make_all(&rt, &mut books, &steps);
 }
@@ -154,14 +154,14 @@ fn domain_caps(rt: HostRuntime) {
         (2, Step::Ask(Ok(()))),
         (3, Step::Ask(Ok(()))),
         (2, Step::Approve(Ok(()))),
-        (3, Step::Approve(Err(ApproveFault::DomainCap(1)))),
+        (3, Step::Approve(Err(RestartFault::DomainCap(1)))),
         (1, Step::Approve(Ok(()))),
         (2, Step::Back(Ok(()))),
         (3, Step::Approve(Ok(()))),
         (2, Step::Ask(Ok(()))),
-        (2, Step::Approve(Err(ApproveFault::DomainCap(1)))),
+        (2, Step::Approve(Err(RestartFault::DomainCap(1)))),
         (3, Step::Fail(Ok(()))),
-        (2, Step::Approve(Err(ApproveFault::DomainCap(1)))),
+        (2, Step::Approve(Err(RestartFault::DomainCap(1)))),
     ];
     make_each(&rt, &mut books, 3, &steps);
 }
@@ -170,11 +170,11 @@ fn domain_caps(rt: HostRuntime) {
 fn steps_out_of_turn(rt: HostRuntime) {
     let mut books = new_books(&rt, rt.alloc(), GroupRow { limit: 2, down: 1 }, 2);
     let steps = [
-        (1, Step::Back(Err(AlreadyUp))),
-        (1, Step::Stopped(Err(StoppedFault::NotApproved))),
+        (1, Step::Back(Err(RestartFault::AlreadyUp))),
+        (1, Step::Stopped(Err(RestartFault::NotApproved))),
         (1, Step::Fail(Ok(()))),
-        (1, Step::Fail(Err(AlreadyFailed))),
-        (1, Step::Ask(Err(NotUp))),
+        (1, Step::Fail(Err(RestartFault::AlreadyFailed))),
+        (1, Step::Ask(Err(RestartFault::NotUp))),
     ];
     make_all(&rt, &mut books, &steps);
 }
@@ -214,26 +214,26 @@ fn is_text<T: Display>(rt: &impl Abort, alloc: Global, fault: &T, text: &str) ->
 #[test]
 fn faults_of_states_have_texts(rt: HostRuntime) {
     let alloc = rt.alloc();
-    assert!(rt; is_text(&rt, alloc, &NotUp, "the server is not up"));
-    assert!(rt; is_text(&rt, alloc, &AlreadyUp, "the server is up already"));
-    assert!(rt; is_text(&rt, alloc, &AlreadyFailed, "the server failed already"));
+    assert!(rt; is_text(&rt, alloc, &RestartFault::NotUp, "the server is not up"));
+    assert!(rt; is_text(&rt, alloc, &RestartFault::AlreadyUp, "the server is up already"));
+    assert!(rt; is_text(&rt, alloc, &RestartFault::AlreadyFailed, "the server failed already"));
 }
 
 #[test]
 fn faults_of_approvals_have_texts(rt: HostRuntime) {
     let faults = [
-        (ApproveFault::NotAsked, "the restart is not asked for"),
-        (ApproveFault::GlobalCap, "too many servers are leaving"),
+        (RestartFault::NotAsked, "the restart is not asked for"),
+        (RestartFault::GlobalCap, "too many servers are leaving"),
         (
-            ApproveFault::ShardCap(numbered(4095)),
+            RestartFault::ShardCap(numbered(4095)),
             "shard 4095 may not be down",
         ),
         (
-            ApproveFault::GroupCap(4095),
+            RestartFault::GroupCap(4095),
             "too many shards of group 4095 would be down",
         ),
         (
-            ApproveFault::DomainCap(4095),
+            RestartFault::DomainCap(4095),
             "too many servers of domain 4095 would be down",
         ),
     ];
@@ -244,9 +244,9 @@ fn faults_of_approvals_have_texts(rt: HostRuntime) {
 
 #[test]
 fn faults_of_stops_have_texts(rt: HostRuntime) {
-    let serving = StoppedFault::StillServing(numbered(1));
+    let serving = RestartFault::StillServing(numbered(1));
     let not_approved = "the restart is not approved";
-    assert!(rt; is_text(&rt, rt.alloc(), &StoppedFault::NotApproved, not_approved));
+    assert!(rt; is_text(&rt, rt.alloc(), &RestartFault::NotApproved, not_approved));
     assert!(rt; is_text(&rt, rt.alloc(), &serving, "shard 1 is not paused"));
 }
 
@@ -264,7 +264,7 @@ fn last_books(rt: &impl Abort, alloc: Global) -> Books {
 #[test]
 fn approves_at_the_limits(rt: HostRuntime) {
     let mut books = last_books(&rt, rt.alloc());
-    let full = ApproveFault::GroupCap(4095);
+    let full = RestartFault::GroupCap(4095);
     let steps = [
         (MAX_SERVER, Step::Ask(Ok(()))),
         (MAX_SERVER, Step::Approve(Err(full))),

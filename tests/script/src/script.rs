@@ -1,7 +1,6 @@
 //! The lines of scripts, and the texts of their answers.
 
 use sm_desk::{Command, CommandFault};
-use sm_envelope::Refusal;
 use sm_ownership::admit_fault::AdmitFault;
 use sm_ownership::change::Change;
 use sm_ownership::change_fault::ChangeFault;
@@ -18,7 +17,7 @@ use sm_script::{
 use sm_service::bytes::Bytes;
 use sm_service::reply::Reply;
 use sm_service::request::Request;
-use sm_tasks::ApproveFault;
+use sm_tasks::RestartFault;
 use std::alloc::Global;
 use std::process::Abort;
 use std::test::Fail;
@@ -424,17 +423,11 @@ fn have_texts(rt: &impl Abort, alloc: Global, refusals: &[(Refused, &str)]) {
 fn texts_of_refusals(rt: &impl Abort, alloc: Global) {
     let change = CommandFault::Change(ChangeFault::WrongPhase);
     let place = CommandFault::Place(PlaceFault::NoCapacity);
-    let approve = CommandFault::Approve(ApproveFault::DomainCap(7));
+    let approve = CommandFault::Restart(RestartFault::DomainCap(7));
     let refusals = [
         (Refused::UnknownShard, "refused UnknownShard"),
-        (
-            Refused::Request(Refusal::TooManyHops),
-            "refused TooManyHops",
-        ),
-        (
-            Refused::Request(Refusal::Admit(AdmitFault::NotYet)),
-            "refused NotYet",
-        ),
+        (Refused::TooManyHops, "refused TooManyHops"),
+        (Refused::Admit(AdmitFault::NotYet), "refused NotYet"),
         (Refused::Admit(AdmitFault::Spent), "refused Spent"),
         (Refused::Command(change), "refused WrongPhase"),
         (Refused::NotHeld, "refused NotHeld"),

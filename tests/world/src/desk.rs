@@ -7,7 +7,7 @@ use sm_ownership::change_fault::ChangeFault;
 use sm_place::{Books, PlaceFault};
 use sm_ranges::server_id::ServerId;
 use sm_ranges::shard_id::ShardId;
-use sm_tasks::{ApproveFault, StoppedFault, Tasks};
+use sm_tasks::{RestartFault, Tasks};
 use std::alloc::Global;
 use std::process::Abort;
 
@@ -103,7 +103,7 @@ fn restart(k: ShardId) -> [(Command, Answer); 9] {
         (Command::Approve(one), Ok(())),
         (
             Command::Stopped(one),
-            Err(CommandFault::Stopped(StoppedFault::StillServing(k))),
+            Err(CommandFault::Restart(RestartFault::StillServing(k))),
         ),
         (Command::Change(k, Change::Pause), Ok(())),
         (Command::Stopped(one), Ok(())),
@@ -114,7 +114,7 @@ fn restart(k: ShardId) -> [(Command, Answer); 9] {
         (Command::Ask(two), Ok(())),
         (
             Command::Approve(two),
-            Err(CommandFault::Approve(ApproveFault::GlobalCap)),
+            Err(CommandFault::Restart(RestartFault::GlobalCap)),
         ),
     ]
 }

@@ -18,7 +18,7 @@ use sm_ranges::server_id::ServerId;
 use sm_ranges::shard_id::ShardId;
 use sm_ranges::stand::Stand;
 use sm_table::{Step, WorldAnswer, WorldFault};
-use sm_tasks::AlreadyFailed;
+use sm_tasks::RestartFault;
 use std::process::Abort;
 use told::Told;
 
@@ -185,7 +185,7 @@ fn makes_no_checkpoint(rt: HostRuntime) {
 #[test]
 fn reaches_no_failed_server(rt: HostRuntime) {
     let (one, two, k) = (ServerId::of(1), ServerId::of(2), shard(1));
-    let failed = WorldFault::Command(CommandFault::Fail(AlreadyFailed));
+    let failed = WorldFault::Command(CommandFault::Restart(RestartFault::AlreadyFailed));
     let cases = [
         (Act::Change(k, Change::Assign(one)), Told::Made),
         (Act::Change(k, Change::PrepareAddShard(two)), Told::Made),

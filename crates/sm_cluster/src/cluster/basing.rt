@@ -6,7 +6,7 @@ ghost use Rattle.sm_cluster.specs.Clusters.{TellsMore};
 ghost use Rattle.sm_cluster.specs.Passes.{IsNewPass};
 
 use super::Cluster;
-use crate::checkpoint_refusal::CheckpointRefusal;
+use crate::hold_fault::HoldFault;
 use sm_body::service::Service;
 use sm_ranges::server_id::ServerId;
 use sm_ranges::shard_id::ShardId;
@@ -18,22 +18,22 @@ impl<S: Service> Cluster<S> {
     /// Makes the shard's present state its base, under a direct admission of the server, so that the shard keeps no
     /// request; or answers the first reason that applies. The admission is by a new pass, which has seen all that the
     /// cluster told; the cluster then tells what that pass has seen.
-    pub fn checkpoint(&mut self, k: ShardId, a: ServerId) -> Result<Front, CheckpointRefusal>
+    pub fn checkpoint(&mut self, k: ShardId, a: ServerId) -> Result<Front, HoldFault>
         ensures unknown_shard { self.old.control.chair.board.limits.count ≤ k
-            → (result ≡ Err CheckpointRefusal.UnknownShard) × (self.new ≡ self.old) }
+            → (result ≡ Err HoldFault.UnknownShard) × (self.new ≡ self.old) }
         ensures unknown_server { k < self.old.control.chair.board.limits.count
             → is_known self.old.control.desk.books.servers a ≡ false
-            → (result ≡ Err CheckpointRefusal.UnknownServer) × (self.new ≡ self.old) }
+            → (result ≡ Err HoldFault.UnknownServer) × (self.new ≡ self.old) }
         ensures known { k < self.old.control.chair.board.limits.count
             → is_known self.old.control.desk.books.servers a ≡ true
             → IsBasedBy self.old k a result self.new }
         ensures unchanged { TellsMore self.old self.new }
     {
         if k.index() >= self.ground.board.count() as usize {
-            return Err(CheckpointRefusal::UnknownShard);
+            return Err(HoldFault::UnknownShard);
         }
         if !self.control.desk().knows(a) {
-            return Err(CheckpointRefusal::UnknownServer);
+            return Err(HoldFault::UnknownServer);
         }
         let mut pass = self.pass_of(a);
         let made = checkpoint(&self.ground.board, &mut pass, k);

@@ -10,11 +10,11 @@ ghost use Rattle.sm_cluster.specs.Publications.{Published};
 
 use super::Cluster;
 use super::telling::report;
-use crate::publish_refusal::PublishRefusal;
 use sm_body::service::Service;
 use sm_control::{ControlFault, DrainFault};
 use sm_desk::Command;
 use sm_ownership::route::Route;
+use sm_ownership::route_fault::RouteFault;
 use sm_place::Plan;
 use sm_ranges::server_id::ServerId;
 use sm_ranges::shard_id::ShardId;
@@ -46,7 +46,7 @@ impl<S: Service> Cluster<S> {
 
     /// Publishes the shard's owner and its generation, and gives that route; or answers why there is none, or why it
     /// isn't published. It may wait for clients that are reading. The cluster then tells all that the control has seen.
-    pub fn publish<R: Wait>(&mut self, rt: &R, k: ShardId) -> Result<Route, PublishRefusal>
+    pub fn publish<R: Wait>(&mut self, rt: &R, k: ShardId) -> Result<Route, RouteFault>
         ensures published { Published (route_fault self.old.control.desk.books k) self.old self.new k result }
         ensures told { Begins self.new.control.chair.seen self.new.told }
     {

@@ -4,7 +4,7 @@ ghost use Rattle.sm_cluster.specs.Clusters.{FreeRefused, HasFreed, HasHeld, Hold
 
 use super::Cluster;
 use crate::hold::Hold;
-use crate::hold_fault::{FreeFault, HoldFault};
+use crate::hold_fault::HoldFault;
 use sm_body::service::Service;
 use sm_ranges::server_id::ServerId;
 use sm_ranges::shard_id::ShardId;
@@ -35,13 +35,13 @@ impl<S: Service> Cluster<S> {
 
     /// Ends the admission of a held shard with nothing, or answers the first fault that applies. A shard that is
     /// admitted for a request isn't held. The cluster then tells of the end.
-    pub fn free(&mut self, k: ShardId) -> Result<(), FreeFault>
+    pub fn free(&mut self, k: ShardId) -> Result<(), HoldFault>
         ensures freed { OnOk result (HasFreed self.old k self.new) }
         ensures refused { IfErr result (λ fault. FreeRefused self.old k fault) }
         ensures unchanged { OnErr result (self.new ≡ self.old) }
     {
         if k.index() >= self.ground.board.count() as usize {
-            return Err(FreeFault::UnknownShard);
+            return Err(HoldFault::UnknownShard);
         }
         match self.holds.take(&self.ground.board, k) {
             Some(hold) => {
@@ -49,7 +49,7 @@ impl<S: Service> Cluster<S> {
                 self.ground.board.meet(&mut self.teller, note);
                 Ok(())
             }
-            None => Err(FreeFault::NotHeld),
+            None => Err(HoldFault::NotHeld),
         }
     }
 }

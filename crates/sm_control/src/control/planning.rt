@@ -6,9 +6,9 @@ ghost use Rattle.sm_control.specs.Routes.{Routed, route_fault};
 
 use super::Control;
 use crate::drain_fault::DrainFault;
-use crate::route_fault::RouteFault;
 use sm_body::service::Service;
 use sm_ownership::route::Route;
+use sm_ownership::route_fault::RouteFault;
 use sm_place::Plan;
 use sm_ranges::server_id::ServerId;
 use sm_ranges::shard_id::ShardId;

@@ -3,12 +3,9 @@ ghost use Rattle.std.specs.Prelude.{◌≡◌};
 
 use super::ClusterBackend;
 use super::requests::{learned, load_by, verdict_on};
-use crate::refusals::{
-    checkpoint_answer, command_answer, free_answer, hold_answer, publish_answer,
-};
+use crate::refusals::{command_answer, hold_answer, publish_answer};
 use sm_control::DrainFault;
 use sm_desk::Command;
-use sm_envelope::Refusal;
 use sm_ownership::admit_fault::AdmitFault;
 use sm_ranges::key::Key;
 use sm_ranges::server_id::ServerId;
@@ -38,19 +35,19 @@ impl<R: Threads + Wait + Sync> Backend for ClusterBackend<R> {
     fn hold(&mut self, shard: ShardId, server: ServerId) -> Result<LineAnswer, AllocError> {
         let made = self.cluster.hold(shard, server);
         self.cluster.tell(&mut self.client);
-        Ok(hold_answer(made))
+        hold_answer(made)
     }
 
     fn free(&mut self, shard: ShardId) -> Result<LineAnswer, AllocError> {
         let made = self.cluster.free(shard);
         self.cluster.tell(&mut self.client);
-        Ok(free_answer(made))
+        hold_answer(made)
     }
 
     fn checkpoint(&mut self, shard: ShardId, server: ServerId) -> Result<LineAnswer, AllocError> {
         let made = self.cluster.checkpoint(shard, server);
         self.cluster.tell(&mut self.client);
-        checkpoint_answer(made)
+        hold_answer(made)
     }
 
     fn publish(&mut self, shard: ShardId) -> Result<LineAnswer, AllocError> {
@@ -109,7 +106,7 @@ impl<R: Threads + Wait + Sync> Backend for ClusterBackend<R> {
         let shard = self.cluster.layout().shard_of(TextBody::key(&request));
         match self.owner(shard) {
             Some(owner) => self.request_at(owner, request),
-            None => Ok(LineAnswer::Refused(Refused::Request(Refusal::Admit(AdmitFault::Vacant)))),
+            None => Ok(LineAnswer::Refused(Refused::Admit(AdmitFault::Vacant))),
         }
     }
 

@@ -1,14 +1,11 @@
 use Rattle.std.proofs.Common.{◌≡◌, None}
 use Rattle.sm_place.specs.Sound.{AreSound}
 use Rattle.sm_tasks.specs.Caps.{MeetsCaps}
-use Rattle.sm_tasks.specs.Approvals.{approvable, stoppable}
 use Rattle.sm_desk.specs.declared.command.Command.{Command}
 use Rattle.sm_desk.specs.declared.command.Command.TheVariants.{Change, Ask, Approve, Stopped, Back, Fail}
-use Rattle.sm_desk.specs.declared.command.CommandFault.TheVariants.{Approve as ApproveRefused}
-use Rattle.sm_desk.specs.declared.command.CommandFault.TheVariants.{Stopped as StoppedRefused}
 use Rattle.sm_desk.specs.Desk.{DeskView, books_commanded, desk_fault}
 use Rattle.sm_desk.specs.lemmas.Changes.{let_through}
-use Rattle.sm_desk.proofs.Holding.{ok_without, restart_through, stand_of, takes_none_leaving}
+use Rattle.sm_desk.proofs.Holding.{restart_through, stand_of, takes_none_leaving}
 use Rattle.sm_desk.proofs.laws.commands_keep_caps.Goals as goal
 
 pub returns : goal.returns
@@ -25,12 +22,10 @@ returns c = keep
         c.steps_keep_caps.ensures.ask desk.ops desk.books a sound.states t.0 caps
     keep desk (Approve a) sound caps e =
         let t = restart_through desk.books a _ e in
-        c.steps_keep_caps.ensures.approve desk.ops desk.books a sound.states t.0
-        (ok_without ApproveRefused (approvable desk.ops desk.books a) t.1) caps
+        c.steps_keep_caps.ensures.approve desk.ops desk.books a sound.states t.0 t.1 caps
     keep desk (Stopped a) sound caps e =
         let t = restart_through desk.books a _ e in
-        c.steps_keep_caps.ensures.stopped desk.ops desk.books a sound.states t.0
-        (ok_without StoppedRefused (stoppable desk.books a) t.1) caps
+        c.steps_keep_caps.ensures.stopped desk.ops desk.books a sound.states t.0 t.1 caps
     keep desk (Back a) sound caps e =
         let t = restart_through desk.books a _ e in
         c.steps_keep_caps.ensures.back desk.ops desk.books a sound.states t.0 caps

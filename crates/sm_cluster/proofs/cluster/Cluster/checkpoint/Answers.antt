@@ -1,11 +1,10 @@
-use Rattle.std.proofs.Common.{◌∙◌, Err, subst}
+use Rattle.std.proofs.Common.{◌∙◌, Err, refl, subst}
 use Rattle.std.specs.Arc.{arc_value}
 use Rattle.std.proofs.lemmas.Result.{err_from_is_err_and}
 use Rattle.sm_rule.specs.Passes.{PassValue}
 use Rattle.sm_rule.specs.Views.{Begins}
 use Rattle.sm_rule.specs.lemmas.Passing.{looks_begins, met_begins}
-use Rattle.sm_cluster.specs.declared.checkpoint_refusal.CheckpointRefusal.TheVariants.{Checkpoint}
-use Rattle.sm_cluster.specs.Basing.{IsBasedBy}
+use Rattle.sm_cluster.specs.Basing.{IsBasedBy, hold_fault_of}
 use Rattle.sm_cluster.specs.Clusters.{ClusterValue}
 use Rattle.sm_cluster.proofs.Telling.{tells_more}
 use Rattle.sm_cluster.proofs.cluster.Cluster.checkpoint.Goals as goal
@@ -22,12 +21,12 @@ returns-in_err-made-clause-known g c within known =
       holds = inside.holds;
       told = told;
     } in
-    let based : IsBasedBy c.args.self.now c.args.k c.args.a (Err (Checkpoint c.in_err-made.field-0.0)) later =
+    let based : IsBasedBy c.args.self.now c.args.k c.args.a (Err (hold_fault_of c.in_err-made.field-0.0)) later =
     record {
       before = c.pass_of-pass.result;
       after = c.checkpoint-made.new.pass;
       new = c.pass_of-pass.ensures.new;
-      made = c.in_err-made.ensures.refused;
+      made = (c.in_err-made.field-0.0, refl, c.in_err-made.ensures.refused);
       told =
           subst (λ (pass : PassValue g.row.S-Request.Denot). Begins pass.seen told) c.into_note.ensures
           (met_begins c.into_note.result.number c.into_note.result.seen told c.meet.ensures.met);

@@ -4,7 +4,7 @@ use Rattle.sm_cluster.specs.Clusters.{ClusterValue}
 use Rattle.sm_script.specs.declared.line_answer.LineAnswer.{LineAnswer}
 use Rattle.sm_service.specs.declared.request.Request.{Request}
 use Rattle.sm_threads.specs.Calls.{WasBased, may_answer}
-use Rattle.sm_threads.specs.Refusals.{checkpoint_refused}
+use Rattle.sm_threads.specs.Refusals.{hold_refused}
 use Rattle.sm_threads.specs.Sessions.{SessionValue}
 use Rattle.sm_threads.proofs.Answering.{session_with}
 use Rattle.sm_threads.proofs.Telling.{more_keeps, told_client, told_whole}
@@ -27,7 +27,7 @@ returns-clause-answers g c =
     let loaders = c.self.inside.loaders.items in
     let made = c.checkpoint-made.ensures in
     let told = c.tell.ensures in
-    let Says : LineAnswer → Type 0 = λ answer. may_answer checkpoint_refused c.checkpoint-made.result ≡ Some answer in
+    let Says : LineAnswer → Type 0 = λ answer. may_answer hold_refused c.checkpoint-made.result ≡ Some answer in
     let after = session_with c.tell.new.self loaders c.tell.new.client in
     let Was : SessionValue → LineAnswer → Type 0 = λ s answer. WasBased s c.args.shard c.args.server answer after in
     let was : (answer : LineAnswer) → Says answer → Was (session_with before loaders client) answer = λ answer says.
@@ -41,6 +41,6 @@ returns-clause-answers g c =
       told_client before middle c.tell.new.self client c.tell.new.client told.unchanged told.looks told.client told.told
           loaders told.control,
     ) in
-    subst (λ (s : SessionValue). IfOk c.checkpoint_answer.result (Was s)) c.self.view_is
-    (IfOk-weaker c.checkpoint_answer.result Says
-    (Was (session_with before loaders client)) was c.checkpoint_answer.ensures.ok)
+    subst (λ (s : SessionValue). IfOk c.hold_answer.result (Was s)) c.self.view_is
+    (IfOk-weaker c.hold_answer.result Says
+    (Was (session_with before loaders client)) was c.hold_answer.ensures.ok)

@@ -1,7 +1,10 @@
-use Rattle.std.proofs.Common.{subst, sym}
+use Rattle.std.proofs.Common.{◌≡◌, IfOk, Some, subst, sym}
+use Rattle.std.proofs.lemmas.Result.{IfOk-weaker}
 use Rattle.sm_cluster.specs.Clusters.{ClusterValue}
+use Rattle.sm_script.specs.declared.line_answer.LineAnswer.{LineAnswer}
 use Rattle.sm_service.specs.declared.request.Request.{Request}
-use Rattle.sm_threads.specs.Calls.{WasHeld}
+use Rattle.sm_threads.specs.Calls.{WasHeld, may_answer}
+use Rattle.sm_threads.specs.Refusals.{hold_refused}
 use Rattle.sm_threads.specs.Sessions.{SessionValue}
 use Rattle.sm_threads.proofs.Answering.{session_with}
 use Rattle.sm_threads.proofs.Telling.{held_keeps, told_client, told_whole}
@@ -21,19 +24,22 @@ returns-clause-answers g c =
     let before = c.self.inside.cluster in
     let middle = c.hold-made.new.self in
     let client = c.self.inside.client in
+    let loaders = c.self.inside.loaders.items in
     let made = c.hold-made.ensures in
     let told = c.tell.ensures in
-    let was : WasHeld (session_with before c.self.inside.loaders.items client) c.args.shard c.args.server
-    c.hold_answer.result (session_with middle c.self.inside.loaders.items c.tell.new.client) = (
+    let Says : LineAnswer → Type 0 = λ answer. may_answer hold_refused c.hold-made.result ≡ Some answer in
+    let after = session_with c.tell.new.self loaders c.tell.new.client in
+    let Was : SessionValue → LineAnswer → Type 0 = λ s answer. WasHeld s c.args.shard c.args.server answer after in
+    let was : (answer : LineAnswer) → Says answer → Was (session_with before loaders client) answer = λ answer says.
+    subst (λ (cluster : ClusterValue Request). WasHeld (session_with before loaders client) c.args.shard c.args.server
+    answer (session_with cluster loaders c.tell.new.client)) (sym told.unchanged) (
       c.hold-made.result,
       made.held,
       made.refused,
-      c.hold_answer.ensures,
+      says,
       told_client before middle c.tell.new.self client c.tell.new.client told.unchanged told.looks told.client told.told
-          c.self.inside.loaders.items told.control,
+          loaders told.control,
     ) in
-    subst (λ (s : SessionValue). WasHeld s c.args.shard c.args.server c.hold_answer.result
-    (session_with c.tell.new.self c.self.inside.loaders.items c.tell.new.client)) c.self.view_is
-    (subst (λ (cluster : ClusterValue Request). WasHeld
-    (session_with before c.self.inside.loaders.items client) c.args.shard c.args.server c.hold_answer.result
-    (session_with cluster c.self.inside.loaders.items c.tell.new.client)) (sym told.unchanged) was)
+    subst (λ (s : SessionValue). IfOk c.hold_answer.result (Was s)) c.self.view_is
+    (IfOk-weaker c.hold_answer.result Says
+    (Was (session_with before loaders client)) was c.hold_answer.ensures.ok)

@@ -1,13 +1,17 @@
 use std::error::Error;
 use std::fmt;
 
-/// Why a shard has no route: the first reason that applies, in this order.
+/// Why a shard has no route, or its route is not published: the first reason that applies, in this order.
 #[derive(Clone, Copy, Debug, PartialEq, Eq, Drop)]
 pub enum RouteFault {
     /// There is no such shard.
     UnknownShard,
-    /// The shard is vacant.
+    /// The shard is vacant, so it has no route.
     WrongPhase,
+    /// The route's generation is not above that of the shard's last published route.
+    OldRoute,
+    /// The route may be published, and memory for it was refused.
+    NoMemory,
 }
 
 impl fmt::Display for RouteFault {
@@ -15,6 +19,8 @@ impl fmt::Display for RouteFault {
         f.write_str(match self {
             RouteFault::UnknownShard => "there is no such shard",
             RouteFault::WrongPhase => "the shard is vacant",
+            RouteFault::OldRoute => "the route is not newer than the published one",
+            RouteFault::NoMemory => "out of memory",
         })
     }
 }

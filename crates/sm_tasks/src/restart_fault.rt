@@ -1,15 +1,13 @@
 use sm_ranges::ShardId;
 use thiserror::Error;
 
-/// A restart was asked for of a server that is not up.
+/// Why a step of a restart is refused. Of an approval, and of a stop, the first reason that applies, in this order.
 #[derive(Clone, Copy, Debug, PartialEq, Eq, Drop, Error)]
-#[error("the server is not up")]
-pub struct NotUp;
-
-/// Why a restart is not approved: the first reason that applies, in this order.
-#[derive(Clone, Copy, Debug, PartialEq, Eq, Drop, Error)]
-pub enum ApproveFault {
-    /// The server is not Asked.
+pub enum RestartFault {
+    /// A restart is asked for, and the server is not Up.
+    #[error("the server is not up")]
+    NotUp,
+    /// A restart is to be approved, and the server is not Asked.
     #[error("the restart is not asked for")]
     NotAsked,
     /// With this server, more than `ops` servers would be Approved, Stopped or Failed.
@@ -25,25 +23,16 @@ pub enum ApproveFault {
     /// The domain of the server, of which with this server more than its `down` would be Approved, Stopped or Failed.
     #[error("too many servers of domain {0} would be down")]
     DomainCap(u16),
-}
-
-/// Why a server may not be stopped: the first reason that applies, in this order.
-#[derive(Clone, Copy, Debug, PartialEq, Eq, Drop, Error)]
-pub enum StoppedFault {
-    /// The server is not Approved.
+    /// The server is to be stopped, and is not Approved.
     #[error("the restart is not approved")]
     NotApproved,
-    /// The lowest shard that names the server and is not paused.
+    /// The lowest shard that names the server that is to be stopped, and is not paused.
     #[error("shard {0} is not paused")]
     StillServing(ShardId),
+    /// The server comes back, and was Up.
+    #[error("the server is up already")]
+    AlreadyUp,
+    /// The server fails, and had Failed.
+    #[error("the server failed already")]
+    AlreadyFailed,
 }
-
-/// A server came back that was up.
-#[derive(Clone, Copy, Debug, PartialEq, Eq, Drop, Error)]
-#[error("the server is up already")]
-pub struct AlreadyUp;
-
-/// A server failed that had failed.
-#[derive(Clone, Copy, Debug, PartialEq, Eq, Drop, Error)]
-#[error("the server failed already")]
-pub struct AlreadyFailed;
