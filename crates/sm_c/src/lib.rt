@@ -1,8 +1,6 @@
 //! The proved parts for callers in C, C++, Python and Rust. Each call answers 0, or a code of docs/LIBRARY.md and has
-//! done
-//! nothing but what its contract says. A handle begins as bytes of 0; it may pass from thread to thread, and is used
-//! by one
-//! call at a time.
+//! done nothing but what its contract says. A handle begins as bytes of 0; it may pass from thread to thread, and is
+//! used by one call at a time.
 #![tactic(auto)]
 
 ghost use Rattle.std.specs.Prelude.{◌≡◌, ◌≢◌, Some, None, unwrap_or};
@@ -141,8 +139,7 @@ pub extern "C" fn durkenzo_executor(word: u64) -> u16
 }
 
 /// Opens a board with a body for each number, of servers 1 to this one, at most `ops` of which restart at once;
-/// generations
-/// stay at or below the ceiling. The handle keeps its control, in place of what it kept.
+/// generations stay at or below the ceiling. The handle keeps its control, in place of what it kept.
 #[unsafe(no_mangle)]
 pub extern "C" fn durkenzo_open(
     alloc: Global,
@@ -208,8 +205,7 @@ pub extern "C" fn durkenzo_look(
 }
 
 /// Admits the pass to the shard for a request that came directly (`from` 0) or from that server. `number` is that of
-/// the
-/// shard's body, which nobody else is given until the admission ends. A refusal by a record, or a lost race, writes
+/// the shard's body, which nobody else is given until the admission ends. A refusal by a record, or a lost race, writes
 /// to `read`.
 #[unsafe(no_mangle)]
 pub extern "C" fn durkenzo_admit(

@@ -7,8 +7,7 @@ use sm_ranges::server_id::ServerId;
 use sm_ranges::stand::Stand;
 
 /// A shard's record as C sees it: servers by their numbers, 0 for none; `other` is the next or the previous server.
-/// The phase
-/// is 0 vacant, 1 serving, 2 prepared, 3 forwarding, 4 taken, 5 paused.
+/// The phase is 0 vacant, 1 serving, 2 prepared, 3 forwarding, 4 taken, 5 paused.
 #[repr(C)]
 #[derive(Clone, Copy, Drop)]
 pub struct RecordParts {

@@ -46,8 +46,7 @@ enum Runner {
 }
 
 /// What the command line asks for: a script on this runner, and whether sentences about lines that are refused go to
-/// standard
-/// error.
+/// standard error.
 #[derive(Clone, Copy, Drop)]
 struct Choice {
     runner: Runner,
@@ -99,8 +98,7 @@ fn explains(matches: &ArgMatches, name: &str) -> Option<bool> {
 }
 
 /// The task that the words name, where this is the help on scripts; an error is a refusal, help that was asked for,
-/// or want
-/// of memory.
+/// or want of memory.
 fn choose(alloc: Global, words: &[String], help: &str) -> Result<Task, clap::Error> {
     let model = runner_command(
         alloc,

@@ -5,8 +5,7 @@ use sm_settings::Settings;
 use std::marker::Model;
 
 /// An engine whose sessions answer as those of another do, and tell a listener why lines were refused. Contracts see
-/// it as that
-/// other engine.
+/// it as that other engine.
 #[derive(Drop)]
 pub struct Explained<E, L> {
     engine: E,

@@ -7,8 +7,7 @@ use std::cell::Cell;
 use std::marker::Model;
 
 /// A session that answers as another does, and tells a listener why lines were refused, each with its number: the
-/// settings are
-/// line 1. Contracts see it as that other session.
+/// settings are line 1. Contracts see it as that other session.
 pub struct ExplainedSession<S, L> {
     inner: S,
     listener: L,

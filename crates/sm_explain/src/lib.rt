@@ -1,6 +1,5 @@
 //! Tells beside a run why lines were answered by `error` or `refused`, and why settings weren't accepted. What the
-//! run reads and
-//! writes stays what it is.
+//! run reads and writes stays what it is.
 //!
 //! ```rust
 //! let console = Console::new(&rt);

@@ -5,8 +5,7 @@ use sm_ranges::server_id::ServerId;
 use std::alloc::AllocError;
 
 /// A body that another program owns, by the number under which that program knows it. It answers no request here. The
-/// number
-/// takes the place of the limit that a board keeps for each shard, so contracts of the board tell it.
+/// number takes the place of the limit that a board keeps for each shard, so contracts of the board tell it.
 #[derive(Clone, Copy, Drop)]
 pub struct Foreign {
     pub number: u64,

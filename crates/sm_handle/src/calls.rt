@@ -17,8 +17,7 @@ use std::alloc::Global;
 
 impl Handle {
     /// Keeps the control of a new board with a body for each number, of servers 1 to this one, at most `ops` of which
-    /// restart
-    /// at once, in place of what was kept; or says why not, and the handle is as it was.
+    /// restart at once, in place of what was kept; or says why not, and the handle is as it was.
     pub fn open(
         &mut self,
         alloc: Global,
@@ -102,8 +101,7 @@ impl Handle {
     }
 
     /// Keeps a new pass on the board whose control the other handle keeps, with this server or none, in place of what
-    /// was
-    /// kept; or says why not, and this handle is as it was. The other one is as it was.
+    /// was kept; or says why not, and this handle is as it was. The other one is as it was.
     pub fn pass(
         &mut self,
         alloc: Global,

@@ -70,8 +70,7 @@ impl<Q: Drop, R: Copy + Drop, M: StoreMachine<Q, R>> ShardServer<M, Q, R> {
     }
 
     /// The shard's record was read, and its log: a replica of its first requests, and the requests after them. It is
-    /// read where the
-    /// server knows nothing, so nothing waits.
+    /// read where the server knows nothing, so nothing waits.
     pub fn on_read(
         &mut self,
         alloc: Global,
@@ -163,10 +162,8 @@ impl<Q: Drop, R: Copy + Drop, M: StoreMachine<Q, R>> ShardServer<M, Q, R> {
     }
 
     /// The reply to a request that changes nothing. It is the reply of the requests that were made at any moment at
-    /// which the
-    /// compares of the server's transaction hold: so a transaction that only compares, and was sent after the request
-    /// came,
-    /// makes it the reply of a moment since.
+    /// which the compares of the server's transaction hold: so a transaction that only compares, and was sent after the
+    /// request came, makes it the reply of a moment since.
     pub fn look(&self, alloc: Global, request: &Q) -> Result<Option<R>, AllocError>
         ensures { IfOk result (λ found. IfSome found (λ answer. (log later past : StoreLog Q)
             → IsTrueOf M.after M.reply M.start log self.now → log ≡ later ++ past
@@ -205,8 +202,7 @@ impl<Q: Drop, R: Copy + Drop, M: StoreMachine<Q, R>> ShardServer<M, Q, R> {
     }
 
     /// The shard's record was read, and the server's own log is still the last one that it knows of. Where nothing is
-    /// sent, it
-    /// goes on by the new record, and what waits is to be decided again; else it forgets what it read.
+    /// sent, it goes on by the new record, and what waits is to be decided again; else it forgets what it read.
     pub fn on_record(&mut self, alloc: Global, state: Record, stood: u64) -> Undecided<Q>
         ensures me { self.new.me ≡ self.old.me }
         ensures shard { self.new.shard ≡ self.old.shard }
@@ -240,8 +236,7 @@ impl<Q: Drop, R: Copy + Drop, M: StoreMachine<Q, R>> ShardServer<M, Q, R> {
     }
 
     /// The transaction's compares didn't hold, or what became of it is unknown: the server forgets what it read, and
-    /// what was
-    /// sent or waits is to be decided again once it has read.
+    /// what was sent or waits is to be decided again once it has read.
     pub fn on_lost(&mut self, alloc: Global) -> Undecided<Q>
         ensures me { self.new.me ≡ self.old.me }
         ensures shard { self.new.shard ≡ self.old.shard }
