@@ -291,6 +291,21 @@ cut_at answers before after (line ∷ lines) text count (first, rest, between, i
           (ap (take count) is ∙ take-append-le count first rest few))
     ]
 
+-- a front of what waited and the text is one of what waited and the text up to the cut's answer
+front_of_cut : (waiting text sent answer : List ℕ) (count left : ℕ)
+    → take (count - length waiting) text ≡ sent ++ take left answer
+    → (n : ℕ) × (take count (waiting ++ text) ≡ take n (waiting ++ (sent ++ answer)))
+front_of_cut waiting text sent answer count left cut = elim (cases_lt (length waiting) count) [
+  | inl more ↦ (let sum : count ≡ length waiting + (count - length waiting) = omega (arith, more) in (
+    length waiting + (length sent + left),
+    ap (λ n. take n (waiting ++ text)) sum
+        ∙ take-append-add waiting text (count - length waiting)
+        ∙ ap (λ (r : List ℕ). waiting ++ r) (cut ∙ sym (take-append-add sent answer left))
+        ∙ sym (take-append-add waiting (sent ++ answer) (length sent + left)),
+  ))
+  | inr few ↦ (count, take-append-le count waiting text few ∙ sym (take-append-le count waiting (sent ++ answer) few))
+]
+
 -- a front of a session's answers was written
 write_session : {S : Type 0} (begins : SettingsValues → S → Type 0) (answers : S → List ℕ → List ℕ → S → Type 0)
     (settings : SettingsValues)
@@ -299,8 +314,11 @@ write_session : {S : Type 0} (begins : SettingsValues → S → Type 0) (answers
     → WroteShort was.writing now.writing text → StopsAfter mid now.reading done
     → StoppedWriting (WritesFor begins answers) was now
 write_session {S} begins answers settings was mid now begun last done text o began all short stops =
-    at_cut (cut_at answers begun last done text short.front.count all)
+    at_cut (cut_at answers begun last done text sent all)
   where
+    sent : ℕ
+    sent = short.front.count - length was.writing.waiting
+
     session : (lines : List (List ℕ)) (text : List ℕ) (ended : S) → AnswersAll answers begun lines text ended
         → IsSession begins answers o.first lines text
     session lines text ended all = record
@@ -309,16 +327,31 @@ write_session {S} begins answers settings was mid now begun last done text o beg
     stopped : StopsAfter was.reading now.reading (o.first ∷ done)
     stopped = stops_more was.reading mid now.reading o.first done o.took stops
 
-    front : {cut : List ℕ} → take short.front.count text ≡ cut → was.writing.waiting ≡ []
+    front : {cut : List ℕ} → take sent text ≡ cut → was.writing.waiting ≡ []
         → Appends was.writing.written now.writing.written cut
     front is none =
         let P : List ℕ → Type 0 = λ t. Appends was.writing.written now.writing.written t in
-        subst P (ap (λ (w : List ℕ). take short.front.count (w ++ text)) none ∙ is) short.front.wrote
+        let all_sent : short.front.count ≡ sent = (let empty : length was.writing.waiting ≡ 0 = ap length none in
+        omega (arith, empty)) in
+        subst P (ap (λ (w : List ℕ). take short.front.count (w ++ text)) none
+        ∙ ap (λ n. take n text) all_sent ∙ is) short.front.wrote
 
-    at_cut : ((done ≡ []) × (text ≡ [])) ⊎ Cut answers begun done text short.front.count
+    short_of : (first answer : List ℕ) (left : ℕ) → take sent text ≡ first ++ take left answer
+        → WroteShort was.writing now.writing (first ++ answer)
+    short_of first answer left cut =
+        let P : List ℕ → Type 0 = λ t. Appends was.writing.written now.writing.written t in
+        let n = front_of_cut was.writing.waiting text first answer short.front.count left cut in
+        record {
+          front = record { count = n.0; wrote = subst P n.1 short.front.wrote };
+          none_waits = short.none_waits;
+          failed = short.failed;
+        }
+
+    at_cut : ((done ≡ []) × (text ≡ [])) ⊎ Cut answers begun done text sent
         → StoppedWriting (WritesFor begins answers) was now
     at_cut (inl none) =
         let P : List (List ℕ) → Type 0 = λ l. StopsAfter was.reading now.reading (o.first ∷ l) in
+        let Q : List ℕ → Type 0 = WroteShort was.writing now.writing in
         record {
           before = [];
           line = o.first;
@@ -328,8 +361,9 @@ write_session {S} begins answers settings was mid now begun last done text o beg
           answer = [];
           whole = refl;
           next = session [] [] begun (refl, refl);
-          count = short.front.count;
-          wrote = front (ap (take short.front.count) none.1);
+          short = subst Q none.1 short;
+          count = sent;
+          wrote = front (ap (take sent) none.1);
         }
     at_cut (inr c) =
         let P : List (List ℕ) → Type 0 = λ l. StopsAfter was.reading now.reading (o.first ∷ l) in
@@ -343,6 +377,7 @@ write_session {S} begins answers settings was mid now begun last done text o beg
           whole = session c.done c.sent c.mid c.answered;
           next = session (c.done ++ c.line ∷ []) (c.sent ++ c.answer) c.after
               (AnswersAll-more answers begun c.mid c.after c.done c.line c.sent c.answer c.answered c.next);
+          short = short_of c.sent c.answer c.left c.cut;
           count = c.left;
           wrote = front c.cut;
         }

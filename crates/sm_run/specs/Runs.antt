@@ -4,7 +4,7 @@ use Rattle.std.specs.Io.KnownBytes.{Appends}
 use Rattle.sm_lines.specs.Answers.{AnswersAll, ReadingStopped, StopsAfter}
 use Rattle.sm_lines.specs.Reading.{TookLines}
 use Rattle.sm_lines.specs.Transcripts.{Transcript}
-use Rattle.sm_lines.specs.Writing.{Writing, Sends, Wrote}
+use Rattle.sm_lines.specs.Writing.{Writing, Sends, Wrote, WroteShort}
 use Rattle.sm_lines.specs.declared.watch.TheConstants.{COUNT_LIMIT}
 use Rattle.sm_settings.specs.SettingsLine.{SettingsValues, settings_of}
 use Rattle.sm_run.specs.declared.begin_fault.BeginFault.{BeginFault}
@@ -61,8 +61,8 @@ pub record StoppedAt (writes : List (List ℕ) → List ℕ → Type 0) (was now
   pub stops : StopsAfter was.reading now.reading before
   pub wrote : WroteBefore writes was.writing now.writing before
 
--- writing stopped at a line: what had to be written for the lines before it was written whole, and then a front of its
--- answer
+-- writing stopped at a line: of what waited, what had to be written for the lines before it, and its answer, a front
+-- was written. Where nothing had waited, what was for the lines before it was written whole
 pub record StoppedWriting (writes : List (List ℕ) → List ℕ → Type 0) (was now : Transcript) : Type 0 where
   pub before : List (List ℕ)
   pub line : List ℕ
@@ -72,6 +72,7 @@ pub record StoppedWriting (writes : List (List ℕ) → List ℕ → Type 0) (wa
   pub answer : List ℕ
   pub whole : writes before text
   pub next : writes (before ++ line ∷ []) (text ++ answer)
+  pub short : WroteShort was.writing now.writing (text ++ answer)
   pub count : ℕ
   pub wrote : was.writing.waiting ≡ [] → Appends was.writing.written now.writing.written (text ++ take count answer)
 

@@ -27,6 +27,7 @@ writing_as writes says was now reword s = record {
   answer = s.answer;
   whole = reword s.before s.text s.whole;
   next = reword (s.before ++ s.line ∷ []) (s.text ++ s.answer) s.next;
+  short = s.short;
   count = s.count;
   wrote = s.wrote;
 }
