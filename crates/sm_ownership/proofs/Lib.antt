@@ -1,4 +1,3 @@
-pub mod Applied
 pub mod Calls
 pub mod Generations
 pub mod Reaching

@@ -1,9 +1,9 @@
-ghost use Rattle.std.specs.Prelude.{◌≡◌, ◌+◌, ◌<◌, ◌^◌, true, IfOk};
+ghost use Rattle.std.specs.Prelude.{◌≡◌, ◌+◌, ◌<◌, ◌^◌, true, IfOk, Some};
 ghost use Rattle.std.specs.Result.{result_err};
 ghost use Rattle.sm_ownership.specs.History.{after_change, after_admit, after_done};
 ghost use Rattle.sm_ownership.specs.Routes.{record_route};
-ghost use Rattle.sm_ownership.specs.Rules.{executor, accepts, forward_to, admit_fault};
-ghost use Rattle.sm_ownership.specs.Tables.{change_fault};
+ghost use Rattle.sm_ownership.specs.Rules.{executor, accepts, forward_to, admit_fault, stand_after};
+ghost use Rattle.sm_ownership.specs.Tables.{change_fault, record_fault};
 
 use crate::admit_fault::AdmitFault;
 use crate::change::Change;
@@ -115,6 +115,20 @@ impl Record {
         ensures made { IfOk result (λ next. next ≡ after_change self.now change) }
     {
         let stand = change.apply_to(self.stand)?;
+        self.changed_to(&change, &stand, ceiling)
+    }
+
+    /// `changed`, for whom it is known that the change leads to this stand: `Spent` and `Busy` alone can refuse it.
+    pub fn changed_to(
+        &self,
+        change: &Change,
+        stand: &Stand,
+        ceiling: u64,
+    ) -> Result<Record, ChangeFault>
+        requires leads { stand_after self.now.stand change.now ≡ Some stand.now }
+        ensures fault { result_err result ≡ record_fault ceiling self.now }
+        ensures made { IfOk result (λ next. next ≡ after_change self.now change.now) }
+    {
         if self.generation >= ceiling {
             return Err(ChangeFault::Spent(*self));
         }
@@ -122,7 +136,7 @@ impl Record {
             return Err(ChangeFault::Busy(*self));
         }
         Ok(Record {
-            stand,
+            stand: *stand,
             admitted: self.admitted,
             generation: self.generation + 1,
         })

@@ -1,8 +1,8 @@
-ghost use Rattle.std.specs.Prelude.{◌≡◌, ◌<◌, length, replicate, true, IfOk, OnOk, OnErr};
+ghost use Rattle.std.specs.Prelude.{◌≡◌, ◌<◌, length, replicate, true, Some, IfOk, OnOk, OnErr};
 ghost use Rattle.std.specs.Result.{result_err};
 ghost use Rattle.sm_ownership.specs.History.{vacant, record_at};
-ghost use Rattle.sm_ownership.specs.Rules.{admit_fault};
-ghost use Rattle.sm_ownership.specs.Tables.{apply_fault, table_changed, table_admitted, table_done};
+ghost use Rattle.sm_ownership.specs.Rules.{admit_fault, stand_after};
+ghost use Rattle.sm_ownership.specs.Tables.{apply_fault, record_fault, table_changed, table_admitted, table_done};
 
 use crate::admit_fault::AdmitFault;
 use crate::change::Change;
@@ -83,7 +83,25 @@ impl Table {
         if k.index() >= self.count() {
             return Err(ChangeFault::UnknownShard);
         }
-        let next = self.record(k).changed(change, self.ceiling)?;
+        let stand = change.apply_to(self.record(k).stand)?;
+        self.change_to(k, &change, &stand)
+    }
+
+    /// `apply`, for whom it is known that the shard exists and that the change leads to this stand: `Spent` and `Busy`
+    /// alone can refuse it.
+    pub fn change_to(
+        &mut self,
+        k: ShardId,
+        change: &Change,
+        stand: &Stand,
+    ) -> Result<(), ChangeFault>
+        requires known { k < length self.old.records }
+        requires leads { stand_after (record_at self.old.records k).stand change.now ≡ Some stand.now }
+        ensures fault { result_err result ≡ record_fault self.old.ceiling (record_at self.old.records k) }
+        ensures made { OnOk result (self.new ≡ table_changed self.old k change.now) }
+        ensures unchanged { OnErr result (self.new ≡ self.old) }
+    {
+        let next = self.record(k).changed_to(change, stand, self.ceiling)?;
         self.records[k.index()] = next;
         Ok(())
     }

@@ -1,8 +1,7 @@
 -- A change of a shard's stand, in the parts and in the world that they stand for.
-use Rattle.std.proofs.Common.{◌≡◌, ℕ, ◌<◌, Bool, true, false, not, List, length, refl, sym, ap, subst, ◌∙◌, arith}
-use Rattle.std.specs.Prelude.{Option, Some, None, Ok, Err, nat_lt, if◌then◌else◌}
+use Rattle.std.proofs.Common.{◌≡◌, ℕ, List, refl, sym, ap, subst, ◌∙◌}
+use Rattle.std.specs.Prelude.{Option, Some, None, Ok, Err}
 use Rattle.std.specs.Option.{option_map}
-use Rattle.std.proofs.lemmas.Bool.{lt-ltb, ltb-true}
 use Rattle.sm_ownership.specs.declared.change.Change.{Change}
 use Rattle.sm_ownership.specs.declared.change_fault.ChangeFault.{ChangeFault}
 use Rattle.sm_desk.specs.declared.command.Command.TheVariants.{Change as ChangeOf}
@@ -14,13 +13,11 @@ use Rattle.sm_ownership.specs.declared.route.Route.{Route}
 use Rattle.sm_table.specs.declared.step.Step.TheVariants.{Control}
 use Rattle.sm_table.specs.declared.world_answer.WorldAnswer.TheVariants.{Made}
 use Rattle.sm_table.specs.declared.world_fault.WorldFault.TheVariants.{Command as CommandRefused}
-use Rattle.sm_ownership.specs.Rules.{phase_fault}
+use Rattle.sm_ownership.specs.History.{record_at}
 use Rattle.sm_desk.specs.Desk.{DeskView, commanded, desk_fault}
-use Rattle.sm_desk.specs.lemmas.Changes.{IsLetThrough, let_through}
-use Rattle.sm_table.specs.lemmas.Entries.{same_stand, shards_long}
-use Rattle.sm_ownership.specs.Tables.{TableView, record_fault, apply_fault, table_changed}
+use Rattle.sm_ownership.specs.Tables.{TableView, record_fault, table_changed}
 use Rattle.sm_body.specs.Service.{Service}
-use Rattle.sm_table.specs.World.{WorldState, Plain, count_of, world_table, world_record, table_fault, with_entry}
+use Rattle.sm_table.specs.World.{WorldState, Plain, count_of, world_record, table_fault, with_entry}
 use Rattle.sm_table.specs.World.{outcome}
 use Rattle.sm_table.specs.Standing.{IsSound, WorldView, view_of, StandsFor, Follows}
 use Rattle.sm_ownership.specs.lemmas.Growth.{fits-push, table_of-push}
@@ -30,26 +27,7 @@ use Rattle.sm_table.specs.declared.hands.InHand.{InHand}
 use Rattle.sm_table.proofs.Pasts.{past_of-push_none}
 use Rattle.sm_table.proofs.Parts.{parts_of, parts-from_StandsFor, Follows-unchanged, Follows-changed}
 
-module _ {Q R : Type 0} (service : Service Q R) (w : WorldState Q) (sound : IsSound w) (shard : ℕ) (change : Change)
-    (none : None ≡ desk_fault w.desk (ChangeOf shard change)) where
-  through : IsLetThrough w.desk.books shard change
-  through = let_through w.desk.books shard change (sym none)
-
-  pub change_within : shard < length (world_table w)
-  change_within = omega (arith, through.within, shards_long w sound)
-
-  phase : phase_fault (world_record w shard).stand change ≡ None
-  phase = ap (λ stand. phase_fault stand change) (sym (same_stand w sound shard through.within)) ∙ through.phase
-
-  -- where the desk lets a change through, the table refuses it by its record alone
-  refusal : (fault : Option ChangeFault)
-      → fault ≡ apply_fault (record { records = world_table w; ceiling = w.frame.ceiling }) shard change
-      → table_fault w (ChangeOf shard change) ≡ option_map (λ one. ChangeRefused one) fault
-  refusal fault is =
-      let inside : nat_lt shard (length (world_table w)) ≡ true = lt-ltb _ _ change_within in
-      let by_record : fault ≡ record_fault w.frame.ceiling (world_record w shard) = is ∙ rw (inside, phase) refl in
-      ap (option_map (λ one. ChangeRefused one)) (sym by_record)
-
+module _ {Q : Type 0} (w : WorldState Q) (shard : ℕ) (change : Change) where
   abbrev changed_world : WorldState Q
   changed_world = record (with_entry w 0 shard (Changed change)) { desk = commanded w.desk (ChangeOf shard change) }
 
@@ -94,23 +72,22 @@ module _ {Q R : Type 0} (service : Service Q R) {bounds : List (List ℕ)} {desk
     allowed : None ≡ desk_fault w.desk (ChangeOf shard change)
     allowed = none ∙ ap (λ desk. desk_fault desk (ChangeOf shard change)) stands.desk
 
-    as_of_world : (fault : Option ChangeFault)
-        → fault ≡ apply_fault (record { records = v.records; ceiling = v.ceiling }) shard change
-        → fault ≡ apply_fault (record { records = world_table w; ceiling = w.frame.ceiling }) shard change
-    as_of_world fault is = is ∙ ap
-        (λ records. apply_fault (record { records = records; ceiling = v.ceiling }) shard change) stands.records ∙ ap
-        (λ ceiling. apply_fault (record { records = world_table w; ceiling = ceiling }) shard change) stands.ceiling
+    of_record : (fault : Option ChangeFault) → fault ≡ record_fault v.ceiling (record_at v.records shard)
+        → table_fault w (ChangeOf shard change) ≡ option_map (λ one. ChangeRefused one) fault
+    of_record fault is = ap (option_map (λ one. ChangeRefused one)) (sym (is
+        ∙ ap (λ records. record_fault v.ceiling (record_at records shard)) stands.records
+        ∙ ap (λ ceiling. record_fault ceiling (world_record w shard)) stands.ceiling))
 
     -- the table refuses it
-    pub refused_by_table : (fault : ChangeFault) (table : TableView) → Some fault ≡ apply_fault
-        (record { records = v.records; ceiling = v.ceiling }) shard change → table ≡ record {
+    pub refused_by_table : (fault : ChangeFault) (table : TableView)
+        → Some fault ≡ record_fault v.ceiling (record_at v.records shard) → table ≡ record {
           records = v.records;
           ceiling = v.ceiling;
         } → Follows (record v { records = table.records; ceiling = table.ceiling })
         (Err (CommandRefused (ChangeRefused fault))) (outcome service w Plain (Control (ChangeOf shard change)))
     refused_by_table fault table is unchanged =
         let refused : table_fault w (ChangeOf shard change) ≡ Some (ChangeRefused fault) =
-        refusal service w stands.sound shard change allowed (Some fault) (as_of_world (Some fault) is) in
+        of_record (Some fault) is in
         let through : desk_fault w.desk (ChangeOf shard change) ≡ None = sym allowed in
         Follows-unchanged service w Plain (Control (ChangeOf shard change)) (record v {
           records = table.records;
@@ -122,7 +99,7 @@ module _ {Q R : Type 0} (service : Service Q R) {bounds : List (List ℕ)} {desk
 
     -- neither does
     pub made : (table : TableView) (desk : DeskView)
-        → None ≡ apply_fault (record { records = v.records; ceiling = v.ceiling }) shard change
+        → None ≡ record_fault v.ceiling (record_at v.records shard)
         → table ≡ table_changed (record { records = v.records; ceiling = v.ceiling }) shard change
         → desk ≡ commanded v.desk (ChangeOf shard change) → Follows (record v {
           desk = desk;
@@ -131,7 +108,7 @@ module _ {Q R : Type 0} (service : Service Q R) {bounds : List (List ℕ)} {desk
         }) (Ok Made) (outcome service w Plain (Control (ChangeOf shard change)))
     made table desk is changed noted =
         let taken : table_fault w (ChangeOf shard change) ≡ None =
-        refusal service w stands.sound shard change allowed None (as_of_world None is) in
+        of_record None is in
         let through : desk_fault w.desk (ChangeOf shard change) ≡ None = sym allowed in
         Follows-changed service w Plain (Control (ChangeOf shard change))
         (record v { desk = desk; records = table.records; ceiling = table.ceiling }) (Ok Made)
@@ -143,20 +120,10 @@ module _ {Q R : Type 0} (service : Service Q R) {bounds : List (List ℕ)} {desk
           records = (table_changed (record { records = v.records; ceiling = v.ceiling }) shard change).records;
         })
         noted
-        ∙ ap (changed_parts service w stands.sound shard change allowed) (parts-from_StandsFor v w stands)
-        ∙ changed_parts_of service w stands.sound shard change allowed v.pasts after)
+        ∙ ap (changed_parts w shard change) (parts-from_StandsFor v w stands)
+        ∙ changed_parts_of w shard change v.pasts after)
         (λ after. record {
           bodies = stands.bodies;
           each = λ other within. stands.pasts other within ∙ sym (past_of-push_none w.history
               (record { actor = 0; shard = shard; kind = Changed change }) other refl);
         })
-
--- a shard whose change the table doesn't refuse is there
-pub within-apply_fault : (table : TableView) (shard : ℕ) (change : Change) → None ≡ apply_fault table shard change
-    → shard < length table.records
-within-apply_fault table shard change is = ltb-true _ _ (by (nat_lt shard (length table.records)) _ _ is)
-  where
-    by : {X : Type 0} (there : Bool) (x : X) (later : Option X) → None ≡ (if not there then Some x else later)
-        → there ≡ true
-    by true x later none = refl
-    by false x later none = absurd cc

@@ -1,19 +1,21 @@
 -- The world in which nothing has happened.
 use Rattle.std.proofs.Common.{◌≡◌, ℕ, ◌<◌, ◌≤◌, ◌^◌, [], List, length, sym, ap, subst, ◌∙◌, arith, ⊎_elim}
-use Rattle.std.specs.Prelude.{Option, Some, None, All, replicate, slice_index_or}
+use Rattle.std.specs.Prelude.{Option, Some, None, All, map, replicate, slice_index_or}
 use Rattle.std.proofs.lemmas.Bool.{cases_lt}
 use Rattle.std.proofs.lemmas.List.{get_or-replicate, get_or_past, length-replicate}
 use Rattle.std.proofs.lemmas.List.Elements.{All-nil}
 use Rattle.sm_ownership.specs.declared.route.Route.{Route}
 use Rattle.sm_table.specs.declared.world.Flight.{Flight}
 use Rattle.sm_table.specs.declared.hands.InHand.{InHand}
+use Rattle.sm_ranges.specs.declared.stand.Stand.TheVariants.{Vacant}
+use Rattle.sm_ownership.specs.declared.record.Record.{Record}
 use Rattle.sm_ownership.specs.History.{vacant}
 use Rattle.sm_table.specs.World.{Frame, empty_world}
 use Rattle.sm_ownership.specs.Tables.{TableView}
-use Rattle.sm_desk.specs.Desk.{DeskView}
+use Rattle.sm_desk.specs.Desk.{DeskView, stands_of}
 use Rattle.sm_table.specs.Bodies.{BodiesView, Past, no_past, past_at}
 use Rattle.sm_table.specs.Standing.{IsFrame, StandsFor, IsTogether, view_of}
-use Rattle.sm_table.specs.lemmas.Soundness.{sound_empty}
+use Rattle.sm_table.specs.lemmas.Soundness.{map-replicate, sound_empty}
 use Rattle.sm_table.proofs.Routing.{row_of-none}
 
 no_hand : {Q : Type 0} (count shard : ℕ) (hand : InHand Q)
@@ -60,13 +62,15 @@ module _ {Q : Type 0} {bounds : List (List ℕ)} {desk : DeskView} {table : Tabl
   }
 
   pub IsTogether-empty : (count : ℕ) → length bounds ≡ count → table.records ≡ replicate count vacant
-      → table.ceiling < 2 ^ 36 → bodies.pasts ≡ replicate count no_past → routes ≡ replicate count None → in_flight ≡ []
+      → stands_of desk ≡ replicate count Vacant → table.ceiling < 2 ^ 36 → bodies.pasts ≡ replicate count no_past → routes ≡ replicate count None → in_flight ≡ []
       → in_hand ≡ replicate count None → IsTogether (view_of bounds desk table bodies routes in_flight in_hand)
-  IsTogether-empty count layout records low pasts unpublished flights hands =
+  IsTogether-empty count layout records stands low pasts unpublished flights hands =
       let long : length in_hand ≡ count = ap length hands ∙ length-replicate count None in
       record {
         layout = layout ∙ sym long;
         table = ap length records ∙ length-replicate count vacant ∙ sym long;
+        stands = stands ∙ sym (map-replicate (λ (one : Record). one.stand) count vacant)
+            ∙ ap (map (λ (one : Record). one.stand)) (sym records);
         bodies = ap length pasts ∙ length-replicate count no_past ∙ sym long;
         routes = ap length unpublished ∙ length-replicate count None ∙ sym long;
         flights = subst (λ all. All (λ (flight : Flight Q). flight.envelope.shard < length in_hand) all) (sym flights)

@@ -1,9 +1,11 @@
 -- The parts of a `World` fit together after each step.
 use Rattle.std.proofs.Common.{◌≡◌, ℕ, suc, ◌+◌, ◌<◌, ◌≤◌, ◌^◌, true, false, length-append, List, [], ◌∷◌, ◌++◌, length}
 use Rattle.std.proofs.Common.{refl, sym, ap, subst, ◌∙◌, arith, ⊎_elim}
-use Rattle.std.specs.Prelude.{Option, Some, None, Result, All, nat_lt, remove, slice_index_or, slice_set}
+use Rattle.std.specs.Prelude.{Option, Some, None, Result, All, map, nat_lt, remove, slice_index_or, slice_set}
+use Rattle.std.specs.Prelude.{unwrap_or}
 use Rattle.std.proofs.lemmas.Bool.{cases_eq, cond_both, true≢false}
-use Rattle.std.proofs.lemmas.List.{get_or-set_same, get_or-set_other, length-set}
+use Rattle.std.proofs.lemmas.List.{get_or-map, get_or-set_same, get_or-set_other, length-map, length-set, map-set}
+use Rattle.std.proofs.Math.Seq.{map-set_same}
 use Rattle.std.proofs.lemmas.List.Elements.{All-append, All-push, All-take, All-drop}
 use Rattle.sm_ownership.specs.declared.change.Change.{Change}
 use Rattle.sm_ownership.specs.declared.entry.Ending.TheVariants.{Request, Checkpoint}
@@ -16,11 +18,15 @@ use Rattle.sm_table.specs.declared.hands.Work.{Work}
 use Rattle.sm_table.specs.lemmas.Entries.{hand_within, set-set}
 use Rattle.sm_ownership.specs.History.{vacant, record_at, after_admit, after_change, after_done}
 use Rattle.sm_ownership.specs.Tables.{TableView, table_admitted, table_changed, table_done, with_record}
-use Rattle.sm_desk.specs.Desk.{DeskView, is_reached}
+use Rattle.sm_ranges.specs.declared.stand.Stand.TheVariants.{Vacant}
+use Rattle.sm_place.specs.Books.{moved, no_shard, shard_at}
+use Rattle.sm_place.specs.declared.shard.Shard.{Shard}
+use Rattle.sm_desk.specs.declared.command.Command.TheVariants.{Change as ChangeOf}
+use Rattle.sm_desk.specs.Desk.{DeskView, commanded, is_reached, stands_of}
 use Rattle.sm_table.specs.Bodies.{BodiesView, Past, no_past, past_after, past_at}
 use Rattle.sm_table.specs.Standing.{IsTogether, view_of}
 use Rattle.sm_envelope.specs.Envelope.{EnvelopeView, forwarded, one_hop_more, sent_on}
-use Rattle.sm_ownership.specs.Rules.{forward_to}
+use Rattle.sm_ownership.specs.Rules.{forward_to, stand_after}
 use Rattle.sm_table.specs.declared.world_answer.WorldAnswer.{WorldAnswer}
 use Rattle.sm_envelope.specs.declared.envelope.TheConstants.{MOST_HOPS}
 use Rattle.sm_table.specs.World.{after_hop, flight_to}
@@ -39,6 +45,7 @@ module _ {Q : Type 0} {bounds : List (List ℕ)} {desk : DeskView} {table : Tabl
   -- another record of a shard, another hand, which it admits, and other requests, no more than its generation
   with_shard : (shard : ℕ) (state : Record) (desk_now : DeskView) (table_now : TableView) (bodies_now : BodiesView Q)
       (hands : List (Option (InHand Q))) → table_now ≡ with_record table shard state
+      → stands_of desk_now ≡ map (λ (one : Record). one.stand) (slice_set table.records shard state)
       → length bodies_now.pasts ≡ length bodies.pasts
       → ((other : ℕ) → (other ≡ shard → ⊥) → past_at bodies_now.pasts other ≡ past_at bodies.pasts other)
       → length (past_at bodies_now.pasts shard).all ≤ (record_at (slice_set table.records shard state) shard).generation
@@ -47,9 +54,10 @@ module _ {Q : Type 0} {bounds : List (List ℕ)} {desk : DeskView} {table : Tabl
       → ((hand : InHand Q) → slice_index_or hands shard None ≡ Some hand
       → (record_at (slice_set table.records shard state) shard).admitted ≡ true)
       → IsTogether (view_of bounds desk_now table_now bodies_now routes in_flight hands)
-  with_shard shard state desk_now table_now bodies_now hands is kept apart_kept here_few long others here = record {
+  with_shard shard state desk_now table_now bodies_now hands is stands kept apart_kept here_few long others here = record {
     layout = whole.layout ∙ sym long;
     table = ap length records ∙ length-set table.records shard state ∙ whole.table ∙ sym long;
+    stands = stands ∙ ap (map (λ (one : Record). one.stand)) (sym records);
     bodies = kept ∙ whole.bodies ∙ sym long;
     routes = whole.routes ∙ sym long;
     flights =
@@ -87,17 +95,51 @@ module _ {Q : Type 0} {bounds : List (List ℕ)} {desk : DeskView} {table : Tabl
           omega arith)
           (cases_eq other shard)
 
-  -- after a change of a shard's stand
+  -- the stands stay where the shard's next record has its stand
+  stands_stay : (shard : ℕ) (state : Record) → state.stand ≡ (record_at table.records shard).stand
+      → stands_of desk ≡ map (λ (one : Record). one.stand) (slice_set table.records shard state)
+  stands_stay shard state stays =
+      whole.stands ∙ sym (map-set_same (λ (one : Record). one.stand) table.records shard state vacant stays)
+
+  -- the desk has a shard for each record
+  pub shard_there : (shard : ℕ) → shard < length desk.books.shards → shard < length table.records
+  shard_there shard below = omega (
+    arith,
+    ap length whole.stands,
+    length-map desk.books.shards (λ (one : Shard). one.stand),
+    length-map table.records (λ (one : Record). one.stand),
+  )
+
+  -- of its stand
+  pub stand_there : (shard : ℕ) → shard < length desk.books.shards
+      → (shard_at desk.books.shards shard).stand ≡ (record_at table.records shard).stand
+  stand_there shard below =
+      sym (get_or-map (λ (one : Shard). one.stand) desk.books.shards shard no_shard Vacant below)
+      ∙ ap (λ all. slice_index_or all shard Vacant) whole.stands
+      ∙ get_or-map (λ (one : Record). one.stand) table.records shard vacant Vacant (shard_there shard below)
+
+  -- after a change of a shard's stand, at the desk too
   pub IsTogether-changed : (shard : ℕ) (change : Change) (desk_now : DeskView) (table_now : TableView)
-      → shard < length table.records → table_now ≡ table_changed table shard change
+      → shard < length desk.books.shards → desk_now ≡ commanded desk (ChangeOf shard change)
+      → table_now ≡ table_changed table shard change
       → IsTogether (view_of bounds desk_now table_now bodies routes in_flight in_hand)
-  IsTogether-changed shard change desk_now table_now within changed =
+  IsTogether-changed shard change desk_now table_now below noted changed =
+      let within = shard_there shard below in
+      let shards = desk.books.shards in
       let state = after_change (record_at table.records shard) change in
+      let stands : stands_of desk_now ≡ map (λ (one : Record). one.stand) (slice_set table.records shard state) =
+      ap stands_of noted
+      ∙ map-set (λ (one : Shard). one.stand) shards shard (moved (shard_at shards shard)
+      (unwrap_or (stand_after (shard_at shards shard).stand change) (shard_at shards shard).stand))
+      ∙ ap (λ at. slice_set (map (λ (one : Shard). one.stand) shards) shard (unwrap_or (stand_after at change) at))
+      (stand_there shard below)
+      ∙ ap (λ all. slice_set all shard state.stand) whole.stands
+      ∙ sym (map-set (λ (one : Record). one.stand) table.records shard state) in
       let there : record_at (slice_set table.records shard state) shard ≡ state =
       get_or-set_same table.records shard state vacant within in
       let generation = ap (λ (r : Record). r.generation) there in
       let before = whole.few shard in
-      with_shard shard state desk_now table_now bodies in_hand changed refl (λ _ _. refl) (omega arith) refl
+      with_shard shard state desk_now table_now bodies in_hand changed stands refl (λ _ _. refl) (omega arith) refl
       (λ _ _. refl)
       (λ hand is. ap (λ (r : Record). r.admitted) there ∙ whole.admitted shard hand is)
 
@@ -113,7 +155,8 @@ module _ {Q : Type 0} {bounds : List (List ℕ)} {desk : DeskView} {table : Tabl
       let generation = ap (λ (r : Record). r.generation)
       (get_or-set_same table.records shard state vacant (omega (arith, whole.table))) in
       let before = whole.few shard in
-      rw is (with_shard shard state desk table_now bodies_now (slice_set in_hand shard None) done kept apart_kept (omega
+      rw is (with_shard shard state desk table_now bodies_now (slice_set in_hand shard None) done
+      (stands_stay shard state refl) kept apart_kept (omega
       arith) (length-set in_hand shard None) (λ other apart. get_or-set_other in_hand shard other None None apart)
       (λ hand held. let none = get_or-set_same in_hand shard None None within in absurd cc))
 
@@ -156,8 +199,8 @@ module _ {Q : Type 0} {bounds : List (List ℕ)} {desk : DeskView} {table : Tabl
       get_or-set_same table.records shard state vacant within in
       let generation = ap (λ (r : Record). r.generation) there in
       let before = whole.few shard in
-      rw is (with_shard shard state desk table_now bodies (slice_set in_hand shard (Some hand)) admitted refl
-      (λ _ _. refl) (omega arith) (length-set in_hand shard (Some hand))
+      rw is (with_shard shard state desk table_now bodies (slice_set in_hand shard (Some hand)) admitted
+      (stands_stay shard state refl) refl (λ _ _. refl) (omega arith) (length-set in_hand shard (Some hand))
       (λ other apart. get_or-set_other in_hand shard other (Some hand) None apart)
       (λ _ _. ap (λ (r : Record). r.admitted) there))
 
@@ -184,7 +227,7 @@ module _ {Q : Type 0} {bounds : List (List ℕ)} {desk : DeskView} {table : Tabl
       let long : length (past_at bodies_now.pasts shard).all ≡ length (past_at bodies.pasts shard).all =
       ap (λ (p : Past Q). length p.all) there in
       let before = whole.few shard in
-      with_shard shard state desk table_now bodies_now in_hand both
+      with_shard shard state desk table_now bodies_now in_hand both (stands_stay shard state refl)
       (ap length kept ∙ length-set bodies.pasts shard past)
       (λ other apart. ap (λ all. past_at all other) kept ∙ get_or-set_other bodies.pasts shard other past no_past apart)
       (omega arith) refl (λ _ _. refl)
@@ -196,6 +239,7 @@ module _ {Q : Type 0} {bounds : List (List ℕ)} {desk : DeskView} {table : Tabl
   IsTogether-in_flight flights all = record {
     layout = whole.layout;
     table = whole.table;
+    stands = whole.stands;
     bodies = whole.bodies;
     routes = whole.routes;
     flights = all;
@@ -210,6 +254,7 @@ module _ {Q : Type 0} {bounds : List (List ℕ)} {desk : DeskView} {table : Tabl
   IsTogether-published shard route routes_now is = record {
     layout = whole.layout;
     table = whole.table;
+    stands = whole.stands;
     bodies = whole.bodies;
     routes = ap length is ∙ length-set routes shard route ∙ whole.routes;
     flights = whole.flights;
@@ -218,12 +263,13 @@ module _ {Q : Type 0} {bounds : List (List ℕ)} {desk : DeskView} {table : Tabl
     low = whole.low;
   }
 
-  -- with another desk
-  pub IsTogether-desk : (desk_now : DeskView)
+  -- with another desk of the same stands
+  pub IsTogether-desk : (desk_now : DeskView) → stands_of desk_now ≡ stands_of desk
       → IsTogether (view_of bounds desk_now table bodies routes in_flight in_hand)
-  IsTogether-desk desk_now = record {
+  IsTogether-desk desk_now stands = record {
     layout = whole.layout;
     table = whole.table;
+    stands = stands ∙ whole.stands;
     bodies = whole.bodies;
     routes = whole.routes;
     flights = whole.flights;

@@ -4,7 +4,7 @@ use Rattle.std.specs.Prelude.{Option, Some, None, Ok, Err}
 use Rattle.sm_desk.specs.declared.command.Command.{Command}
 use Rattle.sm_desk.specs.declared.command.Command.TheVariants.{Change, Ask, Approve, Stopped, Back, Fail}
 use Rattle.sm_desk.specs.declared.command.CommandFault.{CommandFault}
-use Rattle.sm_desk.specs.Desk.{DeskView, commanded, desk_fault, is_restart}
+use Rattle.sm_desk.specs.Desk.{DeskView, commanded, desk_fault, is_restart, stands_of}
 use Rattle.sm_ownership.specs.declared.route.Route.{Route}
 use Rattle.sm_ownership.specs.Tables.{TableView}
 use Rattle.sm_body.specs.Service.{Service}
@@ -27,6 +27,16 @@ spares_table w (Approve server) is = (refl, refl)
 spares_table w (Stopped server) is = (refl, refl)
 spares_table w (Back server) is = (refl, refl)
 spares_table w (Fail server) is = (refl, refl)
+
+-- it leaves the stands
+pub spares_stands : (desk : DeskView) (command : Command) → is_restart command ≡ true
+    → stands_of (commanded desk command) ≡ stands_of desk
+spares_stands desk (Change shard change) is = absurd cc
+spares_stands desk (Ask server) is = refl
+spares_stands desk (Approve server) is = refl
+spares_stands desk (Stopped server) is = refl
+spares_stands desk (Back server) is = refl
+spares_stands desk (Fail server) is = refl
 
 module _ {Q R : Type 0} (service : Service Q R) {bounds : List (List ℕ)} {desk_was : DeskView} {table_was : TableView}
     {bodies_was : BodiesView Q} {routes_was : List (Option Route)} {flights_was : List (Flight Q)}

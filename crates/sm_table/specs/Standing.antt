@@ -111,11 +111,12 @@ view_of bounds desk table bodies routes in_flight in_hand = record {
   in_hand = in_hand;
 }
 
--- each part has an element for each shard, flights are for shards that are there, and a shard that a server has in hand
--- is admitted, and no shard has more requests than its generation
+-- each part has an element for each shard, desk and table have the same stands, flights are for shards that are there,
+-- and a shard that a server has in hand is admitted, and no shard has more requests than its generation
 pub record IsTogether {Q : Type 0} (view : WorldView Q) : Type 0 where
   pub layout : length view.bounds ≡ length view.in_hand
   pub table : length view.records ≡ length view.in_hand
+  pub stands : stands_of view.desk ≡ map (λ state. state.stand) view.records
   pub bodies : length view.pasts ≡ length view.in_hand
   pub routes : length view.routes ≡ length view.in_hand
   pub flights : All (λ flight. flight.envelope.shard < length view.in_hand) view.in_flight

@@ -209,12 +209,11 @@ impl<S: Service> World<S> {
         ensures marks { may_go {Q = S.Request} (ControlOf (ChangeOf k change.now)) (mark_of result) ≡ true }
         ensures bounds { self.new.bounds ≡ self.old.bounds }
     {
-        let command = Command::Change(k, *change);
-        self.desk.check(&command)?;
-        if let Err(fault) = self.table.apply(k, *change) {
+        let stand = self.desk.check_change(k, change)?;
+        if let Err(fault) = self.table.change_to(k, change, &stand) {
             return Err(WorldFault::Command(fault.into()));
         }
-        self.desk.commit(command);
+        self.desk.commit_change(k, change, &stand);
         Ok(WorldAnswer::Made)
     }
 

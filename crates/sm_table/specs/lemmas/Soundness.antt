@@ -47,7 +47,7 @@ use Rattle.sm_ownership.specs.lemmas.Growth.{record_at-empty}
 use Rattle.sm_table.specs.lemmas.Names.{known_forward}
 use Rattle.sm_table.specs.lemmas.Entries.{led_on, sound_change, sound_admit, sound_admit_done, sound_done}
 
-map-replicate : {A B : Type 0} (f : A → B) (count : ℕ) (x : A) → map f (replicate count x) ≡ replicate count (f x)
+pub map-replicate : {A B : Type 0} (f : A → B) (count : ℕ) (x : A) → map f (replicate count x) ≡ replicate count (f x)
 map-replicate f zero x = refl
 map-replicate f (suc count) x = ap (λ rest. f x ∷ rest) (map-replicate f count x)
 

@@ -12,6 +12,7 @@ invariant_of-result g c =
     omega (arith, c.args.bodies.ok.0, c.requires.bodies) in
     IsTogether-empty (length c.args.setup.layout) refl
     (c.in_ok-parts.ensures.records ∙ ap (λ count. replicate count vacant) c.count-count.ensures.value)
+    c.requires.vacant
     (subst (λ ceiling. ceiling < 2 ^ 36) (sym c.in_ok-parts.ensures.ceiling) c.requires.greatest_ceiling)
     (c.in_ok-parts.ensures.pasts ∙ ap (λ count. replicate count no_past) bodies)
     (c.in_ok-parts.ensures.routes ∙ ap (λ count. replicate count None) c.count-count.ensures.value)

@@ -1,6 +1,8 @@
+use Rattle.std.proofs.Common.{ap, ◌∙◌}
 use Rattle.std.proofs.lemmas.Result.{err_from_is_err_and}
 use Rattle.sm_body.specs.Service.{meaning_of}
-use Rattle.sm_table.proofs.Restarts.{restart_refused, restarted}
+use Rattle.sm_desk.specs.Desk.{stands_of}
+use Rattle.sm_table.proofs.Restarts.{restart_refused, restarted, spares_stands}
 use Rattle.sm_table.proofs.Fitting.{IsTogether-desk}
 use Rattle.sm_table.proofs.world.World.restart.Goals as goal
 
@@ -11,7 +13,9 @@ returns-in_err-check-clause-stands g c = λ w stands.
     g.S.Service.key_of) c.args.self.now c.self.view_is w stands c.args.command _ c.in_err-check.ensures)
 
 pub invariant_of-self : goal.invariant_of-self
-invariant_of-self g c = IsTogether-desk c.self.invariant c.commit.new.self
+invariant_of-self g c =
+    IsTogether-desk c.self.invariant c.commit.new.self
+    (ap stands_of c.commit.ensures ∙ spares_stands c.self.inside.desk c.args.command c.requires)
 
 pub returns-clause-stands : goal.returns-clause-stands
 returns-clause-stands g c = λ w stands.
