@@ -1,7 +1,7 @@
 -- What the absence of a fault says of a record.
 use Rattle.std.proofs.Common.{◌≡◌, ℕ, ◌<◌, ◌^◌, true, false, not, refl, sym, ap, ◌∙◌, arith}
 use Rattle.std.specs.Prelude.{Option, Some, None, Bool, is_none, nat_lt, if◌then◌else◌}
-use Rattle.std.specs.Option.{option_map, option_or}
+use Rattle.std.specs.Option.{option_or}
 use Rattle.std.proofs.lemmas.Bool.{and_parts, ltb-true, not-true}
 use Rattle.sm_ownership.specs.declared.change.Change.{Change}
 use Rattle.sm_ownership.specs.declared.mode.Mode.{Mode}
@@ -9,15 +9,14 @@ use Rattle.sm_ownership.specs.declared.record.Record.{Record}
 use Rattle.sm_ownership.specs.lemmas.Faults.{admit_fault-none, phase_fault-none}
 use Rattle.sm_ownership.specs.History.{after_change}
 use Rattle.sm_ownership.specs.Rules.{admit_fault, phase_fault}
-use Rattle.sm_ownership.specs.Tables.{change_fault, change_fault_of, record_fault}
+use Rattle.sm_ownership.specs.Tables.{change_fault, record_fault}
 use Rattle.sm_word.specs.lemmas.Histories.{formed_change}
 use Rattle.sm_word.specs.Known.{NewlyNamesServer}
 use Rattle.sm_word.specs.Word.{IsWellFormed}
 
-or_parts : {X Y : Type 0} (f : X → Y) (a : Option X) (b : Option Y) → None ≡ option_or (option_map f a) b
-    → (a ≡ None) × (None ≡ b)
-or_parts f None b e = (refl, e)
-or_parts f (Some x) b e = absurd cc
+or_parts : {X : Type 0} (a b : Option X) → None ≡ option_or a b → (a ≡ None) × (None ≡ b)
+or_parts None b e = (refl, e)
+or_parts (Some x) b e = absurd cc
 
 two_parts : {X : Type 0} (room busy : Bool) (x y : X)
     → None ≡ (if not room then Some x else if busy then Some y else None) → (room ≡ true) × (busy ≡ false)
@@ -28,7 +27,7 @@ two_parts false busy x y e = absurd cc
 pub formed_next : (ceiling : ℕ) (state : Record) (change : Change) → None ≡ change_fault ceiling state change
     → IsWellFormed state → NewlyNamesServer change → ceiling < 2 ^ 36 → IsWellFormed (after_change state change)
 formed_next ceiling state change none formed known low =
-    let o = or_parts change_fault_of (phase_fault state.stand change) (record_fault ceiling state) none in
+    let o = or_parts (phase_fault state.stand change) (record_fault ceiling state) none in
     let r = two_parts (nat_lt state.generation ceiling) state.admitted _ _ o.1 in
     formed_change state change formed known r.1 (phase_fault-none state.stand change
     ∙ ap is_none o.0) (let below : state.generation < ceiling = ltb-true _ _ r.0 in omega arith)

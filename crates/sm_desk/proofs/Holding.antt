@@ -12,7 +12,7 @@ use Rattle.sm_ranges.specs.Stand.{AllNamed, names, passes, owner_of, other_of, i
 use Rattle.sm_ownership.specs.declared.change.Change.{Change}
 use Rattle.sm_ownership.specs.declared.change.Change.TheVariants.{Assign, PrepareAddShard, PrepareDropShard, AddShard}
 use Rattle.sm_ownership.specs.declared.change.Change.TheVariants.{DropShard, Cancel, Pause, Resume, Reassign}
-use Rattle.sm_ownership.specs.declared.change.PhaseFault.TheVariants.{SameServer, WrongPhase}
+use Rattle.sm_ownership.specs.declared.change_fault.ChangeFault.TheVariants.{SameServer, WrongPhase}
 use Rattle.sm_ownership.specs.Rules.{newly_named, phase_fault, stand_after}
 use Rattle.sm_place.specs.declared.place_fault.PlaceFault.TheVariants.{Leaving}
 use Rattle.sm_place.specs.Books.{BooksView, IsKnown, place_of, shard_at, state_of, with_stand}

@@ -11,7 +11,6 @@ use Rattle.sm_ownership.specs.declared.change.Change.{Change as AnyChange}
 use Rattle.sm_ownership.specs.declared.change.Change.TheVariants.{Resume}
 use Rattle.sm_ownership.specs.declared.change_fault.ChangeFault.TheVariants.{UnknownShard}
 use Rattle.sm_ownership.specs.Rules.{stand_after, phase_fault, newly_named}
-use Rattle.sm_ownership.specs.Tables.{change_fault_of}
 use Rattle.sm_place.specs.declared.place_fault.PlaceFault.TheVariants.{Leaving}
 use Rattle.sm_place.specs.declared.server_state.ServerState.TheVariants.{Up as IsUp, Asked as IsAsked}
 use Rattle.sm_place.specs.declared.server_state.ServerState.TheVariants.{Approved as IsApproved, Stopped as IsStopped}
@@ -75,7 +74,7 @@ desk_change_fault books shard change =
     let stand = (shard_at books.shards shard).stand in
     if not (nat_lt shard (length books.shards)) then Some (ChangeRefused UnknownShard)
     else if is_unknown books.servers (newly_named change) then Some UnknownServer
-    else option_or (option_map (λ fault. ChangeRefused (change_fault_of fault)) (phase_fault stand change))
+    else option_or (option_map ChangeRefused (phase_fault stand change))
     (option_or (room_fault books shard (newly_named change)) (resume_fault books (resumed stand change)))
 
 -- the fault of a step of the server's restart, where the server has a row

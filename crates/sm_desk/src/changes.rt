@@ -33,10 +33,7 @@ pub(crate) fn check_change(
     }
     books.soundness();
     let stand = books.stand(k);
-    let next = match change.apply_to(stand) {
-        Ok(next) => next,
-        Err(fault) => return Err(ChangeFault::from(fault).into()),
-    };
+    let next = change.apply_to(stand)?;
     if let Err(fault) = check_room(books, k, named) {
         return Err(fault);
     }

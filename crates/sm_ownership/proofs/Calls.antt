@@ -3,10 +3,9 @@
 use Rattle.std.proofs.Common.{◌≡◌, ◌≢◌, ℕ, ◌<◌, Bool, true, false, not, ◌&&◌, List, [], ◌∷◌, ◌++◌, length, refl, sym}
 use Rattle.std.proofs.Common.{ap, ◌∙◌, arith}
 use Rattle.std.specs.Prelude.{Option, Some, None, ◌↔◌, ◌==◌, is_none, nat_lt, reverse, if◌then◌else◌}
-use Rattle.std.specs.Option.{option_map, option_or}
+use Rattle.std.specs.Option.{option_or}
 use Rattle.std.proofs.lemmas.Bool.{and_from, and_parts, lt-ltb, ne_eqb}
 use Rattle.sm_ownership.specs.declared.change.Change.{Change}
-use Rattle.sm_ownership.specs.declared.change.PhaseFault.{PhaseFault}
 use Rattle.sm_ownership.specs.declared.change_fault.ChangeFault.{ChangeFault}
 use Rattle.sm_ownership.specs.declared.entry.Ending.{Ending}
 use Rattle.sm_ownership.specs.declared.entry.Entry.{Entry}
@@ -18,15 +17,15 @@ use Rattle.sm_ownership.specs.lemmas.Growth.{fits-push, legal-push, length-table
 use Rattle.sm_ownership.specs.History.{IsLegal, acts_as, after_kind, fits, is_admission_of, latest_of, record_at}
 use Rattle.sm_ownership.specs.History.{table_of}
 use Rattle.sm_ownership.specs.Rules.{admit_fault, phase_fault}
-use Rattle.sm_ownership.specs.Tables.{TableView, apply_fault, change_fault_of, record_fault, table_view, with_record}
+use Rattle.sm_ownership.specs.Tables.{TableView, apply_fault, record_fault, table_view, with_record}
 
 none_is_true : {X : Type 0} (option : Option X) → (option ≡ None) ↔ (is_none option ≡ true)
 none_is_true None = (λ is. refl, λ is. refl)
 none_is_true (Some x) = (λ is. absurd cc, λ is. absurd cc)
 
-none_of_change : (there : Bool) (x : ChangeFault) (phase : Option PhaseFault) (of_record : Option ChangeFault)
+none_of_change : (there : Bool) (x : ChangeFault) (phase of_record : Option ChangeFault)
     → (there && (is_none phase && is_none of_record))
-    ≡ is_none (if not there then Some x else option_or (option_map change_fault_of phase) of_record)
+    ≡ is_none (if not there then Some x else option_or phase of_record)
 none_of_change true x None of_record = refl
 none_of_change true x (Some phase) of_record = refl
 none_of_change false x phase of_record = refl

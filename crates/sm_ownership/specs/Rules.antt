@@ -6,8 +6,8 @@ use Rattle.sm_ranges.specs.declared.stand.Stand.TheVariants.{Vacant, Serving, Pr
 use Rattle.sm_ownership.specs.declared.change.Change.{Change}
 use Rattle.sm_ownership.specs.declared.change.Change.TheVariants.{Assign, PrepareAddShard, PrepareDropShard, AddShard}
 use Rattle.sm_ownership.specs.declared.change.Change.TheVariants.{DropShard, Cancel, Pause, Resume, Reassign}
-use Rattle.sm_ownership.specs.declared.change.PhaseFault.{PhaseFault}
-use Rattle.sm_ownership.specs.declared.change.PhaseFault.TheVariants.{WrongPhase, SameServer}
+use Rattle.sm_ownership.specs.declared.change_fault.ChangeFault.{ChangeFault}
+use Rattle.sm_ownership.specs.declared.change_fault.ChangeFault.TheVariants.{WrongPhase, SameServer}
 use Rattle.sm_ownership.specs.declared.mode.Mode.{Mode}
 use Rattle.sm_ownership.specs.declared.mode.Mode.TheVariants.{Direct, Forwarded}
 use Rattle.sm_ownership.specs.declared.record.Record.{Record}
@@ -36,13 +36,13 @@ names_owner (Paused owner) (Reassign next) = next == owner
 names_owner _ _ = false
 
 -- the reason for which a stand doesn't allow a change, where it leads nowhere from there
-abbrev pub phase_fault : Stand → Change → Option PhaseFault
+abbrev pub phase_fault : Stand → Change → Option ChangeFault
 phase_fault stand change =
     if is_some (stand_after stand change) then None
     else Some (if names_owner stand change then SameServer else WrongPhase)
 
 -- what a change of a stand answers: the stand that it leads to, or the first fault
-abbrev pub IsChangeResult : Stand → Change → Result Stand PhaseFault → Type 0
+abbrev pub IsChangeResult : Stand → Change → Result Stand ChangeFault → Type 0
 IsChangeResult stand change (Ok after) = (phase_fault stand change ≡ None) × (stand_after stand change ≡ Some after)
 IsChangeResult stand change (Err fault) = (phase_fault stand change ≡ Some fault) × (stand_after stand change ≡ None)
 

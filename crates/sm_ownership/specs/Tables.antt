@@ -1,13 +1,10 @@
 -- The ownership table: what it refuses, and what a change, an admission and the end of one leave.
 use Rattle.std.specs.Prelude.{ℕ, true, Option, Some, None, ◌≡◌, ◌<◌, ◌≤◌, nat_lt, not, if◌then◌else◌, List, length}
 use Rattle.std.specs.Prelude.{slice_set}
-use Rattle.std.specs.Option.{option_map, option_or}
+use Rattle.std.specs.Option.{option_or}
 use Rattle.sm_ownership.specs.declared.change.Change.{Change}
-use Rattle.sm_ownership.specs.declared.change.PhaseFault.{PhaseFault}
-use Rattle.sm_ownership.specs.declared.change.PhaseFault.TheVariants.{WrongPhase as NotItsPhase, SameServer as ItsOwner}
 use Rattle.sm_ownership.specs.declared.change_fault.ChangeFault.{ChangeFault}
-use Rattle.sm_ownership.specs.declared.change_fault.ChangeFault.TheVariants.{UnknownShard, WrongPhase, SameServer}
-use Rattle.sm_ownership.specs.declared.change_fault.ChangeFault.TheVariants.{Spent, Busy}
+use Rattle.sm_ownership.specs.declared.change_fault.ChangeFault.TheVariants.{UnknownShard, Spent, Busy}
 use Rattle.sm_ownership.specs.declared.record.Record.{Record}
 use Rattle.sm_ownership.specs.declared.entry.Entry.{Entry}
 use Rattle.sm_ownership.specs.History.{record_at, table_of, after_change, after_admit, after_done}
@@ -27,11 +24,6 @@ pub record IsBelowCeiling (ceiling : ℕ) (state : Record) : Type 0 where
   pub reached : state.generation ≤ ceiling
   pub room : state.admitted ≡ true → state.generation < ceiling
 
--- the fault of a stand, as the fault of a change
-abbrev pub change_fault_of : PhaseFault → ChangeFault
-change_fault_of NotItsPhase = WrongPhase
-change_fault_of ItsOwner = SameServer
-
 -- what a record refuses of a change that its stand allows
 abbrev pub record_fault : ℕ → Record → Option ChangeFault
 record_fault ceiling state =
@@ -41,8 +33,7 @@ record_fault ceiling state =
 
 -- the first reason for which a record doesn't allow a change
 abbrev pub change_fault : ℕ → Record → Change → Option ChangeFault
-change_fault ceiling state change =
-    option_or (option_map change_fault_of (phase_fault state.stand change)) (record_fault ceiling state)
+change_fault ceiling state change = option_or (phase_fault state.stand change) (record_fault ceiling state)
 
 -- the first reason for which the table refuses a change of a shard
 abbrev pub apply_fault : TableView → ℕ → Change → Option ChangeFault

@@ -1,6 +1,7 @@
 ghost use Rattle.std.specs.Prelude.{◌≡◌};
 ghost use Rattle.sm_ownership.specs.Rules.{IsChangeResult, newly_named};
 
+use crate::change_fault::ChangeFault;
 use sm_ranges::server_id::ServerId;
 use sm_ranges::stand::Stand;
 
@@ -27,18 +28,9 @@ pub enum Change {
     Reassign(ServerId),
 }
 
-/// Why a stand doesn't allow a change.
-#[derive(Clone, Copy, PartialEq, Eq, Drop)]
-pub enum PhaseFault {
-    /// The change doesn't begin from this kind of stand.
-    WrongPhase,
-    /// The change names the shard's owner as its new server.
-    SameServer,
-}
-
 impl Change {
-    /// The stand that the change leads to, or the first fault that applies.
-    pub fn apply_to(self, stand: Stand) -> Result<Stand, PhaseFault>
+    /// The stand that the change leads to, or the first fault that applies: `WrongPhase` or `SameServer`.
+    pub fn apply_to(self, stand: Stand) -> Result<Stand, ChangeFault>
         ensures { IsChangeResult stand self result }
     {
         match stand {
@@ -51,40 +43,40 @@ impl Change {
         }
     }
 
-    fn of_vacant(self) -> Result<Stand, PhaseFault>
+    fn of_vacant(self) -> Result<Stand, ChangeFault>
         ensures { IsChangeResult Stand.Vacant self result }
     {
         match self {
             Change::Assign(server) => Ok(Stand::Serving(server)),
-            _ => Err(PhaseFault::WrongPhase),
+            _ => Err(ChangeFault::WrongPhase),
         }
     }
 
-    fn of_serving(self, owner: ServerId) -> Result<Stand, PhaseFault>
+    fn of_serving(self, owner: ServerId) -> Result<Stand, ChangeFault>
         ensures { IsChangeResult (Stand.Serving owner) self result }
     {
         match self {
             Change::PrepareAddShard(next) => if next == owner {
-                Err(PhaseFault::SameServer)
+                Err(ChangeFault::SameServer)
             } else {
                 Ok(Stand::Prepared { owner, next })
             },
             Change::Pause => Ok(Stand::Paused(owner)),
-            _ => Err(PhaseFault::WrongPhase),
+            _ => Err(ChangeFault::WrongPhase),
         }
     }
 
-    fn of_prepared(self, owner: ServerId, next: ServerId) -> Result<Stand, PhaseFault>
+    fn of_prepared(self, owner: ServerId, next: ServerId) -> Result<Stand, ChangeFault>
         ensures { IsChangeResult (Stand.Prepared owner next) self result }
     {
         match self {
             Change::PrepareDropShard => Ok(Stand::Forwarding { owner, next }),
             Change::Cancel => Ok(Stand::Serving(owner)),
-            _ => Err(PhaseFault::WrongPhase),
+            _ => Err(ChangeFault::WrongPhase),
         }
     }
 
-    fn of_forwarding(self, owner: ServerId, next: ServerId) -> Result<Stand, PhaseFault>
+    fn of_forwarding(self, owner: ServerId, next: ServerId) -> Result<Stand, ChangeFault>
         ensures { IsChangeResult (Stand.Forwarding owner next) self result }
     {
         match self {
@@ -93,30 +85,30 @@ impl Change {
                 previous: owner,
             }),
             Change::Cancel => Ok(Stand::Serving(owner)),
-            _ => Err(PhaseFault::WrongPhase),
+            _ => Err(ChangeFault::WrongPhase),
         }
     }
 
-    fn of_taken(self, owner: ServerId, previous: ServerId) -> Result<Stand, PhaseFault>
+    fn of_taken(self, owner: ServerId, previous: ServerId) -> Result<Stand, ChangeFault>
         ensures { IsChangeResult (Stand.Taken owner previous) self result }
     {
         match self {
             Change::DropShard => Ok(Stand::Serving(owner)),
-            _ => Err(PhaseFault::WrongPhase),
+            _ => Err(ChangeFault::WrongPhase),
         }
     }
 
-    fn of_paused(self, owner: ServerId) -> Result<Stand, PhaseFault>
+    fn of_paused(self, owner: ServerId) -> Result<Stand, ChangeFault>
         ensures { IsChangeResult (Stand.Paused owner) self result }
     {
         match self {
             Change::Resume => Ok(Stand::Serving(owner)),
             Change::Reassign(next) => if next == owner {
-                Err(PhaseFault::SameServer)
+                Err(ChangeFault::SameServer)
             } else {
                 Ok(Stand::Serving(next))
             },
-            _ => Err(PhaseFault::WrongPhase),
+            _ => Err(ChangeFault::WrongPhase),
         }
     }
 

@@ -1,4 +1,3 @@
-use crate::change::PhaseFault;
 use crate::record::Record;
 use std::error::Error;
 use std::fmt;
@@ -31,17 +30,3 @@ impl fmt::Display for ChangeFault {
 }
 
 impl Error for ChangeFault {}
-
-impl From<PhaseFault> for ChangeFault {
-    ghost use Rattle.std.specs.Prelude.{◌≡◌};
-    ghost use Rattle.sm_ownership.specs.Tables.{change_fault_of};
-
-    ghost from_gives = { λ phase fault. fault ≡ change_fault_of phase };
-
-    fn from(phase: PhaseFault) -> ChangeFault {
-        match phase {
-            PhaseFault::WrongPhase => ChangeFault::WrongPhase,
-            PhaseFault::SameServer => ChangeFault::SameServer,
-        }
-    }
-}

@@ -28,7 +28,7 @@ pub mod route_fault;
 pub mod table;
 
 pub use admit_fault::AdmitFault;
-pub use change::{Change, PhaseFault};
+pub use change::Change;
 pub use change_fault::ChangeFault;
 pub use entry::{Ending, Entry, Kind};
 pub use mode::Mode;

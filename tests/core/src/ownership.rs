@@ -1,5 +1,5 @@
 use sm_ownership::record::MAX_GENERATION;
-use sm_ownership::{AdmitFault, Change, ChangeFault, Mode, PhaseFault, Record, Table};
+use sm_ownership::{AdmitFault, Change, ChangeFault, Mode, Record, Table};
 use sm_ranges::limits::{MAX_SERVER, MAX_SHARD, MAX_SHARDS};
 use sm_ranges::{ServerId, ShardId, Stand};
 use std::alloc::Global;
@@ -209,7 +209,7 @@ fn prepares_the_next(rt: &impl Abort, one: ServerId, two: ServerId) {
     };
     assert!(rt; prepare.newly_named() == Some(two) && Change::Pause.newly_named() == None);
     assert!(rt; prepare.apply_to(serving) == Ok(prepared));
-    assert!(rt; same.apply_to(serving) == Err(PhaseFault::SameServer));
+    assert!(rt; same.apply_to(serving) == Err(ChangeFault::SameServer));
 }
 
 // The next server executes what the owner forwards, below the ceiling.

@@ -5,7 +5,6 @@ use Rattle.std.specs.Option.{option_map, option_or}
 use Rattle.std.proofs.lemmas.Bool.{ltb-true}
 use Rattle.sm_ownership.specs.declared.change.Change.{Change}
 use Rattle.sm_ownership.specs.Rules.{phase_fault, newly_named}
-use Rattle.sm_ownership.specs.Tables.{change_fault_of}
 use Rattle.sm_place.specs.Books.{BooksView, shard_at}
 use Rattle.sm_desk.specs.declared.command.CommandFault.TheVariants.{Change as ChangeRefused}
 use Rattle.sm_desk.specs.Desk.{desk_change_fault, is_unknown, resume_fault, resumed, room_fault}
@@ -34,6 +33,6 @@ let_through books shard change none =
     let stand = (shard_at books.shards shard).stand in
     let all = no_fault (nat_lt shard (length books.shards)) (is_unknown books.servers (newly_named change)) _ _
     (phase_fault stand change)
-    (λ fault. ChangeRefused (change_fault_of fault)) (room_fault books shard (newly_named change))
+    ChangeRefused (room_fault books shard (newly_named change))
     (resume_fault books (resumed stand change)) none in
     record { within = ltb-true _ _ all.0; known = all.1; phase = all.2; room = all.3; stays = all.4 }
