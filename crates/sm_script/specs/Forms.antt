@@ -10,22 +10,40 @@ use Rattle.sm_script.specs.declared.topic.Topic.TheVariants.{Requests}
 use Rattle.sm_script.specs.declared.word.Word.{Word}
 use Rattle.sm_script.specs.declared.word.TheConstants.{FORMS}
 
--- what the grammar takes of a form: what the line becomes, the bytes of its word, what the words after it have to be,
--- and the topic
+-- all that a form says, by its bytes: what the line becomes, its word, what the words after it have to be, and what is
+-- printed of it
 pub record FormRow : Type 0 where
   pub word : Word
   pub name : List ℕ
+  pub arguments : List ℕ
   pub shapes : List Shape
   pub topic : Topic
+  pub help : List ℕ
+  pub example : List ℕ
 
 -- the row of a form of the code
 abbrev pub row_of_form : FormOf (Bor (List ℕ)) (Bor (List Shape)) → FormRow
-row_of_form form = record { word = form.word; name = form.name.now; shapes = form.shapes.now; topic = form.topic }
+row_of_form form = record {
+  word = form.word;
+  name = form.name.now;
+  arguments = form.arguments.now;
+  shapes = form.shapes.now;
+  topic = form.topic;
+  help = form.help.now;
+  example = form.example.now;
+}
 
 -- the table
 unfoldable pub table : List FormRow
-table =
-    map (λ form. record { word = form.word; name = form.name.now; shapes = form.shapes.now; topic = form.topic }) FORMS
+table = map (λ form. record {
+  word = form.word;
+  name = form.name.now;
+  arguments = form.arguments.now;
+  shapes = form.shapes.now;
+  topic = form.topic;
+  help = form.help.now;
+  example = form.example.now;
+}) FORMS
 
 -- the row whose word has these bytes
 abbrev pub form_named : List ℕ → Option FormRow
