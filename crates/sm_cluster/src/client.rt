@@ -1,4 +1,4 @@
-ghost use Rattle.std.specs.Prelude.{◌≡◌, ◌<◌, ◌⊎◌, None, Some, IfErr, IfOk, OnOk};
+ghost use Rattle.std.specs.Prelude.{◌≡◌, ◌<◌, ◌⊎◌, None, Some, IfErr, IfOk, OnOk, length};
 ghost use Rattle.std.specs.Arc.{arc_value};
 ghost use Rattle.sm_body.specs.Service.{meaning_of};
 ghost use Rattle.sm_ownership.specs.Routes.{routes_of};
@@ -98,13 +98,14 @@ impl<S: Service> Client<S> {
             (meaning_of S.initial S.next S.answer S.key_of) self.old self.new number request refused.fault) }
         ensures since { IsClientSince self.old self.new }
     {
-        let Some(route) = self.route(S::key(&request)) else {
+        let k = self.shard_of(&request);
+        let Some(route) = self.shard_route(k) else {
             return Err(CallRefused {
                 fault: CallFault::NoRoute,
                 back: Some(request),
             });
         };
-        self.call_at(rt, alloc, route.server, number, request)
+        self.call_for(rt, alloc, route.server, number, k, request)
     }
 
     /// Has this server answer the request, or one that it forwards it to. The answer's history extends all that the
@@ -127,7 +128,39 @@ impl<S: Service> Client<S> {
             (meaning_of S.initial S.next S.answer S.key_of) self.old self.new number request refused.fault) }
         ensures since { IsClientSince self.old self.new }
     {
-        match self.message(alloc, number, request) {
+        let k = self.shard_of(&request);
+        self.call_for(rt, alloc, server, number, k, request)
+    }
+
+    // The shard whose range covers the request's key.
+    fn shard_of(&self, request: &S::Request) -> ShardId
+        ensures within { result < length self.now.bounds }
+        ensures value { result ≡ shard_of self.now.bounds (S.key_of request.now) }
+    {
+        self.ground.layout.shard_of(S::key(request))
+    }
+
+    // `call_at`, for who has found the shard of the request's key.
+    fn call_for<R: Wait>(
+        &mut self,
+        rt: &R,
+        alloc: Global,
+        server: ServerId,
+        number: u64,
+        k: ShardId,
+        request: S::Request,
+    ) -> Result<Answer<S>, CallRefused<S::Request>>
+        requires within { k < length self.old.bounds }
+        requires shard { k ≡ shard_of self.old.bounds (S.key_of request) }
+        ensures answer { IfOk result
+            (λ answer. Gives (meaning_of S.initial S.next S.answer S.key_of) self.old number request answer) }
+        ensures answered { OnOk result (self.new ≡ self.old) }
+        ensures back { IfErr result (λ refused. HandsBack request refused) }
+        ensures fault { IfErr result (λ refused. FaultAt
+            (meaning_of S.initial S.next S.answer S.key_of) self.old self.new number request refused.fault) }
+        ensures since { IsClientSince self.old self.new }
+    {
+        match self.message(alloc, number, k, request) {
             Ok((message, receiver)) => {
                 let reply = exchange(rt, &*self.network, server, message, receiver);
                 self.taken(reply)
@@ -139,14 +172,17 @@ impl<S: Service> Client<S> {
         }
     }
 
-    // The message of a new call, and the end on which its reply is received. The request comes back where memory is
-    // refused.
+    // The message of a new call for the key's shard, and the end on which its reply is received. The request comes back
+    // where memory is refused.
     fn message(
         &mut self,
         alloc: Global,
         number: u64,
+        k: ShardId,
         request: S::Request,
     ) -> Result<(Message<S>, ReplyReceiver<S>), S::Request>
+        requires within { k < length self.old.bounds }
+        requires shard { k ≡ shard_of self.old.bounds (S.key_of request) }
         ensures message { IfOk result
             (λ made. IsCallOf (meaning_of S.initial S.next S.answer S.key_of) self.old number request made.0) }
         ensures receiver { IfOk result (λ made. made.1 ≡ Some made.0) }
@@ -156,7 +192,6 @@ impl<S: Service> Client<S> {
         let Ok(ground) = Arc::try_clone(&self.ground) else {
             return Err(request);
         };
-        let k = ground.layout.shard_of(S::key(&request));
         let note = ground.board.note(&mut self.pass);
         let envelope = Envelope::new(number, k, request, note);
         match reply_channel::<S>(alloc, &ground.layout, &envelope) {
@@ -232,6 +267,16 @@ impl<S: Service> Client<S> {
         ensures unchanged { self.new ≡ client_reading self.old self.new.router }
     {
         self.router.route(&self.ground.layout, key)
+    }
+
+    // `route`, for who has found the key's shard.
+    fn shard_route(&mut self, k: ShardId) -> Option<Route>
+        ensures later { Extends self.new.router.seen self.old.router.seen }
+        ensures route { (result ≡ routes_of self.new.router.seen k)
+            ⊎ ((result ≡ None) × (self.new.router.seen ≡ self.old.router.seen)) }
+        ensures unchanged { self.new ≡ client_reading self.old self.new.router }
+    {
+        self.router.shard_route(k)
     }
 
     /// Learns an answer: the client then has seen the history that the answer's note tells.

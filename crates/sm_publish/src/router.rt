@@ -44,7 +44,15 @@ impl Router {
         ensures route { (result ≡ routes_of self.new.seen (shard_of layout.now key.now))
             ⊎ ((result ≡ None) × (self.new.seen ≡ self.old.seen)) }
     {
-        replace_with(&mut self.reader, layout.shard_of(key), read)
+        self.shard_route(layout.shard_of(key))
+    }
+
+    /// `route`, for who has found the key's shard.
+    pub fn shard_route(&mut self, k: ShardId) -> Option<Route>
+        ensures later { Extends self.new.seen self.old.seen }
+        ensures route { (result ≡ routes_of self.new.seen k) ⊎ ((result ≡ None) × (self.new.seen ≡ self.old.seen)) }
+    {
+        replace_with(&mut self.reader, k, read)
     }
 }
 

@@ -4,7 +4,7 @@ use Rattle.sm_cluster.specs.Calls.{ClientValue}
 use Rattle.sm_cluster.specs.Exchanging.{IsLeftAfter, call_outcome}
 use Rattle.sm_cluster.proofs.Acking.{since_call}
 use Rattle.sm_cluster.proofs.Calling.{call_answer, call_answered, call_back, call_fault}
-use Rattle.sm_cluster.proofs.client.Client.call_at.Goals as goal
+use Rattle.sm_cluster.proofs.client.Client.call_for.Goals as goal
 
 pub returns-in-Ok-clause-answer : goal.returns-in-Ok-clause-answer
 returns-in-Ok-clause-answer g c =
