@@ -12,7 +12,7 @@ use super::Cluster;
 use super::telling::report;
 use sm_body::service::Service;
 use sm_control::{ControlFault, DrainFault};
-use sm_desk::Command;
+use sm_desk::{Command, Desk};
 use sm_ownership::route::Route;
 use sm_ownership::route_fault::RouteFault;
 use sm_place::Plan;
@@ -31,12 +31,12 @@ impl<S: Service> Cluster<S> {
         ensures told { Begins self.new.control.chair.seen self.new.told }
         ensures unchanged { TellsMore (cluster_commanded self.old self.new.control) self.new }
     {
-        let door = door_after(&command);
         let made = self.control.command(&self.ground.board, command);
         report(&self.ground.board, &mut self.control, &mut self.teller);
         match made {
             Ok(()) => {
-                self.network.set_door(door);
+                self.network
+                    .set_door(door_after(&command, self.control.desk()));
                 self.network.counters.count_command(&command);
                 Ok(())
             }
@@ -95,11 +95,15 @@ impl<S: Service> Cluster<S> {
     }
 }
 
-// Which door such a command opens or shuts once it is made.
-fn door_after(command: &Command) -> Option<(ServerId, bool)> {
+// The door of the server that the command names for a restart, and whether it is open: whether the desk, after the
+// command, has requests reach that server.
+fn door_after(command: &Command, desk: &Desk) -> Option<(ServerId, bool)> {
     match command {
-        Command::Stopped(server) | Command::Fail(server) => Some((*server, false)),
-        Command::Back(server) => Some((*server, true)),
-        _ => None,
+        Command::Change(_, _) => None,
+        Command::Ask(a)
+        | Command::Approve(a)
+        | Command::Stopped(a)
+        | Command::Back(a)
+        | Command::Fail(a) => Some((*a, desk.reaches(*a))),
     }
 }
