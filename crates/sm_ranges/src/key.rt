@@ -58,7 +58,7 @@ impl From<AllocError> for KeyFault {
 }
 
 impl Key {
-    ghost use Rattle.std.specs.Prelude.{length, ◌<◌};
+    ghost use Rattle.std.specs.Prelude.{length, is_none, nat_le, Some, ◌<◌, ◌&&◌};
     ghost use Rattle.sm_ranges.specs.Key.{IsKey};
 
     /// The key with these bytes, of which there are 1 to 255, or else the fault.
@@ -68,12 +68,35 @@ impl Key {
         ensures empty { (result ≡ Err KeyFault.Empty) ↔ (length bytes.now ≡ 0) }
         ensures too_long { (result ≡ Err KeyFault.TooLong) ↔ (MAX_KEY < length bytes.now) }
     {
+        if let Some(fault) = Key::fault_of(bytes) {
+            return Err(fault);
+        }
+        match Key::of(alloc, bytes) {
+            Ok(key) => Ok(key),
+            Err(_) => Err(KeyFault::NoMemory),
+        }
+    }
+
+    /// Why the bytes are no key, or nothing where there are 1 to 255. `NoMemory` never comes.
+    pub fn fault_of(bytes: &[u8]) -> Option<KeyFault>
+        ensures none { is_none result ≡ (nat_le 1 (length bytes.now) && nat_le (length bytes.now) MAX_KEY) }
+        ensures empty { (result ≡ Some KeyFault.Empty) ↔ (length bytes.now ≡ 0) }
+        ensures too_long { (result ≡ Some KeyFault.TooLong) ↔ (MAX_KEY < length bytes.now) }
+    {
         if bytes.is_empty() {
-            return Err(KeyFault::Empty);
+            return Some(KeyFault::Empty);
         }
         if bytes.len() > MAX_KEY {
-            return Err(KeyFault::TooLong);
+            return Some(KeyFault::TooLong);
         }
+        None
+    }
+
+    /// The key with these bytes, of which it is known that they are one.
+    pub fn of(alloc: Global, bytes: &[u8]) -> Result<Key, AllocError>
+        requires { IsKey bytes.now }
+        ensures { IfOk result (λ key. key ≡ bytes.now) }
+    {
         Ok(Key {
             bytes: Vec::from_slice(alloc, bytes)?,
         })
@@ -91,8 +114,6 @@ impl Key {
     pub fn try_clone(&self, alloc: Global) -> Result<Key, AllocError>
         ensures { IfOk result (λ key. key ≡ self.now) }
     {
-        Ok(Key {
-            bytes: Vec::from_slice(alloc, self.as_bytes())?,
-        })
+        Key::of(alloc, self.as_bytes())
     }
 }

@@ -6,7 +6,7 @@ ghost use Rattle.sm_script.specs.declared.shape.Shape.TheVariants.{Shard, Server
 use crate::load_clients::LoadClients;
 use crate::number::number_between;
 use crate::shape::MAX_CLIENTS;
-use sm_ranges::key::{Key, KeyFault};
+use sm_ranges::key::Key;
 use sm_ranges::limits::{MAX_SERVER, MAX_SHARD};
 use sm_ranges::server_id::ServerId;
 use sm_ranges::shard_id::ShardId;
@@ -41,9 +41,5 @@ pub(crate) fn key(alloc: Global, word: &[u8]) -> Result<Key, AllocError>
     requires { IsTrue (takes_word KeyShape word.now) }
     ensures { IfOk result (λ key. key ≡ word.now) }
 {
-    match Key::new(alloc, word) {
-        Ok(key) => Ok(key),
-        Err(KeyFault::NoMemory) => Err(AllocError),
-        Err(KeyFault::Empty | KeyFault::TooLong) => unreachable!(),
-    }
+    Key::of(alloc, word)
 }

@@ -4,7 +4,8 @@ ghost use Rattle.sm_script.specs.Grammar.{first_fault, takes_as_many, arguments_
 use crate::fault::LineFault;
 use crate::number::{increment, number_between};
 use crate::words::Words;
-use sm_ranges::limits::{MAX_KEY, MAX_SERVER, MAX_SHARD};
+use sm_ranges::key::Key;
+use sm_ranges::limits::{MAX_SERVER, MAX_SHARD};
 
 /// The greatest number of pairs that a scan may ask for.
 pub(crate) const MAX_PAIRS: u64 = 4_294_967_295;
@@ -46,7 +47,7 @@ impl Shape {
         match self {
             Shape::Shard => number_between(word, 0, u64::from(MAX_SHARD)).is_some(),
             Shape::Server => number_between(word, 1, u64::from(MAX_SERVER)).is_some(),
-            Shape::Key => !word.is_empty() && word.len() <= MAX_KEY,
+            Shape::Key => Key::fault_of(word).is_none(),
             Shape::Text => true,
             Shape::Increment => increment(word).is_some(),
             Shape::Limit => number_between(word, 0, MAX_PAIRS).is_some(),
