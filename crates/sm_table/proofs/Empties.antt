@@ -62,7 +62,8 @@ module _ {Q : Type 0} {bounds : List (List ℕ)} {desk : DeskView} {table : Tabl
   }
 
   pub IsTogether-empty : (count : ℕ) → length bounds ≡ count → table.records ≡ replicate count vacant
-      → stands_of desk ≡ replicate count Vacant → table.ceiling < 2 ^ 36 → bodies.pasts ≡ replicate count no_past → routes ≡ replicate count None → in_flight ≡ []
+      → stands_of desk ≡ replicate count Vacant → table.ceiling < 2 ^ 36 → bodies.pasts ≡ replicate count no_past
+      → routes ≡ replicate count None → in_flight ≡ []
       → in_hand ≡ replicate count None → IsTogether (view_of bounds desk table bodies routes in_flight in_hand)
   IsTogether-empty count layout records stands low pasts unpublished flights hands =
       let long : length in_hand ≡ count = ap length hands ∙ length-replicate count None in

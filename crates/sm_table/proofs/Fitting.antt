@@ -54,18 +54,20 @@ module _ {Q : Type 0} {bounds : List (List ℕ)} {desk : DeskView} {table : Tabl
       → ((hand : InHand Q) → slice_index_or hands shard None ≡ Some hand
       → (record_at (slice_set table.records shard state) shard).admitted ≡ true)
       → IsTogether (view_of bounds desk_now table_now bodies_now routes in_flight hands)
-  with_shard shard state desk_now table_now bodies_now hands is stands kept apart_kept here_few long others here = record {
-    layout = whole.layout ∙ sym long;
-    table = ap length records ∙ length-set table.records shard state ∙ whole.table ∙ sym long;
-    stands = stands ∙ ap (map (λ (one : Record). one.stand)) (sym records);
-    bodies = kept ∙ whole.bodies ∙ sym long;
-    routes = whole.routes ∙ sym long;
-    flights =
-        subst (λ count. All (λ (flight : Flight Q). flight.envelope.shard < count) in_flight) (sym long) whole.flights;
-    admitted = λ other hand is. admitted other hand is;
-    few = λ other. few other;
-    low = subst (λ (t : TableView). t.ceiling < 2 ^ 36) (sym is) whole.low;
-  }
+  with_shard shard state desk_now table_now bodies_now hands is stands kept apart_kept here_few long others here =
+      record {
+        layout = whole.layout ∙ sym long;
+        table = ap length records ∙ length-set table.records shard state ∙ whole.table ∙ sym long;
+        stands = stands ∙ ap (map (λ (one : Record). one.stand)) (sym records);
+        bodies = kept ∙ whole.bodies ∙ sym long;
+        routes = whole.routes ∙ sym long;
+        flights =
+            subst (λ count. All (λ (flight : Flight Q). flight.envelope.shard < count) in_flight)
+            (sym long) whole.flights;
+        admitted = λ other hand is. admitted other hand is;
+        few = λ other. few other;
+        low = subst (λ (t : TableView). t.ceiling < 2 ^ 36) (sym is) whole.low;
+      }
     where
       records : table_now.records ≡ slice_set table.records shard state
       records = ap (λ (t : TableView). t.records) is
