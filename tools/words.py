@@ -5,7 +5,8 @@ refused from the program's sources, so both stand there alone. What to do about 
 
     help_lines(WORD)        what the program's help says of a word, or None
     meaning_of(NAME)        why a line or settings are answered by this name, or None
-    to_do(NAME, VALUES)     what to do about it, or None; VALUES has K, A and N, and KEY, where they are known
+    to_do(NAME, VALUES)     what to do about it, or None; VALUES has K, A and N, and KEY, where they are known; of
+                            WrongPhase also by the shard's stand and the word of the line
     fault_in(LINE)          what is wrong with a line: its name and a sentence with the word or the number; or None
 """
 import collections
@@ -70,6 +71,13 @@ TO_DO = {
 }  # fmt: skip
 
 # What to do about a fault of settings.
+# What to do where a change doesn't begin from the shard's stand, by that or by the word.
+PHASE_TO_DO = {
+    "Vacant": "assign {K} A gives it an owner; place! does so for all of them in the shell",
+    "resume": "nothing is paused, so leave it as it is",
+    "reassign": "pause {K} comes first; or migrate {K} B, which pauses nothing",
+    "assign": "the shard has an owner: migrate {K} B moves it",
+}
 SETTINGS_TO_DO = {
     "BadJson": "./sm check FILE tells where; ./sm settings makes a line",
     "BadShape": "./sm check FILE names the member; ./sm settings makes a line",
@@ -126,8 +134,10 @@ class Named(collections.defaultdict):
         return name
 
 
-def to_do(name, values=()):
+def to_do(name, values=(), stand="", word=""):
     told = {**TO_DO, **SETTINGS_TO_DO}.get(name)
+    if name == "WrongPhase":
+        told = PHASE_TO_DO.get(stand) or PHASE_TO_DO.get(word) or told
     return told and told.format_map(Named(None, values))
 
 
