@@ -30,7 +30,8 @@ returns-clause-answer g c =
 
 pub returns-clause-answered : goal.returns-clause-answered
 returns-clause-answered g c =
-    answered_by_route c.args.self.now c.shard_route.new.self c.call_for.new.self c.call_for.result c.shard_route.ensures.unchanged
+    answered_by_route c.args.self.now c.shard_route.new.self c.call_for.new.self c.call_for.result
+    c.shard_route.ensures.unchanged
     c.call_for.ensures.answered
 
 pub returns-clause-fault : goal.returns-clause-fault
@@ -49,5 +50,6 @@ returns-clause-fault g c =
 
 pub returns-clause-since : goal.returns-clause-since
 returns-clause-since g c =
-    since_since c.args.self.now c.shard_route.new.self c.call_for.new.self (since_read c.args.self.now c.shard_route.new.self
+    since_since c.args.self.now c.shard_route.new.self c.call_for.new.self
+    (since_read c.args.self.now c.shard_route.new.self
     c.shard_route.ensures.unchanged c.shard_route.ensures.later) c.call_for.ensures.since
