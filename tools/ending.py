@@ -23,6 +23,17 @@ def of(name, main):
     return status
 
 
+def of_plain(told, main, *options):
+    """The same, of a tool that has these options alone: with --help it prints the head of its file, and it refuses others."""
+    name = os.path.basename(sys.argv[0])
+    if {"-h", "--help"} & set(sys.argv):
+        return of(name, lambda: print(told.strip()))
+    if unknown := [it for it in sys.argv[1:] if it.startswith("-") and it not in options]:
+        print(f"{name}: there is no {unknown[0]}; tools/{name} --help tells what there is", file=sys.stderr)
+        return 2
+    return of(name, main)
+
+
 def finished(main):
     """Runs it, and writes all that it left to be written."""
     try:
