@@ -2,7 +2,6 @@
 module, each with what this machine has for it."""
 import os
 import pathlib
-import re
 import shutil
 import subprocess
 
@@ -11,9 +10,6 @@ from testing.part import Verdict, verdict
 
 FOLDER = sources.TOP / "library"
 CRATE = FOLDER / "rust/durkenzo"
-PAGE = sources.TOP / "docs/LIBRARY.md"
-# A block of the page, below the file that it is a part of.
-BLOCK = re.compile(r"^<!-- (\S+) -->\n```\w+\n(.*?)^```$", re.S | re.M)
 PROVED = sources.CRATES / "sm_c/out/libsm_c.a"
 COUNTED = "every admission was counted\n"
 SECONDS = 170
@@ -34,14 +30,6 @@ def ran(name, command, folder, wanted=None, **env):
         return Verdict(name, f"it hadn't ended after {SECONDS} s")
     is_well = done.returncode == 0 and wanted in (None, done.stdout)
     return verdict(name, is_well, f"exit status {done.returncode}\n{done.stdout[-2000:]}{done.stderr[-2000:]}")
-
-
-def blocks():
-    """Each block of the page is a part of the file that it names, which is compiled and run."""
-    for file, text in BLOCK.findall(PAGE.read_text(encoding="utf-8")):
-        path = sources.TOP / file
-        is_well = path.is_file() and text in path.read_text(encoding="utf-8")
-        yield verdict(f"docs/LIBRARY.md has {file}", is_well)
 
 
 def in_rust(room):
@@ -80,7 +68,6 @@ def in_python(room):
 def passed(room):
     """All of it; nothing where the library wasn't built: that it has to be is the proofs' part."""
     room = pathlib.Path(room)
-    yield from blocks()
     if not PROVED.is_file():
         return
     if shutil.which("cargo"):
