@@ -19,9 +19,8 @@
 //! ```
 //!
 //! Which server is admitted to a shard, and that no two permits of a shard live at once, is decided by proved code.
-//! That this
-//! crate calls it as its contracts ask, and reaches a body through a permit alone, is not proved: it is the unsafe
-//! code here.
+//! That this crate calls it as its contracts ask, and reaches a body through a permit alone, is not proved: it is the
+//! unsafe code here.
 //!
 //! A pass has one permit at a time, and no permit outlives its end or its pass:
 //! ```compile_fail,E0499
@@ -64,6 +63,7 @@
 //! let board = Board::builder().servers(1).build(vec![std::rc::Rc::new(0)]).unwrap();
 //! std::thread::spawn(move || drop(board));
 //! ```
+#![warn(missing_docs)]
 mod board;
 mod control;
 mod fault;

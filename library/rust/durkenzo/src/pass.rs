@@ -19,6 +19,7 @@ pub enum Mode {
 /// Where the end of an admission left its shard.
 #[derive(Clone, Copy, Debug, PartialEq, Eq)]
 pub struct Front {
+    /// The shard.
     pub shard: u16,
     /// The shard's generation since then.
     pub generation: u64,
@@ -88,8 +89,7 @@ impl<T> Pass<T> {
 }
 
 /// The right to a shard's body, which nobody else has. The admission ends where the permit is dropped, also by a
-/// panic: the
-/// body then stays as the panic left it, and others are admitted to it.
+/// panic: the body then stays as the panic left it, and others are admitted to it.
 #[must_use = "the admission ends where the permit is dropped"]
 pub struct Permit<'a, T> {
     pass: &'a mut Pass<T>,
@@ -111,8 +111,17 @@ impl<T> Permit<'_, T> {
     }
 
     /// The shard's generation at this admission: a fencing token. Each later admission to the shard has a greater
-    /// one, so a
-    /// store that keeps the greatest that it saw, and refuses lesser ones, refuses late writes.
+    /// one, so a store that keeps the greatest that it saw, and refuses lesser ones, refuses late writes.
+    ///
+    /// ```
+    /// # use durkenzo::{Board, Mode};
+    /// let board = Board::builder().servers(1).build(vec![0u64])?;
+    /// board.control().assign(0, 1)?;
+    /// let mut pass = board.pass(1)?;
+    /// let earlier = pass.admit(0, Mode::Direct)?.generation();
+    /// assert!(pass.admit(0, Mode::Direct)?.generation() > earlier);
+    /// # Ok::<(), Box<dyn std::error::Error>>(())
+    /// ```
     pub fn generation(&mut self) -> u64 {
         let mut parts = RecordParts::default();
         // SAFETY: the handle is the pass's, which this permit has borrowed alone.

@@ -8,11 +8,26 @@ pub enum Stand {
     /// The owner executes requests.
     Serving(u16),
     /// The owner executes requests, and a migration to the next owner has begun.
-    Prepared { owner: u16, next: u16 },
+    Prepared {
+        /// The owner.
+        owner: u16,
+        /// The owner after the migration.
+        next: u16,
+    },
     /// The next owner executes what the owner forwards to it.
-    Forwarding { owner: u16, next: u16 },
+    Forwarding {
+        /// The owner, which forwards.
+        owner: u16,
+        /// The owner after the migration, which executes.
+        next: u16,
+    },
     /// The new owner executes requests, and the previous one forwards what still reaches it.
-    Taken { owner: u16, previous: u16 },
+    Taken {
+        /// The owner, which executes.
+        owner: u16,
+        /// The owner before the migration, which forwards.
+        previous: u16,
+    },
     /// The server owns the shard, and nobody executes requests.
     Paused(u16),
 }

@@ -15,14 +15,23 @@ use crate::{AdmitFault, ChangeFault, Mode, Record};
 /// A change of a shard's stand.
 #[derive(Clone, Copy, Debug, PartialEq, Eq)]
 pub enum Change {
+    /// Gives a vacant shard this owner.
     Assign(u16),
+    /// Begins a migration of the shard to this server.
     PrepareAddShard(u16),
+    /// Has the owner stop executing, and forward to the next owner.
     PrepareDropShard,
+    /// Makes the next owner the owner, to whom the previous one forwards.
     AddShard,
+    /// Ends the migration, as the previous owner drops the shard.
     DropShard,
+    /// Gives up a migration before `AddShard`.
     Cancel,
+    /// Has nobody execute the shard's requests.
     Pause,
+    /// Has the owner of a paused shard execute again.
     Resume,
+    /// Gives a paused shard this owner.
     Reassign(u16),
 }
 
