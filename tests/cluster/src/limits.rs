@@ -10,7 +10,7 @@ use sm_cluster::{Client, Cluster, Open, Setup, load};
 use sm_desk::{Command, Desk};
 use sm_ownership::{Change, Route};
 use sm_place::{Books, BooksFault};
-use sm_ranges::{Key, Layout, ServerId, Stand};
+use sm_ranges::{Key, ServerId, Stand};
 use sm_rows::limits::MAX_DOMAIN_DOWN;
 use sm_rows::{GroupRow, ServerRow, ShardRow, equal_domains};
 use sm_tasks::Tasks;
@@ -20,32 +20,7 @@ use std::process::Abort;
 use std::sync::Wait;
 use std::test::Fail;
 use std::thread::Threads;
-
-// The bytes of each shard's number.
-fn bytes_of(alloc: Global) -> Result<Vec<[u8; 2]>, AllocError> {
-    let mut bytes = Vec::new(alloc);
-    for number in 0..4_096u16 {
-        bytes.push(number.to_be_bytes())?;
-    }
-    Ok(bytes)
-}
-
-// The empty bound, and these but the first after it.
-fn bounds_of(alloc: Global, bytes: &[[u8; 2]]) -> Result<Vec<&[u8]>, AllocError> {
-    let mut bounds: Vec<&[u8]> = Vec::new(alloc);
-    for number in bytes {
-        let bound: &[u8] = if bounds.is_empty() { b"" } else { number };
-        bounds.push(bound)?;
-    }
-    Ok(bounds)
-}
-
-// All shards but the first begin at the two bytes of their number, so that the last one has each letter.
-fn layout_of<R: Abort>(rt: &R, alloc: Global) -> Layout {
-    let bytes = bytes_of(alloc).ok().expect(rt, "memory");
-    let bounds = bounds_of(alloc, &bytes).ok().expect(rt, "memory");
-    Layout::new(alloc, &bounds).ok().expect(rt, "a layout")
-}
+use test_fixture::layout_of;
 
 fn server_row(id: ServerId, domain: u16) -> ServerRow {
     ServerRow {
@@ -90,7 +65,7 @@ fn setup_of<R: Abort>(rt: &R, alloc: Global) -> Setup
 {
     let shards = shard_rows(alloc).ok().expect(rt, "memory");
     Setup {
-        layout: layout_of(rt, alloc),
+        layout: layout_of(alloc, 4_096).expect(rt, "a layout"),
         desk: desk_of(alloc, &shards).ok().expect(rt, "a desk"),
         ceiling: 1_000_000_000,
     }

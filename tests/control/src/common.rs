@@ -1,5 +1,5 @@
 //! Boards with a control, of which each test makes one.
-ghost use Rattle.std.specs.Prelude.{◌≡◌, ◌<◌, ◌≤◌, [], All, IfOk, length};
+ghost use Rattle.std.specs.Prelude.{◌≡◌, ◌<◌, ◌≤◌, All, IfOk, length};
 ghost use Rattle.sm_ranges.specs.declared.stand.Stand.TheVariants.{Vacant};
 
 use crate::running::Running;
@@ -14,6 +14,7 @@ use sm_tasks::Tasks;
 use sm_tasks::laws::all_up_meets_caps;
 use std::alloc::{AllocError, Global};
 use std::process::Abort;
+use test_fixture::new_bodies;
 
 // The shard with this number.
 pub(crate) fn shard(number: u16) -> ShardId
@@ -24,20 +25,6 @@ pub(crate) fn shard(number: u16) -> ShardId
         unreachable!()
     };
     k
-}
-
-// So many bodies that have applied nothing yet.
-fn bodies(alloc: Global, count: usize) -> Result<Vec<CounterText>, AllocError>
-    ensures length { IfOk result (λ bodies. length bodies.items ≡ count) }
-    ensures initial { IfOk result (λ bodies. All (λ body. body.base ≡ []) bodies.items) }
-    ensures before { IfOk result (λ bodies. All (λ body. body.before ≡ 0) bodies.items) }
-    ensures empty { IfOk result (λ bodies. All (λ body. body.requests ≡ []) bodies.items) }
-{
-    let mut bodies = Vec::with_capacity(alloc, count)?;
-    for _body in 0..count {
-        bodies.push(CounterText::new(alloc, 2_000))?;
-    }
-    Ok(bodies)
 }
 
 fn server_row(id: ServerId, domain: u16, capacity: u32) -> ServerRow {
@@ -117,14 +104,14 @@ pub(crate) fn new_running(
     requires { 1 ≤ count }
 {
     let desk = new_desk(alloc, count).ok().expect(rt, "a desk");
-    let bodies = bodies(alloc, count).ok().expect(rt, "memory");
+    let bodies = new_bodies(alloc, count, 2_000).ok().expect(rt, "memory");
     Running::new(rt, alloc, bodies, desk, ceiling)
 }
 
 /// A board of as many vacant shards as there are, and its control of servers 1 and 4,095. The second has room for one shard.
 pub(crate) fn new_full(rt: &impl Abort, alloc: Global) -> Running<CounterText> {
     let desk = full_desk(alloc).ok().expect(rt, "a desk");
-    let bodies = bodies(alloc, 4_096).ok().expect(rt, "memory");
+    let bodies = new_bodies(alloc, 4_096, 2_000).ok().expect(rt, "memory");
     Running::new(rt, alloc, bodies, desk, 68_719_476_735)
 }
 

@@ -1,7 +1,7 @@
 //! What the tests do at a server.
 ghost use Rattle.std.specs.Prelude.{◌≡◌, ◌<◌, []};
 
-use crate::running::{layout_of, new_bodies};
+use crate::running::LIMIT;
 use crate::server::{Served, Server};
 use sm_ownership::change::Change;
 use sm_ownership::record::Record;
@@ -9,6 +9,7 @@ use sm_ranges::{Key, ServerId, ShardId};
 use sm_service::{Bytes, CounterText, Reply, Request, Service};
 use std::alloc::Global;
 use std::process::Abort;
+use test_fixture::{layout_of, new_bodies};
 
 // The shard with this number.
 pub(crate) fn shard(number: u16) -> ShardId
@@ -41,8 +42,9 @@ pub(crate) fn new_owner<R: Abort>(rt: &R, alloc: Global, limit: usize) -> Server
 
 // Server 1 of the most shards that there are, none of which is its yet. The last one has the key of the requests below.
 pub(crate) fn new_full<R: Abort>(rt: &R, alloc: Global) -> Server<CounterText> {
-    let bodies = new_bodies(alloc, 4_096).ok().expect(rt, "bodies");
-    Server::of(rt, alloc, bodies, layout_of(rt, alloc, 4_096))
+    let bodies = new_bodies(alloc, 4_096, LIMIT).ok().expect(rt, "bodies");
+    let layout = layout_of(alloc, 4_096).expect(rt, "a layout");
+    Server::of(rt, alloc, bodies, layout)
 }
 
 pub(crate) fn get_of<R: Abort>(rt: &R, alloc: Global) -> Request {

@@ -5,7 +5,7 @@ ghost use Rattle.sm_ranges.specs.declared.stand.Stand.TheVariants.{Vacant};
 use sm_control::Control;
 use sm_desk::Desk;
 use sm_place::{Books, BooksFault};
-use sm_ranges::{Layout, ServerId};
+use sm_ranges::ServerId;
 use sm_rows::limits::MAX_DOMAIN_DOWN;
 use sm_rows::{GroupRow, ServerRow, ShardRow, equal_domains};
 use sm_rule::Board;
@@ -14,6 +14,10 @@ use sm_tasks::Tasks;
 use sm_tasks::laws::all_up_meets_caps;
 use std::alloc::{AllocError, Global};
 use std::process::Abort;
+use test_fixture::new_bodies;
+
+/// The most requests that a shard keeps.
+pub(crate) const LIMIT: usize = 1_000_000;
 
 /// How many shards the board has.
 pub(crate) const SHARDS: u16 = 64;
@@ -48,50 +52,10 @@ impl<S: Service> Running<S> {
 /// A board of vacant shards, and its control.
 pub(crate) fn new_running(rt: &impl Abort, alloc: Global) -> Running<CounterText> {
     let desk = new_desk(alloc).ok().expect(rt, "a desk");
-    let bodies = new_bodies(alloc, usize::from(SHARDS))
+    let bodies = new_bodies(alloc, usize::from(SHARDS), LIMIT)
         .ok()
         .expect(rt, "memory");
     Running::new(rt, alloc, bodies, desk)
-}
-
-/// The layout of so many shards: all but the first begin at the two bytes of their number.
-pub(crate) fn layout_of(rt: &impl Abort, alloc: Global, shards: u16) -> Layout {
-    let bytes = bytes_of(alloc, shards).ok().expect(rt, "memory");
-    let bounds = bounds_of(alloc, &bytes).ok().expect(rt, "memory");
-    Layout::new(alloc, &bounds).ok().expect(rt, "a layout")
-}
-
-// The bytes of each shard's number.
-fn bytes_of(alloc: Global, shards: u16) -> Result<Vec<[u8; 2]>, AllocError> {
-    let mut bytes = Vec::new(alloc);
-    for number in 0..shards {
-        bytes.push(number.to_be_bytes())?;
-    }
-    Ok(bytes)
-}
-
-// The empty bound, and these but the first after it.
-fn bounds_of(alloc: Global, bytes: &[[u8; 2]]) -> Result<Vec<&[u8]>, AllocError> {
-    let mut bounds: Vec<&[u8]> = Vec::new(alloc);
-    for number in bytes {
-        let bound: &[u8] = if bounds.is_empty() { b"" } else { number };
-        bounds.push(bound)?;
-    }
-    Ok(bounds)
-}
-
-/// So many bodies that have applied nothing yet.
-pub(crate) fn new_bodies(alloc: Global, count: usize) -> Result<Vec<CounterText>, AllocError>
-    ensures length { IfOk result (λ bodies. length bodies.items ≡ count) }
-    ensures initial { IfOk result (λ bodies. All (λ body. body.base ≡ []) bodies.items) }
-    ensures before { IfOk result (λ bodies. All (λ body. body.before ≡ 0) bodies.items) }
-    ensures empty { IfOk result (λ bodies. All (λ body. body.requests ≡ []) bodies.items) }
-{
-    let mut bodies = Vec::with_capacity(alloc, count)?;
-    for _body in 0..count {
-        bodies.push(CounterText::new(alloc, 1_000_000))?;
-    }
-    Ok(bodies)
 }
 
 fn server_row(id: ServerId, domain: u16) -> ServerRow {

@@ -2,7 +2,7 @@
 ghost use Rattle.std.specs.Arc.{arc_value};
 ghost use Rattle.std.specs.Prelude.{◌≡◌, None, IsSome};
 
-use crate::running::{Running, SHARDS, layout_of, new_running};
+use crate::running::{Running, SHARDS, new_running};
 use crate::server::note_of;
 use sm_control::{Control, ControlFault};
 use sm_desk::{Command, CommandFault};
@@ -19,6 +19,7 @@ use std::process::Abort;
 use std::sync::Arc;
 use std::thread;
 use std::thread::{JoinHandle, Threads};
+use test_fixture::layout_of;
 
 // How many envelopes of each shard a server is to serve: 100,032 in all.
 const ROUNDS: u32 = 1_563;
@@ -112,7 +113,7 @@ fn new_worker<R: Abort>(
     server: ServerId,
     alloc: Global,
 ) -> Worker {
-    let layout = layout_of(rt, alloc, SHARDS);
+    let layout = layout_of(alloc, SHARDS).expect(rt, "a layout");
     Worker {
         post: Post::new(rt, board, server, layout),
         places: no_places(alloc).ok().expect(rt, "memory"),

@@ -1,4 +1,4 @@
-ghost use Rattle.std.specs.Prelude.{◌≡◌, [], All, IfOk, length, map, replicate};
+ghost use Rattle.std.specs.Prelude.{◌≡◌, map, replicate};
 ghost use Rattle.sm_ranges.specs.declared.stand.Stand.TheVariants.{Vacant};
 ghost use Rattle.sm_tasks.specs.Caps.{MeetsCaps};
 
@@ -14,22 +14,9 @@ use sm_ranges::shard_id::ShardId;
 use sm_service::counter_text::CounterText;
 use sm_table::{Setup, World, WorldFault};
 use sm_tasks::Tasks;
-use std::alloc::{AllocError, Global};
+use std::alloc::Global;
 use std::process::Abort;
-
-// So many bodies that have applied nothing yet and keep two requests each.
-pub fn new_bodies(alloc: Global, count: usize) -> Result<Vec<CounterText>, AllocError>
-    ensures length { IfOk result (λ bodies. length bodies.items ≡ count) }
-    ensures initial { IfOk result (λ bodies. All (λ body. body.base ≡ []) bodies.items) }
-    ensures before { IfOk result (λ bodies. All (λ body. body.before ≡ 0) bodies.items) }
-    ensures empty { IfOk result (λ bodies. All (λ body. body.requests ≡ []) bodies.items) }
-{
-    let mut bodies = Vec::with_capacity(alloc, count)?;
-    for _body in 0..count {
-        bodies.push(CounterText::new(alloc, 2))?;
-    }
-    Ok(bodies)
-}
+use test_fixture::new_bodies;
 
 // Books of so many vacant shards, and of servers 1 to 4.
 fn books_of_four(rt: &impl Abort, alloc: Global, count: usize) -> Books
@@ -50,7 +37,7 @@ pub fn new_world(rt: &impl Abort, alloc: Global) -> World<CounterText> {
     let bounds: [&[u8]; 4] = [b"", b"m", b"s", b"x"];
     let layout = Layout::new(alloc, &bounds).ok().expect(rt, "a layout");
     let count = layout.count();
-    let bodies = new_bodies(alloc, count).ok().expect(rt, "bodies");
+    let bodies = new_bodies(alloc, count, 2).ok().expect(rt, "bodies");
     let setup = Setup {
         layout,
         desk: Desk::new(books_of_four(rt, alloc, count), Tasks::new(1)),

@@ -4,7 +4,7 @@ ghost use Rattle.sm_ranges.specs.declared.stand.Stand.TheVariants.{Vacant};
 ghost use Rattle.sm_tasks.specs.Caps.{MeetsCaps};
 
 use super::act::Act;
-use super::fixture::{Fixture, new_bodies};
+use super::fixture::Fixture;
 use super::seen;
 use super::told::Told;
 use crate::common::{new_books, shard};
@@ -21,6 +21,7 @@ use sm_table::{Setup, Step, World, WorldAnswer, WorldFault};
 use sm_tasks::Tasks;
 use std::alloc::{AllocError, Global};
 use std::process::Abort;
+use test_fixture::new_bodies;
 use test_server::refusing::Refusing;
 
 // Books of so many vacant shards, and of server 1.
@@ -37,7 +38,7 @@ fn made(rt: &impl Abort, alloc: Global) -> Result<World<CounterText>, AllocError
     let bounds: [&[u8]; 2] = [b"", b"m"];
     let layout = Layout::new(alloc, &bounds).ok().expect(rt, "a layout");
     let count = layout.count();
-    let bodies = new_bodies(alloc, count).ok().expect(rt, "bodies");
+    let bodies = new_bodies(alloc, count, 2).ok().expect(rt, "bodies");
     let setup = Setup {
         layout,
         desk: Desk::new(books_of_one(rt, alloc, count), Tasks::new(1)),
