@@ -130,6 +130,7 @@ class Program:
             f"docs/SCRIPT.md has\n{wanted}\nand it told\n{told}",
         )
         yield tool("explanations", self.path)
+        yield tool("doc-blocks", self.path)
 
     def scripts(self, *, count, on_threads):
         """Random scripts beside a plain model of docs/SCRIPT.md."""
