@@ -85,9 +85,8 @@ has_client client items = list_any (λ item. item.client == client) items
 abbrev pub by_last : {M Q R : Type 0} → ShardState M Q R → Item Q → Option (Decision R)
 by_last ready item = decided_by_last item.number (get nat_cmp ready.replica.lasts item.client)
 
--- the decision on a request: by its client's last one; else it waits where the record accepts it here, goes to whom
--- the record
--- forwards it, or is refused
+-- the decision on a request: by its client's last one; else it waits where the record accepts it here, goes to whom the
+-- record forwards it, or is refused
 abbrev pub decision_of : {M Q R : Type 0} → ShardState M Q R → ℕ → Item Q → Decision R
 decision_of ready me item =
     decided_or (by_last ready item)

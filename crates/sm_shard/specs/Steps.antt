@@ -1,6 +1,5 @@
 -- What a step of a server ensures, whatever the store is: if what the server holds is so there, and what comes to it
--- is, then
--- what it holds afterwards is so, what it sends may be sent, and what it claims is so.
+-- is, then what it holds afterwards is so, what it sends may be sent, and what it claims is so.
 use Rattle.std.specs.Prelude.{ℕ, Option, Some, None, IfSome, Result, Ok, Err, ◌≡◌, List, [], ◌∷◌, ◌++◌}
 use Rattle.std.specs.List.{AllByRecursion}
 use Rattle.sm_store.specs.declared.head.Head.{Head}

@@ -1,6 +1,5 @@
 -- What processes do to the store: which transaction each deed is, when a process may send it, by what it has read, and
--- when it
--- is right for the store as it is.
+-- when it is right for the store as it is.
 use Rattle.std.specs.Prelude.{ℕ, Bool, true, false, Some, ◌≡◌, ◌≢◌, ◌<◌, ◌≤◌, ◌+◌, IsTrue, List, [], ◌∷◌, ◌++◌, length}
 use Rattle.std.specs.Prelude.{slice_get}
 use Rattle.std.specs.List.{AllByRecursion}
@@ -20,8 +19,7 @@ use Rattle.sm_store.specs.Store.{leader_key, record_key, head_key, part_key, rev
 use Rattle.sm_store.specs.Store.{stored_record, head_of, part_at, made, made_until}
 
 -- what all processes go by: how many shards there are, the greatest generation of a record, and the parts of a base
--- that stands
--- for requests
+-- that stands for requests
 pub record Charter (Q P : Type 0) : Type 0 where
   pub count : ℕ
   pub ceiling : ℕ

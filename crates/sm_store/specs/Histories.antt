@@ -1,6 +1,5 @@
 -- The history of the ownership table that a store stands for, its latest entry first: each change of a record, and for
--- each
--- request an admission of the server that executed it, which ended with it.
+-- each request an admission of the server that executed it, which ended with it.
 use Rattle.std.specs.Prelude.{ℕ, List, [], ◌∷◌}
 use Rattle.sm_ownership.specs.declared.entry.Ending.TheVariants.{Request}
 use Rattle.sm_ownership.specs.declared.entry.Entry.{Entry}
