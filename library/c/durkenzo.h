@@ -23,7 +23,7 @@
 extern "C" {
 #endif
 
-/* What a caller keeps between calls: nothing, a control, a pass, or a pass with an admission. */
+/* What a caller keeps between calls: nothing, a control, a pass, a pass with an admission, a layout or a plan. */
 typedef struct durkenzo_handle {
     bool full;
     void *owned;
@@ -90,8 +90,20 @@ enum durkenzo_code {
     DURKENZO_NOT_APPROVED = 46,
     DURKENZO_STILL_SERVING = 47, /* a shard that names the server isn't paused */
     DURKENZO_ALREADY_UP = 48,
-    DURKENZO_ALREADY_FAILED = 49
+    DURKENZO_ALREADY_FAILED = 49,
+    DURKENZO_NO_BOUND = 50,        /* 50 to 53 refuse the bounds of a layout; or TOO_MANY */
+    DURKENZO_FIRST_NOT_EMPTY = 51,
+    DURKENZO_NOT_RISING = 52,      /* a bound isn't above the one before it */
+    DURKENZO_BOUND_TOO_LONG = 53,  /* a bound has more than 255 bytes */
+    DURKENZO_TOO_SHORT = 55,       /* what would be written is longer than the room for it */
+    DURKENZO_NO_MORE = 56          /* the plan has no such line */
 };
+
+/* A part of a text, from `start` up to `end`. */
+typedef struct durkenzo_part {
+    size_t start;
+    size_t end;
+} durkenzo_part;
 
 /* Changes of a shard's stand. The first two and the last name a server. */
 enum durkenzo_change_kind {
@@ -147,6 +159,30 @@ uint32_t durkenzo_change(durkenzo_handle *control, uint16_t shard, uint8_t kind,
 /* Makes this step of the server's restart. Errors: WRONG_HANDLE, BAD_ARGUMENT, UNKNOWN_SERVER, and 40 to 49. */
 uint32_t durkenzo_restart(durkenzo_handle *control, uint8_t kind, uint16_t server);
 
+/* Plans where the shards go that `from` serves, or for 0 the vacant ones: each by number to the lowest server that it
+ * fits, earlier moves counted as made. The plan's handle keeps the plan, in place of what it kept; nothing is moved.
+ * Errors: WRONG_HANDLE, BAD_ARGUMENT, UNKNOWN_SERVER, NO_MEMORY. */
+uint32_t durkenzo_plan(durkenzo_handle *control, durkenzo_handle *plan, uint16_t from);
+
+/* Writes the move at this place of the plan, from 0. Errors: WRONG_HANDLE, NO_MORE past the last. */
+uint32_t durkenzo_move(durkenzo_handle *plan, size_t at, uint16_t *shard, uint16_t *server);
+
+/* Writes the shard at this place, from 0, of those that fit no server. Errors: WRONG_HANDLE, NO_MORE. */
+uint32_t durkenzo_left(durkenzo_handle *plan, size_t at, uint16_t *shard);
+
+/* Makes a layout: shard k has the keys from bound k on, up to the next bound. The bounds are these parts of the text,
+ * 1 to 4,096 of at most 255 bytes, which rise from the empty one. The handle keeps it, in place of what it kept.
+ * Errors: BAD_ARGUMENT where a part isn't within the text, TOO_MANY, NO_MEMORY, and 50 to 53. */
+uint32_t durkenzo_layout(durkenzo_handle *layout, const uint8_t *text, size_t length, const durkenzo_part *parts,
+                         size_t count);
+
+/* Writes the shard of a key, which may be any bytes. Error: WRONG_HANDLE. */
+uint32_t durkenzo_shard_of(durkenzo_handle *layout, const uint8_t *key, size_t length, uint16_t *shard);
+
+/* Writes the bound at which the shard begins into `room` bytes, and its length; 255 bytes are always enough. Errors:
+ * WRONG_HANDLE, UNKNOWN_SHARD past the last, TOO_SHORT. */
+uint32_t durkenzo_bound(durkenzo_handle *layout, uint16_t shard, uint8_t *into, size_t room, size_t *length);
+
 /* Lets go what the handle keeps: an admission ends, and the handle keeps nothing. */
 void durkenzo_close(durkenzo_handle *handle);
 
@@ -164,6 +200,13 @@ uint32_t durkenzo_ended(uint64_t word, uint64_t *next);
 
 /* Writes the record of the word. Error: BAD_WORD. */
 uint32_t durkenzo_unpack(uint64_t word, durkenzo_record *record);
+
+/* Writes the word of the record. Error: BAD_ARGUMENT, where no shard has such a record. */
+uint32_t durkenzo_pack(const durkenzo_record *record, uint64_t *word);
+
+/* Writes whether the shard of this word has the server execute a request that came directly (`from` 0) or from that
+ * server. Errors: BAD_ARGUMENT, BAD_WORD. */
+uint32_t durkenzo_accepts(uint64_t word, uint16_t server, uint16_t from, bool *accepted);
 
 /* The server to which this one forwards requests on the shard of this word, or 0. */
 uint16_t durkenzo_forward(uint64_t word, uint16_t server);

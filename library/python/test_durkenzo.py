@@ -4,7 +4,7 @@ import threading
 import unittest
 
 import durkenzo
-from durkenzo import Board, Phase
+from durkenzo import Board, Layout, Phase, Plan
 
 
 class Counter:
@@ -38,6 +38,27 @@ class Boards(unittest.TestCase):
             self.assertEqual((two.look(0).phase, two.look(0).owner), (Phase.SERVING, 2))
             self.assertEqual(two.run(0, list), [1, 2])
             self.assertRaises(durkenzo.UnknownShard, two.look, 2)
+
+    def test_keys_have_shards(self):
+        layout = Layout([b"", b"g", b"n"])
+        self.assertEqual([layout.shard_of(it) for it in (b"", b"fz", b"g", b"m\xff", b"n", b"z")], [0, 0, 1, 1, 2, 2])
+        self.assertEqual([layout.range(it) for it in range(3)], [(b"", b"g"), (b"g", b"n"), (b"n", None)])
+        self.assertRaises(durkenzo.UnknownShard, layout.range, 3)
+        for fault, bounds in {
+            durkenzo.NoBound: [],
+            durkenzo.FirstNotEmpty: [b"a"],
+            durkenzo.NotRising: [b"", b"b", b"b"],
+            durkenzo.BoundTooLong: [b"", bytes(range(1, 256)) + b"a"],
+            durkenzo.TooMany: [b"", *(b"%04d" % it for it in range(4096))],
+        }.items():
+            self.assertRaises(fault, Layout, bounds)
+
+    def test_plans(self):
+        board = Board([[], [], []], servers=2)
+        board.control.assign(1, 2)
+        self.assertEqual(board.control.plan_assign(), Plan([(0, 1), (2, 1)], []))
+        self.assertEqual(board.control.plan_drain(2), Plan([(1, 1)], []))
+        self.assertRaises(durkenzo.UnknownServer, board.control.plan_drain, 3)
 
     def test_an_exception_ends_the_admission(self):
         board = Board([Counter()], servers=1)

@@ -6,6 +6,8 @@ use Rattle.sm_ownership.specs.declared.record.Record.{Record}
 use Rattle.sm_desk.specs.declared.command.Command.{Command}
 use Rattle.sm_desk.specs.declared.command.Command.TheVariants.{Change as ChangeOf, Ask, Approve, Stopped, Back, Fail}
 use Rattle.sm_handle.specs.Acts.{AdmitsHandle, CommandsHandle, LooksHandle, RefusesHandle}
+use Rattle.sm_handle.specs.Plans.{IsMove, IsPlanOf}
+use Rattle.sm_word.specs.Word.{server_of}
 use Rattle.sm_handle.specs.declared.act_fault.ActFault.{ActFault}
 use Rattle.sm_handle.specs.declared.handle_state.HandleState.{HandleState}
 use Rattle.sm_c.specs.Words.{ArePartsOf, CameFrom, IsOfKind}
@@ -57,3 +59,11 @@ abbrev pub RefusesRestart : Option HandleState → Option HandleState → ℕ �
 RefusesRestart before after kind server =
     (after ≡ before)
     ⊎ ((step : Command) × (fault : ActFault) × IsStep kind server step × CommandsHandle before after step (Err fault))
+
+-- the plan of the control for the shards that this server serves, or for 0 for the vacant ones
+abbrev pub PlansFrom : Option HandleState → Option HandleState → ℕ → Type 0
+PlansFrom chief plan from = IsPlanOf chief plan (server_of from)
+
+-- the move at this place of the plan is that of the shard to the server
+abbrev pub MovesTo : Option HandleState → ℕ → ℕ → ℕ → Type 0
+MovesTo plan at shard server = IsMove plan at (record { shard = shard; to = server })

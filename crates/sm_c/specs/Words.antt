@@ -1,5 +1,5 @@
 -- What calls of words say.
-use Rattle.std.specs.Prelude.{ℕ, ◌≡◌, None, true}
+use Rattle.std.specs.Prelude.{ℕ, Bool, ◌≡◌, None, true}
 use Rattle.sm_ranges.specs.Stand.{owner_number, other_number}
 use Rattle.sm_ownership.specs.declared.change.Change.{Change}
 use Rattle.sm_ownership.specs.declared.change.Change.TheVariants.{Assign, PrepareAddShard, PrepareDropShard, AddShard}
@@ -8,7 +8,7 @@ use Rattle.sm_ownership.specs.declared.mode.Mode.{Mode}
 use Rattle.sm_ownership.specs.declared.mode.Mode.TheVariants.{Direct, Forwarded}
 use Rattle.sm_ownership.specs.declared.record.Record.{Record}
 use Rattle.sm_ownership.specs.History.{after_admit, after_change, after_done}
-use Rattle.sm_ownership.specs.Rules.{admit_fault}
+use Rattle.sm_ownership.specs.Rules.{accepts, admit_fault}
 use Rattle.sm_ownership.specs.Tables.{change_fault}
 use Rattle.sm_word.specs.Word.{IsWellFormed, phase_of, word_of}
 use Rattle.sm_c.specs.declared.record_parts.RecordParts.{RecordParts}
@@ -65,3 +65,13 @@ abbrev pub ArePartsOf : RecordParts → Record → Type 0
 ArePartsOf parts state =
     (parts.phase ≡ phase_of state.stand) × (parts.admitted ≡ state.admitted) × (parts.owner ≡ owner_number state.stand)
     × (parts.other ≡ other_number state.stand) × (parts.generation ≡ state.generation)
+
+-- the word of the record that has these parts
+abbrev pub PacksParts : RecordParts → ℕ → Type 0
+PacksParts parts word = (state : Record) × IsWellFormed state × (word_of state ≡ word) × ArePartsOf parts state
+
+-- whether the record of this word has the server execute what comes to it so
+abbrev pub AcceptsWord : ℕ → ℕ → ℕ → Bool → Type 0
+AcceptsWord word server from answer =
+    (state : Record) × (mode : Mode) × IsWellFormed state × (word_of state ≡ word) × CameFrom from mode
+    × (accepts state server mode ≡ answer)

@@ -5,10 +5,11 @@ use crate::word_fault::WordFault;
 use sm_control::ControlFault;
 use sm_desk::CommandFault;
 use sm_foreign::OpenFault;
-use sm_handle::ActFault;
+use sm_handle::{ActFault, CutFault};
 use sm_ownership::admit_fault::AdmitFault;
 use sm_ownership::change_fault::ChangeFault;
 use sm_place::PlaceFault;
+use sm_ranges::layout::LayoutFault;
 use sm_rule::{AdmitRefusal, MakeFault};
 use sm_tasks::RestartFault;
 
@@ -65,6 +66,23 @@ pub(crate) fn code_of_open(fault: OpenFault) -> u32
     }
 }
 
+/// The code of why parts of a text are no layout.
+pub(crate) fn code_of_cut(fault: CutFault) -> u32
+    ensures { result ≢ 0 }
+{
+    match fault {
+        CutFault::Outside => BAD_ARGUMENT,
+        CutFault::Layout(fault) => match fault {
+            LayoutFault::Empty => 50,
+            LayoutFault::FirstNotEmpty => 51,
+            LayoutFault::NotRising { .. } => 52,
+            LayoutFault::KeyTooLong { .. } => 53,
+            LayoutFault::TooMany => 7,
+            LayoutFault::NoMemory => NO_MEMORY,
+        },
+    }
+}
+
 /// The code of why a call on a handle did nothing.
 pub(crate) fn code_of_act(fault: ActFault) -> u32
     ensures { result ≢ 0 }
@@ -72,7 +90,10 @@ pub(crate) fn code_of_act(fault: ActFault) -> u32
     match fault {
         ActFault::WrongHandle => WRONG_HANDLE,
         ActFault::UnknownShard => UNKNOWN_SHARD,
+        ActFault::UnknownServer => 30,
         ActFault::NoMemory => NO_MEMORY,
+        ActFault::TooShort => 55,
+        ActFault::NoMore => 56,
         ActFault::Admit(refusal) => match refusal {
             AdmitRefusal::Refused(fault, _) => code_of_admit(fault),
             AdmitRefusal::Raced { .. } => RACED,

@@ -11,10 +11,12 @@ ghost use Rattle.sm_ranges.specs.ServerId.{IsServer};
 ghost use Rattle.sm_word.specs.Word.{IsWellFormed, word_of};
 ghost use Rattle.sm_c.specs.Calls.{AdmitsFrom, ChangesBoard, LooksAt, RefusesChange, RefusesFrom, RefusesRestart};
 ghost use Rattle.sm_c.specs.Calls.{Restarts};
-ghost use Rattle.sm_c.specs.Words.{AdmitsWord, ArePartsOf, ChangesWord, EndsWord};
+ghost use Rattle.sm_c.specs.Words.{AcceptsWord, AdmitsWord, ArePartsOf, ChangesWord, EndsWord, PacksParts};
 
 mod codes;
 mod kinds;
+mod layouts;
+mod plans;
 mod read;
 mod record_parts;
 mod word_fault;
@@ -33,7 +35,7 @@ use sm_ranges::server_id::ServerId;
 use sm_ranges::shard_id::ShardId;
 use sm_word::word::unpack;
 use std::alloc::Global;
-use words::{admitted_word, changed_word, ended_word};
+use words::{admitted_word, changed_word, ended_word, packed_word};
 
 /// The word after a change of this kind and server.
 #[unsafe(no_mangle)]
@@ -112,6 +114,37 @@ pub extern "C" fn durkenzo_unpack(word: u64, parts: &mut RecordParts) -> u32
         }
         None => BAD_WORD,
     }
+}
+
+/// The word of the record with these parts.
+#[unsafe(no_mangle)]
+pub extern "C" fn durkenzo_pack(parts: &RecordParts, word: &mut u64) -> u32
+    ensures made { result ≡ 0 → PacksParts parts.now word.new }
+    ensures kept { result ≢ 0 → word.new ≡ word.old }
+{
+    match packed_word(parts) {
+        Some(made) => {
+            *word = made;
+            0
+        }
+        None => BAD_ARGUMENT,
+    }
+}
+
+/// Whether the shard of this word has the server execute a request that came directly (`from` 0) or from that server.
+#[unsafe(no_mangle)]
+pub extern "C" fn durkenzo_accepts(word: u64, server: u16, from: u16, accepted: &mut bool) -> u32
+    ensures made { result ≡ 0 → AcceptsWord word server from accepted.new }
+    ensures kept { result ≢ 0 → accepted.new ≡ accepted.old }
+{
+    let (Some(server), Some(mode)) = (ServerId::new(server), mode_of(from)) else {
+        return BAD_ARGUMENT;
+    };
+    let Some(state) = unpack(word) else {
+        return BAD_WORD;
+    };
+    *accepted = state.accepts(server, mode);
+    0
 }
 
 /// The server to which this one forwards requests on the shard of this word, or 0.

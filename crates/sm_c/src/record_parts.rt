@@ -1,4 +1,4 @@
-ghost use Rattle.std.specs.Prelude.{◌≡◌, unwrap_or};
+ghost use Rattle.std.specs.Prelude.{◌≡◌, IsTrue, unwrap_or};
 ghost use Rattle.sm_word.specs.Word.{phase_of};
 ghost use Rattle.sm_c.specs.Words.{ArePartsOf};
 
@@ -30,6 +30,17 @@ impl RecordParts {
             phase: phase(&state.stand),
             admitted: state.admitted,
         }
+    }
+
+    /// Whether these are the same parts.
+    pub(crate) fn is(&self, other: &RecordParts) -> bool
+        ensures { IsTrue result → self.now ≡ other.now }
+    {
+        self.generation == other.generation
+            && self.owner == other.owner
+            && self.other == other.other
+            && self.phase == other.phase
+            && self.admitted == other.admitted
     }
 }
 

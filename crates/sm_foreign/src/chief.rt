@@ -3,15 +3,16 @@ ghost use Rattle.std.specs.Arc.{arc_value};
 ghost use Rattle.sm_ranges.specs.declared.stand.Stand.TheVariants.{Vacant};
 ghost use Rattle.sm_control.specs.Controls.{Commanded};
 ghost use Rattle.sm_desk.specs.Desk.{desk_fault};
+ghost use Rattle.sm_place.specs.Plans.{assign_plan, drain_plan};
 ghost use Rattle.sm_foreign.specs.declared.foreign.Foreign.{Foreign as ForeignValue};
 ghost use Rattle.sm_foreign.specs.Chiefs.{foreign_of};
 
 use crate::foreign::Foreign;
 use crate::free_pass::FreePass;
 use crate::open_fault::OpenFault;
-use sm_control::{Control, ControlFault};
+use sm_control::{Control, ControlFault, DrainFault};
 use sm_desk::{Command, Desk};
-use sm_place::{Books, BooksFault};
+use sm_place::{Books, BooksFault, Plan};
 use sm_ranges::server_id::ServerId;
 use sm_rows::limits::MAX_DOMAIN_DOWN;
 use sm_rows::{GroupRow, ServerRow, ShardRow, equal_domains};
@@ -91,6 +92,20 @@ impl Chief {
     {
         let board = Arc::try_clone(&self.board)?;
         Ok(FreePass::new(board, server))
+    }
+
+    /// Where the control would have the vacant shards go. It is refused for want of memory alone.
+    pub fn plan_assign(&self, alloc: Global) -> Result<Plan, AllocError>
+        ensures { IfOk result (λ plan. plan ≡ assign_plan self.now.desk.books) }
+    {
+        self.control.plan_assign(alloc)
+    }
+
+    /// Where the control would have the shards of the server go; or the first fault that applies.
+    pub fn plan_drain(&self, alloc: Global, server: ServerId) -> Result<Plan, DrainFault>
+        ensures { IfOk result (λ plan. plan ≡ drain_plan self.now.desk.books server) }
+    {
+        self.control.plan_drain(alloc, server)
     }
 
     /// Gives the command to the control: it is made, or refused by the first fault that applies.

@@ -1,2 +1,4 @@
 pub mod Acts
+pub mod Layouts
 pub mod Owns
+pub mod Plans

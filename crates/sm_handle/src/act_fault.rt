@@ -8,8 +8,14 @@ pub enum ActFault {
     WrongHandle,
     /// The board has no such shard.
     UnknownShard,
+    /// The control has no such server.
+    UnknownServer,
     /// Memory was refused.
     NoMemory,
+    /// The caller has less room than what would be written.
+    TooShort,
+    /// The plan has no such line.
+    NoMore,
     /// The pass isn't admitted.
     Admit(AdmitRefusal),
     /// The command is refused.

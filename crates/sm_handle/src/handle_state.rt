@@ -1,4 +1,6 @@
 use sm_foreign::{Chief, Foreign, FreePass, LastingPass};
+use sm_place::Plan;
+use sm_ranges::layout::Layout;
 
 /// What a handle keeps.
 #[derive(Drop)]
@@ -11,4 +13,8 @@ pub enum HandleState {
     Free(FreePass<Foreign>),
     /// A pass with the permit that it holds.
     Held(LastingPass),
+    /// How the key space is cut into shards.
+    Layout(Layout),
+    /// Where shards are to go.
+    Plan(Plan),
 }

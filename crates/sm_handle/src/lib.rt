@@ -13,10 +13,16 @@ pub mod act_fault;
 pub mod acts;
 mod box_parts;
 mod calls;
+pub mod cut_fault;
 pub mod handle;
 pub mod handle_state;
+mod layouts;
 pub mod owned;
+mod plans;
+pub mod text_part;
 
 pub use act_fault::ActFault;
+pub use cut_fault::CutFault;
 pub use handle::Handle;
 pub use handle_state::HandleState;
+pub use text_part::TextPart;

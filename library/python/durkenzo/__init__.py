@@ -19,13 +19,15 @@ beyond its permit is up to the caller.
 from __future__ import annotations
 
 import ctypes
+import itertools
 import threading
+from dataclasses import dataclass
 from types import TracebackType
 from typing import Callable, Generic, Iterable, TypeVar
 
-from ._library import LIBRARY, Handle, RecordParts
+from ._library import LIBRARY, Handle, RecordParts, Part
 from .errors import *
-from .errors import Busy, DurkenzoError, NotAdmitted, Raced, IsAdmitted, error_of
+from .errors import BadArgument, Busy, DurkenzoError, IsAdmitted, NotAdmitted, Raced, error_of
 from .record import Phase, Record
 
 T = TypeVar("T")
@@ -141,6 +143,24 @@ class Pass(_Kept, Generic[T]):
         self.close()
 
 
+@dataclass(frozen=True)
+class Plan:
+    """Where shards are to go: pairs of a shard and a server; and the shards that fit no server in their turn."""
+
+    moves: list[tuple[int, int]]
+    left: list[int]
+
+    @staticmethod
+    def _of(handle: Handle) -> Plan:
+        plan, shard, server = Plan([], []), ctypes.c_uint16(), ctypes.c_uint16()
+        at, places = ctypes.byref(handle), (ctypes.byref(shard), ctypes.byref(server))
+        while LIBRARY.durkenzo_move(at, len(plan.moves), *places) == 0:
+            plan.moves.append((shard.value, server.value))
+        while LIBRARY.durkenzo_left(at, len(plan.left), places[0]) == 0:
+            plan.left.append(shard.value)
+        return plan
+
+
 class Control(Generic[T]):
     """Moves the shards of a board between its servers. Threads may share it: each call takes the control's lock."""
 
@@ -221,6 +241,24 @@ class Control(Generic[T]):
         """Notes that the server failed."""
         self._restart(5, server)
 
+    def plan_assign(self) -> Plan:
+        """Plans where the vacant shards go: each by number to the lowest server that it fits, earlier moves counted
+        as made. Nothing is moved. Raises NoMemory."""
+        return self._plan(0)
+
+    def plan_drain(self, server: int) -> Plan:
+        """Plans where the shards go that this server serves, to other servers. Nothing is moved. Raises UnknownServer,
+        BadArgument or NoMemory."""
+        if server == 0:
+            raise BadArgument()
+        return self._plan(server)
+
+    def _plan(self, server: int) -> Plan:
+        kept = _Kept()
+        with self._board._lock:
+            _check(LIBRARY.durkenzo_plan(ctypes.byref(self._board._handle), ctypes.byref(kept._handle), server))
+        return Plan._of(kept._handle)
+
     @staticmethod
     def _again(change: Callable[[], None]) -> None:
         while True:
@@ -253,3 +291,43 @@ class Board(_Kept, Generic[T]):
     def new_pass(self, server: int) -> Pass[T]:
         """Returns a new pass, admitted as this server. Raises BadArgument or NoMemory."""
         return Pass(self, server)
+
+
+class Layout(_Kept):
+    """How keys are given to shards: shard k has the keys from bound k on, up to the next bound. Threads may share it:
+    each call takes its lock."""
+
+    def __init__(self, bounds: Iterable[bytes]) -> None:
+        """Makes the layout with these bounds: 1 to 4,096 of at most 255 bytes, which rise from the empty one.
+
+        Raises NoBound, FirstNotEmpty, NotRising, BoundTooLong, TooMany or NoMemory.
+        """
+        super().__init__()
+        self._lock = threading.Lock()
+        texts = list(bounds)
+        ends = list(itertools.accumulate(map(len, texts)))
+        parts = (Part * len(texts))(*(Part(end - len(it), end) for it, end in zip(texts, ends)))
+        text = b"".join(texts)
+        _check(LIBRARY.durkenzo_layout(ctypes.byref(self._handle), text, len(text), parts, len(texts)))
+        self._count = len(texts)
+
+    def __len__(self) -> int:
+        return self._count
+
+    def shard_of(self, key: bytes) -> int:
+        """Returns the shard of the key, which may be any bytes."""
+        shard = ctypes.c_uint16()
+        with self._lock:
+            _check(LIBRARY.durkenzo_shard_of(ctypes.byref(self._handle), key, len(key), ctypes.byref(shard)))
+        return shard.value
+
+    def range(self, shard: int) -> tuple[bytes, bytes | None]:
+        """Returns the bound at which the shard begins, and that of the next shard, if there is one. Raises
+        UnknownShard."""
+        return self._bound(shard), self._bound(shard + 1) if shard + 1 < self._count else None
+
+    def _bound(self, shard: int) -> bytes:
+        into, length = ctypes.create_string_buffer(255), ctypes.c_size_t()
+        with self._lock:
+            _check(LIBRARY.durkenzo_bound(ctypes.byref(self._handle), shard, into, 255, ctypes.byref(length)))
+        return into.raw[: length.value]

@@ -20,6 +20,12 @@ class RecordParts(ctypes.Structure):
     _fields_ = [("generation", u64), ("owner", u16), ("other", u16), ("phase", u8), ("admitted", ctypes.c_bool)]
 
 
+class Part(ctypes.Structure):
+    """A part of a text."""
+
+    _fields_ = [("start", ctypes.c_size_t), ("end", ctypes.c_size_t)]
+
+
 def found() -> str:
     """Returns where the library is."""
     here = pathlib.Path(__file__).resolve().parent
@@ -35,6 +41,7 @@ def found() -> str:
 def loaded() -> ctypes.CDLL:
     """Returns the library with the types of its calls."""
     library, handle, record, number = ctypes.CDLL(found()), *map(ctypes.POINTER, (Handle, RecordParts, u64))
+    size, shard, text = ctypes.c_size_t, ctypes.POINTER(u16), ctypes.c_char_p
     calls = {
         "open": [handle, number, ctypes.c_size_t, u16, u16, u64],
         "pass": [handle, handle, u16],
@@ -43,6 +50,12 @@ def loaded() -> ctypes.CDLL:
         "finish": [handle, number],
         "change": [handle, u16, u8, u16, record],
         "restart": [handle, u8, u16],
+        "plan": [handle, handle, u16],
+        "move": [handle, size, shard, shard],
+        "left": [handle, size, shard],
+        "layout": [handle, text, size, ctypes.POINTER(Part), size],
+        "shard_of": [handle, text, size, shard],
+        "bound": [handle, u16, text, size, ctypes.POINTER(size)],
     }
     for name, types in calls.items():
         call = getattr(library, f"durkenzo_{name}")

@@ -39,6 +39,10 @@ __all__ = [
     "StillServing",
     "AlreadyUp",
     "AlreadyFailed",
+    "NoBound",
+    "FirstNotEmpty",
+    "NotRising",
+    "BoundTooLong",
 ]
 
 
@@ -83,7 +87,7 @@ class NoShard(DurkenzoError):
 
 
 class TooMany(DurkenzoError):
-    """A board has at most 4,096 shards."""
+    """A board or a layout has at most 4,096 shards."""
 
     code = 7
 
@@ -254,6 +258,30 @@ class AlreadyFailed(DurkenzoError):
     """The server has failed already."""
 
     code = 49
+
+
+class NoBound(DurkenzoError):
+    """A layout has at least one bound."""
+
+    code = 50
+
+
+class FirstNotEmpty(DurkenzoError):
+    """The first bound is not empty."""
+
+    code = 51
+
+
+class NotRising(DurkenzoError):
+    """A bound is not above the one before it."""
+
+    code = 52
+
+
+class BoundTooLong(DurkenzoError):
+    """A bound has more than 255 bytes."""
+
+    code = 53
 
 
 _READ = {13, 14, 15, 21, 22, 23, 24, 25, 26}

@@ -1,6 +1,7 @@
 use crate::board::Shared;
-use crate::fault::{ChangeFault, RestartFault};
-use crate::raw::{self, RecordParts};
+use crate::fault::{ChangeFault, PlanFault, RestartFault};
+use crate::plan::Plan;
+use crate::raw::{self, Handle, RecordParts};
 use crate::record::Record;
 use std::sync::Arc;
 
@@ -90,6 +91,29 @@ impl<T> Control<T> {
     /// Notes that the server failed.
     pub fn fail(&self, server: u16) -> Result<(), RestartFault> {
         self.restart(5, server)
+    }
+
+    /// Plans where the vacant shards go: each by number to the lowest server that it fits, earlier moves counted as
+    /// made. Nothing is moved.
+    pub fn plan_assign(&self) -> Result<Plan, PlanFault> {
+        self.plan(0)
+    }
+
+    /// Plans where the shards go that this server serves, to other servers. Nothing is moved.
+    pub fn plan_drain(&self, server: u16) -> Result<Plan, PlanFault> {
+        match server {
+            0 => Err(PlanFault::UnknownServer),
+            server => self.plan(server),
+        }
+    }
+
+    fn plan(&self, from: u16) -> Result<Plan, PlanFault> {
+        let mut plan = Handle::empty();
+        // SAFETY: the control's handle is locked, and the other is this call's alone.
+        match unsafe { raw::durkenzo_plan(&mut *self.shared.chief(), &mut plan, from) } {
+            0 => Ok(Plan::of(plan)),
+            code => Err(PlanFault::of(code)),
+        }
     }
 
     fn change(&self, shard: u16, kind: u8, server: u16) -> Result<(), ChangeFault> {

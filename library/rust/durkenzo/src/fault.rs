@@ -108,6 +108,81 @@ pub enum RestartFault {
     AlreadyFailed,
 }
 
+/// Why bounds are no layout.
+#[derive(Clone, Copy, Debug, PartialEq, Eq)]
+pub enum LayoutFault {
+    /// A layout has at least one bound.
+    Empty,
+    /// The first bound has a byte or more.
+    FirstNotEmpty,
+    /// A bound isn't above the one before it.
+    NotRising,
+    /// A bound has more than 255 bytes.
+    BoundTooLong,
+    /// A layout has at most 4,096 bounds.
+    TooMany,
+    /// Memory was refused.
+    NoMemory,
+}
+
+/// Why there is no plan.
+#[derive(Clone, Copy, Debug, PartialEq, Eq)]
+pub enum PlanFault {
+    /// There is no such server.
+    UnknownServer,
+    /// Memory was refused.
+    NoMemory,
+}
+
+impl LayoutFault {
+    pub(crate) fn of(code: u32) -> LayoutFault {
+        match code {
+            3 => LayoutFault::NoMemory,
+            7 => LayoutFault::TooMany,
+            50 => LayoutFault::Empty,
+            51 => LayoutFault::FirstNotEmpty,
+            52 => LayoutFault::NotRising,
+            53 => LayoutFault::BoundTooLong,
+            other => unreachable!("a layout answered code {other}"),
+        }
+    }
+}
+
+impl PlanFault {
+    pub(crate) fn of(code: u32) -> PlanFault {
+        match code {
+            2 | 30 => PlanFault::UnknownServer,
+            3 => PlanFault::NoMemory,
+            other => unreachable!("a plan answered code {other}"),
+        }
+    }
+}
+
+impl fmt::Display for LayoutFault {
+    fn fmt(&self, f: &mut fmt::Formatter<'_>) -> fmt::Result {
+        f.write_str(match self {
+            LayoutFault::Empty => "a layout has at least one bound",
+            LayoutFault::FirstNotEmpty => "the first bound is not empty",
+            LayoutFault::NotRising => "a bound is not above the one before it",
+            LayoutFault::BoundTooLong => "a bound has more than 255 bytes",
+            LayoutFault::TooMany => "a layout has at most 4,096 bounds",
+            LayoutFault::NoMemory => "out of memory",
+        })
+    }
+}
+
+impl fmt::Display for PlanFault {
+    fn fmt(&self, f: &mut fmt::Formatter<'_>) -> fmt::Result {
+        f.write_str(match self {
+            PlanFault::UnknownServer => "there is no such server",
+            PlanFault::NoMemory => "out of memory",
+        })
+    }
+}
+
+impl Error for LayoutFault {}
+impl Error for PlanFault {}
+
 impl BuildFault {
     pub(crate) fn of(code: u32) -> BuildFault {
         match code {

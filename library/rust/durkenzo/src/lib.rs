@@ -67,13 +67,20 @@
 mod board;
 mod control;
 mod fault;
+mod layout;
 mod pass;
+mod plan;
 mod raw;
 mod record;
 pub mod word;
 
 pub use board::{Board, Builder};
 pub use control::Control;
-pub use fault::{AdmitFault, BuildFault, ChangeFault, PassFault, RestartFault, UnknownShard};
+pub use fault::{
+    AdmitFault, BuildFault, ChangeFault, LayoutFault, PassFault, PlanFault, RestartFault,
+    UnknownShard,
+};
+pub use layout::Layout;
 pub use pass::{Front, Mode, Pass, Permit};
+pub use plan::{Move, Plan};
 pub use record::{Record, Stand};

@@ -39,6 +39,14 @@ pub(crate) struct RecordParts {
     pub(crate) admitted: bool,
 }
 
+/// A part of a text.
+#[repr(C)]
+#[derive(Clone, Copy)]
+pub(crate) struct Part {
+    pub(crate) start: usize,
+    pub(crate) end: usize,
+}
+
 extern "C" {
     pub(crate) fn durkenzo_open(
         chief: *mut Handle,
@@ -66,6 +74,36 @@ extern "C" {
         read: *mut RecordParts,
     ) -> u32;
     pub(crate) fn durkenzo_restart(chief: *mut Handle, kind: u8, server: u16) -> u32;
+    pub(crate) fn durkenzo_plan(chief: *mut Handle, plan: *mut Handle, from: u16) -> u32;
+    pub(crate) fn durkenzo_move(
+        plan: *mut Handle,
+        at: usize,
+        shard: *mut u16,
+        server: *mut u16,
+    ) -> u32;
+    pub(crate) fn durkenzo_left(plan: *mut Handle, at: usize, shard: *mut u16) -> u32;
+    pub(crate) fn durkenzo_layout(
+        layout: *mut Handle,
+        text: *const u8,
+        length: usize,
+        parts: *const Part,
+        count: usize,
+    ) -> u32;
+    pub(crate) fn durkenzo_shard_of(
+        layout: *mut Handle,
+        key: *const u8,
+        length: usize,
+        shard: *mut u16,
+    ) -> u32;
+    pub(crate) fn durkenzo_bound(
+        layout: *mut Handle,
+        shard: u16,
+        into: *mut u8,
+        room: usize,
+        length: *mut usize,
+    ) -> u32;
+    pub(crate) fn durkenzo_pack(parts: *const RecordParts, word: *mut u64) -> u32;
+    pub(crate) fn durkenzo_accepts(word: u64, server: u16, from: u16, accepted: *mut bool) -> u32;
     pub(crate) fn durkenzo_close(handle: *mut Handle);
     pub(crate) fn durkenzo_changed(
         word: u64,

@@ -64,6 +64,24 @@ impl Record {
         }
     }
 
+    pub(crate) fn parts(&self) -> RecordParts {
+        let (phase, owner, other) = match self.stand {
+            Stand::Vacant => (0, 0, 0),
+            Stand::Serving(owner) => (1, owner, 0),
+            Stand::Prepared { owner, next } => (2, owner, next),
+            Stand::Forwarding { owner, next } => (3, owner, next),
+            Stand::Taken { owner, previous } => (4, owner, previous),
+            Stand::Paused(owner) => (5, owner, 0),
+        };
+        RecordParts {
+            generation: self.generation,
+            owner,
+            other,
+            phase,
+            admitted: self.admitted,
+        }
+    }
+
     /// The server that owns the shard.
     pub fn owner(&self) -> Option<u16> {
         match self.stand {

@@ -7,6 +7,8 @@
 //! let admitted = word::admitted(served, 7, durkenzo::Mode::Direct, 100)?;
 //! assert_eq!(word::record(admitted).unwrap().stand, Stand::Serving(7));
 //! assert_eq!(word::record(word::ended(admitted).unwrap()).unwrap().generation, 3);
+//! assert_eq!(word::accepts(admitted, 7, durkenzo::Mode::Direct), Some(true));
+//! assert_eq!(word::of(&word::record(admitted).unwrap()), Some(admitted));
 //! # Ok::<(), Box<dyn std::error::Error>>(())
 //! ```
 use crate::raw::{self, RecordParts};
@@ -57,6 +59,32 @@ pub fn record(word: u64) -> Option<Record> {
     // SAFETY: the record is this call's alone.
     match unsafe { raw::durkenzo_unpack(word, &mut parts) } {
         0 => Some(Record::of(&parts)),
+        _ => None,
+    }
+}
+
+/// The word of the record, if a shard may have such a record.
+pub fn of(record: &Record) -> Option<u64> {
+    let mut word = 0;
+    // SAFETY: both are this call's alone.
+    match unsafe { raw::durkenzo_pack(&record.parts(), &mut word) } {
+        0 => Some(word),
+        _ => None,
+    }
+}
+
+/// Whether the shard of this word has the server execute a request that came so; none where no record has the word, or
+/// a server has no number from 1 to 4,095.
+pub fn accepts(word: u64, server: u16, mode: Mode) -> Option<bool> {
+    let from = match mode {
+        Mode::Direct => 0,
+        Mode::Forwarded(0) => return None,
+        Mode::Forwarded(server) => server,
+    };
+    let mut accepted = false;
+    // SAFETY: the answer is this call's alone.
+    match unsafe { raw::durkenzo_accepts(word, server, from, &mut accepted) } {
+        0 => Some(accepted),
         _ => None,
     }
 }

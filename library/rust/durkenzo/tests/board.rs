@@ -1,4 +1,7 @@
-use durkenzo::{AdmitFault, Board, BuildFault, ChangeFault, Mode, RestartFault, Stand};
+use durkenzo::{
+    word, AdmitFault, Board, BuildFault, ChangeFault, Layout, LayoutFault, Mode, Move, PlanFault,
+    Record, RestartFault, Stand,
+};
 use std::error::Error;
 use std::panic::{catch_unwind, AssertUnwindSafe};
 
@@ -45,6 +48,86 @@ fn sizes_are_checked() {
             .unwrap()
             .count(),
         4096
+    );
+}
+
+#[test]
+fn keys_have_shards() {
+    let layout = Layout::new(["", "g", "n"]).unwrap();
+    let shards = ["", "fz", "g", "mz", "n", "z"].map(|key| layout.shard_of(key));
+    assert_eq!((layout.count(), shards), (3, [0, 0, 1, 1, 2, 2]));
+    assert_eq!(layout.range(0), Some((b"".to_vec(), Some(b"g".to_vec()))));
+    assert_eq!(layout.range(2), Some((b"n".to_vec(), None)));
+    assert_eq!((layout.range(3), layout.range(u16::MAX)), (None, None));
+    let fault = |bounds: &[&[u8]]| Layout::new(bounds).unwrap_err();
+    assert_eq!(fault(&[]), LayoutFault::Empty);
+    assert_eq!(fault(&[b"a"]), LayoutFault::FirstNotEmpty);
+    assert_eq!(fault(&[b"", b"b", b"b"]), LayoutFault::NotRising);
+    assert_eq!(fault(&[b"", &[7; 256]]), LayoutFault::BoundTooLong);
+    let longest = Layout::new([&[][..], &[7; 255]]).unwrap();
+    assert_eq!(longest.range(1).unwrap().0, vec![7; 255]);
+    let many = (0..4097u32).map(|it| {
+        if it == 0 {
+            vec![]
+        } else {
+            it.to_be_bytes().to_vec()
+        }
+    });
+    assert_eq!(Layout::new(many).unwrap_err(), LayoutFault::TooMany);
+}
+
+#[test]
+fn plans_move_nothing() {
+    let board = board(3);
+    let control = board.control();
+    control.assign(1, 2).unwrap();
+    let (shard, server) = (1, 1);
+    assert_eq!(
+        control.plan_drain(2).unwrap().moves,
+        [Move { shard, server }]
+    );
+    assert_eq!(control.plan_drain(4), Err(PlanFault::UnknownServer));
+    assert_eq!(control.plan_drain(0), Err(PlanFault::UnknownServer));
+    assert!(control.plan_drain(3).unwrap().moves.is_empty());
+    let plan = control.plan_assign().unwrap();
+    assert_eq!(plan.left, []);
+    for Move { shard, server } in plan.moves {
+        control.assign(shard, server).unwrap();
+    }
+    let mut one = board.pass(1).unwrap();
+    assert_eq!(
+        [0, 1, 2].map(|it| one.look(it).unwrap().owner()),
+        [Some(1), Some(2), Some(1)]
+    );
+}
+
+#[test]
+fn words_are_records() {
+    let forwarding = Stand::Forwarding { owner: 1, next: 2 };
+    let record = |stand, admitted| Record {
+        stand,
+        admitted,
+        generation: 5,
+    };
+    let packed = word::of(&record(forwarding, true)).unwrap();
+    assert_eq!(word::record(packed), Some(record(forwarding, true)));
+    assert_eq!(word::accepts(packed, 2, Mode::Forwarded(1)), Some(true));
+    assert_eq!(word::accepts(packed, 2, Mode::Direct), Some(false));
+    assert_eq!(word::accepts(packed, 1, Mode::Direct), Some(false));
+    assert_eq!(word::accepts(packed, 0, Mode::Direct), None);
+    assert_eq!(word::accepts(u64::MAX, 1, Mode::Direct), None);
+    assert_eq!(word::of(&record(Stand::Paused(1), true)), None);
+    assert_eq!(word::of(&record(Stand::Serving(4096), false)), None);
+    assert_eq!(
+        word::of(&record(Stand::Forwarding { owner: 1, next: 1 }, false)),
+        None
+    );
+    assert_eq!(
+        word::of(&Record {
+            generation: 1 << 36,
+            ..record(forwarding, false)
+        }),
+        None
     );
 }
 

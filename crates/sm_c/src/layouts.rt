@@ -1,0 +1,72 @@
+//! Layouts.
+ghost use Rattle.std.specs.Prelude.{◌≡◌, ◌≢◌};
+ghost use Rattle.sm_handle.specs.Layouts.{IsLayoutOf, IsShardOf, WritesBound};
+
+use crate::codes::{UNKNOWN_SHARD, code_of_act, code_of_cut};
+use sm_handle::{Handle, TextPart};
+use sm_ranges::shard_id::ShardId;
+use std::alloc::Global;
+
+/// Makes a layout whose bounds are these parts of the text. The handle keeps it, in place of what it kept.
+#[unsafe(no_mangle)]
+pub extern "C" fn durkenzo_layout(
+    alloc: Global,
+    layout: &mut Handle,
+    text: &[u8],
+    parts: &[TextPart],
+) -> u32
+    ensures made { result ≡ 0 → IsLayoutOf layout.new.owned.state text.now parts.now }
+    ensures kept { result ≢ 0 → layout.new.owned.state ≡ layout.old.owned.state }
+{
+    match layout.cut(alloc, text, parts) {
+        Ok(()) => 0,
+        Err(fault) => code_of_cut(fault),
+    }
+}
+
+/// Writes the shard of the key, which may be any bytes.
+#[unsafe(no_mangle)]
+pub extern "C" fn durkenzo_shard_of(
+    alloc: Global,
+    layout: &mut Handle,
+    key: &[u8],
+    shard: &mut u16,
+) -> u32
+    ensures found { result ≡ 0 → IsShardOf layout.old.owned.state key.now shard.new }
+    ensures unwritten { result ≢ 0 → shard.new ≡ shard.old }
+    ensures unchanged { layout.new.owned.state ≡ layout.old.owned.state }
+{
+    match layout.shard_of(alloc, key) {
+        Ok(found) => {
+            *shard = found.number();
+            0
+        }
+        Err(fault) => code_of_act(fault),
+    }
+}
+
+/// Writes the bound at which the shard begins, and its length, which is at most 255.
+#[unsafe(no_mangle)]
+pub extern "C" fn durkenzo_bound(
+    alloc: Global,
+    layout: &mut Handle,
+    shard: u16,
+    into: &mut [u8],
+    length: &mut usize,
+) -> u32
+    ensures written { result ≡ 0 → WritesBound layout.old.owned.state shard into.new length.new }
+    ensures unwritten { result ≢ 0 → into.new ≡ into.old }
+    ensures no_length { result ≢ 0 → length.new ≡ length.old }
+    ensures unchanged { layout.new.owned.state ≡ layout.old.owned.state }
+{
+    let Some(k) = ShardId::new(shard) else {
+        return UNKNOWN_SHARD;
+    };
+    match layout.bound(alloc, k, into) {
+        Ok(written) => {
+            *length = written;
+            0
+        }
+        Err(fault) => code_of_act(fault),
+    }
+}

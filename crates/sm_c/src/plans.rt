@@ -1,0 +1,71 @@
+//! Plans.
+ghost use Rattle.std.specs.Prelude.{◌≡◌, ◌≢◌};
+ghost use Rattle.sm_handle.specs.Plans.{IsLeftOut};
+ghost use Rattle.sm_c.specs.Calls.{MovesTo, PlansFrom};
+
+use crate::codes::{BAD_ARGUMENT, code_of_act};
+use sm_handle::Handle;
+use sm_ranges::server_id::ServerId;
+use std::alloc::Global;
+
+/// Plans where the shards go that this server serves, or for 0 the vacant ones. The plan's handle keeps the plan, in
+/// place of what it kept.
+#[unsafe(no_mangle)]
+pub extern "C" fn durkenzo_plan(
+    alloc: Global,
+    chief: &mut Handle,
+    plan: &mut Handle,
+    from: u16,
+) -> u32
+    ensures chief { chief.new.owned.state ≡ chief.old.owned.state }
+    ensures made { result ≡ 0 → PlansFrom chief.old.owned.state plan.new.owned.state from }
+    ensures kept { result ≢ 0 → plan.new.owned.state ≡ plan.old.owned.state }
+{
+    let server = ServerId::new(from);
+    if from != 0 && server.is_none() {
+        return BAD_ARGUMENT;
+    }
+    match plan.plan(alloc, chief, server) {
+        Ok(()) => 0,
+        Err(fault) => code_of_act(fault),
+    }
+}
+
+/// Writes the move at this place of the plan, from 0: a shard, and the server that it goes to.
+#[unsafe(no_mangle)]
+pub extern "C" fn durkenzo_move(
+    alloc: Global,
+    plan: &mut Handle,
+    at: usize,
+    shard: &mut u16,
+    server: &mut u16,
+) -> u32
+    ensures found { result ≡ 0 → MovesTo plan.old.owned.state at shard.new server.new }
+    ensures unwritten { result ≢ 0 → (shard.new ≡ shard.old) × (server.new ≡ server.old) }
+    ensures unchanged { plan.new.owned.state ≡ plan.old.owned.state }
+{
+    match plan.planned(alloc, at) {
+        Ok(step) => {
+            *shard = step.shard.number();
+            *server = step.to.number();
+            0
+        }
+        Err(fault) => code_of_act(fault),
+    }
+}
+
+/// Writes the shard at this place, from 0, of those for which the plan found no server.
+#[unsafe(no_mangle)]
+pub extern "C" fn durkenzo_left(alloc: Global, plan: &mut Handle, at: usize, shard: &mut u16) -> u32
+    ensures found { result ≡ 0 → IsLeftOut plan.old.owned.state at shard.new }
+    ensures unwritten { result ≢ 0 → shard.new ≡ shard.old }
+    ensures unchanged { plan.new.owned.state ≡ plan.old.owned.state }
+{
+    match plan.left(alloc, at) {
+        Ok(found) => {
+            *shard = found.number();
+            0
+        }
+        Err(fault) => code_of_act(fault),
+    }
+}

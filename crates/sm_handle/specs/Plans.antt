@@ -1,0 +1,22 @@
+-- Plans that handles keep.
+use Rattle.std.specs.Prelude.{ℕ, ◌≡◌, slice_get, Option, Some, None}
+use Rattle.sm_place.specs.Plans.{assign_plan, drain_plan}
+use Rattle.sm_place.specs.declared.plan.Move.{Move}
+use Rattle.sm_handle.specs.declared.handle_state.HandleState.{HandleState}
+use Rattle.sm_handle.specs.declared.handle_state.HandleState.TheVariants.{Chief, Plan}
+
+-- the plan of the control's books, for the shards of the server or, without one, for the vacant ones
+abbrev pub IsPlanOf : Option HandleState → Option HandleState → Option ℕ → Type 0
+IsPlanOf (Some (Chief chief)) (Some (Plan plan)) (Some server) = plan ≡ drain_plan chief.value.desk.books server
+IsPlanOf (Some (Chief chief)) (Some (Plan plan)) None = plan ≡ assign_plan chief.value.desk.books
+IsPlanOf chief plan from = ⊥
+
+-- the move at this place of the plan
+abbrev pub IsMove : Option HandleState → ℕ → Move → Type 0
+IsMove (Some (Plan plan)) at step = slice_get plan.moves at ≡ Some step
+IsMove state at step = ⊥
+
+-- the shard at this place of those that the plan leaves
+abbrev pub IsLeftOut : Option HandleState → ℕ → ℕ → Type 0
+IsLeftOut (Some (Plan plan)) at shard = slice_get plan.left at ≡ Some shard
+IsLeftOut state at shard = ⊥

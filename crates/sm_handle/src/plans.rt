@@ -1,0 +1,114 @@
+//! Plans that handles keep.
+ghost use Rattle.std.specs.Prelude.{◌≡◌, IfErr, IfOk, OnOk, Some};
+ghost use Rattle.sm_handle.specs.Plans.{IsLeftOut, IsMove, IsPlanOf};
+
+use crate::act_fault::ActFault;
+use crate::handle::Handle;
+use crate::handle_state::HandleState;
+use sm_control::DrainFault;
+use sm_place::Move;
+use sm_ranges::server_id::ServerId;
+use sm_ranges::shard_id::ShardId;
+use std::alloc::Global;
+
+impl Handle {
+    /// Keeps where the other handle's control would have shards go, in place of what was kept: those of the server,
+    /// or without one the vacant ones; or says why not, and this handle is as it was. The other one is as it was.
+    pub fn plan(
+        &mut self,
+        alloc: Global,
+        chief: &mut Handle,
+        from: Option<ServerId>,
+    ) -> Result<(), ActFault>
+        ensures chief { chief.new.owned.state ≡ chief.old.owned.state }
+        ensures made { OnOk result (IsPlanOf chief.old.owned.state self.new.owned.state from) }
+        ensures refused { IfErr result (λ fault. self.new.owned.state ≡ self.old.owned.state) }
+    {
+        let Some(state) = chief.take(alloc) else {
+            return Err(ActFault::WrongHandle);
+        };
+        let made = plan_of(alloc, &state, from);
+        chief.put(state);
+        match Box::new(alloc, made?) {
+            Ok(state) => {
+                self.put(state);
+                Ok(())
+            }
+            Err(_) => Err(ActFault::NoMemory),
+        }
+    }
+
+    /// The move at this place of the plan that the handle keeps.
+    pub fn planned(&mut self, alloc: Global, at: usize) -> Result<Move, ActFault>
+        ensures found { IfOk result (IsMove self.old.owned.state at) }
+        ensures unchanged { self.new.owned.state ≡ self.old.owned.state }
+    {
+        let Some(state) = self.take(alloc) else {
+            return Err(ActFault::WrongHandle);
+        };
+        let made = move_in(&state, at);
+        self.put(state);
+        made
+    }
+
+    /// The shard at this place of those that the plan that the handle keeps has no room for.
+    pub fn left(&mut self, alloc: Global, at: usize) -> Result<ShardId, ActFault>
+        ensures found { IfOk result (IsLeftOut self.old.owned.state at) }
+        ensures unchanged { self.new.owned.state ≡ self.old.owned.state }
+    {
+        let Some(state) = self.take(alloc) else {
+            return Err(ActFault::WrongHandle);
+        };
+        let made = left_in(&state, at);
+        self.put(state);
+        made
+    }
+}
+
+fn plan_of(
+    alloc: Global,
+    state: &HandleState,
+    from: Option<ServerId>,
+) -> Result<HandleState, ActFault>
+    ensures { IfOk result (λ plan. IsPlanOf (Some state.now) (Some plan) from) }
+{
+    let HandleState::Chief(chief) = state else {
+        return Err(ActFault::WrongHandle);
+    };
+    let plan = match from {
+        Some(server) => match chief.plan_drain(alloc, server) {
+            Ok(plan) => plan,
+            Err(DrainFault::UnknownServer) => return Err(ActFault::UnknownServer),
+            Err(DrainFault::NoMemory) => return Err(ActFault::NoMemory),
+        },
+        None => match chief.plan_assign(alloc) {
+            Ok(plan) => plan,
+            Err(_) => return Err(ActFault::NoMemory),
+        },
+    };
+    Ok(HandleState::Plan(plan))
+}
+
+fn move_in(state: &HandleState, at: usize) -> Result<Move, ActFault>
+    ensures { IfOk result (IsMove (Some state.now) at) }
+{
+    match state {
+        HandleState::Plan(plan) => match plan.moves().get(at) {
+            Some(step) => Ok(*step),
+            None => Err(ActFault::NoMore),
+        },
+        _ => Err(ActFault::WrongHandle),
+    }
+}
+
+fn left_in(state: &HandleState, at: usize) -> Result<ShardId, ActFault>
+    ensures { IfOk result (IsLeftOut (Some state.now) at) }
+{
+    match state {
+        HandleState::Plan(plan) => match plan.left().get(at) {
+            Some(shard) => Ok(*shard),
+            None => Err(ActFault::NoMore),
+        },
+        _ => Err(ActFault::WrongHandle),
+    }
+}
