@@ -11,6 +11,7 @@ from testing.part import Verdict, verdict
 FOLDER = sources.TOP / "library"
 CRATE = FOLDER / "rust/durkenzo"
 PROVED = sources.CRATES / "sm_c/out/libsm_c.a"
+PROGRAM = sources.CRATES / "sm_cli/out/sm_cli"
 COUNTED = "every admission was counted\n"
 SECONDS = 170
 
@@ -37,6 +38,11 @@ def in_rust(room):
     run = ["cargo", "run", "--quiet", "--offline", "--example", "counters"]
     yield ran("the crate's tests", ["cargo", "test", "--offline"], CRATE, **env)
     yield ran("the crate's example", run, CRATE, COUNTED, **env)
+    yield ran("the driver of scripts compiles", ["cargo", "build", "--offline", "--example", "script"], CRATE, **env)
+    if not PROGRAM.is_file():
+        return
+    driver = room / "target/debug/examples/script"
+    yield ran("scripts by the library", [sources.TOP / "tools/library-scripts", driver, PROGRAM], sources.TOP)
 
 
 def in_c(room):
