@@ -5,9 +5,9 @@
 //! ```
 //!
 //! The settings line is passed over: the board has servers 1 to SERVERS, each in a domain of its own and with room for
-//! all shards, which may all be down. Lines that the library has no call for aren't answered.
-use durkenzo::{Board, Control, Layout, Mode, Pass, Plan, Record, RestartFault, Stand};
-use std::collections::BTreeMap;
+//! all shards, which may all be down. `load` isn't answered.
+use durkenzo::{Board, Control, Layout, Mode, Pass, Plan, Record, RestartFault, Routes, Stand};
+use std::collections::{BTreeMap, HashMap};
 use std::error::Error;
 use std::io::{stdin, stdout, Read, Write};
 
@@ -26,6 +26,7 @@ enum Value {
 
 const LONGEST_TEXT: usize = 65_535;
 const MOST_HOPS: usize = 4;
+const MOST_PAIRS: usize = 100;
 
 impl Body {
     /// The reply to a request of the sample service.
@@ -45,10 +46,40 @@ impl Body {
             ("inc", Some(Value::Text(_))) | ("put" | "append", Some(Value::Count(_))) => {
                 b"reply WrongKind".to_vec()
             }
+            ("scan", _) => self.scan(key, rest),
             ("inc", held) => self.add(key, held, rest),
             ("append", Some(Value::Text(text))) => self.put(key, [&text, rest].concat()),
             _ => self.put(key, rest.to_vec()),
         }
+    }
+
+    fn scan(&self, low: &[u8], rest: &[u8]) -> Vec<u8> {
+        let (high, most) = split(rest);
+        let most: usize = std::str::from_utf8(most).unwrap().parse().unwrap();
+        let within = self
+            .pairs
+            .iter()
+            .filter(|(key, _)| &key[..] >= low && &key[..] < high);
+        let found: Vec<_> = within.take(most.min(MOST_PAIRS)).collect();
+        let mut reply = format!("pairs {}", found.len()).into_bytes();
+        for (key, value) in found {
+            reply.extend(
+                format!(" {}:", key.len())
+                    .bytes()
+                    .chain(key.iter().copied()),
+            );
+            match value {
+                Value::Count(count) => reply.extend(format!(" c{count}").bytes()),
+                Value::Text(text) => {
+                    reply.extend(
+                        format!(" t{}:", text.len())
+                            .bytes()
+                            .chain(text.iter().copied()),
+                    );
+                }
+            }
+        }
+        reply
     }
 
     fn put(&mut self, key: &[u8], text: Vec<u8>) -> Vec<u8> {
@@ -73,7 +104,19 @@ impl Body {
     }
 }
 
+/// The word before the first space, and what follows that.
+fn split(line: &[u8]) -> (&[u8], &[u8]) {
+    match line.iter().position(|byte| *byte == b' ') {
+        Some(at) => (&line[..at], &line[at + 1..]),
+        None => (line, b""),
+    }
+}
+
 struct Session {
+    board: Board<Body>,
+    routes: Routes,
+    /// Passes that hold a shard, until they are dropped.
+    held: HashMap<u16, Pass<Body>>,
     layout: Layout,
     control: Control<Body>,
     /// One of each server, from server 1.
@@ -86,27 +129,83 @@ type Answer = Result<Vec<u8>, String>;
 
 impl Session {
     fn answer(&mut self, line: &[u8]) -> Option<Answer> {
-        let mut words = line.splitn(3, |byte| *byte == b' ');
-        let word = std::str::from_utf8(words.next()?).ok()?;
-        let (first, rest) = (words.next().unwrap_or(b""), words.next().unwrap_or(b""));
+        let (word, rest) = split(line);
+        let (first, after) = split(rest);
         let number = |word: &[u8]| std::str::from_utf8(word).ok()?.parse::<u16>().ok();
-        Some(match word {
-            "at" => {
-                let mut words = rest.splitn(3, |byte| *byte == b' ');
-                let word = std::str::from_utf8(words.next()?).ok()?;
-                let (key, rest) = (words.next()?, words.next().unwrap_or(b""));
-                self.request(Some(number(first)?), word, key, rest)
-            }
-            "get" | "put" | "append" | "inc" | "del" => self.request(None, word, first, rest),
+        Some(match std::str::from_utf8(word).ok()? {
+            "at" => self.request(Some(number(first)?), after),
+            "client" => self.by_route(rest),
+            "get" | "put" | "append" | "inc" | "del" | "scan" => self.request(None, line),
             "look" => self.look(number(first)?),
+            "hold" => self.hold(number(first)?, number(after)?),
+            "free" => self.free(number(first)?),
+            "checkpoint" => self.admit(number(first)?, number(after)?),
+            "publish" => match self.routes.publish(&mut self.passes[0], number(first)?) {
+                Ok(_) => Ok(b"ok".to_vec()),
+                Err(fault) => Err(named(&fault)),
+            },
+            "route" => Ok(self.route(first)),
             "place" => Ok(shown(&self.control.plan_assign().ok()?)),
             "drain" => match self.control.plan_drain(number(first)?) {
                 Ok(plan) => Ok(shown(&plan)),
-                Err(fault) => Err(format!("{fault:?}")),
+                Err(fault) => Err(named(&fault)),
             },
-            "ask" | "approve" | "stopped" | "back" | "fail" => self.step(word, number(first)?),
-            _ => self.change(word, number(first)?, number(rest).unwrap_or(0))?,
+            word @ ("ask" | "approve" | "stopped" | "back" | "fail") => {
+                self.step(word, number(first)?)
+            }
+            word => self.change(word, number(first)?, number(after).unwrap_or(0))?,
         })
+    }
+
+    /// A permit that is forgotten keeps its shard until its pass is dropped.
+    fn hold(&mut self, shard: u16, server: u16) -> Answer {
+        let mut pass = self.pass(shard, server)?;
+        std::mem::forget(pass.admit(shard, Mode::Direct).map_err(|it| named(&it))?);
+        self.held.insert(shard, pass);
+        Ok(b"ok".to_vec())
+    }
+
+    fn free(&mut self, shard: u16) -> Answer {
+        self.known(shard)?;
+        self.held.remove(&shard).ok_or("NotHeld")?;
+        Ok(b"ok".to_vec())
+    }
+
+    /// A body of another program has no requests to let go: an admission that changes nothing is all of a checkpoint.
+    fn admit(&mut self, shard: u16, server: u16) -> Answer {
+        let mut pass = self.pass(shard, server)?;
+        let permit = pass.admit(shard, Mode::Direct).map_err(|it| named(&it))?;
+        permit.finish();
+        Ok(b"ok".to_vec())
+    }
+
+    fn known(&self, shard: u16) -> Result<(), String> {
+        match usize::from(shard) < self.board.count() {
+            true => Ok(()),
+            false => Err("UnknownShard".into()),
+        }
+    }
+
+    fn pass(&self, shard: u16, server: u16) -> Result<Pass<Body>, String> {
+        self.known(shard)?;
+        match usize::from(server) <= self.passes.len() {
+            true => Ok(self.board.pass(server).unwrap()),
+            false => Err("UnknownServer".into()),
+        }
+    }
+
+    fn route(&self, key: &[u8]) -> Vec<u8> {
+        let shard = self.layout.shard_of(key);
+        match self.routes.route(shard) {
+            Some(it) => format!("route {shard} {} {}", it.server, it.generation).into_bytes(),
+            None => b"none".to_vec(),
+        }
+    }
+
+    fn by_route(&mut self, request: &[u8]) -> Answer {
+        let (key, _) = split(split(request).1);
+        let route = self.routes.route(self.layout.shard_of(key));
+        self.request(Some(route.ok_or("NoRoute")?.server), request)
     }
 
     fn change(&self, word: &str, shard: u16, server: u16) -> Option<Answer> {
@@ -187,7 +286,9 @@ impl Session {
     }
 
     /// Sends a request to a server, or to the shard's owner, and on to where servers forward it.
-    fn request(&mut self, at: Option<u16>, word: &str, key: &[u8], rest: &[u8]) -> Answer {
+    fn request(&mut self, at: Option<u16>, request: &[u8]) -> Answer {
+        let (word, rest) = split(request);
+        let (word, (key, rest)) = (std::str::from_utf8(word).unwrap(), split(rest));
         let shard = self.layout.shard_of(key);
         let record = self.passes[0].look(shard).unwrap();
         let mut server = match at {
@@ -248,12 +349,15 @@ fn main() -> Result<(), Box<dyn Error>> {
         .ceiling(ceiling.parse()?)
         .build(bounds.iter().map(|_| Body::default()))?;
     let mut session = Session {
+        routes: Routes::new(board.count()),
+        held: HashMap::new(),
         layout: Layout::new(bounds)?,
         control: board.control(),
         passes: (1..=servers)
             .map(|it| board.pass(it))
             .collect::<Result<_, _>>()?,
         reached: vec![true; servers.into()],
+        board,
     };
     let mut script = Vec::new();
     stdin().read_to_end(&mut script)?;

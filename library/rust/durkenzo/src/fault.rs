@@ -134,6 +134,29 @@ pub enum PlanFault {
     NoMemory,
 }
 
+/// Why a route isn't published.
+#[derive(Clone, Copy, Debug, PartialEq, Eq)]
+pub enum PublishFault {
+    /// There is no such shard.
+    UnknownShard,
+    /// Nobody owns the shard.
+    WrongPhase,
+    /// The shard's last route is as new.
+    OldRoute,
+}
+
+impl fmt::Display for PublishFault {
+    fn fmt(&self, f: &mut fmt::Formatter<'_>) -> fmt::Result {
+        f.write_str(match self {
+            PublishFault::UnknownShard => "there is no such shard",
+            PublishFault::WrongPhase => "nobody owns the shard",
+            PublishFault::OldRoute => "the shard's last route is as new",
+        })
+    }
+}
+
+impl Error for PublishFault {}
+
 impl LayoutFault {
     pub(crate) fn of(code: u32) -> LayoutFault {
         match code {

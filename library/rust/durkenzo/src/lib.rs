@@ -72,15 +72,17 @@ mod pass;
 mod plan;
 mod raw;
 mod record;
+mod routes;
 pub mod word;
 
 pub use board::{Board, Builder};
 pub use control::Control;
 pub use fault::{
-    AdmitFault, BuildFault, ChangeFault, LayoutFault, PassFault, PlanFault, RestartFault,
-    UnknownShard,
+    AdmitFault, BuildFault, ChangeFault, LayoutFault, PassFault, PlanFault, PublishFault,
+    RestartFault, UnknownShard,
 };
 pub use layout::Layout;
 pub use pass::{Front, Mode, Pass, Permit};
 pub use plan::{Move, Plan};
 pub use record::{Record, Stand};
+pub use routes::{Route, Routes};

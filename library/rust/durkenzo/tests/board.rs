@@ -1,6 +1,6 @@
 use durkenzo::{
     word, AdmitFault, Board, BuildFault, ChangeFault, Layout, LayoutFault, Mode, Move, PlanFault,
-    Record, RestartFault, Stand,
+    PublishFault, Record, RestartFault, Route, Routes, Stand,
 };
 use std::error::Error;
 use std::panic::{catch_unwind, AssertUnwindSafe};
@@ -99,6 +99,28 @@ fn plans_move_nothing() {
         [0, 1, 2].map(|it| one.look(it).unwrap().owner()),
         [Some(1), Some(2), Some(1)]
     );
+}
+
+#[test]
+fn routes_never_go_back() {
+    let board = board(2);
+    let (control, routes) = (board.control(), Routes::new(board.count()));
+    let mut one = board.pass(1).unwrap();
+    assert_eq!(routes.publish(&mut one, 0), Err(PublishFault::WrongPhase));
+    assert_eq!(routes.publish(&mut one, 2), Err(PublishFault::UnknownShard));
+    control.assign(0, 1).unwrap();
+    let (server, generation) = (1, 1);
+    assert_eq!(
+        routes.publish(&mut one, 0),
+        Ok(Route { server, generation })
+    );
+    assert_eq!(routes.publish(&mut one, 0), Err(PublishFault::OldRoute));
+    let old = routes.load();
+    control.migrate(0, 2).unwrap();
+    assert_eq!(routes.route(0), Some(Route { server, generation }));
+    assert_eq!(routes.publish(&mut one, 0).unwrap().server, 2);
+    assert_eq!(old[0], Some(Route { server, generation }));
+    assert_eq!((routes.route(1), routes.route(2)), (None, None));
 }
 
 #[test]
