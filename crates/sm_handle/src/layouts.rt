@@ -69,7 +69,11 @@ fn layout_of(alloc: Global, text: &[u8], parts: &[TextPart]) -> Result<Layout, C
     }
 }
 
-fn bounds_of<'a>(alloc: Global, text: &'a [u8], parts: &[TextPart]) -> Result<Vec<&'a [u8]>, CutFault>
+fn bounds_of<'a>(
+    alloc: Global,
+    text: &'a [u8],
+    parts: &[TextPart],
+) -> Result<Vec<&'a [u8]>, CutFault>
     ensures { IfOk result (λ bounds. texts_of bounds.items ≡ parts_of text.now parts.now) }
 {
     let mut bounds = Vec::new(alloc);

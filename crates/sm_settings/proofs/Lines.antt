@@ -32,7 +32,7 @@ pub settings_of_unread : (line : List ℕ) → length line ≤ MAX_SETTINGS → 
 settings_of_unread line short unread =
     settings_of_short line short
     ∙ elim (is_utf8 line)
-        as (λ b. is_utf8 line ≡ b → (if b then verdict_of (read line) else Err BadJson) ≡ Err BadJson) [
+    as (λ b. is_utf8 line ≡ b → (if b then verdict_of (read line) else Err BadJson) ≡ Err BadJson) [
       | true ↦ λ text. ap verdict_of (unread (IsUtf8-from_is_utf8 line text))
       | false ↦ λ _. refl
     ] refl

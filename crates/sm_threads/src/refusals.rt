@@ -49,7 +49,9 @@ fn admit_refused(refusal: AdmitRefusal) -> Refused
 }
 
 /// The answer to a hold, to its end or to a checkpoint; an error is want of memory.
-pub(crate) fn hold_answer<T: Copy + Drop>(made: Result<T, HoldFault>) -> Result<LineAnswer, AllocError>
+pub(crate) fn hold_answer<T: Copy + Drop>(
+    made: Result<T, HoldFault>,
+) -> Result<LineAnswer, AllocError>
     ensures ok { IfOk result (λ answer. may_answer hold_refused made ≡ Some answer) }
     ensures err { OnErr result (may_answer hold_refused made ≡ None) }
 {
