@@ -3,9 +3,7 @@ ghost use Rattle.std.specs.Prelude.{◌≡◌, ◌<◌};
 
 use crate::holding::Holding;
 use crate::running::{Running, ask, bodies_of, get_of, idle, inc_of, kept_of, setup_of, shard};
-use sm_cluster::{
-    CallFault, CallRefused, Client, Cluster, HoldFault, Open, StartFault,
-};
+use sm_cluster::{CallFault, CallRefused, Client, Cluster, HoldFault, Open, StartFault};
 use sm_control::{ControlFault, DrainFault};
 use sm_desk::{Command, CommandFault};
 use sm_ownership::{AdmitFault, Change, Route, RouteFault};

@@ -54,7 +54,10 @@ fn adds_up(counts: &Counts) -> bool {
         && taken(second) == first.of(Fate::Forwarded)
         && taken(third) == 0
         && first.of(Fate::Forwarded) > 0
-        && moved.admissions == first.of(Fate::Answered).wrapping_add(second.of(Fate::Answered))
+        && moved.admissions
+            == first
+                .of(Fate::Answered)
+                .wrapping_add(second.of(Fate::Answered))
         && moved.changes == 4
         && other.admissions == 0
         && other.changes == 0

@@ -215,8 +215,22 @@ fn is_text<T: Display>(rt: &impl Abort, alloc: Global, fault: &T, text: &str) ->
 fn faults_of_states_have_texts(rt: HostRuntime) {
     let alloc = rt.alloc();
     assert!(rt; is_text(&rt, alloc, &RestartFault::NotUp, "the server is not up"));
-    assert!(rt; is_text(&rt, alloc, &RestartFault::AlreadyUp, "the server is up already"));
-    assert!(rt; is_text(&rt, alloc, &RestartFault::AlreadyFailed, "the server failed already"));
+    assert!(rt;
+        is_text(
+            &rt,
+            alloc,
+            &RestartFault::AlreadyUp,
+            "the server is up already"
+        )
+    );
+    assert!(rt;
+        is_text(
+            &rt,
+            alloc,
+            &RestartFault::AlreadyFailed,
+            "the server failed already"
+        )
+    );
 }
 
 #[test]
