@@ -55,7 +55,7 @@ impl Holding {
 
 impl Service for Holding {
     ghost use Rattle.std.specs.Prelude.{[], List};
-    ghost use Rattle.sm_map.specs.KeyMap.{Pair};
+    ghost use Rattle.sm_map.specs.KeyMap.{KeyPair};
     ghost use Rattle.sm_service.specs.Replies.{after, reply};
     ghost use Rattle.sm_service.specs.Service.{key_of_request};
 
@@ -63,7 +63,7 @@ impl Service for Holding {
 
     type Reply = Reply;
 
-    ghost State = { List Pair };
+    ghost State = { List KeyPair };
 
     ghost initial = { [] };
 

@@ -37,7 +37,7 @@ impl Refusing {
 
 impl Service for Refusing {
     ghost use Rattle.std.specs.Prelude.{[], List};
-    ghost use Rattle.sm_map.specs.KeyMap.{Pair};
+    ghost use Rattle.sm_map.specs.KeyMap.{KeyPair};
     ghost use Rattle.sm_service.specs.Replies.{after, reply};
     ghost use Rattle.sm_service.specs.Service.{key_of_request};
 
@@ -45,7 +45,7 @@ impl Service for Refusing {
 
     type Reply = Reply;
 
-    ghost State = { List Pair };
+    ghost State = { List KeyPair };
 
     ghost initial = { [] };
 
