@@ -5,7 +5,9 @@ use std::sync::{Arc, PoisonError, RwLock};
 /// A shard's owner at a generation.
 #[derive(Clone, Copy, Debug, PartialEq, Eq)]
 pub struct Route {
+    /// The owner.
     pub server: u16,
+    /// The shard's generation when the route was made.
     pub generation: u64,
 }
 
