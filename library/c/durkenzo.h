@@ -151,6 +151,15 @@ uint32_t durkenzo_admit(durkenzo_handle *pass, uint16_t shard, uint16_t from, ui
  * none. */
 uint32_t durkenzo_finish(durkenzo_handle *pass, uint64_t *generation);
 
+/* Makes a new pass with the server of the other one, which has seen all that that has. It may go to another thread, as
+ * a note beside a message, and tell a pass there. The pass's handle keeps it, in place of what it kept. Errors:
+ * WRONG_HANDLE (also where the other pass has an admission), NO_MEMORY. */
+uint32_t durkenzo_split(durkenzo_handle *from, durkenzo_handle *pass);
+
+/* Tells the pass all that another pass had seen, which has to be one of the same board; that one's handle then keeps
+ * nothing. Error: WRONG_HANDLE (also where one of them has an admission). */
+uint32_t durkenzo_meet(durkenzo_handle *pass, durkenzo_handle *other);
+
 /* Makes this change of the shard, for this server where the kind names one. Errors: WRONG_HANDLE, BAD_ARGUMENT,
  * UNKNOWN_SHARD to SAME_SERVER, UNKNOWN_SERVER to DOMAIN_LIMIT; CHANGE_SPENT, BUSY and RACED write `read`. */
 uint32_t durkenzo_change(durkenzo_handle *control, uint16_t shard, uint8_t kind, uint16_t server,

@@ -53,6 +53,14 @@ class Boards(unittest.TestCase):
         }.items():
             self.assertRaises(fault, Layout, bounds)
 
+    def test_notes_are_told_once(self):
+        board, other = Board([None], servers=2), Board([None], servers=1)
+        with board.new_pass(1) as one, board.new_pass(2) as two, other.new_pass(1) as stranger:
+            note = one.note()
+            self.assertRaises(durkenzo.BadArgument, stranger.meet, note)
+            two.meet(note)
+            self.assertRaises(durkenzo.WrongHandle, two.meet, note)
+
     def test_plans(self):
         board = Board([[], [], []], servers=2)
         board.control.assign(1, 2)

@@ -16,6 +16,7 @@ ghost use Rattle.sm_c.specs.Words.{AcceptsWord, AdmitsWord, ArePartsOf, ChangesW
 mod codes;
 mod kinds;
 mod layouts;
+mod notes;
 mod plans;
 mod read;
 mod record_parts;

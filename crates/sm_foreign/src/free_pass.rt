@@ -3,6 +3,7 @@ ghost use Rattle.std.specs.Arc.{arc_value};
 ghost use Rattle.sm_rule.specs.Admissions.{PassAdmitted, RefusedBy};
 ghost use Rattle.sm_rule.specs.Boards.{limit_at};
 ghost use Rattle.sm_rule.specs.Passes.{PassLooks, record_of};
+ghost use Rattle.sm_rule.specs.Views.{Begins, IsMet};
 
 use crate::held_pass::HeldPass;
 use sm_body::service::Service;
@@ -11,6 +12,7 @@ use sm_ownership::record::Record;
 use sm_ranges::server_id::ServerId;
 use sm_ranges::shard_id::ShardId;
 use sm_rule::{AdmitRefusal, Board, Pass};
+use std::alloc::AllocError;
 use std::marker::Model;
 use std::sync::Arc;
 
@@ -57,6 +59,28 @@ impl<S: Service> FreePass<S> {
         ensures state { result ≡ record_of self.new k }
     {
         self.board.look(&mut self.pass, k)
+    }
+
+    /// A new pass with the same server, which has seen all that this one has. It is refused for want of memory alone.
+    pub fn split(&mut self) -> Result<FreePass<S>, AllocError>
+        ensures unchanged { self.new ≡ self.old }
+        ensures board { IfOk result (λ free. free.board ≡ self.old.board) }
+        ensures server { IfOk result (λ free. free.server ≡ self.old.server) }
+        ensures seen { IfOk result (λ free. Begins self.old.seen free.seen) }
+    {
+        let board = Arc::try_clone(&self.board)?;
+        let pass = self.board.split(&mut self.pass);
+        Ok(FreePass { board, pass })
+    }
+
+    /// Tells the pass all that another one of its board had seen, which acts no more. It can't be refused.
+    pub fn meet(&mut self, other: FreePass<S>)
+        requires { other.board ≡ self.old.board }
+        ensures looks { PassLooks self.old self.new }
+        ensures met { IsMet other.number other.seen self.new.seen }
+    {
+        let FreePass { board: _, pass } = other;
+        self.board.meet(&mut self.pass, pass.into_note());
     }
 
     /// Admits the pass to the shard for a request that came so; or says why not, and the pass has looked.

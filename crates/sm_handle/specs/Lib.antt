@@ -1,4 +1,5 @@
 pub mod Acts
 pub mod Layouts
+pub mod Notes
 pub mod Owns
 pub mod Plans

@@ -17,6 +17,7 @@ pub mod cut_fault;
 pub mod handle;
 pub mod handle_state;
 mod layouts;
+mod notes;
 pub mod owned;
 mod plans;
 pub mod text_part;

@@ -97,6 +97,15 @@ class Permit(Generic[T]):
             self.finish()
 
 
+class Note(_Kept, Generic[T]):
+    """What one pass tells another of its board: all that it had seen. It travels with a message, and is told once."""
+
+    def __init__(self, of: Pass[T]) -> None:
+        super().__init__()
+        self._board = of._board
+        _check(LIBRARY.durkenzo_split(ctypes.byref(of._handle), ctypes.byref(self._handle)))
+
+
 class Pass(_Kept, Generic[T]):
     """What one thread at a time acts on a board with, as one server for good."""
 
@@ -135,6 +144,17 @@ class Pass(_Kept, Generic[T]):
                 continue
             with permit:
                 return work(permit.body)
+
+    def note(self) -> Note[T]:
+        """Returns a note of all that the pass has seen. Raises WrongHandle while it has a permit, or NoMemory."""
+        return Note(self)
+
+    def meet(self, note: Note[T]) -> None:
+        """Tells the pass all that the note tells. Raises WrongHandle where the note was told or the pass has a permit,
+        or BadArgument for a note of another board."""
+        if note._board is not self._board:
+            raise BadArgument()
+        _check(LIBRARY.durkenzo_meet(ctypes.byref(self._handle), ctypes.byref(note._handle)))
 
     def __enter__(self) -> Pass[T]:
         return self

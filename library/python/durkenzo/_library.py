@@ -50,6 +50,8 @@ def loaded() -> ctypes.CDLL:
         "finish": [handle, number],
         "change": [handle, u16, u8, u16, record],
         "restart": [handle, u8, u16],
+        "split": [handle, handle],
+        "meet": [handle, handle],
         "plan": [handle, handle, u16],
         "move": [handle, size, shard, shard],
         "left": [handle, size, shard],

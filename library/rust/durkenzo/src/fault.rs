@@ -134,6 +134,39 @@ pub enum PlanFault {
     NoMemory,
 }
 
+/// Why a note isn't made, or isn't told.
+#[derive(Clone, Copy, Debug, PartialEq, Eq)]
+pub enum NoteFault {
+    /// The note is of another board.
+    OtherBoard,
+    /// A permit of this pass was forgotten, so the pass holds it still.
+    Holding,
+    /// Memory was refused.
+    NoMemory,
+}
+
+impl NoteFault {
+    pub(crate) fn of(code: u32) -> NoteFault {
+        match code {
+            1 => NoteFault::Holding,
+            3 => NoteFault::NoMemory,
+            other => unreachable!("a note answered code {other}"),
+        }
+    }
+}
+
+impl fmt::Display for NoteFault {
+    fn fmt(&self, f: &mut fmt::Formatter<'_>) -> fmt::Result {
+        f.write_str(match self {
+            NoteFault::OtherBoard => "the note is of another board",
+            NoteFault::Holding => "the pass holds a permit that was forgotten",
+            NoteFault::NoMemory => "out of memory",
+        })
+    }
+}
+
+impl Error for NoteFault {}
+
 /// Why a route isn't published.
 #[derive(Clone, Copy, Debug, PartialEq, Eq)]
 pub enum PublishFault {

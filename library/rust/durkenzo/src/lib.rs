@@ -68,6 +68,7 @@ mod board;
 mod control;
 mod fault;
 mod layout;
+mod note;
 mod pass;
 mod plan;
 mod raw;
@@ -78,10 +79,11 @@ pub mod word;
 pub use board::{Board, Builder};
 pub use control::Control;
 pub use fault::{
-    AdmitFault, BuildFault, ChangeFault, LayoutFault, PassFault, PlanFault, PublishFault,
-    RestartFault, UnknownShard,
+    AdmitFault, BuildFault, ChangeFault, LayoutFault, NoteFault, PassFault, PlanFault,
+    PublishFault, RestartFault, UnknownShard,
 };
 pub use layout::Layout;
+pub use note::Note;
 pub use pass::{Front, Mode, Pass, Permit};
 pub use plan::{Move, Plan};
 pub use record::{Record, Stand};

@@ -1,5 +1,6 @@
 use crate::board::Shared;
-use crate::fault::{AdmitFault, UnknownShard};
+use crate::fault::{AdmitFault, NoteFault, UnknownShard};
+use crate::note::Note;
 use crate::raw::{self, Handle, RecordParts};
 use crate::record::Record;
 use std::marker::PhantomData;
@@ -44,6 +45,33 @@ impl<T> Pass<T> {
         match unsafe { raw::durkenzo_look(&mut self.handle, shard, &mut parts) } {
             0 => Ok(Record::of(&parts)),
             _ => Err(UnknownShard),
+        }
+    }
+
+    /// A note of all that the pass has seen. It is refused for want of memory, or while a permit of this pass was
+    /// forgotten.
+    pub fn note(&mut self) -> Result<Note<T>, NoteFault> {
+        let mut handle = Handle::empty();
+        // SAFETY: one handle is this pass's, which is borrowed alone, and the other this call's.
+        match unsafe { raw::durkenzo_split(&mut self.handle, &mut handle) } {
+            0 => Ok(Note {
+                handle,
+                shared: self.shared.clone(),
+            }),
+            code => Err(NoteFault::of(code)),
+        }
+    }
+
+    /// Tells the pass all that the note tells. It is refused for a note of another board, or while a permit of this
+    /// pass was forgotten.
+    pub fn meet(&mut self, mut note: Note<T>) -> Result<(), NoteFault> {
+        if !Arc::ptr_eq(&self.shared, &note.shared) {
+            return Err(NoteFault::OtherBoard);
+        }
+        // SAFETY: both handles are borrowed alone, and of one board.
+        match unsafe { raw::durkenzo_meet(&mut self.handle, &mut note.handle) } {
+            0 => Ok(()),
+            code => Err(NoteFault::of(code)),
         }
     }
 

@@ -74,6 +74,8 @@ extern "C" {
         read: *mut RecordParts,
     ) -> u32;
     pub(crate) fn durkenzo_restart(chief: *mut Handle, kind: u8, server: u16) -> u32;
+    pub(crate) fn durkenzo_split(from: *mut Handle, pass: *mut Handle) -> u32;
+    pub(crate) fn durkenzo_meet(pass: *mut Handle, other: *mut Handle) -> u32;
     pub(crate) fn durkenzo_plan(chief: *mut Handle, plan: *mut Handle, from: u16) -> u32;
     pub(crate) fn durkenzo_move(
         plan: *mut Handle,

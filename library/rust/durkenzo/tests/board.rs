@@ -1,6 +1,6 @@
 use durkenzo::{
-    word, AdmitFault, Board, BuildFault, ChangeFault, Layout, LayoutFault, Mode, Move, PlanFault,
-    PublishFault, Record, RestartFault, Route, Routes, Stand,
+    word, AdmitFault, Board, BuildFault, ChangeFault, Layout, LayoutFault, Mode, Move, NoteFault,
+    PlanFault, PublishFault, Record, RestartFault, Route, Routes, Stand,
 };
 use std::error::Error;
 use std::panic::{catch_unwind, AssertUnwindSafe};
@@ -121,6 +121,28 @@ fn routes_never_go_back() {
     assert_eq!(routes.publish(&mut one, 0).unwrap().server, 2);
     assert_eq!(old[0], Some(Route { server, generation }));
     assert_eq!((routes.route(1), routes.route(2)), (None, None));
+}
+
+#[test]
+fn notes_travel_with_messages() {
+    let (board, other) = (self::board(1), self::board(1));
+    board.control().assign(0, 1).unwrap();
+    let mut one = board.pass(1).unwrap();
+    let left = one.admit(0, Mode::Direct).unwrap().finish().generation;
+    let note = one.note().unwrap();
+    let mut two = board.pass(2).unwrap();
+    let mut stranger = other.pass(1).unwrap();
+    let seen = std::thread::spawn(move || {
+        two.meet(note).unwrap();
+        two.look(0).unwrap().generation
+    });
+    assert!(seen.join().unwrap() >= left);
+    assert_eq!(
+        stranger.meet(one.note().unwrap()),
+        Err(NoteFault::OtherBoard)
+    );
+    std::mem::forget(one.admit(0, Mode::Direct).unwrap());
+    assert_eq!(one.note().err(), Some(NoteFault::Holding));
 }
 
 #[test]

@@ -1,0 +1,16 @@
+use crate::board::Shared;
+use crate::raw::Handle;
+use std::fmt;
+use std::sync::Arc;
+
+/// What one pass tells another of its board: all that it had seen. It travels with a message to another thread.
+pub struct Note<T> {
+    pub(crate) handle: Handle,
+    pub(crate) shared: Arc<Shared<T>>,
+}
+
+impl<T> fmt::Debug for Note<T> {
+    fn fmt(&self, f: &mut fmt::Formatter<'_>) -> fmt::Result {
+        f.debug_struct("Note").finish_non_exhaustive()
+    }
+}
