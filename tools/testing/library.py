@@ -42,7 +42,8 @@ def in_rust(room):
     if not PROGRAM.is_file():
         return
     driver = room / "target/debug/examples/script"
-    yield ran("scripts by the library", [sources.TOP / "tools/library-scripts", driver, PROGRAM], sources.TOP)
+    compared = [sources.TOP / "tools/library-scripts", "--scripts", 8, driver, PROGRAM]
+    yield ran("scripts by the library", compared, sources.TOP)
 
 
 def in_c(room):
