@@ -12,7 +12,9 @@ pub struct Plan {
 /// A shard and the server that it goes to.
 #[derive(Clone, Copy, Debug, PartialEq, Eq)]
 pub struct Move {
+    /// The shard.
     pub shard: u16,
+    /// Where it goes.
     pub server: u16,
 }
 
