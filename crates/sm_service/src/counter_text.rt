@@ -1,6 +1,5 @@
 ghost use Rattle.std.specs.Prelude.{◌≡◌, IfOk, OnOk, OnErr};
-ghost use Rattle.sm_service.specs.Replies.{reply, after, sum_of};
-ghost use Rattle.sm_service.specs.Service.{key_of_request};
+ghost use Rattle.sm_service.specs.Service.{key_of_request, reply, after, sum_of};
 
 use crate::bytes::Bytes;
 use crate::pair_list::PairList;

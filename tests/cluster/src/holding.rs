@@ -56,8 +56,7 @@ impl Holding {
 impl Service for Holding {
     ghost use Rattle.std.specs.Prelude.{[], List};
     ghost use Rattle.sm_map.specs.KeyMap.{KeyPair};
-    ghost use Rattle.sm_service.specs.Replies.{after, reply};
-    ghost use Rattle.sm_service.specs.Service.{key_of_request};
+    ghost use Rattle.sm_service.specs.Service.{after, key_of_request, reply};
 
     type Request = Request;
 

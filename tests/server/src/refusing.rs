@@ -38,8 +38,7 @@ impl Refusing {
 impl Service for Refusing {
     ghost use Rattle.std.specs.Prelude.{[], List};
     ghost use Rattle.sm_map.specs.KeyMap.{KeyPair};
-    ghost use Rattle.sm_service.specs.Replies.{after, reply};
-    ghost use Rattle.sm_service.specs.Service.{key_of_request};
+    ghost use Rattle.sm_service.specs.Service.{after, key_of_request, reply};
 
     type Request = Request;
 
