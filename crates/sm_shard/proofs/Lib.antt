@@ -1,2 +1,3 @@
+mod Fleets
 pub mod Replicas
 pub mod ShardServers

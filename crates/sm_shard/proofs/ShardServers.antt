@@ -7,6 +7,7 @@ use Rattle.std.proofs.lemmas.Bool.{or_from, or_parts, ne_eqb, eq-eqb}
 use Rattle.std.proofs.lemmas.Bool.Decides.{nat_tests}
 use Rattle.sm_ownership.specs.declared.record.Record.{Record}
 use Rattle.sm_ownership.specs.Rules.{accepts}
+use Rattle.sm_store.specs.declared.base_part.BasePart.{BasePart}
 use Rattle.sm_store.specs.declared.item.Item.{Item}
 use Rattle.sm_store.specs.Clients.{last_of, reply_in}
 use Rattle.sm_store.specs.declared.head.Head.{Head}
@@ -16,7 +17,7 @@ use Rattle.sm_store.specs.Deeds.{shard_log}
 use Rattle.sm_store.specs.System.{Replies, Overtaken, IsSo}
 use Rattle.sm_store.specs.lemmas.Growth.{so_grows, next_split}
 use Rattle.sm_store.specs.lemmas.Heart.{stood_then}
-use Rattle.sm_store.specs.lemmas.Right.{first_held}
+use Rattle.sm_store.specs.lemmas.Heart.{first_held}
 use Rattle.sm_store.specs.lemmas.Views.{log_view}
 use Rattle.sm_shard.specs.declared.shard_state.ShardState.{ShardState}
 use Rattle.sm_store.specs.Clients.{state_after}
@@ -179,7 +180,7 @@ module _ {M Q R : Type 0} (after : M → Q → M) (reply : M → Q → R) (start
   decided_so shard me log state read revision client number found Refused is = tt
 
   -- what is sent may be sent
-  pub may_send : (charter : Charter Q (List ℕ)) (log : StoreLog Q) (me shard : ℕ) (ready : ShardState M Q R)
+  pub may_send : (charter : Charter Q BasePart) (log : StoreLog Q) (me shard : ℕ) (ready : ShardState M Q R)
       → shard < charter.count → me ≢ 0 → HasRead after reply start log me shard ready
       → MayExecute charter log shard me ready.sent.items ready.head ready.stood ready.logged
   may_send charter log me shard ready within named knows = record {
@@ -220,7 +221,7 @@ module _ {M Q R : Type 0} (after : M → Q → M) (reply : M → Q → R) (start
         items = knows.before ++ ready.sent.items;
       }) revision
   made_then log me shard revision ready knows was_made =
-      let txn : Transaction Q (List ℕ) = sent_transaction me shard ready in
+      let txn : Transaction Q BasePart = sent_transaction me shard ready in
       let was = log_then log me shard ready knows (was_made.later ++ txn ∷ []) was_made.past
       (was_made.is ∙ sym (append_assoc was_made.later (txn ∷ []) was_made.past)) was_made.held in
       let same : (shard == shard) ≡ true = eq-eqb shard shard refl in
@@ -310,7 +311,7 @@ module _ {M Q R : Type 0} (after : M → Q → M) (reply : M → Q → R) (start
   known_of log me shard found ready is known =
       subst (λ (o : Option (ShardState M Q R)). IfSome o (λ r. HasRead after reply start log me shard r)) is known
 
-  pub transactions_may : (charter : Charter Q (List ℕ)) (log : StoreLog Q) (me shard : ℕ)
+  pub transactions_may : (charter : Charter Q BasePart) (log : StoreLog Q) (me shard : ℕ)
       (found : Option (ShardState M Q R))
       → shard < charter.count → me ≢ 0 → IfSome found (λ r. HasRead after reply start log me shard r)
       → AllByRecursion (MaySend charter log) (transactions_of me shard found)

@@ -1,5 +1,6 @@
 -- Any number of servers and the store together: each step of a server is one of the code.
 use Rattle.std.specs.Prelude.{ℕ, Some, None, Result, ◌≡◌, List, [], ◌∷◌, ◌++◌, length, map, slice_get, slice_set}
+use Rattle.sm_store.specs.declared.base_part.BasePart.{BasePart}
 use Rattle.sm_store.specs.Store.{Transaction}
 use Rattle.sm_store.specs.Deeds.{Charter}
 use Rattle.sm_store.specs.System.{Event, May, SentTransaction, System, happens}
@@ -12,7 +13,7 @@ use Rattle.sm_shard.specs.Steps.{IsInput, IsStepOf, step_claims, step_sends}
 
 -- the system, and all servers that run in it
 pub record Fleet (M Q R : Type 0) : Type 0 where
-  pub system : System Q (List ℕ) R
+  pub system : System Q BasePart R
   pub servers : List (ShardServer M Q R)
 
 -- what servers do, and the world around them
@@ -23,7 +24,7 @@ pub data Act (M Q R : Type 0) : Type 0 where
   Steps : (which : ℕ) (input : ShardInput M Q R) (result : Result (ShardOutput Q R) ReplayFault)
       (new : ShardServer M Q R) → Act M Q R
   -- anything else: a control sends, a message reaches the store, someone is elected
-  Otherwise : (event : Event Q (List ℕ) R) → Act M Q R
+  Otherwise : (event : Event Q BasePart R) → Act M Q R
 
 -- a transaction that is sent at a log of this length
 abbrev pub sent_since : {Q P : Type 0} → ℕ → Transaction Q P → SentTransaction Q P
@@ -56,7 +57,7 @@ pub record IsFleetStep {M Q R : Type 0} (after : M → Q → M) (reply : M → Q
   pub count : new.count ≡ old.count
 
 -- an act may happen: a server starts with nothing read, or makes a step as its contract says, on what is so
-abbrev pub MayAct : {M Q R : Type 0} → (M → Q → M) → (M → Q → R) → M → Charter Q (List ℕ) → Fleet M Q R → Act M Q R
+abbrev pub MayAct : {M Q R : Type 0} → (M → Q → M) → (M → Q → R) → M → Charter Q BasePart → Fleet M Q R → Act M Q R
     → Type 0
 MayAct after reply start charter fleet (Starts server) =
     IsStationed server × (server.ready ≡ None) × (charter.count ≡ server.count)
@@ -71,7 +72,7 @@ fleet_after [] = record { system = record { log = []; asked = []; sent = []; hel
 fleet_after (act ∷ earlier) = fleet_acted (fleet_after earlier) act
 
 -- each act was one that might be made
-abbrev pub MightAct : {M Q R : Type 0} → (M → Q → M) → (M → Q → R) → M → Charter Q (List ℕ) → List (Act M Q R) → Type 0
+abbrev pub MightAct : {M Q R : Type 0} → (M → Q → M) → (M → Q → R) → M → Charter Q BasePart → List (Act M Q R) → Type 0
 MightAct after reply start charter [] = Unit {0}
 MightAct after reply start charter (act ∷ earlier) =
     MayAct after reply start charter (fleet_after earlier) act × MightAct after reply start charter earlier

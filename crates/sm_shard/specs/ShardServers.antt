@@ -6,6 +6,7 @@ use Rattle.std.specs.BTreeMap.{get}
 use Rattle.std.specs.Ordering.{nat_cmp}
 use Rattle.sm_ownership.specs.declared.record.Record.{Record}
 use Rattle.sm_ownership.specs.Rules.{accepts, forward_to}
+use Rattle.sm_store.specs.declared.base_part.BasePart.{BasePart}
 use Rattle.sm_store.specs.declared.item.Item.{Item}
 use Rattle.sm_store.specs.Clients.{last_of, reply_in}
 use Rattle.sm_store.specs.Store.{Transaction, all_hold, head_key, record_key, stored_record}
@@ -20,9 +21,9 @@ use Rattle.sm_shard.specs.declared.shard_server.ShardServer.{ShardServer}
 use Rattle.sm_shard.specs.declared.shard_state.ShardState.{ShardState}
 use Rattle.sm_shard.specs.Replicas.{IsReplica}
 
--- a store of requests, whose parts of a base are bytes
+-- a store of requests
 abbrev pub StoreLog : Type 0 → Type 0
-StoreLog Q = List (Transaction Q (List ℕ))
+StoreLog Q = List (Transaction Q BasePart)
 
 -- the replica is that of these requests, and those that were sent to the store or wait are accepted and come next
 pub record IsShardState {M Q R : Type 0} (after : M → Q → M) (reply : M → Q → R) (start : M) (me : ℕ)
@@ -132,17 +133,17 @@ claimed_all shard [] = []
 claimed_all shard (made ∷ others) = Replies shard made.client made.number made.reply ∷ claimed_all shard others
 
 -- the transaction that a server sends
-abbrev pub sending_transaction : {Q : Type 0} → BatchSending Q → Transaction Q (List ℕ)
+abbrev pub sending_transaction : {Q : Type 0} → BatchSending Q → Transaction Q BasePart
 sending_transaction sending =
     transaction_of (Executing sending.shard sending.server sending.items.now sending.head sending.stood sending.logged)
 
 -- the transaction of what a server sent
-abbrev pub sent_transaction : {M Q R : Type 0} → ℕ → ℕ → ShardState M Q R → Transaction Q (List ℕ)
+abbrev pub sent_transaction : {M Q R : Type 0} → ℕ → ℕ → ShardState M Q R → Transaction Q BasePart
 sent_transaction me shard ready =
     transaction_of (Executing shard me ready.sent.items ready.head ready.stood ready.logged)
 
 -- the store made the transaction, at this revision
-pub record WasMade {Q : Type 0} (log : StoreLog Q) (txn : Transaction Q (List ℕ)) (revision : ℕ) : Type 0 where
+pub record WasMade {Q : Type 0} (log : StoreLog Q) (txn : Transaction Q BasePart) (revision : ℕ) : Type 0 where
   pub later : StoreLog Q
   pub past : StoreLog Q
   pub is : log ≡ later ++ txn ∷ past

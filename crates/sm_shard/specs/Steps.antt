@@ -2,6 +2,7 @@
 -- is, then what it holds afterwards is so, what it sends may be sent, and what it claims is so.
 use Rattle.std.specs.Prelude.{ℕ, Option, Some, None, IfSome, Result, Ok, Err, ◌≡◌, List, [], ◌∷◌, ◌++◌}
 use Rattle.std.specs.List.{AllByRecursion}
+use Rattle.sm_store.specs.declared.base_part.BasePart.{BasePart}
 use Rattle.sm_store.specs.declared.head.Head.{Head}
 use Rattle.sm_store.specs.declared.item.Item.{Item}
 use Rattle.sm_store.specs.Store.{head_key, record_key, stored_record}
@@ -10,6 +11,7 @@ use Rattle.sm_store.specs.System.{Claim, IsSo}
 use Rattle.sm_shard.specs.declared.replica.ReplayFault.{ReplayFault}
 use Rattle.sm_shard.specs.declared.replica.Replica.{Replica}
 use Rattle.sm_shard.specs.declared.shard_server.ShardServer.{ShardServer}
+use Rattle.sm_shard.specs.declared.shard_state.Decision.{Decision}
 use Rattle.sm_shard.specs.declared.shard_state.ShardState.{ShardState}
 use Rattle.sm_shard.specs.declared.steps.ShardInput.{ShardInput}
 use Rattle.sm_shard.specs.declared.steps.ShardInput.TheVariants.{Read, Record as RecordRead, Request, Flush, Made, Lost}
@@ -19,9 +21,14 @@ use Rattle.sm_shard.specs.Replicas.{IsReplica}
 use Rattle.sm_shard.specs.ShardServers.{IsStationed, IsTrueOf, StoreLog, WasMade, claimed_all, claimed_by}
 use Rattle.sm_shard.specs.ShardServers.{sent_transaction}
 
+-- what a decision on what came claims to its client
+abbrev pub claimed_on : {M Q R : Type 0} → ℕ → ShardInput M Q R → Decision R → List (Claim Q R)
+claimed_on shard (Request item) decision = claimed_by shard item.client item.number decision
+claimed_on shard input decision = []
+
 -- what an output claims to clients
 abbrev pub claimed_to : {M Q R : Type 0} → ℕ → ShardInput M Q R → ShardOutput Q R → List (Claim Q R)
-claimed_to shard (Request item) (Decided decision) = claimed_by shard item.client item.number decision
+claimed_to shard input (Decided decision) = claimed_on shard input decision
 claimed_to shard input (Answers answers) = claimed_all shard answers.items
 claimed_to shard input _ = []
 
@@ -64,7 +71,7 @@ IsInput after reply start log server (Made revision) =
 IsInput after reply start log server Lost = Unit {0}
 
 -- after the step the server knows what is so, what it sends may be sent, and what it claims is so
-pub record IsSafe {M Q R : Type 0} (after : M → Q → M) (reply : M → Q → R) (start : M) (charter : Charter Q (List ℕ))
+pub record IsSafe {M Q R : Type 0} (after : M → Q → M) (reply : M → Q → R) (start : M) (charter : Charter Q BasePart)
     (log : StoreLog Q) (shard : ℕ) (input : ShardInput M Q R) (result : Result (ShardOutput Q R) ReplayFault)
     (new : ShardServer M Q R) : Type 0 where
   pub known : IsTrueOf after reply start log new
@@ -75,6 +82,6 @@ pub record IsSafe {M Q R : Type 0} (after : M → Q → M) (reply : M → Q → 
 abbrev pub IsStepOf : {M Q R : Type 0} → (M → Q → M) → (M → Q → R) → M → ShardServer M Q R → ShardInput M Q R
     → Result (ShardOutput Q R) ReplayFault → ShardServer M Q R → Type 0
 IsStepOf {Q = Q} after reply start old input result new =
-    (charter : Charter Q (List ℕ)) (log : StoreLog Q) → charter.count ≡ old.count → IsStationed old
+    (charter : Charter Q BasePart) (log : StoreLog Q) → charter.count ≡ old.count → IsStationed old
     → IsTrueOf after reply start log old → IsInput after reply start log old input
     → IsSafe after reply start charter log old.shard input result new

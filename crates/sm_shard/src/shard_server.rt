@@ -1,5 +1,6 @@
 ghost use Rattle.std.specs.Prelude.{◌≡◌, ◌++◌, ◌+◌, List, ◌<◌, ◌↔◌, false, IsTrue, IsSome, IfOk, IfSome, ℕ};
 ghost use Rattle.std.specs.List.{AllByRecursion};
+ghost use Rattle.sm_store.specs.declared.base_part.BasePart.{BasePart as PartValue};
 ghost use Rattle.sm_store.specs.declared.item.Item.{Item as ItemValue};
 ghost use Rattle.sm_store.specs.Clients.{state_after};
 ghost use Rattle.sm_store.specs.Store.{all_hold, head_key, made, record_key, stored_record};
@@ -144,7 +145,7 @@ impl<Q: Drop, R: Copy + Drop, M: StoreMachine<Q, R>> ShardServer<M, Q, R> {
     pub fn sending(&self) -> Option<BatchSending<'_, Q>>
         ensures own { IfSome result (λ sending. IfSome self.now.ready (λ ready.
             sending_transaction sending ≡ sent_transaction self.now.me self.now.shard ready)) }
-        ensures may { IfSome result (λ sending. (charter : Charter Q (List ℕ)) (log : StoreLog Q)
+        ensures may { IfSome result (λ sending. (charter : Charter Q PartValue) (log : StoreLog Q)
             → charter.count ≡ self.now.count → IsStationed self.now → IsTrueOf M.after M.reply M.start log self.now
             → MaySend charter log (sending_transaction sending)) }
     {

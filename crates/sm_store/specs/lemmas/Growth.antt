@@ -1,5 +1,5 @@
 -- What the store's growth leaves: what was read, what may be sent, and what was claimed.
-use Rattle.std.proofs.Common.{◌≡◌, ℕ, ◌<◌, Bool, true, false, List, [], ◌∷◌, ◌++◌, refl, sym, ap, subst, ◌∙◌, arith}
+use Rattle.std.proofs.Common.{◌≡◌, ℕ, Bool, true, false, List, [], ◌∷◌, ◌++◌, refl, sym, ap, subst, ◌∙◌, arith}
 use Rattle.std.proofs.Common.{⊎_elim, append_assoc, append-nil}
 use Rattle.std.specs.Prelude.{◌==◌, max, if◌then◌else◌}
 use Rattle.std.proofs.lemmas.Bool.{eqb-true, cases_Bool}
@@ -7,13 +7,13 @@ use Rattle.sm_store.specs.declared.item.Item.{Item}
 use Rattle.sm_store.specs.declared.store_key.PassingKey.{PassingKey}
 use Rattle.sm_store.specs.declared.store_key.PassingKey.TheVariants.{Leader, Server, Batch, Part, Other}
 use Rattle.sm_store.specs.declared.store_key.StoreKey.{StoreKey}
-use Rattle.sm_store.specs.Clients.{last_of, AreNext, times, reply_in}
+use Rattle.sm_store.specs.Clients.{last_of, AreNext, reply_in}
 use Rattle.sm_store.specs.Store.{Transaction, head_key, made, made_by, touches}
 use Rattle.sm_store.specs.Deeds.{AreRight, Charter, Deed, Electing, Expiring, Changing, Executing, Basing, Naming}
 use Rattle.sm_store.specs.Deeds.{Clearing, Following, Checking, Foreign, HasRequests, IsRight, MayClear, MayDo, MaySend}
 use Rattle.sm_store.specs.Deeds.{WasFound, transaction_of}
 use Rattle.sm_store.specs.System.{Claim, Replies, Overtaken, Reads, IsSo}
-use Rattle.sm_store.specs.lemmas.Numbers.{last-append, next-append, reply-append, times-append, passed}
+use Rattle.sm_store.specs.lemmas.Numbers.{last-append, next-append, reply-append}
 
 next_none : {Q : Type 0} (before : List (Item Q)) (b : Bool) (items : List (Item Q)) → items ≡ []
     → AreNext before (if b then items else [])
@@ -141,18 +141,6 @@ module _ {Q P : Type 0} (charter : Charter Q P) where
       next-append [] (made shard earlier) (made_by shard txn.writes) (made_next shard earlier right.1)
       (subst (λ (t : Transaction Q P). AreNext (made shard earlier) (made_by shard t.writes)) (sym right.0.is)
       (added_next shard earlier right.0.deed right.0.right))
-
-  -- what a client's greater number has overtaken is not made from then on
-  pub overtaken_grows : (shard client number : ℕ) (more log : List (Transaction Q P)) → AreRight charter (more ++ log)
-      → number < last_of client (made shard log)
-      → times client number (made shard (more ++ log)) ≡ times client number (made shard log)
-  overtaken_grows shard client number more log right below =
-      let grown = made_grows shard more log in
-      let next : AreNext (made shard log) grown.0 =
-      next_split [] (made shard log) grown.0
-      (subst (λ (list : List (Item Q)). AreNext [] list) grown.1 (made_next shard (more ++ log) right)) in
-      let none : times client number grown.0 ≡ 0 = passed client number (made shard log) grown.0 next (omega arith) in
-      ap (times client number) grown.1 ∙ times-append client number (made shard log) grown.0 ∙ omega arith
 
 module _ {Q P R S : Type 0} (after : S → Q → S) (reply : S → Q → R) (start : S) where
   -- what is so stays so

@@ -1,14 +1,16 @@
 -- A compare that holds means that what was read is what stands.
 use Rattle.std.proofs.Common.{◌≡◌, ℕ, ◌+◌, ◌<◌, ◌≤◌, Bool, true, false, List, [], ◌∷◌, ◌++◌, length, refl, sym, ap}
 use Rattle.std.proofs.Common.{subst, ◌∙◌, arith, ⊎_elim, inl, inr, length-append}
-use Rattle.std.specs.Prelude.{◌||◌, ◌⊎◌, if◌then◌else◌}
-use Rattle.std.proofs.lemmas.Bool.{true≢false, or_cases, cond-true, cond-false, cases_Bool}
+use Rattle.std.specs.Prelude.{◌==◌, ◌||◌, ◌⊎◌, if◌then◌else◌}
+use Rattle.std.proofs.lemmas.Bool.{true≢false, and_parts, eqb-true, or_cases, cond-true, cond-false, cases_Bool}
+use Rattle.sm_store.specs.declared.compare.Compare.{Compare}
 use Rattle.sm_store.specs.declared.store_key.PassingKey.{PassingKey}
 use Rattle.sm_store.specs.declared.store_key.StoreKey.{StoreKey}
 use Rattle.sm_store.specs.declared.store_key.StoreKey.TheVariants.{Lasting, Passing}
 use Rattle.sm_store.specs.Store.{Transaction, Write, Leads, Stands, Heads, Executes, Bases, Follows, Deletes, Elsewhere}
-use Rattle.sm_store.specs.Store.{same_store_key, written_key, is_deletion, left_by, revised, revision_of, touches}
-use Rattle.sm_store.specs.Deeds.{WasFound}
+use Rattle.sm_store.specs.Store.{all_hold, same_store_key, written_key, is_deletion, left_by, revised, revision_of}
+use Rattle.sm_store.specs.Store.{touches}
+use Rattle.sm_store.specs.Deeds.{WasFound, at}
 
 -- the key is never deleted
 abbrev pub is_lasting : StoreKey → Bool
@@ -162,3 +164,10 @@ module _ {Q P : Type 0} where
       ∙ unwritten view key local shorter.0 found.past (subst (IsTelling key) (sym found.at) telling) same
       ∙ found.was)
       (ends found.later later found.past past (sym found.is ∙ is))
+
+  -- one compare of a transaction held, or both
+  pub first_held : (log : List (Transaction Q P)) (a : StoreKey) (m : ℕ) (rest : List Compare)
+      → all_hold log (at a m ∷ rest) ≡ true → (revision_of a log ≡ m) × (all_hold log rest ≡ true)
+  first_held log a m rest held =
+      let parts = and_parts (revision_of a log == m) (all_hold log rest) held in
+      (eqb-true (revision_of a log) m parts.0, parts.1)

@@ -1,8 +1,8 @@
 -- The numbers of a client's requests grow, so none is made twice, and what is passed over isn't made later.
-use Rattle.std.proofs.Common.{◌≡◌, ℕ, ◌+◌, ◌<◌, ◌≤◌, Bool, true, false, List, [], ◌∷◌, ◌++◌, refl, sym, subst, arith}
-use Rattle.std.proofs.Common.{⊎_elim, append_assoc, append-nil}
+use Rattle.std.proofs.Common.{◌≡◌, ℕ, ◌+◌, ◌<◌, Bool, true, false, List, [], ◌∷◌, ◌++◌, refl, sym, subst, arith}
+use Rattle.std.proofs.Common.{append_assoc, append-nil}
 use Rattle.std.specs.Prelude.{Option, Some, ◌==◌, ◌&&◌, if◌then◌else◌, max}
-use Rattle.std.proofs.lemmas.Bool.{and_parts, eqb-true, cases_Bool}
+use Rattle.std.proofs.lemmas.Bool.{eqb-true}
 use Rattle.sm_store.specs.declared.item.Item.{Item}
 use Rattle.sm_store.specs.Clients.{last_of, AreNext, is_from, times, reply_in}
 
@@ -15,12 +15,6 @@ unused_step : (b e : Bool) (m number x t : ℕ) → (if b then max m x else x) <
 unused_step true true m number x t below is rest = let e = is refl in absurd (omega arith)
 unused_step true false m number x t below is rest = let r : t ≡ 0 = rest (omega arith) in omega arith
 unused_step false e m number x t below is rest = let r : t ≡ 0 = rest below in omega arith
-
-passed_step : (b e : Bool) (m last number t : ℕ) → (b ≡ true → last < m) → number ≤ last → (e ≡ true → m ≡ number) → t
-    ≡ 0 → (if b && e then 1 else 0) + t ≡ 0
-passed_step true true m last number t next below is rest = let e = is refl in let n = next refl in absurd (omega arith)
-passed_step true false m last number t next below is rest = omega arith
-passed_step false e m last number t next below is rest = omega arith
 
 module _ {Q : Type 0} where
   pub last-append : (client : ℕ) (xs ys : List (Item Q)) → last_of client (xs ++ ys)
@@ -55,49 +49,6 @@ module _ {Q : Type 0} where
   unused client number (item ∷ items) below = unused_step (item.client == client)
       (item.number == number) item.number number (last_of client items) (times client number items) below
       (eqb-true item.number number) (unused client number items)
-
-  -- one that is passed over is not made later
-  pub passed : (client number : ℕ) (before items : List (Item Q)) → AreNext before items
-      → number ≤ last_of client before → times client number items ≡ 0
-  passed client number before [] next below = refl
-  passed client number before (item ∷ items) next below =
-      let more : last_of client before ≤ last_of client (before ++ item ∷ []) =
-      omega (arith, last-append client before (item ∷ [])) in
-      passed_step (item.client == client) (item.number == number) item.number (last_of client before) number
-      (times client number items)
-      (λ same. subst (λ c. last_of c before < item.number) (eqb-true item.client client same) next.0) below
-      (eqb-true item.number number)
-      (passed client number (before ++ item ∷ []) items next.1 (omega arith))
-
-  one_step : (client number : ℕ) (before : List (Item Q)) (item : Item Q) → last_of item.client before < item.number
-      → times client number before ≤ 1 → times client number (before ++ item ∷ []) ≤ 1
-  one_step client number before item next once =
-      let both = times-append client number before (item ∷ []) in
-      ⊎_elim
-      (λ (yes : is_from client number item ≡ true).
-      let parts = and_parts (item.client == client) (item.number == number) yes in
-      let c = eqb-true item.client client parts.0 in
-      let n = eqb-true item.number number parts.1 in
-      let none : times client number before ≡ 0 = unused client number before
-      (subst (λ k. last_of k before < number) c (subst (λ k. last_of item.client before < k) n next)) in
-      let one : times client number (item ∷ []) ≡ 1 = rw yes refl in
-      omega arith)
-      (λ (no : is_from client number item ≡ false).
-      let one : times client number (item ∷ []) ≡ 0 = rw no refl in
-      omega arith)
-      (cases_Bool (is_from client number item))
-
-  -- nothing is made twice
-  pub once_from : (client number : ℕ) (before items : List (Item Q)) → AreNext before items
-      → times client number before ≤ 1 → times client number (before ++ items) ≤ 1
-  once_from client number before [] next once = subst (λ (list : List (Item Q)). times client number list ≤ 1)
-      (sym (append-nil before)) once
-  once_from client number before (item ∷ items) next once =
-      subst (λ (list : List (Item Q)). times client number list ≤ 1) (append_assoc before (item ∷ []) items)
-      (once_from client number (before ++ item ∷ []) items next.1 (one_step client number before item next.0 once))
-
-  pub once : (client number : ℕ) (items : List (Item Q)) → AreNext [] items → times client number items ≤ 1
-  once client number items next = once_from client number [] items next (omega arith)
 
 module _ {Q R S : Type 0} (after : S → Q → S) (reply : S → Q → R) where
   reply_step : (b : Bool) (found : R) (rest longer : Option R) (r : R) → (rest ≡ Some r → longer ≡ Some r)

@@ -1,4 +1,4 @@
-use Rattle.sm_store.specs.lemmas.Right.{honest_is_right}
+use Rattle.sm_store.proofs.Right.{honest_is_right}
 use Rattle.sm_store.proofs.laws.honest_is_right.Goals as goal
 
 pub returns : goal.returns

@@ -1,4 +1,4 @@
-use Rattle.sm_store.specs.lemmas.Runs.{lawful, stays_overtaken}
+use Rattle.sm_store.proofs.Runs.{lawful, stays_overtaken}
 use Rattle.sm_store.proofs.laws.runs_are_lawful.Goals as goal
 
 pub returns : goal.returns

@@ -1,5 +1,5 @@
-use Rattle.sm_store.specs.lemmas.HistoryRequests.{legal_history, requests_so, table_so}
-use Rattle.sm_store.specs.lemmas.Right.{honest_is_right}
+use Rattle.sm_store.proofs.HistoryRequests.{legal_history, requests_so, table_so}
+use Rattle.sm_store.proofs.Right.{honest_is_right}
 use Rattle.sm_store.proofs.laws.store_is_a_history.Goals as goal
 
 pub returns : goal.returns

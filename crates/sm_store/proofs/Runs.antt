@@ -1,9 +1,9 @@
 -- Every run is lawful.
-use Rattle.std.proofs.Common.{◌≡◌, ℕ, ◌≤◌, true, false, List, [], ◌∷◌, ◌++◌, length, refl, sym, ap, subst, ◌∙◌, arith}
-use Rattle.std.proofs.Common.{⊎_elim, inl, append_assoc, length-append, zero, suc}
+use Rattle.std.proofs.Common.{◌≡◌, ◌≤◌, true, false, List, [], ◌∷◌, ◌++◌, length, refl, sym, ap, subst, ◌∙◌, arith}
+use Rattle.std.proofs.Common.{⊎_elim, inl, append_assoc, length-append}
 use Rattle.std.specs.Prelude.{Option, Some, None, IfSome, ◌==◌, slice_get}
 use Rattle.std.specs.List.{AllByRecursion}
-use Rattle.std.proofs.lemmas.Bool.{and_parts, cases_Bool, cond_both, cond-true, cond-false, eqb-true}
+use Rattle.std.proofs.lemmas.Bool.{and_parts, cases_Bool, cond-true, cond-false, eqb-true}
 use Rattle.sm_store.specs.declared.compare.Compare.{Compare}
 use Rattle.sm_store.specs.declared.item.Item.{Item}
 use Rattle.sm_store.specs.Clients.{state_after, times}
@@ -12,23 +12,13 @@ use Rattle.sm_store.specs.Deeds.{AreRight, Charter, IsHonest, MaySend}
 use Rattle.sm_store.specs.System.{Ask, Claim, Replies, Overtaken, Reads, Event, Comes, Sends, Reaches, Claims, Carried}
 use Rattle.sm_store.specs.System.{SentTransaction, System, IsLawful, IsSo, May, MayClaim, MayRead, MightHappen}
 use Rattle.sm_store.specs.System.{StaysOvertaken, extended, happens, after_reaching, system_after}
-use Rattle.sm_store.specs.lemmas.Growth.{made_next, overtaken_grows, send_grows, so_grows}
+use Rattle.sm_store.specs.lemmas.Growth.{made_next, send_grows, so_grows}
+use Rattle.sm_store.specs.lemmas.Logs.{GoesOnFrom, all_map, at_place, log_step}
 use Rattle.sm_store.specs.lemmas.Heart.{stood_then}
-use Rattle.sm_store.specs.lemmas.Numbers.{once}
-use Rattle.sm_store.specs.lemmas.Right.{honest_is_right}
+use Rattle.sm_store.proofs.Once.{once, overtaken_grows}
+use Rattle.sm_store.proofs.Right.{honest_is_right}
 use Rattle.sm_store.specs.lemmas.Views.{made_view}
-use Rattle.sm_store.specs.lemmas.Whole.{whole}
-
-pub all_map : {A : Type 0} (F G : A → Type 0) → ((x : A) → F x → G x) → (xs : List A) → AllByRecursion F xs
-    → AllByRecursion G xs
-all_map F G f [] all = tt
-all_map F G f (x ∷ xs) all = (f x all.0, all_map F G f xs all.1)
-
-pub at_place : {A : Type 0} (F : A → Type 0) (xs : List A) (place : ℕ) → AllByRecursion F xs
-    → IfSome (slice_get xs place) F
-at_place F [] place all = tt
-at_place F (x ∷ xs) zero all = all.0
-at_place F (x ∷ xs) (suc place) all = at_place F xs place all.1
+use Rattle.sm_store.proofs.Whole.{whole}
 
 module _ {Q P : Type 0} where
   -- each compare of those that hold
@@ -212,36 +202,6 @@ module _ {Q P R S : Type 0} (after : S → Q → S) (reply : S → Q → R) (sta
   pub lawful : (events : List (Event Q P R)) → MightHappen after reply start charter events
       → IsLawful after reply start charter (system_after events)
   lawful events might = lawful_system (system_after events) (sound events might)
-
-  extends : (txn : Transaction Q P) (writes : List (Write Q P)) (log : List (Transaction Q P))
-      → (more : List (Transaction Q P)) × (extended txn writes log ≡ more ++ log)
-  extends txn [] log = ([], refl)
-  extends txn (write ∷ writes) log = (txn ∷ [], refl)
-
-  -- the store of a later moment is that of an earlier one, and more
-  abbrev GoesOnFrom : List (Transaction Q P) → System Q P R → Type 0
-  GoesOnFrom log system = (more : List (Transaction Q P)) × (system.log ≡ more ++ log)
-
-  log_reached : (system : System Q P R) (found : Option (SentTransaction Q P))
-      → GoesOnFrom system.log (after_reaching system found)
-  log_reached system None = ([], refl)
-  log_reached system (Some sent) =
-      cond_both (all_hold system.log sent.txn.compares)
-      (record {
-        log = extended sent.txn sent.txn.writes system.log;
-        asked = system.asked;
-        sent = system.sent;
-        held = record { txn = sent.txn; since = sent.since; moment = system.log } ∷ system.held;
-        claims = system.claims;
-      })
-      system (GoesOnFrom system.log) (λ _. extends sent.txn sent.txn.writes system.log) (λ _. ([], refl))
-
-  pub log_step : (system : System Q P R) (event : Event Q P R)
-      → GoesOnFrom system.log (happens system event)
-  log_step system (Comes shard request) = ([], refl)
-  log_step system (Sends txn) = ([], refl)
-  log_step system (Reaches which) = log_reached system (slice_get system.sent which)
-  log_step system (Claims claim) = ([], refl)
 
   log_grows : (later earlier : List (Event Q P R))
       → GoesOnFrom (system_after earlier).log

@@ -1,33 +1,22 @@
 -- What is made of an honest store was right when it was made.
 use Rattle.std.proofs.Common.{◌≡◌, ℕ, ◌≤◌, true, List, [], ◌∷◌, ◌++◌, Some, length, refl, sym, ap, subst, ◌∙◌, arith}
 use Rattle.std.proofs.Common.{inl, inr}
-use Rattle.std.specs.Prelude.{◌==◌, slice_get}
-use Rattle.std.proofs.lemmas.Bool.{and_parts, eqb-true}
+use Rattle.std.specs.Prelude.{slice_get}
 use Rattle.sm_ownership.specs.declared.record.Record.{Record}
-use Rattle.sm_store.specs.declared.compare.Compare.{Compare}
 use Rattle.sm_store.specs.declared.head.Head.{Head}
 use Rattle.sm_store.specs.declared.item.Item.{Item}
 use Rattle.sm_store.specs.declared.store_key.PassingKey.{PassingKey}
 use Rattle.sm_store.specs.declared.store_key.PassingKey.TheVariants.{Leader, Server, Batch, Part, Other}
-use Rattle.sm_store.specs.declared.store_key.StoreKey.{StoreKey}
 use Rattle.sm_store.specs.Store.{Transaction, all_hold, head_key, head_of, leader_key, leader_of, made, part_at}
-use Rattle.sm_store.specs.Store.{record_key, revision_of, stored_record}
+use Rattle.sm_store.specs.Store.{record_key, stored_record}
 use Rattle.sm_store.specs.Deeds.{Charter, Deed, Electing, Expiring, Changing, Executing, Basing, Naming, Clearing}
 use Rattle.sm_store.specs.Deeds.{Following, Checking, Foreign, transaction_of, at, AreAccepted, IsChanged, ShardLog}
 use Rattle.sm_store.specs.Deeds.{shard_log, WasFound, MayDo, MayName, MayClear, IsHonest, IsBehind, IsRight}
 use Rattle.sm_store.specs.Deeds.{IsRightBase, AreRight}
-use Rattle.sm_store.specs.lemmas.Heads.{read_until, risen}
-use Rattle.sm_store.specs.lemmas.Heart.{stands}
-use Rattle.sm_store.specs.lemmas.Parts.{part_is, part_stays}
+use Rattle.sm_store.proofs.Heads.{read_until, risen}
+use Rattle.sm_store.specs.lemmas.Heart.{first_held, stands}
+use Rattle.sm_store.proofs.Parts.{part_is, part_stays}
 use Rattle.sm_store.specs.lemmas.Views.{head_view, leader_view, log_view, record_view}
-
-module _ {Q P : Type 0} where
-  -- one compare of a transaction held, or both
-  pub first_held : (log : List (Transaction Q P)) (a : StoreKey) (m : ℕ) (rest : List Compare)
-      → all_hold log (at a m ∷ rest) ≡ true → (revision_of a log ≡ m) × (all_hold log rest ≡ true)
-  first_held log a m rest held =
-      let parts = and_parts (revision_of a log == m) (all_hold log rest) held in
-      (eqb-true (revision_of a log) m parts.0, parts.1)
 
 module _ {Q P : Type 0} (charter : Charter Q P) where
   head_behind : (log : List (Transaction Q P)) (shard : ℕ) (head : Head) (revision : ℕ) → AreRight charter log

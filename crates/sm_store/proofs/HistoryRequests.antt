@@ -17,7 +17,7 @@ use Rattle.sm_store.specs.Deeds.{AreRight, Charter, Deed, Electing, Expiring, Ch
 use Rattle.sm_store.specs.Deeds.{Clearing, Following, Checking, Foreign, transaction_of}
 use Rattle.sm_store.specs.Histories.{history_of, with_requests, with_write}
 use Rattle.sm_store.specs.Store.{Transaction, head_key, left_by, made, made_by, stored_record, touches}
-use Rattle.sm_store.specs.lemmas.Histories.{agrees, with_deed}
+use Rattle.sm_store.proofs.Histories.{agrees, with_deed}
 
 twice : {A : Type 0} (xs : List A) → reverse (reverse xs) ≡ xs
 twice [] = refl
