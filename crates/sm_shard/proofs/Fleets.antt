@@ -218,7 +218,8 @@ module _ {M Q R : Type 0} (after : M → Q → M) (reply : M → Q → R) (start
             (subst (λ (system : System Q BasePart R). AllByRecursion (IsTold after reply start system.log) claims) sent
             (told after reply start log new.shard input result so))
             (sends_might run.events sends
-            (subst (λ (system : System Q BasePart R). AllByRecursion (MaySend charter system.log) sends) run.is safe.may)
+            (subst
+            (λ (system : System Q BasePart R). AllByRecursion (MaySend charter system.log) sends) run.is safe.may)
             run.might);
         is = ap (λ (system : System Q BasePart R). with_claims system claims) sent ∙ sym (claimed_after first claims);
         good = all_set (IsGoodServer after reply start charter log) fleet.servers which new run.good
