@@ -57,6 +57,14 @@
 //! permit.finish();
 //! println!("{body}");
 //! ```
+//! ```compile_fail,E0599
+//! # use durkenzo::{Board, Mode};
+//! # let board = Board::builder().servers(1).build(vec![0u64]).unwrap();
+//! # let other = Board::builder().servers(1).build(vec![0u64]).unwrap();
+//! # let (mut pass, mut other) = (board.pass(1).unwrap(), other.pass(1).unwrap());
+//! let permit = pass.admit(0, Mode::Direct).unwrap();
+//! other.finish(permit);
+//! ```
 //! Bodies that may not pass between threads keep the board in one:
 //! ```compile_fail,E0277
 //! # use durkenzo::Board;
