@@ -239,6 +239,9 @@ uint32_t durkenzo_bound(durkenzo_handle *layout, uint16_t shard, uint8_t *into, 
  * kept. Error: NO_MEMORY. */
 uint32_t durkenzo_map(durkenzo_handle *map);
 
+/* Writes how many keys of the map hold something. Error: WRONG_HANDLE. */
+uint32_t durkenzo_map_length(durkenzo_handle *map, uint64_t *length);
+
 /* Makes this request of the map. The reply's handle keeps the reply, in place of what it kept, and its parts are
  * written. Errors: WRONG_HANDLE, BAD_ARGUMENT (the kind, or `amount` of a scan), KEY_EMPTY, KEY_TOO_LONG, NO_MEMORY. */
 uint32_t durkenzo_ask(durkenzo_handle *map, durkenzo_handle *reply, uint8_t kind, const uint8_t *key, size_t key_length,

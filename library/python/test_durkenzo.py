@@ -156,7 +156,7 @@ class Maps(unittest.TestCase):
         held.append(b"name", b"enzo")
         self.assertEqual((held.get(b"name"), held.add(b"visits", 3), held.add(b"visits", -5)), (b"durkenzo", 3, -2))
         self.assertEqual(held.scan(b"a", b"z"), [(b"name", b"durkenzo"), (b"visits", -2)])
-        self.assertEqual(held.scan(b"a", b"z", 1), [(b"name", b"durkenzo")])
+        self.assertEqual((len(held), held.scan(b"a", b"z", 1)), (2, [(b"name", b"durkenzo")]))
         self.assertEqual((held.remove(b"name"), held.remove(b"name"), held.get(b"name")), (True, False, None))
 
     def test_refusals_change_nothing(self):

@@ -1,12 +1,12 @@
 -- Requests of the sample service by their parts.
-use Rattle.std.specs.Prelude.{ℕ, ℤ, pos, ◌≡◌, ◌⊎◌, List, Option}
+use Rattle.std.specs.Prelude.{ℕ, ℤ, pos, ◌≡◌, ◌⊎◌, ◌^◌, ◌-◌, List, Option, min}
 use Rattle.sm_server.specs.declared.refusal.Refusal.{Refusal}
 use Rattle.sm_service.specs.declared.request.Request.{Request}
 use Rattle.sm_service.specs.declared.request.Request.TheVariants.{Get, Put, Append, Inc, Del, Scan}
 use Rattle.sm_handle.specs.declared.handle_state.HandleState.{HandleState}
 use Rattle.sm_handle.specs.declared.act_fault.ActFault.{ActFault}
 use Rattle.sm_handle.specs.declared.served_as.ServedAs.TheVariants.{Refused}
-use Rattle.sm_handle.specs.Maps.{MakesReply}
+use Rattle.sm_handle.specs.Maps.{HoldsKeys, MakesReply}
 use Rattle.sm_handle.specs.Serving.{Carries, RefusesCheckpoint, Serves}
 
 -- the request has this kind and these parts
@@ -18,6 +18,10 @@ HasParts kind key other amount (Inc named added) = (kind ≡ 4) × (named ≡ ke
 HasParts kind key other amount (Del named) = (kind ≡ 5) × (named ≡ key)
 HasParts kind key other amount (Scan low high most) =
     (kind ≡ 6) × (low ≡ key) × (high ≡ other) × (pos most ≡ amount)
+
+-- so many keys of the map hold something, or more than a word counts
+abbrev pub CountsKeys : Option HandleState → ℕ → Type 0
+CountsKeys map count = (all : ℕ) × HoldsKeys map all × (count ≡ min all (2 ^ 64 - 1))
 
 -- the map made the reply to a request of this kind with these parts, and is what that leaves
 abbrev pub AsksMap :

@@ -2,7 +2,7 @@
 ghost use Rattle.std.specs.Prelude.{◌≡◌, ◌≢◌, [], Some};
 ghost use Rattle.sm_handle.specs.declared.handle_state.HandleState.TheVariants.{Map};
 ghost use Rattle.sm_handle.specs.Maps.{Replied};
-ghost use Rattle.sm_c.specs.Requests.{AsksMap};
+ghost use Rattle.sm_c.specs.Requests.{AsksMap, CountsKeys};
 
 use crate::codes::{NO_MEMORY, code_of_act, code_of_request};
 use crate::requests::request_of;
@@ -18,6 +18,22 @@ pub extern "C" fn durkenzo_map(alloc: Global, map: &mut Handle) -> u32
     match map.map(alloc) {
         Ok(()) => 0,
         Err(_) => NO_MEMORY,
+    }
+}
+
+/// Writes how many keys of the map hold something; 2^64 - 1 where there are more.
+#[unsafe(no_mangle)]
+pub extern "C" fn durkenzo_map_length(alloc: Global, map: &mut Handle, length: &mut u64) -> u32
+    ensures found { result ≡ 0 → CountsKeys map.old.owned.state length.new }
+    ensures unwritten { result ≢ 0 → length.new ≡ length.old }
+    ensures unchanged { map.new.owned.state ≡ map.old.owned.state }
+{
+    match map.map_len(alloc) {
+        Ok(count) => {
+            *length = count.min(u128::from(u64::MAX)) as u64;
+            0
+        }
+        Err(fault) => code_of_act(fault),
     }
 }
 

@@ -16,6 +16,11 @@ MakesReply (Some (Map before)) (Some (Map after)) request (Some (Reply made)) =
     (made ≡ reply_of before request) × (after ≡ map_after before request)
 MakesReply before after request made = ⊥
 
+-- the handle keeps a map in which so many keys hold something
+abbrev pub HoldsKeys : Option HandleState → ℕ → Type 0
+HoldsKeys (Some (Map pairs)) count = count ≡ length pairs
+HoldsKeys state count = ⊥
+
 -- the parts are those of this reply
 abbrev pub AreReplyParts : ReplyParts → ReplyValue → Type 0
 AreReplyParts parts Nothing = parts.kind ≡ 0

@@ -1,7 +1,7 @@
 //! Maps of the sample service that handles keep.
 ghost use Rattle.std.specs.Prelude.{◌≡◌, [], IfErr, IfOk, OnOk, Some};
 ghost use Rattle.sm_handle.specs.declared.handle_state.HandleState.TheVariants.{Map, Reply as Replies};
-ghost use Rattle.sm_handle.specs.Maps.{MakesReply, Replied};
+ghost use Rattle.sm_handle.specs.Maps.{HoldsKeys, MakesReply, Replied};
 
 use crate::act_fault::ActFault;
 use crate::handle::Handle;
@@ -22,6 +22,19 @@ impl Handle {
         let state = Box::new(alloc, HandleState::Map(map))?;
         self.put(state);
         Ok(())
+    }
+
+    /// How many keys of the map that the handle keeps hold something.
+    pub fn map_len(&mut self, alloc: Global) -> Result<u128, ActFault>
+        ensures count { IfOk result (HoldsKeys self.old.owned.state) }
+        ensures unchanged { self.new.owned.state ≡ self.old.owned.state }
+    {
+        let Some(state) = self.take(alloc) else {
+            return Err(ActFault::WrongHandle);
+        };
+        let made = len_of(&state);
+        self.put(state);
+        made
     }
 
     /// Makes the request of the map that the handle keeps: the parts of the reply, which the other handle keeps, in
@@ -52,6 +65,15 @@ impl Handle {
         *place = HandleState::Reply(made);
         reply.put(place);
         Ok(parts)
+    }
+}
+
+fn len_of(state: &HandleState) -> Result<u128, ActFault>
+    ensures { IfOk result (HoldsKeys (Some state.now)) }
+{
+    match state {
+        HandleState::Map(map) => Ok(map.len()),
+        _ => Err(ActFault::WrongHandle),
     }
 }
 

@@ -67,6 +67,7 @@ def loaded() -> ctypes.CDLL:
         "shard_of": [handle, text, size, shard],
         "bound": [handle, u16, text, size, length],
         "map": [handle],
+        "map_length": [handle, number],
         "ask": [handle, handle, u8, text, size, text, size, i64, parts],
         "reply_text": [handle, text, size, length],
         "pair": [handle, size, parts],

@@ -32,6 +32,12 @@ class Map(Kept):
         self._reply = Handle()
         check(LIBRARY.durkenzo_map(ctypes.byref(self._handle)))
 
+    def __len__(self) -> int:
+        """Returns how many keys hold something."""
+        length = ctypes.c_uint64()
+        check(LIBRARY.durkenzo_map_length(ctypes.byref(self._handle), ctypes.byref(length)))
+        return length.value
+
     def get(self, key: bytes) -> Value | None:
         """Returns the text or the count that the key holds, or None."""
         parts = self._ask(_Request.GET, key)

@@ -8,7 +8,7 @@
 //! map.append("name", "!")?;
 //! assert_eq!(map.get("name")?, Some(Value::Text(b"durkenzo!".to_vec())));
 //! assert_eq!(map.add("visits", 3)?, 3);
-//! assert_eq!(map.scan("a", "z", 10)?.len(), 2);
+//! assert_eq!((map.len(), map.scan("a", "z", 10)?.len()), (2, 2));
 //! assert!(map.remove("visits")?);
 //! assert_eq!(map.ask(&Request::Get(b"visits"))?, Reply::Nothing);
 //! # Ok::<(), Box<dyn std::error::Error>>(())
@@ -39,6 +39,20 @@ impl Map {
             }),
             code => Err(MapFault::of(code)),
         }
+    }
+
+    /// How many keys hold something.
+    pub fn len(&mut self) -> u64 {
+        let mut length = 0;
+        // SAFETY: the handle is this value's alone.
+        let code = unsafe { raw::durkenzo_map_length(&mut self.handle, &mut length) };
+        assert_eq!(code, 0, "the handle of a map keeps it");
+        length
+    }
+
+    /// Whether no key holds anything.
+    pub fn is_empty(&mut self) -> bool {
+        self.len() == 0
     }
 
     /// The reply to the request; or `EmptyKey`, `KeyTooLong` or `NoMemory`.

@@ -123,6 +123,7 @@ extern "C" {
         length: *mut usize,
     ) -> u32;
     pub(crate) fn durkenzo_map(map: *mut Handle) -> u32;
+    pub(crate) fn durkenzo_map_length(map: *mut Handle, length: *mut u64) -> u32;
     pub(crate) fn durkenzo_ask(
         map: *mut Handle,
         reply: *mut Handle,
