@@ -1,0 +1,107 @@
+use super::metrics;
+use crate::cluster::Cluster;
+use crate::snapshot::Observer;
+use hyper::header::{CACHE_CONTROL, CONTENT_TYPE};
+use hyper::server::conn::AddrIncoming;
+use hyper::service::{make_service_fn, service_fn};
+use hyper::{Body, Method, Request, Response, Server, StatusCode};
+use std::convert::Infallible;
+use std::error::Error;
+use std::future::Future;
+use std::net::SocketAddr;
+use std::sync::{Arc, Mutex, PoisonError};
+
+const PAGE: &str = include_str!("page.html");
+const TEXT: &str = "text/plain; charset=utf-8";
+
+/// What a request is answered from.
+struct Site {
+    cluster: Arc<Cluster>,
+    observer: Mutex<Observer>,
+}
+
+/// Serves there until the future is ready.
+pub async fn serve(
+    cluster: Arc<Cluster>,
+    address: SocketAddr,
+    end: impl Future<Output = ()>,
+) -> Result<(), Box<dyn Error + Send + Sync>> {
+    let observer = Mutex::new(Observer::new(cluster.clone())?);
+    let site = Arc::new(Site { cluster, observer });
+    let incoming = AddrIncoming::bind(&address)?;
+    tracing::info!(address = %incoming.local_addr(), "page, /metrics and /healthz");
+    let service = make_service_fn(move |_| {
+        let site = site.clone();
+        let answer = move |request| {
+            let answered = site.answer(&request);
+            async move { Ok::<_, Infallible>(answered) }
+        };
+        async move { Ok::<_, Infallible>(service_fn(answer)) }
+    });
+    Server::builder(incoming)
+        .serve(service)
+        .with_graceful_shutdown(end)
+        .await?;
+    Ok(())
+}
+
+impl Site {
+    fn answer(&self, request: &Request<Body>) -> Response<Body> {
+        if !matches!(*request.method(), Method::GET | Method::HEAD) {
+            return told(StatusCode::METHOD_NOT_ALLOWED, TEXT, "only GET\n");
+        }
+        match request.uri().path() {
+            "/" => told(StatusCode::OK, "text/html; charset=utf-8", PAGE),
+            "/state.json" => self.state(),
+            "/metrics" => self.metrics(),
+            "/healthz" if self.cluster.is_stopping() => {
+                told(StatusCode::SERVICE_UNAVAILABLE, TEXT, "stopping\n")
+            }
+            "/healthz" => told(StatusCode::OK, TEXT, "ok\n"),
+            _ => told(
+                StatusCode::NOT_FOUND,
+                TEXT,
+                "/, /metrics, /healthz, /state.json\n",
+            ),
+        }
+    }
+
+    fn snapshot(&self) -> crate::snapshot::Snapshot {
+        let mut observer = self.observer.lock().unwrap_or_else(PoisonError::into_inner);
+        observer.snapshot()
+    }
+
+    fn state(&self) -> Response<Body> {
+        match serde_json::to_vec(&self.snapshot()) {
+            Ok(state) => told(StatusCode::OK, "application/json", state),
+            Err(error) => failed(&error),
+        }
+    }
+
+    fn metrics(&self) -> Response<Body> {
+        match metrics::text(&self.cluster, &self.snapshot()) {
+            Ok(text) => told(StatusCode::OK, "text/plain; version=0.0.4", text),
+            Err(error) => failed(&error),
+        }
+    }
+}
+
+fn failed(error: &dyn Error) -> Response<Body> {
+    told(
+        StatusCode::INTERNAL_SERVER_ERROR,
+        TEXT,
+        format!("{error}\n"),
+    )
+}
+
+fn told(status: StatusCode, kind: &'static str, body: impl Into<Body>) -> Response<Body> {
+    let mut response = Response::new(body.into());
+    *response.status_mut() = status;
+    let headers = response.headers_mut();
+    headers.insert(CONTENT_TYPE, hyper::header::HeaderValue::from_static(kind));
+    headers.insert(
+        CACHE_CONTROL,
+        hyper::header::HeaderValue::from_static("no-store"),
+    );
+    response
+}

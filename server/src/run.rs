@@ -1,0 +1,279 @@
+//! How the server begins and ends.
+use crate::admission::Admission;
+use crate::body::Memory;
+use crate::cluster::{Cluster, Configuration};
+use crate::command::Executor;
+use crate::control::{Asked, Controller};
+use crate::domains::Domains;
+use crate::http;
+use crate::io::{Acceptor, Inlet, Worker};
+use crate::keyspace::{Keyspace, Rule};
+use crate::options::{LogFormat, Options};
+use crate::settings::{even_bounds, Settings, MAX_CEILING};
+use mio::Poll;
+use std::error::Error;
+use std::fs;
+use std::io::IsTerminal;
+use std::net::SocketAddr;
+use std::path::Path;
+use std::sync::mpsc::{channel, Sender};
+use std::sync::Arc;
+use std::thread::{self, JoinHandle};
+use std::time::Duration;
+use tokio::signal::unix::{signal, SignalKind};
+use tokio::sync::watch;
+
+/// Why the server doesn't begin, or ended early.
+pub type Fault = Box<dyn Error + Send + Sync>;
+
+/// Threads for clients where nothing is said, at most.
+const MOST_USUAL_THREADS: usize = 4;
+
+/// Serves until a signal ends it.
+pub fn run(options: &Options) -> Result<(), Fault> {
+    begin_log(options)?;
+    let storage = Memory;
+    let cluster = Arc::new(Cluster::new(configuration(options)?, &storage)?);
+    let (control, asked) = channel();
+    let polls = polls(options, &cluster)?;
+    let mut controller = Controller::new(cluster.clone())?;
+    controller.assign_all()?;
+    let acceptor = Acceptor::new(cluster.clone(), SocketAddr::new(options.bind, options.port))?;
+    announce(options, &cluster, acceptor.address()?);
+    let waker = acceptor.waker();
+    let mut threads = workers(&cluster, polls, &control)?;
+    drop(control);
+    threads.push(spawn(&cluster, "acceptor", move || {
+        acceptor.run();
+        Ok(())
+    })?);
+    threads.push(spawn(&cluster, "control", move || {
+        controller.run(asked);
+        Ok(())
+    })?);
+    let ended = attend(options, &cluster);
+    cluster.stop();
+    waker.wake()?;
+    let ended = threads.into_iter().fold(ended, |ended, thread| {
+        let done = thread
+            .join()
+            .unwrap_or_else(|_| Err("a thread panicked".into()));
+        ended.and(done)
+    });
+    tracing::info!("stopped");
+    ended
+}
+
+fn begin_log(options: &Options) -> Result<(), Fault> {
+    let filter = tracing_subscriber::EnvFilter::try_new(&options.log)?;
+    let log = tracing_subscriber::fmt()
+        .with_env_filter(filter)
+        .with_writer(std::io::stderr)
+        .with_ansi(std::io::stderr().is_terminal())
+        .with_target(false);
+    match options.log_format {
+        LogFormat::Text => log.try_init(),
+        LogFormat::Json => log.json().try_init(),
+    }
+}
+
+/// What the options and the settings come to.
+fn configuration(options: &Options) -> Result<Configuration, Fault> {
+    let settings = options.settings.as_deref().map(settings_of).transpose()?;
+    let (servers, restarts, ceiling) = match &settings {
+        Some(it) => (it.servers(), it.restarts(), it.ceiling()),
+        None => (options.servers, options.restarts, MAX_CEILING),
+    };
+    Ok(Configuration {
+        rule: rule(options, settings.as_ref())?,
+        servers,
+        restarts,
+        ceiling,
+        domains: domains(options, settings.as_ref())?,
+        most_clients: options.max_clients,
+        wait: Duration::from_millis(options.wait),
+        spins: options.spins,
+        busy_poll: Duration::from_micros(options.busy_poll),
+        pace: Duration::from_millis(options.pace),
+        grace: Duration::from_millis(options.grace),
+        password: options
+            .password_file
+            .as_deref()
+            .map(password_of)
+            .transpose()?,
+        unkept: settings.map_or(Vec::new(), |it| it.unkept()),
+    })
+}
+
+fn settings_of(path: &Path) -> Result<Settings, Fault> {
+    let text = fs::read_to_string(path).map_err(|error| format!("{}: {error}", path.display()))?;
+    // Of a script its first line is taken.
+    let first = text.lines().next().unwrap_or_default();
+    let settings = Settings::of(if first.ends_with('}') { first } else { &text });
+    Ok(settings.map_err(|fault| format!("{}: {fault}", path.display()))?)
+}
+
+fn password_of(path: &Path) -> Result<Box<[u8]>, Fault> {
+    let text = fs::read(path).map_err(|error| format!("{}: {error}", path.display()))?;
+    let line = text.split(|it| *it == b'\n').next().unwrap_or_default();
+    match line.is_empty() {
+        true => Err(format!("{}: its first line is empty", path.display()).into()),
+        false => Ok(line.into()),
+    }
+}
+
+fn rule(options: &Options, settings: Option<&Settings>) -> Result<Rule, Fault> {
+    let bounds = if let Some(settings) = settings {
+        settings.bounds()
+    } else if let Some(ranges) = options.ranges {
+        even_bounds(ranges)
+    } else if !options.bounds.is_empty() {
+        let above = options.bounds.iter().map(|it| it.clone().into_bytes());
+        std::iter::once(Vec::new()).chain(above).collect()
+    } else {
+        return Ok(Rule::Hash(options.shards));
+    };
+    let rule = Rule::Bounds(bounds);
+    let keyspace = Keyspace::new(&rule).map_err(|fault| format!("bounds: {fault}"))?;
+    Ok(if options.hash {
+        Rule::Hash(keyspace.shards())
+    } else {
+        rule
+    })
+}
+
+fn domains(options: &Options, settings: Option<&Settings>) -> Result<Domains, Fault> {
+    match (settings, options.domains) {
+        (Some(settings), _) => Ok(settings.domains()),
+        (None, Some(domains)) if domains > options.servers => Err(format!(
+            "{domains} domains need a server each, and there are {}",
+            options.servers
+        )
+        .into()),
+        (None, domains) => Ok(Domains::in_turn(
+            domains.unwrap_or(options.servers),
+            options.servers,
+        )),
+    }
+}
+
+/// Makes what each thread for clients polls, and has the cluster know what reaches them.
+fn polls(options: &Options, cluster: &Cluster) -> Result<Vec<Poll>, Fault> {
+    let processors = thread::available_parallelism().map_or(1, usize::from);
+    let usual = processors.min(MOST_USUAL_THREADS);
+    let count = options.threads.map_or(usual, usize::from);
+    let polls = (0..count)
+        .map(|_| Poll::new())
+        .collect::<Result<Vec<_>, _>>()?;
+    let inlets = polls
+        .iter()
+        .map(|it| Inlet::new(it, cluster.configuration.servers).map(Arc::new));
+    cluster.set_inlets(inlets.collect::<Result<_, _>>()?);
+    Ok(polls)
+}
+
+fn workers(
+    cluster: &Arc<Cluster>,
+    polls: Vec<Poll>,
+    control: &Sender<Asked>,
+) -> Result<Vec<JoinHandle<Result<(), Fault>>>, Fault> {
+    let mut threads = Vec::new();
+    for (number, poll) in polls.into_iter().enumerate() {
+        let inlet = cluster.inlets()[number].clone();
+        let admission = Admission::new(cluster.clone(), inlet.stats().clone())?;
+        let keyspace = Keyspace::new(&cluster.configuration.rule)?;
+        let executor = Executor::new(cluster.clone(), admission, keyspace);
+        let worker = Worker::new(cluster.clone(), inlet, poll, executor, control.clone());
+        let run = move || worker.run().map_err(Into::into);
+        threads.push(spawn(cluster, &format!("clients-{number}"), run)?);
+    }
+    Ok(threads)
+}
+
+/// Stops the cluster when a thread ends, however it does.
+struct StopsAtEnd(Arc<Cluster>);
+
+impl Drop for StopsAtEnd {
+    fn drop(&mut self) {
+        self.0.stop();
+    }
+}
+
+fn spawn(
+    cluster: &Arc<Cluster>,
+    name: &str,
+    work: impl FnOnce() -> Result<(), Fault> + Send + 'static,
+) -> Result<JoinHandle<Result<(), Fault>>, Fault> {
+    let end = StopsAtEnd(cluster.clone());
+    let thread = thread::Builder::new()
+        .name(name.to_owned())
+        .spawn(move || {
+            let _end = end;
+            work()
+        })?;
+    Ok(thread)
+}
+
+fn announce(options: &Options, cluster: &Cluster, address: SocketAddr) {
+    let (servers, shards) = (cluster.configuration.servers, cluster.shards());
+    let by = cluster.configuration.rule.name();
+    tracing::info!(%address, servers, shards, by, "serving Redis clients");
+    tracing::warn!("data lies {}", cluster.storage);
+    for unkept in &cluster.configuration.unkept {
+        tracing::warn!("not kept of the settings: {unkept}");
+    }
+    if !options.bind.is_loopback() && cluster.configuration.password.is_none() {
+        tracing::warn!(
+            "anybody who reaches {address} may read, write and move shards: --password-file"
+        );
+    }
+}
+
+/// Serves the page, and waits for a signal, or for the end of a thread.
+fn attend(options: &Options, cluster: &Arc<Cluster>) -> Result<(), Fault> {
+    let runtime = tokio::runtime::Builder::new_current_thread()
+        .enable_all()
+        .build()?;
+    runtime.block_on(async {
+        let (told, mut heard) = watch::channel(());
+        let site = async {
+            if options.http_port == 0 {
+                return std::future::pending().await;
+            }
+            let end = async move {
+                // The sender's end ends it too.
+                let _ = heard.changed().await;
+            };
+            let address = SocketAddr::new(options.bind, options.http_port);
+            http::serve(cluster.clone(), address, end).await
+        };
+        tokio::pin!(site);
+        tokio::select! {
+            ended = &mut site => return ended,
+            ended = signalled(cluster) => ended?,
+        }
+        cluster.stop();
+        drop(told);
+        Ok(())
+    })
+}
+
+/// Waits for a signal that ends the server, or for the end of a thread.
+async fn signalled(cluster: &Cluster) -> Result<(), Fault> {
+    let mut terminate = signal(SignalKind::terminate())?;
+    let mut interrupt = signal(SignalKind::interrupt())?;
+    let mut tick = tokio::time::interval(Duration::from_millis(200));
+    loop {
+        tokio::select! {
+            _ = terminate.recv() => break,
+            _ = interrupt.recv() => break,
+            _ = tick.tick() => {
+                if cluster.is_stopping() {
+                    return Err("a thread ended".into());
+                }
+            }
+        }
+    }
+    tracing::info!("stopping");
+    Ok(())
+}
