@@ -4,7 +4,7 @@ import shutil
 
 import beside
 import sources
-from testing import front, layout, library, tests
+from testing import front, layout, library, server, tests
 from testing.part import Part, verdict
 from testing.program import EXAMPLES, Program, opens_nothing, tool
 
@@ -150,11 +150,13 @@ def proved(say):
     """The stage after the proofs: the programs that they made. Rattle's own compiler may decline one, which `rt ci`
     then says."""
     program = Program(PROVED, "proved")
+    server.skipped(say)
     parts = [
         Part("pictures, proved", program.pictures),
         Part("the shell, proved", program.shell),
         Part("./sm", front.words),
         Part("library", library.passed),
+        Part("server", server.passed),
         *faults(say),
     ]
     return [

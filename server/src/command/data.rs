@@ -213,7 +213,7 @@ fn subtract(
     replies: &mut Replies,
 ) -> Result<(), Fault> {
     let number = number::parse(command.get(2)).ok_or(Fault::NotInteger)?;
-    let opposite = number.checked_neg().ok_or(Fault::Overflow)?;
+    let opposite = number.checked_neg().ok_or(Fault::NoOpposite)?;
     add(body, command.get(1), Some(opposite), replies)
 }
 
@@ -333,7 +333,7 @@ mod tests {
         ("STRLEN none", ":0"),
         (
             "DECRBY a -9223372036854775808",
-            "-ERR increment or decrement would overflow",
+            "-ERR decrement would overflow",
         ),
     ];
 

@@ -24,6 +24,8 @@ pub enum Fault {
     NotInteger,
     /// A sum lies outside of 64 bits.
     Overflow,
+    /// The opposite of a number lies outside of 64 bits.
+    NoOpposite,
     /// A text would be too long.
     TooLong,
     /// A key is too long, or empty.
@@ -77,9 +79,13 @@ impl Fault {
         Fault::UnknownCommand(cut(command.get(0), MOST_SHOWN), shown)
     }
 
-    /// That the command has no such subcommand.
-    pub fn unknown_subcommand(name: &'static str, word: &[u8]) -> Fault {
-        Fault::UnknownSubcommand(name, cut(word, MOST_SHOWN))
+    /// Why a subcommand isn't done: one of the known ones takes another number of arguments.
+    pub fn subcommand(name: &'static str, word: &[u8], known: &[&str]) -> Fault {
+        let word = cut(word, MOST_SHOWN);
+        match known.iter().any(|it| it.eq_ignore_ascii_case(&word)) {
+            true => Fault::WrongArity(format!("{name}|{word}").to_ascii_lowercase()),
+            false => Fault::UnknownSubcommand(name, word),
+        }
     }
 }
 
@@ -143,6 +149,7 @@ impl Fault {
             Fault::NoExpiry => "NOEXPIRY keys don't expire here: SET takes no EX, PX, EXAT and PXAT",
             Fault::NotInteger => "ERR value is not an integer or out of range",
             Fault::Overflow => "ERR increment or decrement would overflow",
+            Fault::NoOpposite => "ERR decrement would overflow",
             Fault::CrossShard => {
                 "CROSSSHARD the keys are of several shards, and one command or transaction is of one: \
                  ask for each by itself, or give keys one {tag} where keys go by hash"

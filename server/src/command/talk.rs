@@ -81,12 +81,11 @@ fn let_in(
     session: &mut Session,
     cluster: &Cluster,
 ) -> Result<(), Fault> {
-    let is_user = user == b"default";
-    session.is_known = match &cluster.configuration.password {
-        None => is_user,
-        Some(wanted) => is_same(password, wanted) && is_user,
-    };
-    match session.is_known {
+    let wanted = cluster.configuration.password.as_deref();
+    let is_right = wanted.is_none_or(|it| is_same(password, it)) && user == b"default";
+    // Who was let in before stays so.
+    session.is_known |= is_right;
+    match is_right {
         true => Ok(()),
         false => Err(Fault::WrongPassword),
     }
@@ -187,7 +186,12 @@ fn client(command: Command<'_>, session: &mut Session, replies: &mut Replies) ->
             replies.simple("OK");
         }
         (b"SETINFO", 4) | (b"NO-EVICT" | b"NO-TOUCH", 3) => replies.simple("OK"),
-        _ => return Err(Fault::unknown_subcommand("CLIENT", command.get(1))),
+        _ => {
+            let known = [
+                "ID", "GETNAME", "SETNAME", "SETINFO", "NO-EVICT", "NO-TOUCH",
+            ];
+            return Err(Fault::subcommand("CLIENT", command.get(1), &known));
+        }
     }
     Ok(())
 }
@@ -220,7 +224,13 @@ fn describe(command: Command<'_>, replies: &mut Replies) -> Result<(), Fault> {
                 }
             }
         }
-        _ => return Err(Fault::unknown_subcommand("COMMAND", command.get(1))),
+        _ => {
+            return Err(Fault::subcommand(
+                "COMMAND",
+                command.get(1),
+                &["COUNT", "LIST"],
+            ))
+        }
     }
     Ok(())
 }
@@ -251,7 +261,7 @@ fn describe_one(spec: &Spec, replies: &mut Replies) {
 /// CONFIG GET, of what clients and redis-benchmark look at.
 fn config(command: Command<'_>, cluster: &Cluster, replies: &mut Replies) -> Result<(), Fault> {
     if !command.is(1, "GET") || command.len() < 3 {
-        return Err(Fault::unknown_subcommand("CONFIG", command.get(1)));
+        return Err(Fault::subcommand("CONFIG", command.get(1), &["GET"]));
     }
     let known = [
         ("appendonly", "no".to_owned()),
