@@ -16,11 +16,14 @@ IDLE = 10_000
 # What an idle connection with half a command may take of memory.
 MOST_IDLE_BYTES = 2_000
 MEBIBYTE = 1 << 20
-PIECES = [b"*", b"$", b"\r\n", b"\n", b"-1", b"9223372036854775808", b"\x00", b"\xff" * 9, b'"', b"*1024\r\n", b"$65536\r\n"]
+PIECES = [
+    b"*", b"$", b"\r\n", b"\n", b"-1", b"9223372036854775808", b"\x00", b"\xff" * 9, b'"', b"*1024\r\n", b"$65536\r\n",
+]  # fmt: skip
 COMMANDS = [
     ("GET", "a"), ("SET", "a", "b" * 40), ("INCR", "n"), ("MGET", "{t}a", "{t}b"), ("MULTI",), ("EXEC",), ("DISCARD",),
-    ("SCAN", "0"), ("SCANRANGE", "", "", "10"), ("CLIENT", "SETNAME", "x"), ("HELLO", "3"), ("HELLO", "2"), ("ECHO", "x"),
-    ("APPEND", "a", "x"), ("DEL", "a"), ("INFO",), ("COMMAND",), ("SM", "LOOK", "0"), ("SM", "AT", "1", "GET", "a"),
+    ("SCAN", "0"), ("SCANRANGE", "", "", "10"), ("CLIENT", "SETNAME", "x"), ("HELLO", "3"), ("HELLO", "2"),
+    ("ECHO", "x"), ("APPEND", "a", "x"), ("DEL", "a"),
+    ("INFO",), ("COMMAND",), ("SM", "LOOK", "0"), ("SM", "AT", "1", "GET", "a"),
     ("SM", "MIGRATE", "0", "2"), ("SELECT", "0"), ("TYPE", "a"), ("CONFIG", "GET", "*"), ("AUTH", "x"), ("RESET",),
 ]  # fmt: skip
 

@@ -1,5 +1,5 @@
-"""What the server for Redis clients passes, over the static library that the proofs built: its unit tests, and the scripts
-of server/tests/ over a server that runs."""
+"""What the server for Redis clients passes, over the static library that the proofs built: its unit tests, and the
+scripts of server/tests/ over a server that runs."""
 import shutil
 import subprocess
 import sys

@@ -1,3 +1,4 @@
+use super::key::Key;
 use super::{Pair, Range, Refusal, Reply, Request, ShardBody, Value, MAX_PAIRS, MAX_TEXT};
 use std::collections::btree_map::Entry;
 use std::collections::BTreeMap;
@@ -40,7 +41,7 @@ impl Held {
 /// A shard's pairs in an ordered map in memory. What it does isn't proved.
 #[derive(Clone, Debug, Default)]
 pub struct MemoryBody {
-    pairs: BTreeMap<Box<[u8]>, Held>,
+    pairs: BTreeMap<Key, Held>,
 }
 
 impl MemoryBody {
@@ -108,7 +109,7 @@ impl MemoryBody {
         self.pairs
             .range::<[u8], _>((range.low, high))
             .take(range.most.min(MAX_PAIRS))
-            .map(|(key, held)| (&key[..], held.value()))
+            .map(|(key, held)| (key.bytes(), held.value()))
             .collect()
     }
 }

@@ -1,4 +1,5 @@
 //! What a shard holds: an ordered map of keys to texts and counts, behind one trait.
+mod key;
 mod memory;
 mod storage;
 
