@@ -8,6 +8,8 @@ use std::sync::Arc;
 
 /// How often a request is forwarded.
 const MOST_HOPS: u8 = 4;
+/// How often a thread looks for a shard's server beside its spins.
+const MOST_TURNS: u32 = 8;
 
 /// Why a command can't be done now; it waits, and is refused by this when it has waited in vain.
 #[derive(Clone, Copy, Debug, PartialEq, Eq)]
@@ -150,7 +152,7 @@ impl Admission {
         shard: u16,
         work: impl FnOnce(&mut Shard) -> R,
     ) -> Result<R, NotAdmitted> {
-        for _ in 0..=self.cluster.configuration.spins {
+        for _ in 0..self.cluster.configuration.spins.saturating_add(MOST_TURNS) {
             let index = usize::from(target.server) - 1;
             let Some(pass) = self.passes[index].as_mut() else {
                 target = self.around(shard, target)?;

@@ -5,6 +5,7 @@ use crate::domains::Domains;
 use crate::io::Inlet;
 use crate::keyspace::Rule;
 use crate::presence::Presence;
+use crate::settings::MAX_CEILING;
 use durkenzo::{Board, BuildFault};
 use std::fmt;
 use std::sync::atomic::{AtomicBool, AtomicU64, Ordering};
@@ -40,6 +41,27 @@ pub struct Configuration {
     pub password: Option<Box<[u8]>>,
     /// What of the settings isn't kept.
     pub unkept: Vec<String>,
+}
+
+impl Configuration {
+    /// One server with keys of these shards, and what is usual in all else.
+    pub fn new(rule: Rule) -> Configuration {
+        Configuration {
+            rule,
+            servers: 1,
+            restarts: 1,
+            ceiling: MAX_CEILING,
+            domains: Domains::default(),
+            most_clients: 20_000,
+            wait: Duration::from_secs(5),
+            spins: 64,
+            busy_poll: Duration::ZERO,
+            pace: Duration::ZERO,
+            grace: Duration::from_secs(2),
+            password: None,
+            unkept: Vec::new(),
+        }
+    }
 }
 
 /// A cluster of servers in one process.

@@ -8,7 +8,12 @@ use std::path::PathBuf;
 /// Keys are of shards, and each shard is executed by one of several servers, which are all in this process: they can be
 /// restarted in turn, and shards move between them, while clients notice nothing (SM HELP, by redis-cli).
 #[derive(Clone, Debug, Parser)]
-#[command(name = "sm serve", version, max_term_width = 100)]
+#[command(
+    name = "sm serve",
+    version,
+    max_term_width = 100,
+    args_override_self = true
+)]
 pub struct Options {
     /// Listens at this address
     #[arg(

@@ -38,7 +38,9 @@ pub fn run(options: &Options) -> Result<(), Fault> {
     let polls = polls(options, &cluster)?;
     let mut controller = Controller::new(cluster.clone())?;
     controller.assign_all()?;
-    let acceptor = Acceptor::new(cluster.clone(), SocketAddr::new(options.bind, options.port))?;
+    let address = SocketAddr::new(options.bind, options.port);
+    let told = |error| format!("{address}: {error}; --port takes another port");
+    let acceptor = Acceptor::new(cluster.clone(), address).map_err(told)?;
     announce(options, &cluster, acceptor.address()?);
     let waker = acceptor.waker();
     let mut threads = workers(&cluster, polls, &control)?;

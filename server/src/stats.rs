@@ -40,6 +40,8 @@ pub struct Stats {
     pub accepted: Counter,
     /// Connections that are open.
     pub open: Counter,
+    /// Connections whose next command waits for a shard that nobody executes.
+    pub waiting: Counter,
     /// Bytes that came.
     pub received: Counter,
     /// Bytes that went.
@@ -59,6 +61,7 @@ impl Stats {
             refused: Counter::default(),
             accepted: Counter::default(),
             open: Counter::default(),
+            waiting: Counter::default(),
             received: Counter::default(),
             sent: Counter::default(),
             executed: (0..servers).map(|_| Counter::default()).collect(),

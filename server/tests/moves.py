@@ -138,7 +138,11 @@ def failed_servers_are_told(program):
         answers = control.piped([("GET", it) for it in KEYS[:40]])
         down = [str(it) for it in answers if isinstance(it, Refused)]
         assert down and all(it.startswith("SERVERDOWN server 1") for it in down), answers
-        assert len(control.ask("SM", "DRAIN", 1)) == 16
+        with server.client() as client:
+            key = KEYS[[isinstance(it, Refused) for it in answers].index(True)]
+            client.send("INCR", key)
+            assert len(control.ask("SM", "DRAIN", 1)) == 16
+            assert client.read() == 2, "who waited for a drained shard was refused"
         assert not any(isinstance(it, Refused) for it in control.piped([("GET", it) for it in KEYS[:40]]))
         assert control.ask("SM", "BACK", 1) == "OK"
 

@@ -10,7 +10,7 @@ from testing.library import PROVED
 from testing.part import Verdict, verdict
 
 FOLDER = sources.TOP / "server"
-SCRIPTS = ("commands", "moves", "hostile")
+SCRIPTS = ("commands", "moves", "hostile", "site")
 REDIS = ("redis-server", "redis-cli", "redis-benchmark")
 HEADINGS = ("Network:", "Servers and shards:", "Threads and waiting:", "Log:")
 PASSED, FAILED, REASON = "passed: ", "FAILED: ", "    "

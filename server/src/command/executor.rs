@@ -287,3 +287,117 @@ impl Executor {
         Ok(done?)
     }
 }
+
+#[cfg(test)]
+mod tests {
+    use super::*;
+    use crate::body::Memory;
+    use crate::cluster::Configuration;
+    use crate::keyspace::Rule;
+    use crate::stats::Stats;
+
+    /// A cluster of two servers, the first of which owns both shards, and what does a thread's commands there.
+    fn begun() -> (Arc<Cluster>, Executor) {
+        let rule = Rule::Bounds(vec![Vec::new(), b"m".to_vec()]);
+        let keyspace = Keyspace::new(&rule).unwrap();
+        let configuration = Configuration {
+            servers: 2,
+            ..Configuration::new(rule)
+        };
+        let cluster = Arc::new(Cluster::new(configuration, &Memory).unwrap());
+        for shard in 0..2 {
+            cluster.board.control().assign(shard, 1).unwrap();
+        }
+        let admission = Admission::new(cluster.clone(), Arc::new(Stats::new(2))).unwrap();
+        let executor = Executor::new(cluster.clone(), admission, keyspace);
+        (cluster, executor)
+    }
+
+    /// What lines are answered, and why it ended.
+    fn told(executor: &mut Executor, session: &mut Session, lines: &str) -> (String, Stop) {
+        let mut replies = Replies::default();
+        let (_, stop) = executor.run(session, lines.as_bytes(), &mut replies);
+        let text = String::from_utf8_lossy(replies.unsent()).replace("\r\n", " ");
+        (text.trim_end().to_owned(), stop)
+    }
+
+    fn answers(executor: &mut Executor, lines: &str) -> String {
+        told(executor, &mut Session::new(1, true), lines).0
+    }
+
+    #[test]
+    fn pipelines_are_answered_in_order() {
+        let (_, mut executor) = begun();
+        let lines = "SET a 1\nSET z 2\nINCR a\nPING\nGET z\nGET nothing\nNOSUCH\nMGET a b\n";
+        assert_eq!(
+            answers(&mut executor, lines),
+            "+OK +OK :2 +PONG $1 2 $-1 \
+             -ERR unknown command 'NOSUCH', with args beginning with:  *2 $1 2 $-1"
+        );
+        assert!(answers(&mut executor, "MSET a 1 z 2\n").starts_with("-CROSSSHARD"));
+        assert_eq!(executor.admission.stats().commands.get(), 9);
+    }
+
+    #[test]
+    fn a_transaction_is_of_one_shard() {
+        let (_, mut executor) = begun();
+        let lines = "MULTI\nSET a 1\nINCR a\nPING\nINCR a x\nEXEC\nMULTI\nINCR a\nINCR b\nEXEC\n";
+        assert_eq!(
+            answers(&mut executor, lines),
+            "+OK +QUEUED +QUEUED +QUEUED -ERR wrong number of arguments for 'incr' command \
+             -EXECABORT Transaction discarded because of previous errors. \
+             +OK +QUEUED +QUEUED *2 :1 :1"
+        );
+        let crossing = answers(&mut executor, "MULTI\nINCR a\nINCR z\nEXEC\nGET a\n");
+        assert!(
+            crossing.contains("-CROSSSHARD") && crossing.ends_with("$1 1"),
+            "{crossing}"
+        );
+    }
+
+    #[test]
+    fn each_phase_of_a_migration_is_served() {
+        let (cluster, mut executor) = begun();
+        let control = cluster.board.control();
+        assert_eq!(answers(&mut executor, "INCR a\n"), ":1");
+        control.prepare_add_shard(0, 2).unwrap();
+        assert_eq!(answers(&mut executor, "INCR a\n"), ":2");
+        control.prepare_drop_shard(0).unwrap();
+        assert_eq!(answers(&mut executor, "INCR a\nINCR a\n"), ":3 :4");
+        assert_eq!(executor.admission.stats().forwarded.get(), 1);
+        control.add_shard(0).unwrap();
+        assert_eq!(answers(&mut executor, "INCR a\n"), ":5");
+        control.drop_shard(0).unwrap();
+        assert_eq!(answers(&mut executor, "INCR a\nINCR z\n"), ":6 :1");
+        let refused = answers(&mut executor, "SM AT 1 INCR a\nSM AT 2 INCR a\n");
+        assert!(
+            refused.starts_with("-REFUSED NotExecutor") && refused.ends_with(":7"),
+            "{refused}"
+        );
+    }
+
+    #[test]
+    fn a_command_waits_where_its_shard_is_paused() {
+        let (cluster, mut executor) = begun();
+        let mut session = Session::new(1, true);
+        let control = cluster.board.control();
+        control.pause(0).unwrap();
+        let (text, stop) = told(&mut executor, &mut session, "INCR z\nINCR a\nINCR z\n");
+        assert!(
+            text == ":1" && matches!(stop, Stop::Wait(Wait::Paused(0))),
+            "{stop:?}"
+        );
+        let (text, stop) = told(&mut executor, &mut session, "MULTI\nINCR a\nEXEC\n");
+        assert!(
+            text == "+OK +QUEUED" && matches!(stop, Stop::Wait(_)),
+            "{text}"
+        );
+        control.resume(0).unwrap();
+        assert_eq!(told(&mut executor, &mut session, "EXEC\n").0, "*1 :1");
+        control.pause(0).unwrap();
+        let mut replies = Replies::default();
+        let wait = Wait::Paused(0);
+        let done = executor.refuse(&mut session, b"INCR a\nPING\n", wait, &mut replies);
+        assert!(done == 7 && replies.unsent().starts_with(b"-SHARDPAUSED"));
+    }
+}

@@ -83,7 +83,10 @@ fn clients(cluster: &Cluster) -> String {
             sum(cluster, |it| it.open.get()).to_string(),
         ),
         ("maxclients", cluster.configuration.most_clients.to_string()),
-        ("blocked_clients", "0".to_owned()),
+        (
+            "blocked_clients",
+            sum(cluster, |it| it.waiting.get()).to_string(),
+        ),
     ])
 }
 

@@ -16,4 +16,5 @@ mod unanswered;
 pub use cursors::Cursors;
 pub use executor::{Executor, Stop};
 pub use fault::{name_of, Fault};
+pub use info::memory_used;
 pub use session::Session;

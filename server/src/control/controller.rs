@@ -41,7 +41,7 @@ impl Controller {
     /// The control of this cluster.
     pub fn new(cluster: Arc<Cluster>) -> Result<Controller, PassFault> {
         let observer = Observer::new(cluster.clone())?;
-        let mover = Mover::new(&cluster);
+        let mover = Mover::new(cluster.clone());
         Ok(Controller {
             cluster,
             observer,

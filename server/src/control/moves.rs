@@ -4,6 +4,7 @@ use crate::body::Shard;
 use crate::cluster::Cluster;
 use durkenzo::{ChangeFault, Control, Move};
 use std::fmt;
+use std::sync::Arc;
 use std::time::{Duration, Instant};
 
 /// How long a change is tried again while its shard is admitted.
@@ -53,28 +54,33 @@ impl Change {
 
     /// Whether what waits for the shard may go on by it.
     fn lets_go_on(self) -> bool {
-        matches!(self, Change::Assign(_) | Change::Resume)
+        matches!(self, Change::Assign(_) | Change::Add | Change::Resume)
     }
 }
 
 /// Makes changes, again while another thread is admitted to the shard.
 pub(super) struct Mover {
     pub(super) control: Control<Shard>,
-    pace: Duration,
+    cluster: Arc<Cluster>,
 }
 
 impl Mover {
-    pub(super) fn new(cluster: &Cluster) -> Mover {
-        let (control, pace) = (cluster.board.control(), cluster.configuration.pace);
-        Mover { control, pace }
+    pub(super) fn new(cluster: Arc<Cluster>) -> Mover {
+        let control = cluster.board.control();
+        Mover { control, cluster }
     }
 
+    /// Makes the change, and has go on what waits for it.
     pub(super) fn change(&self, change: Change, shard: u16) -> Result<(), ChangeFault> {
         let end = Instant::now() + PATIENCE;
         loop {
             match self.once(change, shard) {
                 Err(fault) if fault.is_passing() && Instant::now() < end => {
                     std::thread::yield_now();
+                }
+                Ok(()) if change.lets_go_on() => {
+                    self.cluster.note_change();
+                    return Ok(());
                 }
                 done => return done,
             }
@@ -98,15 +104,16 @@ impl Mover {
 
     /// Moves the shard by a whole migration; where a step before the last owner's change isn't made, it stays.
     fn migrate(&self, shard: u16, server: u16) -> Result<(), ChangeFault> {
+        let pace = self.cluster.configuration.pace;
         self.change(Change::PrepareAdd(server), shard)?;
         for step in [Change::PrepareDrop, Change::Add] {
-            std::thread::sleep(self.pace);
+            std::thread::sleep(pace);
             if let Err(fault) = self.change(step, shard) {
                 self.change(Change::Cancel, shard)?;
                 return Err(fault);
             }
         }
-        std::thread::sleep(self.pace);
+        std::thread::sleep(pace);
         self.change(Change::Drop, shard)
     }
 }
@@ -121,11 +128,7 @@ impl Controller {
     /// Makes one change of a shard.
     pub(super) fn change(&mut self, change: Change, shard: u16) -> Result<(), Refusal> {
         let made = self.mover.change(change, shard);
-        self.told(shard, made)?;
-        if change.lets_go_on() {
-            self.cluster.note_change();
-        }
-        Ok(())
+        self.told(shard, made)
     }
 
     pub(super) fn migrate(&mut self, shard: u16, server: u16) -> Result<Answer, Refusal> {

@@ -74,8 +74,14 @@ impl Controller {
     /// Restarts a server while the others serve its shards, which come home then. Returns what was done.
     pub(super) fn restart(&mut self, server: u16) -> Result<Vec<String>, Refusal> {
         self.ask(server)?;
-        self.approve(server)?;
-        let moves = self.drain(server)?;
+        let moves = match self.approve(server).and_then(|_| self.drain(server)) {
+            Ok(moves) => moves,
+            Err(refusal) => {
+                // The restart that was asked for ends; a server that wasn't approved is up.
+                let _ = self.back(server);
+                return Err(refusal);
+            }
+        };
         self.stopped(server)?;
         self.back(server)?;
         for Move { shard, .. } in &moves {

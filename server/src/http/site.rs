@@ -28,7 +28,8 @@ pub async fn serve(
 ) -> Result<(), Box<dyn Error + Send + Sync>> {
     let observer = Mutex::new(Observer::new(cluster.clone())?);
     let site = Arc::new(Site { cluster, observer });
-    let incoming = AddrIncoming::bind(&address)?;
+    let told = |error| format!("{address}: {error}; --http-port takes another port");
+    let incoming = AddrIncoming::bind(&address).map_err(told)?;
     tracing::info!(address = %incoming.local_addr(), "page, /metrics and /healthz");
     let service = make_service_fn(move |_| {
         let site = site.clone();

@@ -21,12 +21,12 @@ pub struct Inlet {
 #[derive(Debug, Default)]
 pub(super) struct Brought {
     pub(super) streams: Vec<TcpStream>,
-    pub(super) answers: Vec<Answer>,
+    pub(super) answers: Vec<Delivery>,
 }
 
 /// An answer of the control to a connection.
 #[derive(Debug)]
-pub(super) struct Answer {
+pub(super) struct Delivery {
     pub(super) place: usize,
     pub(super) id: u64,
     pub(super) bytes: Vec<u8>,
@@ -103,6 +103,6 @@ impl ReplyTo {
     pub fn send(self, bytes: Vec<u8>) {
         let (place, id) = (self.place, self.id);
         self.inlet
-            .change(|it| it.answers.push(Answer { place, id, bytes }));
+            .change(|it| it.answers.push(Delivery { place, id, bytes }));
     }
 }

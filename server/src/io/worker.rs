@@ -222,6 +222,7 @@ impl Worker {
         if self.queue.is_empty() {
             self.queue = queue;
         }
+        self.inlet.stats().waiting.set(self.waiting.len() as u64);
     }
 
     fn ask(&mut self, place: usize, command: OwnedCommand) {
