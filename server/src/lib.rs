@@ -9,6 +9,7 @@ pub mod admission;
 pub mod body;
 pub mod cluster;
 pub mod command;
+pub mod configure;
 pub mod control;
 pub mod domains;
 pub mod http;

@@ -1,30 +1,29 @@
 //! How the server begins and ends.
 use crate::admission::Admission;
 use crate::body::Memory;
-use crate::cluster::{Cluster, Configuration};
+use crate::cluster::Cluster;
 use crate::command::Executor;
+use crate::configure::configuration;
 use crate::control::{Asked, Controller};
-use crate::domains::Domains;
 use crate::http;
 use crate::io::{Acceptor, Inlet, Worker};
-use crate::keyspace::{Keyspace, Rule};
+use crate::keyspace::Keyspace;
 use crate::options::{LogFormat, Options};
-use crate::settings::{even_bounds, Settings, MAX_CEILING};
 use mio::Poll;
 use std::error::Error;
-use std::fs;
 use std::io::IsTerminal;
 use std::net::SocketAddr;
-use std::path::Path;
 use std::sync::mpsc::{channel, Sender};
 use std::sync::Arc;
 use std::thread::{self, JoinHandle};
 use std::time::Duration;
 use tokio::signal::unix::{signal, SignalKind};
-use tokio::sync::watch;
 
 /// Why the server doesn't begin, or ended early.
 pub type Fault = Box<dyn Error + Send + Sync>;
+
+/// A thread that runs.
+type Running = JoinHandle<Result<(), Fault>>;
 
 /// Threads for clients where nothing is said, at most.
 const MOST_USUAL_THREADS: usize = 4;
@@ -53,15 +52,15 @@ pub fn run(options: &Options) -> Result<(), Fault> {
         controller.run(asked);
         Ok(())
     })?);
-    let ended = attend(options, &cluster);
+    let attended = attend(options, &cluster);
     cluster.stop();
     waker.wake()?;
-    let ended = threads.into_iter().fold(ended, |ended, thread| {
-        let done = thread
-            .join()
-            .unwrap_or_else(|_| Err("a thread panicked".into()));
-        ended.and(done)
+    let ended = threads.into_iter().map(|it| {
+        let panicked = |_| Err("a thread panicked".into());
+        it.join().unwrap_or_else(panicked)
     });
+    // All are waited for; what a thread says comes before that one ended.
+    let ended = ended.fold(Ok(()), Result::and).and(attended);
     tracing::info!("stopped");
     ended
 }
@@ -76,86 +75,6 @@ fn begin_log(options: &Options) -> Result<(), Fault> {
     match options.log_format {
         LogFormat::Text => log.try_init(),
         LogFormat::Json => log.json().try_init(),
-    }
-}
-
-/// What the options and the settings come to.
-fn configuration(options: &Options) -> Result<Configuration, Fault> {
-    let settings = options.settings.as_deref().map(settings_of).transpose()?;
-    let (servers, restarts, ceiling) = match &settings {
-        Some(it) => (it.servers(), it.restarts(), it.ceiling()),
-        None => (options.servers, options.restarts, MAX_CEILING),
-    };
-    Ok(Configuration {
-        rule: rule(options, settings.as_ref())?,
-        servers,
-        restarts,
-        ceiling,
-        domains: domains(options, settings.as_ref())?,
-        most_clients: options.max_clients,
-        wait: Duration::from_millis(options.wait),
-        spins: options.spins,
-        busy_poll: Duration::from_micros(options.busy_poll),
-        pace: Duration::from_millis(options.pace),
-        grace: Duration::from_millis(options.grace),
-        password: options
-            .password_file
-            .as_deref()
-            .map(password_of)
-            .transpose()?,
-        unkept: settings.map_or(Vec::new(), |it| it.unkept()),
-    })
-}
-
-fn settings_of(path: &Path) -> Result<Settings, Fault> {
-    let text = fs::read_to_string(path).map_err(|error| format!("{}: {error}", path.display()))?;
-    // Of a script its first line is taken.
-    let first = text.lines().next().unwrap_or_default();
-    let settings = Settings::of(if first.ends_with('}') { first } else { &text });
-    Ok(settings.map_err(|fault| format!("{}: {fault}", path.display()))?)
-}
-
-fn password_of(path: &Path) -> Result<Box<[u8]>, Fault> {
-    let text = fs::read(path).map_err(|error| format!("{}: {error}", path.display()))?;
-    let line = text.split(|it| *it == b'\n').next().unwrap_or_default();
-    match line.is_empty() {
-        true => Err(format!("{}: its first line is empty", path.display()).into()),
-        false => Ok(line.into()),
-    }
-}
-
-fn rule(options: &Options, settings: Option<&Settings>) -> Result<Rule, Fault> {
-    let bounds = if let Some(settings) = settings {
-        settings.bounds()
-    } else if let Some(ranges) = options.ranges {
-        even_bounds(ranges)
-    } else if !options.bounds.is_empty() {
-        let above = options.bounds.iter().map(|it| it.clone().into_bytes());
-        std::iter::once(Vec::new()).chain(above).collect()
-    } else {
-        return Ok(Rule::Hash(options.shards));
-    };
-    let rule = Rule::Bounds(bounds);
-    let keyspace = Keyspace::new(&rule).map_err(|fault| format!("bounds: {fault}"))?;
-    Ok(if options.hash {
-        Rule::Hash(keyspace.shards())
-    } else {
-        rule
-    })
-}
-
-fn domains(options: &Options, settings: Option<&Settings>) -> Result<Domains, Fault> {
-    match (settings, options.domains) {
-        (Some(settings), _) => Ok(settings.domains()),
-        (None, Some(domains)) if domains > options.servers => Err(format!(
-            "{domains} domains need a server each, and there are {}",
-            options.servers
-        )
-        .into()),
-        (None, domains) => Ok(Domains::in_turn(
-            domains.unwrap_or(options.servers),
-            options.servers,
-        )),
     }
 }
 
@@ -178,7 +97,7 @@ fn workers(
     cluster: &Arc<Cluster>,
     polls: Vec<Poll>,
     control: &Sender<Asked>,
-) -> Result<Vec<JoinHandle<Result<(), Fault>>>, Fault> {
+) -> Result<Vec<Running>, Fault> {
     let mut threads = Vec::new();
     for (number, poll) in polls.into_iter().enumerate() {
         let inlet = cluster.inlets()[number].clone();
@@ -205,7 +124,7 @@ fn spawn(
     cluster: &Arc<Cluster>,
     name: &str,
     work: impl FnOnce() -> Result<(), Fault> + Send + 'static,
-) -> Result<JoinHandle<Result<(), Fault>>, Fault> {
+) -> Result<Running, Fault> {
     let end = StopsAtEnd(cluster.clone());
     let thread = thread::Builder::new()
         .name(name.to_owned())
@@ -236,27 +155,17 @@ fn attend(options: &Options, cluster: &Arc<Cluster>) -> Result<(), Fault> {
     let runtime = tokio::runtime::Builder::new_current_thread()
         .enable_all()
         .build()?;
-    runtime.block_on(async {
-        let (told, mut heard) = watch::channel(());
-        let site = async {
-            if options.http_port == 0 {
-                return std::future::pending().await;
-            }
-            let end = async move {
-                // The sender's end ends it too.
-                let _ = heard.changed().await;
-            };
-            let address = SocketAddr::new(options.bind, options.http_port);
-            http::serve(cluster.clone(), address, end).await
-        };
-        tokio::pin!(site);
-        tokio::select! {
-            ended = &mut site => return ended,
-            ended = signalled(cluster) => ended?,
+    let site = async {
+        match options.http_port {
+            0 => std::future::pending().await,
+            port => http::serve(cluster.clone(), SocketAddr::new(options.bind, port)).await,
         }
-        cluster.stop();
-        drop(told);
-        Ok(())
+    };
+    runtime.block_on(async {
+        tokio::select! {
+            ended = site => ended,
+            ended = signalled(cluster) => ended,
+        }
     })
 }
 

@@ -1,13 +1,13 @@
 use super::metrics;
 use crate::cluster::Cluster;
-use crate::snapshot::Observer;
+use crate::run::Fault;
+use crate::snapshot::{Observer, Snapshot};
 use hyper::header::{CACHE_CONTROL, CONTENT_TYPE};
 use hyper::server::conn::AddrIncoming;
 use hyper::service::{make_service_fn, service_fn};
 use hyper::{Body, Method, Request, Response, Server, StatusCode};
 use std::convert::Infallible;
 use std::error::Error;
-use std::future::Future;
 use std::net::SocketAddr;
 use std::sync::{Arc, Mutex, PoisonError};
 
@@ -20,12 +20,8 @@ struct Site {
     observer: Mutex<Observer>,
 }
 
-/// Serves there until the future is ready.
-pub async fn serve(
-    cluster: Arc<Cluster>,
-    address: SocketAddr,
-    end: impl Future<Output = ()>,
-) -> Result<(), Box<dyn Error + Send + Sync>> {
+/// Serves there for as long as it is polled.
+pub async fn serve(cluster: Arc<Cluster>, address: SocketAddr) -> Result<(), Fault> {
     let observer = Mutex::new(Observer::new(cluster.clone())?);
     let site = Arc::new(Site { cluster, observer });
     let told = |error| format!("{address}: {error}; --http-port takes another port");
@@ -39,11 +35,7 @@ pub async fn serve(
         };
         async move { Ok::<_, Infallible>(service_fn(answer)) }
     });
-    Server::builder(incoming)
-        .serve(service)
-        .with_graceful_shutdown(end)
-        .await?;
-    Ok(())
+    Ok(Server::builder(incoming).serve(service).await?)
 }
 
 impl Site {
@@ -55,9 +47,6 @@ impl Site {
             "/" => told(StatusCode::OK, "text/html; charset=utf-8", PAGE),
             "/state.json" => self.state(),
             "/metrics" => self.metrics(),
-            "/healthz" if self.cluster.is_stopping() => {
-                told(StatusCode::SERVICE_UNAVAILABLE, TEXT, "stopping\n")
-            }
             "/healthz" => told(StatusCode::OK, TEXT, "ok\n"),
             _ => told(
                 StatusCode::NOT_FOUND,
@@ -67,7 +56,7 @@ impl Site {
         }
     }
 
-    fn snapshot(&self) -> crate::snapshot::Snapshot {
+    fn snapshot(&self) -> Snapshot {
         let mut observer = self.observer.lock().unwrap_or_else(PoisonError::into_inner);
         observer.snapshot()
     }

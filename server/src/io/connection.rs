@@ -8,6 +8,8 @@ use std::time::{Duration, Instant};
 
 /// How many bytes are unsent before nothing more is read.
 const MOST_UNSENT: usize = 256 << 10;
+/// How long a command waits at least for a shard that other threads have, of which each has it for a short time.
+const LEAST_BUSY_WAIT: Duration = Duration::from_secs(1);
 
 /// What comes next for a connection after its turn.
 #[derive(Debug)]
@@ -161,19 +163,32 @@ impl Connection {
                 self.is_owed = true;
                 Turn::Control(command)
             }
-            Stop::Wait(reason) => {
-                let since = waits_since.unwrap_or_else(Instant::now);
-                if since.elapsed() >= wait {
-                    self.refuse(reason, executor);
-                    return Turn::Again;
-                }
-                if waits_since.is_none() && !matches!(reason, Wait::Busy(_)) {
-                    executor.admission().stats().waited.add(1);
-                }
-                self.waits_since = Some(since);
-                Turn::Wait(reason)
-            }
+            Stop::Wait(reason) => self.wait(reason, waits_since, executor, wait),
         }
+    }
+
+    /// Has the next command wait, or refuses it where it has waited for so long.
+    fn wait(
+        &mut self,
+        reason: Wait,
+        since: Option<Instant>,
+        executor: &mut Executor,
+        wait: Duration,
+    ) -> Turn {
+        let most = match reason {
+            Wait::Busy(_) => wait.max(LEAST_BUSY_WAIT),
+            _ => wait,
+        };
+        if since.is_none() && !matches!(reason, Wait::Busy(_)) {
+            executor.admission().stats().waited.add(1);
+        }
+        let since = since.unwrap_or_else(Instant::now);
+        if since.elapsed() >= most {
+            self.refuse(reason, executor);
+            return Turn::Again;
+        }
+        self.waits_since = Some(since);
+        Turn::Wait(reason)
     }
 
     fn refuse(&mut self, reason: Wait, executor: &mut Executor) {

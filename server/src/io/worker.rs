@@ -242,9 +242,9 @@ impl Worker {
         self.count_open();
     }
 
+    /// Whether nothing is under way but commands that wait for a shard that nobody executes.
     fn is_quiet(&self) -> bool {
-        self.connections
-            .iter()
-            .all(|(_, it)| it.is_quiet() || it.is_waiting())
+        let mut connections = self.connections.iter().map(|(_, it)| it);
+        self.queue.is_empty() && connections.all(|it| it.is_quiet() || it.is_waiting())
     }
 }
