@@ -128,6 +128,10 @@ pub struct Options {
     #[arg(long, help_heading = "Servers and shards")]
     pub hash: bool,
 
+    /// Begins with shards that nobody owns, for SM ASSIGN and SM PLACE; else servers take turns
+    #[arg(long, help_heading = "Servers and shards")]
+    pub vacant: bool,
+
     /// Runs so many threads for clients [default: the processors, at most 4]
     #[arg(
         long,

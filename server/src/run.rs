@@ -36,7 +36,9 @@ pub fn run(options: &Options) -> Result<(), Fault> {
     let (control, asked) = channel();
     let polls = polls(options, &cluster)?;
     let mut controller = Controller::new(cluster.clone())?;
-    controller.assign_all()?;
+    if !options.vacant {
+        controller.assign_all()?;
+    }
     let address = SocketAddr::new(options.bind, options.port);
     let told = |error| format!("{address}: {error}; --port takes another port");
     let acceptor = Acceptor::new(cluster.clone(), address).map_err(told)?;

@@ -147,6 +147,18 @@ def failed_servers_are_told(program):
         assert control.ask("SM", "BACK", 1) == "OK"
 
 
+def vacant_shards_are_placed(program):
+    """Who asks for a shard that nobody owns waits until it has an owner."""
+    with served(program, "--vacant", "--shards", 4, "--wait", 300) as server, server.client() as control:
+        with server.client() as client:
+            client.send("INCR", "a")
+            assert str(client.read()).startswith("SHARDVACANT")
+            client.send("INCR", "a")
+            assert control.ask("SM", "ASSIGN", 3, 2) == "OK"
+            assert [it.decode() for it in control.ask("SM", "PLACE")] == ["0>1", "1>1", "2>1"]
+            assert client.read() == 1
+
+
 def requests_at_a_server_go_as_in_scripts(program):
     """A migration step by step, seen by clients with old maps."""
     with served(program, "--servers", 3, "--bounds", "m") as server, server.client() as client:
@@ -184,6 +196,7 @@ TESTS = [
     restarts_are_not_noticed,
     paused_shards_hold_back_who_asks_for_them,
     failed_servers_are_told,
+    vacant_shards_are_placed,
     requests_at_a_server_go_as_in_scripts,
     a_server_ends_after_what_it_was_sent,
 ]
