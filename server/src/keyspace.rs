@@ -97,12 +97,16 @@ fn tag_of(key: &[u8]) -> &[u8] {
     }
 }
 
-/// FNV-1a, with its high bits mixed into the low ones.
+/// A sum of the bytes, eight at a time, in which each bit of the key changes about half of the bits.
 fn hash(bytes: &[u8]) -> u64 {
-    let sum = bytes.iter().fold(0xcbf2_9ce4_8422_2325, |sum: u64, byte| {
-        (sum ^ u64::from(*byte)).wrapping_mul(0x0100_0000_01b3)
+    const ODD: u64 = 0x9e37_79b9_7f4a_7c15;
+    let sum = bytes.chunks(8).fold(bytes.len() as u64, |sum, chunk| {
+        let mut word = [0; 8];
+        word[..chunk.len()].copy_from_slice(chunk);
+        (sum.rotate_left(29) ^ u64::from_le_bytes(word)).wrapping_mul(ODD)
     });
-    sum ^ sum >> 32
+    let sum = (sum ^ sum >> 32).wrapping_mul(ODD);
+    sum ^ sum >> 29
 }
 
 #[cfg(test)]
@@ -111,15 +115,27 @@ mod tests {
 
     #[test]
     fn alike_keys_are_spread_by_hash() {
-        let keyspace = Keyspace::new(&Rule::Hash(64)).unwrap();
-        let mut counts = [0; 64];
-        for number in 0..6_400 {
-            counts[usize::from(keyspace.shard_of(format!("key:{number:012}").as_bytes()))] += 1;
+        let shapes: [fn(u32) -> String; 5] = [
+            |it| format!("key:{it:012}"),
+            |it| format!("{it}"),
+            |it| format!("user:{it}:name"),
+            |it| format!("{:08x}", it * 256),
+            |it| format!("a long prefix of many keys {it:05}"),
+        ];
+        for (shards, shape) in [7, 64, 100]
+            .into_iter()
+            .flat_map(|it| shapes.map(|shape| (it, shape)))
+        {
+            let keyspace = Keyspace::new(&Rule::Hash(shards)).unwrap();
+            let mut counts = vec![0; shards.into()];
+            for number in 0..u32::from(shards) * 100 {
+                counts[usize::from(keyspace.shard_of(shape(number).as_bytes()))] += 1;
+            }
+            assert!(
+                counts.iter().all(|it| (55..=150).contains(it)),
+                "{counts:?}"
+            );
         }
-        assert!(
-            counts.iter().all(|it| (50..=150).contains(it)),
-            "{counts:?}"
-        );
     }
 
     #[test]
