@@ -11,7 +11,7 @@ from testing.program import tool
 
 RATTLE = pathlib.Path(shutil.which("rt") or "rt").resolve().with_name("rattle")
 ENDINGS = (".rt", ".antt")
-RUST = sources.TOP / "library/rust/durkenzo"
+RUST = [sources.TOP / it for it in ("library/rust/durkenzo", "server")]
 
 
 def files_of(folder):
@@ -29,13 +29,14 @@ def of_benches(room):
 
 def laid_out(room):
     """Each crate of crates.txt, and each that a bench times, is laid out, those of crates.txt within 120 columns, and
-    so is the crate of Rust. Those of tests are looked at by their tool."""
+    so are the packages of Rust. Those of tests are looked at by their tool."""
     yield tool("long-lines")
     for folder in [*(sources.CRATES / it for it in sources.crates()), *of_benches(room)]:
         command = [RATTLE, "fmt", "--check", *files_of(folder)]
         ran = subprocess.run(command, cwd=folder, capture_output=True, text=True, errors="replace")
         why = f"rt fmt would change it:\n{(ran.stdout + ran.stderr)[-2000:]}"
         yield verdict(f"the layout of {folder.name}", ran.returncode == 0, why)
-    if shutil.which("cargo-fmt"):
-        ran = subprocess.run(["cargo", "fmt", "--check"], cwd=RUST, capture_output=True, text=True)
-        yield verdict("the layout of the crate of Rust", ran.returncode == 0, ran.stdout[-2000:] + ran.stderr[-2000:])
+    for folder in RUST if shutil.which("cargo-fmt") else []:
+        ran = subprocess.run(["cargo", "fmt", "--check"], cwd=folder, capture_output=True, text=True)
+        said = ran.stdout[-2000:] + ran.stderr[-2000:]
+        yield verdict(f"the layout of {folder.name} in Rust", ran.returncode == 0, said)

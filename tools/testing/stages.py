@@ -4,7 +4,7 @@ import shutil
 
 import beside
 import sources
-from testing import front, layout, library, tests
+from testing import front, layout, library, server, tests
 from testing.part import Part, verdict
 from testing.program import EXAMPLES, Program, opens_nothing, tool
 
@@ -152,11 +152,13 @@ def proved(say):
     program = Program(PROVED, "proved")
     if not library.wheel_maker():
         say("no python3 has pip, setuptools and wheel: the library's wheel isn't tried")
+    server.skipped(say)
     parts = [
         Part("pictures, proved", program.pictures),
         Part("the shell, proved", program.shell),
         Part("./sm", front.words),
         Part("library", library.passed),
+        Part("server", server.passed),
         *faults(say),
     ]
     return [

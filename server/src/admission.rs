@@ -1,0 +1,252 @@
+//! How a thread comes to a shard's body: as whichever server the board admits.
+use crate::body::Shard;
+use crate::cluster::Cluster;
+use crate::stats::Stats;
+use durkenzo::{AdmitFault, Mode, Pass, PassFault, Record};
+use std::fmt;
+use std::sync::Arc;
+
+/// How often a request is forwarded.
+const MOST_HOPS: u8 = 4;
+/// How often a thread looks for a shard's server beside its spins.
+const MOST_TURNS: u32 = 8;
+
+/// Why a command can't be done now; it waits, and is refused by this when it has waited in vain.
+#[derive(Clone, Copy, Debug, PartialEq, Eq)]
+pub enum Wait {
+    /// Another thread has the shard.
+    Busy(u16),
+    /// The shard is paused.
+    Paused(u16),
+    /// Nobody owns the shard.
+    Vacant(u16),
+    /// The server that executes the shard is stopped or has failed: the shard and the server.
+    Unreachable(u16, u16),
+}
+
+impl fmt::Display for Wait {
+    fn fmt(&self, f: &mut fmt::Formatter<'_>) -> fmt::Result {
+        match self {
+            Wait::Busy(shard) => write!(f, "SHARDBUSY shard {shard} was with others all the time: try again"),
+            Wait::Paused(shard) => write!(
+                f,
+                "SHARDPAUSED shard {shard} is paused: SM RESUME {shard} has its owner execute again"
+            ),
+            Wait::Vacant(shard) => write!(f, "SHARDVACANT nobody owns shard {shard}: SM PLACE gives it an owner"),
+            Wait::Unreachable(shard, server) => write!(
+                f,
+                "SERVERDOWN server {server}, which executes shard {shard}, is away: SM BACK {server} brings it back, \
+                 SM DRAIN {server} moves its shards"
+            ),
+        }
+    }
+}
+
+/// Why a thread isn't admitted.
+#[derive(Clone, Copy, Debug, PartialEq, Eq)]
+pub enum NotAdmitted {
+    /// It may be later.
+    Wait(Wait),
+    /// The board refuses it.
+    Refused(AdmitFault),
+}
+
+/// The server that a request is for, and how it came there.
+#[derive(Clone, Copy, Debug)]
+struct Target {
+    server: u16,
+    mode: Mode,
+    hops: u8,
+    /// Whether the request is for this server alone and whom it forwards to.
+    is_fixed: bool,
+}
+
+impl Target {
+    fn direct(server: u16, is_fixed: bool) -> Target {
+        let (mode, hops) = (Mode::Direct, 0);
+        Target {
+            server,
+            mode,
+            hops,
+            is_fixed,
+        }
+    }
+}
+
+/// A thread's passes, one of each server that is reached, and where it sends requests.
+pub struct Admission {
+    cluster: Arc<Cluster>,
+    stats: Arc<Stats>,
+    /// From server 1.
+    passes: Vec<Option<Pass<Shard>>>,
+    /// The server that executed each shard last, as far as this thread knows: an old one is refused, with the record.
+    routes: Box<[u16]>,
+    version: u64,
+}
+
+impl Admission {
+    /// That of a thread with these counts.
+    pub fn new(cluster: Arc<Cluster>, stats: Arc<Stats>) -> Result<Admission, PassFault> {
+        let mut admission = Admission {
+            passes: (0..cluster.presence.servers()).map(|_| None).collect(),
+            routes: vec![1; cluster.shards().into()].into(),
+            version: 0,
+            stats,
+            cluster,
+        };
+        admission.renew()?;
+        Ok(admission)
+    }
+
+    /// Gives back the passes of servers that aren't reached any more, and takes those of servers that are back. Returns
+    /// the version of their presence since which that is so.
+    pub fn refresh(&mut self) -> Result<u64, PassFault> {
+        if self.version != self.cluster.presence.version() {
+            self.renew()?;
+        }
+        Ok(self.version)
+    }
+
+    fn renew(&mut self) -> Result<(), PassFault> {
+        let version = self.cluster.presence.version();
+        for (server, pass) in (1..).zip(&mut self.passes) {
+            let is_reached = self.cluster.presence.is_reached(server);
+            match pass {
+                Some(_) if !is_reached => *pass = None,
+                None if is_reached => *pass = Some(self.cluster.board.pass(server)?),
+                _ => {}
+            }
+        }
+        self.version = version;
+        Ok(())
+    }
+
+    /// What the thread counts.
+    pub fn stats(&self) -> &Stats {
+        &self.stats
+    }
+
+    /// Has the closure work on the body of the shard, as the server that executes it.
+    pub fn admit<R>(
+        &mut self,
+        shard: u16,
+        work: impl FnOnce(&mut Shard) -> R,
+    ) -> Result<R, NotAdmitted> {
+        let server = self.routes[usize::from(shard)];
+        self.admit_at(Target::direct(server, false), shard, work)
+    }
+
+    /// Has the closure work on the body of the shard, for a request to this server, which may forward it.
+    pub fn admit_as<R>(
+        &mut self,
+        server: u16,
+        shard: u16,
+        work: impl FnOnce(&mut Shard) -> R,
+    ) -> Result<R, NotAdmitted> {
+        self.admit_at(Target::direct(server, true), shard, work)
+    }
+
+    fn admit_at<R>(
+        &mut self,
+        mut target: Target,
+        shard: u16,
+        work: impl FnOnce(&mut Shard) -> R,
+    ) -> Result<R, NotAdmitted> {
+        for _ in 0..self.cluster.configuration.spins.saturating_add(MOST_TURNS) {
+            let index = usize::from(target.server) - 1;
+            let Some(pass) = self.passes[index].as_mut() else {
+                target = self.around(shard, target)?;
+                continue;
+            };
+            let fault = match pass.admit(shard, target.mode) {
+                Ok(mut permit) => {
+                    let done = work(&mut permit);
+                    self.cluster.note_keys(shard, permit.keys());
+                    drop(permit);
+                    self.stats.executed[index].add(1);
+                    self.stats.forwarded.add(u64::from(target.hops));
+                    return Ok(done);
+                }
+                Err(fault) => fault,
+            };
+            target = self.after(shard, target, fault)?;
+        }
+        self.stats.raced.add(1);
+        Err(NotAdmitted::Wait(Wait::Busy(shard)))
+    }
+
+    /// Where to try again after a refusal.
+    fn after(
+        &mut self,
+        shard: u16,
+        target: Target,
+        fault: AdmitFault,
+    ) -> Result<Target, NotAdmitted> {
+        match fault {
+            AdmitFault::Admitted(_) | AdmitFault::Raced(_) => {
+                std::hint::spin_loop();
+                Ok(target)
+            }
+            AdmitFault::NotExecutor(read) | AdmitFault::NotYet(read) => {
+                self.along(shard, target, read, fault)
+            }
+            AdmitFault::Paused(_) => Err(NotAdmitted::Wait(Wait::Paused(shard))),
+            AdmitFault::Vacant(_) => Err(NotAdmitted::Wait(Wait::Vacant(shard))),
+            other => Err(NotAdmitted::Refused(other)),
+        }
+    }
+
+    /// Where another server executes the shard: the one that this one forwards to, or the owner.
+    fn along(
+        &mut self,
+        shard: u16,
+        target: Target,
+        read: Record,
+        fault: AdmitFault,
+    ) -> Result<Target, NotAdmitted> {
+        if let Some(server) = read
+            .forward(target.server)
+            .filter(|_| target.hops < MOST_HOPS)
+        {
+            let (mode, hops) = (Mode::Forwarded(target.server), target.hops + 1);
+            return Ok(Target {
+                server,
+                mode,
+                hops,
+                ..target
+            });
+        }
+        match read.owner() {
+            _ if target.is_fixed => Err(NotAdmitted::Refused(fault)),
+            Some(owner) => {
+                self.routes[usize::from(shard)] = owner;
+                Ok(Target::direct(owner, false))
+            }
+            None => Err(NotAdmitted::Wait(Wait::Vacant(shard))),
+        }
+    }
+
+    /// Where to go in place of a server that isn't reached: to the owner, if that is another one.
+    fn around(&mut self, shard: u16, target: Target) -> Result<Target, NotAdmitted> {
+        let away = NotAdmitted::Wait(Wait::Unreachable(shard, target.server));
+        let pass = self.passes.iter_mut().flatten().next().ok_or(away)?;
+        let record = pass
+            .look(shard)
+            .map_err(|_| NotAdmitted::Refused(AdmitFault::UnknownShard))?;
+        match record.owner() {
+            Some(owner) if owner != target.server && !target.is_fixed => {
+                self.routes[usize::from(shard)] = owner;
+                Ok(Target::direct(owner, false))
+            }
+            _ => Err(away),
+        }
+    }
+}
+
+impl fmt::Debug for Admission {
+    fn fmt(&self, f: &mut fmt::Formatter<'_>) -> fmt::Result {
+        f.debug_struct("Admission")
+            .field("routes", &self.routes)
+            .finish_non_exhaustive()
+    }
+}

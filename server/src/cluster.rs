@@ -1,0 +1,177 @@
+//! What all threads share: the board, who is present, and what is known of each shard.
+use crate::body::{Shard, Storage};
+use crate::command::Cursors;
+use crate::domains::Domains;
+use crate::io::Inlet;
+use crate::keyspace::Rule;
+use crate::presence::Presence;
+use crate::settings::MAX_CEILING;
+use durkenzo::{Board, BuildFault};
+use std::fmt;
+use std::sync::atomic::{AtomicBool, AtomicU64, Ordering};
+use std::sync::{Arc, OnceLock};
+use std::time::{Duration, Instant};
+
+/// How a server is to run.
+#[derive(Clone, Debug)]
+pub struct Configuration {
+    /// How keys are given to shards.
+    pub rule: Rule,
+    /// Servers 1 to this one.
+    pub servers: u16,
+    /// How many servers may be away for a restart at once.
+    pub restarts: u16,
+    /// The greatest generation of a shard.
+    pub ceiling: u64,
+    /// The servers that fail together.
+    pub domains: Domains,
+    /// How many connections there may be.
+    pub most_clients: usize,
+    /// How long a command waits for a shard that nobody executes.
+    pub wait: Duration,
+    /// How often a thread tries a shard that another one has before it goes on with other connections.
+    pub spins: u32,
+    /// How long a thread polls for events before it sleeps.
+    pub busy_poll: Duration,
+    /// How long a step of a migration takes at least.
+    pub pace: Duration,
+    /// How long clients may take at a stop to read what they were answered.
+    pub grace: Duration,
+    /// What clients have to give first.
+    pub password: Option<Box<[u8]>>,
+    /// What of the settings isn't kept.
+    pub unkept: Vec<String>,
+}
+
+impl Configuration {
+    /// One server with keys of these shards, and what is usual in all else.
+    pub fn new(rule: Rule) -> Configuration {
+        Configuration {
+            rule,
+            servers: 1,
+            restarts: 1,
+            ceiling: MAX_CEILING,
+            domains: Domains::default(),
+            most_clients: 20_000,
+            wait: Duration::from_secs(5),
+            spins: 64,
+            busy_poll: Duration::ZERO,
+            pace: Duration::ZERO,
+            grace: Duration::from_secs(2),
+            password: None,
+            unkept: Vec::new(),
+        }
+    }
+}
+
+/// A cluster of servers in one process.
+pub struct Cluster {
+    /// Who may use which shard, decided by proved code.
+    pub board: Board<Shard>,
+    /// How the server runs.
+    pub configuration: Configuration,
+    /// Which servers requests reach.
+    pub presence: Presence,
+    /// Where SCAN's cursors stand.
+    pub cursors: Cursors,
+    /// Where data lies.
+    pub storage: &'static str,
+    /// When the server started.
+    pub started: Instant,
+    keys: Box<[AtomicU64]>,
+    inlets: OnceLock<Box<[Arc<Inlet>]>>,
+    changes: AtomicU64,
+    stops: AtomicBool,
+}
+
+impl Cluster {
+    /// A cluster whose data lies there; nobody owns a shard yet.
+    pub fn new(configuration: Configuration, storage: &dyn Storage) -> Result<Cluster, BuildFault> {
+        let shards = configuration.rule.shards();
+        let bodies: Vec<Shard> = (0..shards).map(|it| storage.open(it)).collect();
+        let keys = bodies.iter().map(|it| AtomicU64::new(it.keys() as u64));
+        let keys = keys.collect();
+        let board = Board::builder()
+            .servers(configuration.servers)
+            .restarts(configuration.restarts)
+            .ceiling(configuration.ceiling)
+            .build(bodies)?;
+        Ok(Cluster {
+            board,
+            presence: Presence::new(configuration.servers),
+            cursors: Cursors::default(),
+            storage: storage.description(),
+            started: Instant::now(),
+            keys,
+            inlets: OnceLock::new(),
+            changes: AtomicU64::new(0),
+            stops: AtomicBool::new(false),
+            configuration,
+        })
+    }
+
+    /// The number of shards.
+    pub fn shards(&self) -> u16 {
+        self.configuration.rule.shards()
+    }
+
+    /// How many keys of the shard hold something, as its last permit left it.
+    pub fn keys(&self, shard: u16) -> u64 {
+        self.keys[usize::from(shard)].load(Ordering::Relaxed)
+    }
+
+    /// Notes how many keys of the shard hold something; for who has its permit.
+    pub fn note_keys(&self, shard: u16, keys: usize) {
+        let place = &self.keys[usize::from(shard)];
+        if place.load(Ordering::Relaxed) != keys as u64 {
+            place.store(keys as u64, Ordering::Relaxed);
+        }
+    }
+
+    /// Gives the cluster its threads, once.
+    pub fn set_inlets(&self, inlets: Box<[Arc<Inlet>]>) {
+        // A second time changes nothing.
+        let _ = self.inlets.set(inlets);
+    }
+
+    /// What reaches the threads that own connections.
+    pub fn inlets(&self) -> &[Arc<Inlet>] {
+        self.inlets.get().map_or(&[], |it| it)
+    }
+
+    /// Has all threads look again at what waits, as a shard or a server has changed.
+    pub fn note_change(&self) {
+        self.changes.fetch_add(1, Ordering::AcqRel);
+        self.wake();
+    }
+
+    /// How many changes there were that waiting commands may go on by.
+    pub fn changes(&self) -> u64 {
+        self.changes.load(Ordering::Acquire)
+    }
+
+    /// Has all threads come to their end.
+    pub fn stop(&self) {
+        self.stops.store(true, Ordering::Release);
+        self.wake();
+    }
+
+    /// Whether threads are to end.
+    pub fn is_stopping(&self) -> bool {
+        self.stops.load(Ordering::Acquire)
+    }
+
+    fn wake(&self) {
+        for inlet in self.inlets() {
+            inlet.wake();
+        }
+    }
+}
+
+impl fmt::Debug for Cluster {
+    fn fmt(&self, f: &mut fmt::Formatter<'_>) -> fmt::Result {
+        f.debug_struct("Cluster")
+            .field("configuration", &self.configuration)
+            .finish_non_exhaustive()
+    }
+}

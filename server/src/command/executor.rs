@@ -1,0 +1,403 @@
+use super::data::{self, DataWord};
+use super::reader::Reader;
+use super::scan::Scanner;
+use super::session::Session;
+use super::spec::{Spec, Word};
+use super::talk;
+use super::unanswered::Unanswered;
+use super::Fault;
+use crate::admission::{Admission, NotAdmitted, Wait};
+use crate::body::Shard;
+use crate::cluster::Cluster;
+use crate::keyspace::Keyspace;
+use crate::resp::{number, Arguments, Command, OwnedCommand, Replies, Unparsed};
+use std::sync::Arc;
+
+/// How many bytes are written, and not sent, before no further command is done.
+const MOST_UNSENT: usize = 1 << 20;
+/// How many commands are done under one permit, so that others come to the shard.
+const MOST_OF_A_PERMIT: u64 = 128;
+
+/// Why a connection's commands end here for now.
+#[derive(Debug)]
+pub enum Stop {
+    /// There is no whole command in fewer than so many bytes of what is left.
+    Incomplete(usize),
+    /// Much is to be sent first.
+    Full,
+    /// The connection is to end when all was sent.
+    End,
+    /// The next command waits.
+    Wait(Wait),
+    /// The control answers this command.
+    Control(OwnedCommand),
+}
+
+/// What becomes of a command.
+enum Step {
+    /// It is done with keys of this shard.
+    Data(DataWord, u16),
+    /// It is queued for EXEC, with keys of this shard.
+    Queue(Option<u16>),
+    /// It is done otherwise.
+    Other(&'static Spec),
+}
+
+impl Step {
+    fn of(session: &Session, command: Command<'_>, keyspace: &Keyspace) -> Result<Step, Fault> {
+        let spec = Spec::of(command)?;
+        if !session.is_known && !spec.is_open() {
+            return Err(Fault::NoAuth);
+        }
+        let shard = spec.shard(command, keyspace)?;
+        if session.transaction.is_some() && spec.is_queued() {
+            return Ok(Step::Queue(shard));
+        }
+        Ok(match (spec.word, shard) {
+            (Word::Data(word), Some(shard)) => Step::Data(word, shard),
+            _ => Step::Other(spec),
+        })
+    }
+}
+
+/// Does a thread's commands.
+#[derive(Debug)]
+pub struct Executor {
+    cluster: Arc<Cluster>,
+    admission: Admission,
+    keyspace: Keyspace,
+    arguments: Arguments,
+}
+
+impl Executor {
+    /// One for a thread that is admitted so.
+    pub fn new(cluster: Arc<Cluster>, admission: Admission, keyspace: Keyspace) -> Executor {
+        let arguments = Arguments::default();
+        Executor {
+            cluster,
+            admission,
+            keyspace,
+            arguments,
+        }
+    }
+
+    /// How the thread is admitted.
+    pub fn admission(&mut self) -> &mut Admission {
+        &mut self.admission
+    }
+
+    /// Does the commands at the front of the input until one can't be done; returns how many bytes are done with, and
+    /// why it ended there.
+    pub fn run(
+        &mut self,
+        session: &mut Session,
+        input: &[u8],
+        replies: &mut Replies,
+    ) -> (usize, Stop) {
+        let mut arguments = std::mem::take(&mut self.arguments);
+        let mut reader = Reader::new(input, &mut arguments);
+        let stop = loop {
+            if replies.unsent().len() >= MOST_UNSENT {
+                break Stop::Full;
+            }
+            if let Err(stop) = self.step(session, &mut reader, replies) {
+                break stop;
+            }
+        };
+        let done = reader.at();
+        self.arguments = arguments;
+        (done, stop)
+    }
+
+    /// Refuses the command at the front of the input, which has waited in vain; returns how many bytes it has.
+    pub fn refuse(
+        &mut self,
+        session: &mut Session,
+        input: &[u8],
+        wait: Wait,
+        replies: &mut Replies,
+    ) -> usize {
+        let mut reader = Reader::new(input, &mut self.arguments);
+        if reader.peek().is_ok_and(|it| it.is(0, "EXEC")) {
+            session.transaction = None;
+        }
+        reader.advance();
+        replies.error(wait);
+        self.admission.stats().refused.add(1);
+        self.admission.stats().commands.add(1);
+        reader.at()
+    }
+
+    fn step(
+        &mut self,
+        session: &mut Session,
+        reader: &mut Reader<'_>,
+        replies: &mut Replies,
+    ) -> Result<(), Stop> {
+        let command = match reader.peek() {
+            Ok(command) => command,
+            Err(Unparsed::Incomplete(needs)) => return Err(Stop::Incomplete(needs)),
+            Err(Unparsed::Malformed(fault)) => {
+                replies.error(format_args!("ERR {fault}"));
+                return Err(Stop::End);
+            }
+        };
+        if command.is_empty() {
+            reader.advance();
+            return Ok(());
+        }
+        let mark = replies.mark();
+        let done = match Step::of(session, command, &self.keyspace) {
+            Ok(Step::Data(word, shard)) => return self.data(word, shard, session, reader, replies),
+            Ok(Step::Other(spec)) => self.other(spec.word, command, session, replies),
+            Ok(Step::Queue(shard)) => session.queue(command, shard, replies).map_err(Into::into),
+            Err(fault) => Err(fault.into()),
+        };
+        if done.is_err() {
+            replies.take_back(mark);
+        }
+        self.settle(done, session, reader, replies)
+    }
+
+    /// Goes behind a command that was done or refused; one that waits stays.
+    fn settle(
+        &self,
+        done: Result<(), Unanswered>,
+        session: &mut Session,
+        reader: &mut Reader<'_>,
+        replies: &mut Replies,
+    ) -> Result<(), Stop> {
+        let stop = match done {
+            Ok(()) => None,
+            Err(Unanswered::Wait(wait)) => return Err(Stop::Wait(wait)),
+            Err(Unanswered::End) => Some(Stop::End),
+            Err(Unanswered::Control) => reader
+                .peek()
+                .ok()
+                .map(|it| Stop::Control(OwnedCommand::new(it))),
+            Err(Unanswered::Fault(fault)) => {
+                session.refuse(fault, replies);
+                None
+            }
+        };
+        reader.advance();
+        self.admission.stats().commands.add(1);
+        stop.map_or(Ok(()), Err)
+    }
+
+    /// Does the next command, and those behind it while they are of the same shard, under one permit.
+    fn data(
+        &mut self,
+        word: DataWord,
+        shard: u16,
+        session: &mut Session,
+        reader: &mut Reader<'_>,
+        replies: &mut Replies,
+    ) -> Result<(), Stop> {
+        let (keyspace, mut word, mut count) = (&self.keyspace, word, 0);
+        let done = self.admission.admit(shard, |body| loop {
+            if let Ok(command) = reader.peek() {
+                data::execute(word, command, body.as_mut(), replies);
+            }
+            reader.advance();
+            count += 1;
+            if count == MOST_OF_A_PERMIT || replies.unsent().len() >= MOST_UNSENT {
+                break;
+            }
+            match reader.peek().map(|it| Step::of(session, it, keyspace)) {
+                Ok(Ok(Step::Data(next, other))) if other == shard => word = next,
+                _ => break,
+            }
+        });
+        self.admission.stats().commands.add(count);
+        match done {
+            Ok(()) => Ok(()),
+            Err(refused) => self.settle(Err(refused.into()), session, reader, replies),
+        }
+    }
+
+    fn other(
+        &mut self,
+        word: Word,
+        command: Command<'_>,
+        session: &mut Session,
+        replies: &mut Replies,
+    ) -> Result<(), Unanswered> {
+        match (word, &session.transaction) {
+            (Word::Talk(word), _) => {
+                return talk::answer(word, command, session, &self.cluster, replies)
+            }
+            (Word::Multi, None) => session.transaction = Some(Box::default()),
+            (Word::Multi, Some(_)) => return Err(Fault::NestedMulti.into()),
+            (Word::Exec, _) => return self.exec(session, replies),
+            (Word::Discard, Some(_)) => session.transaction = None,
+            (Word::Discard, None) => return Err(Fault::NoMulti("DISCARD").into()),
+            (_, Some(_)) => return Err(Fault::NotQueued.into()),
+            (Word::Control, None) if command.is(1, "AT") => {
+                return self.at_server(command, replies)
+            }
+            (Word::Control, None) => return Err(Unanswered::Control),
+            (Word::Scan, None) => return self.scanner().scan(command, replies),
+            (Word::ScanRange, None) => return self.scanner().scan_range(command, replies),
+            (Word::Data(_), None) => return Err(Fault::BadKey.into()),
+        }
+        replies.simple("OK");
+        Ok(())
+    }
+
+    fn scanner(&mut self) -> Scanner<'_> {
+        Scanner::new(&mut self.admission, &self.keyspace, &self.cluster.cursors)
+    }
+
+    /// Does the command behind `SM AT server` at that server, as for a client that has this route.
+    fn at_server(&mut self, command: Command<'_>, replies: &mut Replies) -> Result<(), Unanswered> {
+        let server = number::parse(command.get(2))
+            .and_then(|it| u16::try_from(it).ok())
+            .filter(|it| self.cluster.presence.standing(*it).is_some())
+            .ok_or(Fault::UnknownServer)?;
+        let inner = command.from(3);
+        let spec = Spec::of(inner)?;
+        let (Word::Data(word), Some(shard)) = (spec.word, spec.shard(inner, &self.keyspace)?)
+        else {
+            return Err(Fault::NoKeys.into());
+        };
+        let execute = |body: &mut Shard| data::execute(word, inner, body.as_mut(), replies);
+        Ok(self.admission.admit_as(server, shard, execute)?)
+    }
+
+    /// Does the commands of the transaction under one permit. While it waits the transaction stays.
+    fn exec(&mut self, session: &mut Session, replies: &mut Replies) -> Result<(), Unanswered> {
+        let Some(transaction) = session.transaction.take() else {
+            return Err(Fault::NoMulti("EXEC").into());
+        };
+        if transaction.is_aborted() {
+            return Err(Fault::Aborted.into());
+        }
+        let cluster = &self.cluster;
+        let Some(shard) = transaction.shard() else {
+            transaction.execute(None, session, cluster, replies);
+            return Ok(());
+        };
+        let done = self.admission.admit(shard, |body| {
+            transaction.execute(Some(body.as_mut()), session, cluster, replies);
+        });
+        if let Err(NotAdmitted::Wait(_)) = done {
+            session.transaction = Some(transaction);
+        }
+        Ok(done?)
+    }
+}
+
+#[cfg(test)]
+mod tests {
+    use super::*;
+    use crate::body::Memory;
+    use crate::cluster::Configuration;
+    use crate::keyspace::Rule;
+    use crate::stats::Stats;
+
+    /// A cluster of two servers, the first of which owns both shards, and what does a thread's commands there.
+    fn begun() -> (Arc<Cluster>, Executor) {
+        let rule = Rule::Bounds(vec![Vec::new(), b"m".to_vec()]);
+        let keyspace = Keyspace::new(&rule).unwrap();
+        let configuration = Configuration {
+            servers: 2,
+            ..Configuration::new(rule)
+        };
+        let cluster = Arc::new(Cluster::new(configuration, &Memory).unwrap());
+        for shard in 0..2 {
+            cluster.board.control().assign(shard, 1).unwrap();
+        }
+        let admission = Admission::new(cluster.clone(), Arc::new(Stats::new(2))).unwrap();
+        let executor = Executor::new(cluster.clone(), admission, keyspace);
+        (cluster, executor)
+    }
+
+    /// What lines are answered, and why it ended.
+    fn told(executor: &mut Executor, session: &mut Session, lines: &str) -> (String, Stop) {
+        let mut replies = Replies::default();
+        let (_, stop) = executor.run(session, lines.as_bytes(), &mut replies);
+        let text = String::from_utf8_lossy(replies.unsent()).replace("\r\n", " ");
+        (text.trim_end().to_owned(), stop)
+    }
+
+    fn answers(executor: &mut Executor, lines: &str) -> String {
+        told(executor, &mut Session::new(1, true), lines).0
+    }
+
+    #[test]
+    fn pipelines_are_answered_in_order() {
+        let (_, mut executor) = begun();
+        let lines = "SET a 1\nSET z 2\nINCR a\nPING\nGET z\nGET nothing\nNOSUCH\nMGET a b\n";
+        assert_eq!(
+            answers(&mut executor, lines),
+            "+OK +OK :2 +PONG $1 2 $-1 \
+             -ERR unknown command 'NOSUCH', with args beginning with:  *2 $1 2 $-1"
+        );
+        assert!(answers(&mut executor, "MSET a 1 z 2\n").starts_with("-CROSSSHARD"));
+        assert_eq!(executor.admission.stats().commands.get(), 9);
+    }
+
+    #[test]
+    fn a_transaction_is_of_one_shard() {
+        let (_, mut executor) = begun();
+        let lines = "MULTI\nSET a 1\nINCR a\nPING\nINCR a x\nEXEC\nMULTI\nINCR a\nINCR b\nEXEC\n";
+        assert_eq!(
+            answers(&mut executor, lines),
+            "+OK +QUEUED +QUEUED +QUEUED -ERR wrong number of arguments for 'incr' command \
+             -EXECABORT Transaction discarded because of previous errors. \
+             +OK +QUEUED +QUEUED *2 :1 :1"
+        );
+        let crossing = answers(&mut executor, "MULTI\nINCR a\nINCR z\nEXEC\nGET a\n");
+        assert!(
+            crossing.contains("-CROSSSHARD") && crossing.ends_with("$1 1"),
+            "{crossing}"
+        );
+    }
+
+    #[test]
+    fn each_phase_of_a_migration_is_served() {
+        let (cluster, mut executor) = begun();
+        let control = cluster.board.control();
+        assert_eq!(answers(&mut executor, "INCR a\n"), ":1");
+        control.prepare_add_shard(0, 2).unwrap();
+        assert_eq!(answers(&mut executor, "INCR a\n"), ":2");
+        control.prepare_drop_shard(0).unwrap();
+        assert_eq!(answers(&mut executor, "INCR a\nINCR a\n"), ":3 :4");
+        assert_eq!(executor.admission.stats().forwarded.get(), 1);
+        control.add_shard(0).unwrap();
+        assert_eq!(answers(&mut executor, "INCR a\n"), ":5");
+        control.drop_shard(0).unwrap();
+        assert_eq!(answers(&mut executor, "INCR a\nINCR z\n"), ":6 :1");
+        let refused = answers(&mut executor, "SM AT 1 INCR a\nSM AT 2 INCR a\n");
+        assert!(
+            refused.starts_with("-REFUSED NotExecutor") && refused.ends_with(":7"),
+            "{refused}"
+        );
+    }
+
+    #[test]
+    fn a_command_waits_where_its_shard_is_paused() {
+        let (cluster, mut executor) = begun();
+        let mut session = Session::new(1, true);
+        let control = cluster.board.control();
+        control.pause(0).unwrap();
+        let (text, stop) = told(&mut executor, &mut session, "INCR z\nINCR a\nINCR z\n");
+        assert!(
+            text == ":1" && matches!(stop, Stop::Wait(Wait::Paused(0))),
+            "{stop:?}"
+        );
+        let (text, stop) = told(&mut executor, &mut session, "MULTI\nINCR a\nEXEC\n");
+        assert!(
+            text == "+OK +QUEUED" && matches!(stop, Stop::Wait(_)),
+            "{text}"
+        );
+        control.resume(0).unwrap();
+        assert_eq!(told(&mut executor, &mut session, "EXEC\n").0, "*1 :1");
+        control.pause(0).unwrap();
+        let mut replies = Replies::default();
+        let wait = Wait::Paused(0);
+        let done = executor.refuse(&mut session, b"INCR a\nPING\n", wait, &mut replies);
+        assert!(done == 7 && replies.unsent().starts_with(b"-SHARDPAUSED"));
+    }
+}

@@ -1,0 +1,151 @@
+//! What INFO tells.
+use super::talk::REDIS_VERSION;
+use crate::cluster::Cluster;
+use crate::resp::Command;
+use crate::stats::Stats;
+use std::fmt::Write;
+
+/// A section of INFO: its name, and its lines.
+type Section = (&'static str, fn(&Cluster) -> String);
+
+const SECTIONS: [Section; 8] = [
+    ("Server", server),
+    ("Clients", clients),
+    ("Memory", memory),
+    ("Persistence", persistence),
+    ("Stats", stats),
+    ("Cluster", cluster),
+    ("Keyspace", keyspace),
+    ("Durkenzo", durkenzo),
+];
+
+/// The sections that the command names, or all where it names none.
+pub fn told(command: Command<'_>, cluster: &Cluster) -> String {
+    let names = command.from(1);
+    let is_all = ["all", "default", "everything"];
+    let is_asked = |section: &str| {
+        names.is_empty()
+            || (0..names.len())
+                .any(|it| names.is(it, section) || is_all.iter().any(|all| names.is(it, all)))
+    };
+    let sections = SECTIONS.iter().filter(|it| is_asked(it.0));
+    let told: Vec<_> = sections
+        .map(|(name, lines)| format!("# {name}\r\n{}", lines(cluster)))
+        .collect();
+    told.join("\r\n")
+}
+
+/// The sum of a count over all threads.
+pub fn sum(cluster: &Cluster, of: impl Fn(&Stats) -> u64) -> u64 {
+    cluster.inlets().iter().map(|it| of(it.stats())).sum()
+}
+
+/// The bytes of memory that the process has.
+pub fn memory_used() -> u64 {
+    let pages = std::fs::read_to_string("/proc/self/statm").unwrap_or_default();
+    let pages = pages
+        .split(' ')
+        .nth(1)
+        .and_then(|it| it.parse::<u64>().ok());
+    pages.unwrap_or(0) * 4_096
+}
+
+/// A line for each name and its value.
+fn lines<const N: usize>(values: [(&str, String); N]) -> String {
+    values
+        .iter()
+        .fold(String::new(), |mut text, (name, value)| {
+            // A string takes whatever is written.
+            let _ = write!(text, "{name}:{value}\r\n");
+            text
+        })
+}
+
+fn server(cluster: &Cluster) -> String {
+    let seconds = cluster.started.elapsed().as_secs();
+    lines([
+        ("redis_version", REDIS_VERSION.to_owned()),
+        ("durkenzo_version", env!("CARGO_PKG_VERSION").to_owned()),
+        ("redis_mode", "standalone".to_owned()),
+        ("os", std::env::consts::OS.to_owned()),
+        ("arch_bits", usize::BITS.to_string()),
+        ("process_id", std::process::id().to_string()),
+        ("uptime_in_seconds", seconds.to_string()),
+        ("uptime_in_days", (seconds / 86_400).to_string()),
+        ("io_threads_active", cluster.inlets().len().to_string()),
+    ])
+}
+
+fn clients(cluster: &Cluster) -> String {
+    lines([
+        (
+            "connected_clients",
+            sum(cluster, |it| it.open.get()).to_string(),
+        ),
+        ("maxclients", cluster.configuration.most_clients.to_string()),
+        (
+            "blocked_clients",
+            sum(cluster, |it| it.waiting.get()).to_string(),
+        ),
+    ])
+}
+
+fn memory(_cluster: &Cluster) -> String {
+    let used = memory_used();
+    lines([
+        ("used_memory", used.to_string()),
+        (
+            "used_memory_human",
+            format!("{:.2}M", used as f64 / 1_048_576.0),
+        ),
+        ("used_memory_rss", used.to_string()),
+        ("maxmemory", "0".to_owned()),
+    ])
+}
+
+fn persistence(cluster: &Cluster) -> String {
+    lines([
+        ("loading", "0".to_owned()),
+        ("aof_enabled", "0".to_owned()),
+        ("storage", cluster.storage.to_owned()),
+    ])
+}
+
+fn stats(cluster: &Cluster) -> String {
+    let told = |of: fn(&Stats) -> u64| sum(cluster, of).to_string();
+    lines([
+        ("total_connections_received", told(|it| it.accepted.get())),
+        ("total_commands_processed", told(|it| it.commands.get())),
+        ("total_net_input_bytes", told(|it| it.received.get())),
+        ("total_net_output_bytes", told(|it| it.sent.get())),
+        ("forwarded_requests", told(|it| it.forwarded.get())),
+        ("raced_requests", told(|it| it.raced.get())),
+        ("waited_requests", told(|it| it.waited.get())),
+        ("refused_requests", told(|it| it.refused.get())),
+    ])
+}
+
+fn cluster(_cluster: &Cluster) -> String {
+    // Of Redis' cluster, which clients ask for: this is one to them.
+    lines([("cluster_enabled", "0".to_owned())])
+}
+
+fn keyspace(cluster: &Cluster) -> String {
+    let keys: u64 = (0..cluster.shards()).map(|it| cluster.keys(it)).sum();
+    match keys {
+        0 => String::new(),
+        keys => lines([("db0", format!("keys={keys},expires=0,avg_ttl=0"))]),
+    }
+}
+
+fn durkenzo(cluster: &Cluster) -> String {
+    let configuration = &cluster.configuration;
+    lines([
+        ("servers", configuration.servers.to_string()),
+        ("shards", cluster.shards().to_string()),
+        ("keys_by", configuration.rule.name().to_owned()),
+        ("restarts_at_once", configuration.restarts.to_string()),
+        ("wait_ms", configuration.wait.as_millis().to_string()),
+        ("not_kept_of_settings", configuration.unkept.join("; ")),
+    ])
+}

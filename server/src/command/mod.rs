@@ -1,0 +1,20 @@
+//! The commands that clients send, and what each does.
+mod cursors;
+mod data;
+mod executor;
+mod fault;
+mod glob;
+mod info;
+mod reader;
+mod scan;
+mod session;
+mod spec;
+mod talk;
+mod transaction;
+mod unanswered;
+
+pub use cursors::Cursors;
+pub use executor::{Executor, Stop};
+pub use fault::{name_of, Fault};
+pub use info::memory_used;
+pub use session::Session;

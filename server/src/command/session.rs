@@ -1,0 +1,50 @@
+use super::transaction::Transaction;
+use super::Fault;
+use crate::resp::{Command, Replies};
+
+/// What a connection's earlier commands mean for its later ones.
+#[derive(Debug)]
+pub struct Session {
+    /// A number that no other connection has.
+    pub id: u64,
+    /// The name that the client gave itself.
+    pub name: Option<Box<[u8]>>,
+    /// Whether the client gave the password, or needs none.
+    pub is_known: bool,
+    /// The transaction that was begun.
+    pub(super) transaction: Option<Box<Transaction>>,
+}
+
+impl Session {
+    /// That of a new connection.
+    pub fn new(id: u64, is_known: bool) -> Session {
+        let (name, transaction) = (None, None);
+        Session {
+            id,
+            name,
+            is_known,
+            transaction,
+        }
+    }
+
+    /// Answers a command that is refused; in a transaction nothing is executed then.
+    pub(super) fn refuse(&mut self, fault: Fault, replies: &mut Replies) {
+        if let Some(transaction) = &mut self.transaction {
+            transaction.abort();
+        }
+        replies.error(fault);
+    }
+
+    /// Queues a command of the transaction that was begun, with keys of this shard, and answers it.
+    pub(super) fn queue(
+        &mut self,
+        command: Command<'_>,
+        shard: Option<u16>,
+        replies: &mut Replies,
+    ) -> Result<(), Fault> {
+        let transaction = self.transaction.as_mut().ok_or(Fault::NotQueued)?;
+        transaction.push(command, shard)?;
+        replies.simple("QUEUED");
+        Ok(())
+    }
+}

@@ -1,0 +1,220 @@
+use super::data::DataWord;
+use super::Fault;
+use crate::body::MAX_KEY;
+use crate::keyspace::Keyspace;
+use crate::resp::Command;
+
+/// Which arguments of a command are keys.
+#[derive(Clone, Copy, Debug, PartialEq, Eq)]
+pub enum Keys {
+    /// None.
+    None,
+    /// The first.
+    First,
+    /// All.
+    All,
+    /// Each second one, from the first on.
+    Odd,
+}
+
+/// What a command does.
+#[derive(Clone, Copy, Debug, PartialEq, Eq)]
+pub enum Word {
+    /// Something with keys of one shard.
+    Data(DataWord),
+    /// What needs no shard.
+    Talk(TalkWord),
+    /// Begins a transaction.
+    Multi,
+    /// Executes it.
+    Exec,
+    /// Forgets it.
+    Discard,
+    /// Goes over all keys.
+    Scan,
+    /// Gives pairs of a range of keys.
+    ScanRange,
+    /// Asks the control, or a server.
+    Control,
+}
+
+/// A command that needs no shard.
+#[derive(Clone, Copy, Debug, PartialEq, Eq)]
+#[allow(missing_docs)]
+pub enum TalkWord {
+    Auth,
+    Client,
+    Command,
+    Config,
+    DbSize,
+    Echo,
+    Hello,
+    Info,
+    Ping,
+    Quit,
+    Reset,
+    Select,
+}
+
+/// How a command is written, and what it does.
+#[derive(Debug)]
+pub struct Spec {
+    /// Its name, in small letters.
+    pub name: &'static str,
+    /// How many arguments it takes, the name among them; at least so many where it is below 0.
+    pub arity: i64,
+    /// Which of them are keys.
+    pub keys: Keys,
+    /// Whether it changes what keys hold.
+    pub is_write: bool,
+    /// What it does.
+    pub word: Word,
+}
+
+const fn data(name: &'static str, arity: i64, keys: Keys, is_write: bool, word: DataWord) -> Spec {
+    let word = Word::Data(word);
+    Spec {
+        name,
+        arity,
+        keys,
+        is_write,
+        word,
+    }
+}
+
+const fn talk(name: &'static str, arity: i64, word: TalkWord) -> Spec {
+    other(name, arity, Word::Talk(word))
+}
+
+const fn other(name: &'static str, arity: i64, word: Word) -> Spec {
+    let (keys, is_write) = (Keys::None, false);
+    Spec {
+        name,
+        arity,
+        keys,
+        is_write,
+        word,
+    }
+}
+
+/// All commands, by their names.
+pub static COMMANDS: [Spec; 31] = [
+    data("append", 3, Keys::First, true, DataWord::Append),
+    talk("auth", -2, TalkWord::Auth),
+    talk("client", -2, TalkWord::Client),
+    talk("command", -1, TalkWord::Command),
+    talk("config", -2, TalkWord::Config),
+    talk("dbsize", 1, TalkWord::DbSize),
+    data("decr", 2, Keys::First, true, DataWord::Decr),
+    data("decrby", 3, Keys::First, true, DataWord::DecrBy),
+    data("del", -2, Keys::All, true, DataWord::Del),
+    other("discard", 1, Word::Discard),
+    talk("echo", 2, TalkWord::Echo),
+    other("exec", 1, Word::Exec),
+    data("exists", -2, Keys::All, false, DataWord::Exists),
+    data("get", 2, Keys::First, false, DataWord::Get),
+    talk("hello", -1, TalkWord::Hello),
+    data("incr", 2, Keys::First, true, DataWord::Incr),
+    data("incrby", 3, Keys::First, true, DataWord::IncrBy),
+    talk("info", -1, TalkWord::Info),
+    data("mget", -2, Keys::All, false, DataWord::MGet),
+    data("mset", -3, Keys::Odd, true, DataWord::MSet),
+    other("multi", 1, Word::Multi),
+    talk("ping", -1, TalkWord::Ping),
+    talk("quit", -1, TalkWord::Quit),
+    talk("reset", 1, TalkWord::Reset),
+    other("scan", -2, Word::Scan),
+    other("scanrange", 4, Word::ScanRange),
+    talk("select", 2, TalkWord::Select),
+    data("set", -3, Keys::First, true, DataWord::Set),
+    other("sm", -2, Word::Control),
+    data("strlen", 2, Keys::First, false, DataWord::StrLen),
+    data("type", 2, Keys::First, false, DataWord::Type),
+];
+
+impl Spec {
+    /// That of the command; refused where there is none, or it takes another number of arguments.
+    pub fn of(command: Command<'_>) -> Result<&'static Spec, Fault> {
+        let spec = Spec::named(command.get(0)).ok_or_else(|| Fault::unknown_command(command))?;
+        let count = command.len() as i64;
+        let is_well = match spec.arity {
+            least if least < 0 => count >= -least,
+            exact => count == exact,
+        };
+        // MSET takes keys with their values.
+        let is_odd = spec.keys == Keys::Odd && count % 2 == 0;
+        match is_well && !is_odd {
+            true => Ok(spec),
+            false => Err(Fault::WrongArity(spec.name.into())),
+        }
+    }
+
+    /// That of this name, in whatever case.
+    pub fn named(name: &[u8]) -> Option<&'static Spec> {
+        let mut small = [0; 12];
+        let small = small.get_mut(..name.len())?;
+        small.copy_from_slice(name);
+        small.make_ascii_lowercase();
+        let index = COMMANDS
+            .binary_search_by(|it| it.name.as_bytes().cmp(small))
+            .ok()?;
+        Some(&COMMANDS[index])
+    }
+
+    /// The shard of the command's keys, or none where it has none; refused where they are of several.
+    pub fn shard(&self, command: Command<'_>, keyspace: &Keyspace) -> Result<Option<u16>, Fault> {
+        let step = match self.keys {
+            Keys::None => return Ok(None),
+            Keys::First => return shard_of(command.get(1), keyspace).map(Some),
+            Keys::All => 1,
+            Keys::Odd => 2,
+        };
+        let mut found = None;
+        for key in command.iter().skip(1).step_by(step) {
+            let shard = shard_of(key, keyspace)?;
+            if *found.get_or_insert(shard) != shard {
+                return Err(Fault::CrossShard);
+            }
+        }
+        Ok(found)
+    }
+
+    /// Whether a client that gave no password may send it.
+    pub fn is_open(&self) -> bool {
+        use TalkWord::{Auth, Hello, Quit, Reset};
+        matches!(self.word, Word::Talk(Auth | Hello | Quit | Reset))
+    }
+
+    /// Whether it may be a part of a transaction.
+    pub fn is_queued(&self) -> bool {
+        match self.word {
+            Word::Data(_) => true,
+            Word::Talk(_) => !self.is_open(),
+            _ => false,
+        }
+    }
+}
+
+/// The shard of the key, which has to be one.
+pub fn shard_of(key: &[u8], keyspace: &Keyspace) -> Result<u16, Fault> {
+    match key.len() {
+        1..=MAX_KEY => Ok(keyspace.shard_of(key)),
+        _ => Err(Fault::BadKey),
+    }
+}
+
+#[cfg(test)]
+mod tests {
+    use super::*;
+
+    #[test]
+    fn commands_are_found_by_name() {
+        assert!(COMMANDS.windows(2).all(|it| it[0].name < it[1].name));
+        for spec in &COMMANDS {
+            let name = spec.name.to_uppercase();
+            assert_eq!(Spec::named(name.as_bytes()).unwrap().name, spec.name);
+        }
+        assert!(Spec::named(b"").is_none());
+        assert!(Spec::named(b"flushallflushall").is_none());
+    }
+}

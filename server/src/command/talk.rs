@@ -1,0 +1,286 @@
+//! Commands that need no shard.
+use super::glob;
+use super::info;
+use super::session::Session;
+use super::spec::{Keys, Spec, TalkWord, Word, COMMANDS};
+use super::unanswered::Unanswered;
+use super::Fault;
+use crate::body::{MAX_KEY, MAX_TEXT};
+use crate::cluster::Cluster;
+use crate::resp::{number, Command, Protocol, Replies};
+
+/// The version of Redis whose protocol and errors these are.
+pub const REDIS_VERSION: &str = "7.0.0";
+
+/// Answers the command, or says why not.
+pub fn answer(
+    word: TalkWord,
+    command: Command<'_>,
+    session: &mut Session,
+    cluster: &Cluster,
+    replies: &mut Replies,
+) -> Result<(), Unanswered> {
+    match word {
+        TalkWord::Ping => ping(command, replies)?,
+        TalkWord::Echo => replies.bulk(command.get(1)),
+        TalkWord::Select => select(command, replies)?,
+        TalkWord::DbSize => {
+            let keys: u64 = (0..cluster.shards()).map(|it| cluster.keys(it)).sum();
+            replies.count(keys as usize);
+        }
+        TalkWord::Auth => auth(command, session, cluster, replies)?,
+        TalkWord::Hello => hello(command, session, cluster, replies)?,
+        TalkWord::Client => client(command, session, replies)?,
+        TalkWord::Command => describe(command, replies)?,
+        TalkWord::Config => config(command, cluster, replies)?,
+        TalkWord::Info => replies.bulk(info::told(command, cluster).as_bytes()),
+        TalkWord::Reset => {
+            *session = Session::new(session.id, cluster.configuration.password.is_none());
+            replies.protocol = Protocol::Two;
+            replies.simple("RESET");
+        }
+        TalkWord::Quit => {
+            replies.simple("OK");
+            return Err(Unanswered::End);
+        }
+    }
+    Ok(())
+}
+
+fn ping(command: Command<'_>, replies: &mut Replies) -> Result<(), Fault> {
+    match command.len() {
+        1 => replies.simple("PONG"),
+        2 => replies.bulk(command.get(1)),
+        _ => return Err(Fault::WrongArity("ping".into())),
+    }
+    Ok(())
+}
+
+fn select(command: Command<'_>, replies: &mut Replies) -> Result<(), Fault> {
+    match number::parse(command.get(1)) {
+        Some(0) => replies.simple("OK"),
+        Some(_) => return Err(Fault::BadDatabase),
+        None => return Err(Fault::NotInteger),
+    }
+    Ok(())
+}
+
+/// Whether both are the same, in a time that doesn't tell where they differ.
+fn is_same(given: &[u8], wanted: &[u8]) -> bool {
+    let differences = given
+        .iter()
+        .zip(wanted)
+        .fold(0, |sum, (a, b)| sum | (a ^ b));
+    given.len() == wanted.len() && differences == 0
+}
+
+/// Lets the client in, where the user is the only one that there is and the password is the server's.
+fn let_in(
+    user: &[u8],
+    password: &[u8],
+    session: &mut Session,
+    cluster: &Cluster,
+) -> Result<(), Fault> {
+    let wanted = cluster.configuration.password.as_deref();
+    let is_right = wanted.is_none_or(|it| is_same(password, it)) && user == b"default";
+    // Who was let in before stays so.
+    session.is_known |= is_right;
+    match is_right {
+        true => Ok(()),
+        false => Err(Fault::WrongPassword),
+    }
+}
+
+fn auth(
+    command: Command<'_>,
+    session: &mut Session,
+    cluster: &Cluster,
+    replies: &mut Replies,
+) -> Result<(), Fault> {
+    match command.len() {
+        2 if cluster.configuration.password.is_none() => return Err(Fault::NoPassword),
+        2 => let_in(b"default", command.get(1), session, cluster)?,
+        3 => let_in(command.get(1), command.get(2), session, cluster)?,
+        _ => return Err(Fault::Syntax),
+    }
+    replies.simple("OK");
+    Ok(())
+}
+
+fn hello(
+    command: Command<'_>,
+    session: &mut Session,
+    cluster: &Cluster,
+    replies: &mut Replies,
+) -> Result<(), Fault> {
+    let protocol = match command.get(1) {
+        [] => replies.protocol,
+        b"2" => Protocol::Two,
+        b"3" => Protocol::Three,
+        _ => return Err(Fault::BadProtocol),
+    };
+    let mut index = 2;
+    while index < command.len() {
+        if command.is(index, "AUTH") && index + 2 < command.len() {
+            let (user, password) = (command.get(index + 1), command.get(index + 2));
+            let_in(user, password, session, cluster)?;
+            index += 3;
+        } else if command.is(index, "SETNAME") && index + 1 < command.len() {
+            set_name(command.get(index + 1), session)?;
+            index += 2;
+        } else {
+            return Err(Fault::Syntax);
+        }
+    }
+    if !session.is_known {
+        return Err(Fault::NoAuth);
+    }
+    replies.protocol = protocol;
+    greet(session, replies);
+    Ok(())
+}
+
+fn greet(session: &Session, replies: &mut Replies) {
+    replies.map(7);
+    for (name, text) in [
+        ("server", "redis"),
+        ("version", REDIS_VERSION),
+        ("mode", "standalone"),
+        ("role", "master"),
+    ] {
+        replies.bulk(name.as_bytes());
+        replies.bulk(text.as_bytes());
+    }
+    replies.bulk(b"proto");
+    replies.number(match replies.protocol {
+        Protocol::Two => 2,
+        Protocol::Three => 3,
+    });
+    replies.bulk(b"id");
+    replies.count(session.id as usize);
+    replies.bulk(b"modules");
+    replies.array(0);
+}
+
+fn set_name(name: &[u8], session: &mut Session) -> Result<(), Fault> {
+    let is_well = name.len() <= MAX_KEY && name.iter().all(|it| (b'!'..=b'~').contains(it));
+    if !is_well {
+        return Err(Fault::BadName);
+    }
+    session.name = (!name.is_empty()).then(|| name.into());
+    Ok(())
+}
+
+fn client(command: Command<'_>, session: &mut Session, replies: &mut Replies) -> Result<(), Fault> {
+    match (
+        command.get(1).to_ascii_uppercase().as_slice(),
+        command.len(),
+    ) {
+        (b"ID", 2) => replies.count(session.id as usize),
+        (b"GETNAME", 2) => match &session.name {
+            Some(name) => replies.bulk(name),
+            None => replies.null(),
+        },
+        (b"SETNAME", 3) => {
+            set_name(command.get(2), session)?;
+            replies.simple("OK");
+        }
+        (b"SETINFO", 4) | (b"NO-EVICT" | b"NO-TOUCH", 3) => replies.simple("OK"),
+        _ => {
+            let known = [
+                "ID", "GETNAME", "SETNAME", "SETINFO", "NO-EVICT", "NO-TOUCH",
+            ];
+            return Err(Fault::subcommand("CLIENT", command.get(1), &known));
+        }
+    }
+    Ok(())
+}
+
+/// COMMAND: all commands, how many there are, or some of them.
+fn describe(command: Command<'_>, replies: &mut Replies) -> Result<(), Fault> {
+    match (
+        command.get(1).to_ascii_uppercase().as_slice(),
+        command.len(),
+    ) {
+        (b"", 1) => {
+            replies.array(COMMANDS.len());
+            COMMANDS.iter().for_each(|it| describe_one(it, replies));
+        }
+        (b"COUNT", 2) => replies.count(COMMANDS.len()),
+        (b"DOCS", _) => replies.map(0),
+        (b"LIST", 2) => {
+            replies.array(COMMANDS.len());
+            COMMANDS
+                .iter()
+                .for_each(|it| replies.bulk(it.name.as_bytes()));
+        }
+        (b"INFO", _) => {
+            let names = command.from(2);
+            replies.array(names.len());
+            for name in names.iter() {
+                match Spec::named(name) {
+                    Some(spec) => describe_one(spec, replies),
+                    None => replies.null(),
+                }
+            }
+        }
+        _ => {
+            return Err(Fault::subcommand(
+                "COMMAND",
+                command.get(1),
+                &["COUNT", "LIST"],
+            ))
+        }
+    }
+    Ok(())
+}
+
+/// As Redis describes a command: name, arity, flags, and the first, last and each further key.
+fn describe_one(spec: &Spec, replies: &mut Replies) {
+    let flag = match spec.word {
+        Word::Data(_) if spec.is_write => "write",
+        Word::Data(_) | Word::Scan | Word::ScanRange => "readonly",
+        _ => "fast",
+    };
+    let (first, last, step) = match spec.keys {
+        Keys::None => (0, 0, 0),
+        Keys::First => (1, 1, 1),
+        Keys::All => (1, -1, 1),
+        Keys::Odd => (1, -1, 2),
+    };
+    replies.array(6);
+    replies.bulk(spec.name.as_bytes());
+    replies.number(spec.arity);
+    replies.array(1);
+    replies.simple(flag);
+    [first, last, step]
+        .into_iter()
+        .for_each(|it| replies.number(it));
+}
+
+/// CONFIG GET, of what clients and redis-benchmark look at.
+fn config(command: Command<'_>, cluster: &Cluster, replies: &mut Replies) -> Result<(), Fault> {
+    if !command.is(1, "GET") || command.len() < 3 {
+        return Err(Fault::subcommand("CONFIG", command.get(1), &["GET"]));
+    }
+    let known = [
+        ("appendonly", "no".to_owned()),
+        ("databases", "1".to_owned()),
+        ("maxclients", cluster.configuration.most_clients.to_string()),
+        ("maxmemory", "0".to_owned()),
+        ("proto-max-bulk-len", MAX_TEXT.to_string()),
+        ("save", String::new()),
+        ("timeout", "0".to_owned()),
+    ];
+    let is_asked = |name: &str| {
+        let mut patterns = command.iter().skip(2);
+        patterns.any(|it| glob::is_match(&it.to_ascii_lowercase(), name.as_bytes()))
+    };
+    let found: Vec<_> = known.iter().filter(|it| is_asked(it.0)).collect();
+    replies.map(found.len());
+    for (name, value) in found {
+        replies.bulk(name.as_bytes());
+        replies.bulk(value.as_bytes());
+    }
+    Ok(())
+}

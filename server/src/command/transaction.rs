@@ -1,0 +1,85 @@
+use super::data;
+use super::session::Session;
+use super::spec::{Spec, Word};
+use super::talk;
+use super::unanswered::Unanswered;
+use super::Fault;
+use crate::body::ShardBody;
+use crate::cluster::Cluster;
+use crate::resp::{Command, OwnedCommand, Replies, MAX_ARGUMENTS, MAX_COMMAND};
+
+/// Commands that EXEC does at once, whose keys are of one shard.
+#[derive(Debug, Default)]
+pub struct Transaction {
+    commands: Vec<OwnedCommand>,
+    shard: Option<u16>,
+    size: usize,
+    is_aborted: bool,
+}
+
+impl Transaction {
+    /// Adds a command with keys of this shard, if it has any.
+    pub fn push(&mut self, command: Command<'_>, shard: Option<u16>) -> Result<(), Fault> {
+        let size = self.size + command.size();
+        if self.commands.len() >= MAX_ARGUMENTS || size > MAX_COMMAND {
+            return Err(Fault::QueueFull);
+        }
+        if self.shard.is_some() && shard.is_some() && self.shard != shard {
+            return Err(Fault::CrossShard);
+        }
+        self.shard = self.shard.or(shard);
+        self.size = size;
+        self.commands.push(OwnedCommand::new(command));
+        Ok(())
+    }
+
+    /// Has EXEC execute nothing, as a command was refused.
+    pub fn abort(&mut self) {
+        self.is_aborted = true;
+        self.commands = Vec::new();
+    }
+
+    /// Whether a command was refused.
+    pub fn is_aborted(&self) -> bool {
+        self.is_aborted
+    }
+
+    /// The shard of all keys, if there are any.
+    pub fn shard(&self) -> Option<u16> {
+        self.shard
+    }
+
+    /// Does all commands, whose keys are of the shard with this body, and answers them in one reply.
+    pub fn execute(
+        &self,
+        mut body: Option<&mut (dyn ShardBody + 'static)>,
+        session: &mut Session,
+        cluster: &Cluster,
+        replies: &mut Replies,
+    ) {
+        let first = replies.mark();
+        replies.array(self.commands.len());
+        for command in &self.commands {
+            let (command, mark) = (command.command(), replies.mark());
+            let word = Spec::named(command.get(0)).map(|it| it.word);
+            let done = match (word, &mut body) {
+                (Some(Word::Data(word)), Some(body)) => {
+                    data::execute(word, command, *body, replies);
+                    Ok(())
+                }
+                (Some(Word::Talk(word)), _) => {
+                    talk::answer(word, command, session, cluster, replies)
+                }
+                _ => Err(Fault::NotQueued.into()),
+            };
+            let done = match replies.is_too_large(first) {
+                true => Err(Fault::ReplyTooLarge.into()),
+                false => done,
+            };
+            if let Err(Unanswered::Fault(fault)) = done {
+                replies.take_back(mark);
+                replies.error(fault);
+            }
+        }
+    }
+}

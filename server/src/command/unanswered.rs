@@ -1,0 +1,30 @@
+use super::Fault;
+use crate::admission::{NotAdmitted, Wait};
+
+/// Why a command has no answer of its own.
+#[derive(Clone, Debug, PartialEq, Eq)]
+pub enum Unanswered {
+    /// It is refused.
+    Fault(Fault),
+    /// It waits, and is done anew later.
+    Wait(Wait),
+    /// It was answered, and the connection ends.
+    End,
+    /// The control answers it.
+    Control,
+}
+
+impl From<Fault> for Unanswered {
+    fn from(fault: Fault) -> Unanswered {
+        Unanswered::Fault(fault)
+    }
+}
+
+impl From<NotAdmitted> for Unanswered {
+    fn from(refused: NotAdmitted) -> Unanswered {
+        match refused {
+            NotAdmitted::Wait(wait) => Unanswered::Wait(wait),
+            NotAdmitted::Refused(fault) => Unanswered::Fault(Fault::NotAdmitted(fault)),
+        }
+    }
+}

@@ -1,0 +1,34 @@
+/// Each word behind SM: how it is written, and what it does.
+pub const WORDS: [(&str, &str); 25] = [
+    ("SHARDS", "each shard: number, stand, owner, next or previous owner, idle or admitted, generation, keys"),
+    ("SERVERS", "each server: number, standing, domain, shards that it owns, admissions"),
+    ("SETTINGS", "how the server runs"),
+    ("LOOK k", "how shard k stands"),
+    ("ASSIGN k a", "the vacant shard k gets the owner a"),
+    ("PREPARE_ADD k b", "a migration of shard k from its owner to server b begins"),
+    ("PREPARE_DROP k", "the owner stops executing, and forwards to b, which executes that alone"),
+    ("ADD k", "b becomes the owner; the previous one still forwards"),
+    ("DROP k", "the migration ends"),
+    ("CANCEL k", "before ADD: the migration is given up"),
+    ("PAUSE k", "nobody executes on shard k, and who asks for it waits"),
+    ("RESUME k", "the owner of the paused shard k executes again"),
+    ("REASSIGN k b", "the paused shard k gets the owner b"),
+    ("MIGRATE k b", "moves shard k to server b by a whole migration, which no client notices"),
+    ("DRAIN a", "migrates all shards of server a to other servers, as planned by the library"),
+    ("PLACE", "gives each vacant shard an owner, as planned by the library"),
+    ("ASK a", "asks for a restart of server a"),
+    ("APPROVE a", "approves it, within the caps; a takes no further shards"),
+    ("STOPPED a", "server a is stopped: no request reaches it, and no thread has a pass of it"),
+    ("BACK a", "server a is up again"),
+    ("FAIL a", "server a has failed: no request reaches it"),
+    ("RESTART a", "restarts server a: ASK, APPROVE, DRAIN, STOPPED, BACK, and its shards come home"),
+    ("RESTART", "restarts all servers in turn"),
+    ("AT a COMMAND ..", "sends a command with keys of one shard to server a, as a client with an old map does"),
+    ("HELP", "these lines"),
+];
+
+/// How the word is written.
+pub fn usage(word: &str) -> &'static str {
+    let found = WORDS.iter().find(|it| it.0.split(' ').next() == Some(word));
+    found.map_or("HELP", |it| it.0)
+}

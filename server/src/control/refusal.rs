@@ -1,0 +1,107 @@
+use crate::command::name_of;
+use crate::snapshot::ShardRow;
+use durkenzo::{ChangeFault, PassFault, PlanFault, RestartFault};
+use std::error::Error;
+use std::fmt;
+
+/// Why the control does nothing, and what to do.
+#[derive(Clone, Debug, PartialEq, Eq)]
+pub struct Refusal {
+    /// The name, as in scripts.
+    name: String,
+    reason: String,
+    advice: String,
+}
+
+impl Refusal {
+    /// One with this name, reason and advice.
+    pub fn new(name: &str, reason: impl Into<String>, advice: impl Into<String>) -> Refusal {
+        let (name, reason, advice) = (name.into(), reason.into(), advice.into());
+        Refusal {
+            name,
+            reason,
+            advice,
+        }
+    }
+
+    /// That a word or a number isn't as it has to be.
+    pub fn usage(wanted: &str) -> Refusal {
+        Refusal::new(
+            "BadLine",
+            format!("it is written SM {wanted}"),
+            "SM HELP lists all words",
+        )
+    }
+
+    /// That there is no such server.
+    pub fn unknown_server() -> Refusal {
+        Refusal::new(
+            "UnknownServer",
+            "there is no such server",
+            "SM SERVERS lists them",
+        )
+    }
+
+    /// Why a shard that stands so isn't changed.
+    pub fn of_change(fault: ChangeFault, row: Option<&ShardRow>) -> Refusal {
+        let stands = row.map_or(String::new(), |it| format!("; shard {} is {it}", it.shard));
+        let advice = match fault {
+            ChangeFault::UnknownShard => "SM SHARDS lists them",
+            ChangeFault::UnknownServer => "SM SERVERS lists them",
+            ChangeFault::WrongPhase => {
+                "a migration goes PREPARE_ADD k b, PREPARE_DROP k, ADD k, DROP k, and CANCEL k gives it up before ADD; \
+                 REASSIGN and RESUME begin from Paused, ASSIGN from Vacant"
+            }
+            ChangeFault::SameServer => "name another server",
+            ChangeFault::Spent(_) => "the shard takes no change any more: start anew with a greater ceiling",
+            ChangeFault::Busy(_) | ChangeFault::Raced(_) => "try again",
+            ChangeFault::Leaving => "name another server, or SM BACK it first",
+            ChangeFault::NoCapacity | ChangeFault::DomainLimit => "name another server",
+        };
+        Refusal::new(&name_of(&fault), format!("{fault}{stands}"), advice)
+    }
+
+    /// Why a step of the server's restart isn't made.
+    pub fn of_restart(fault: RestartFault, server: u16) -> Refusal {
+        let advice = match fault {
+            RestartFault::UnknownServer => "SM SERVERS lists them".to_owned(),
+            RestartFault::NotUp => format!("SM BACK {server} first"),
+            RestartFault::NotAsked => format!("SM ASK {server} first"),
+            RestartFault::NotApproved => format!("SM APPROVE {server} first"),
+            RestartFault::StillServing => format!("SM DRAIN {server} moves its shards"),
+            RestartFault::AlreadyUp | RestartFault::AlreadyFailed => {
+                "nothing is to be done".to_owned()
+            }
+            _ => "wait until another server is back: SM SERVERS tells which are away".to_owned(),
+        };
+        Refusal::new(&name_of(&fault), fault.to_string(), advice)
+    }
+}
+
+impl From<PlanFault> for Refusal {
+    fn from(fault: PlanFault) -> Refusal {
+        let advice = match fault {
+            PlanFault::UnknownServer => "SM SERVERS lists them",
+            PlanFault::NoMemory => "try again",
+        };
+        Refusal::new(&name_of(&fault), fault.to_string(), advice)
+    }
+}
+
+impl From<PassFault> for Refusal {
+    fn from(fault: PassFault) -> Refusal {
+        Refusal::new(&name_of(&fault), fault.to_string(), "try again")
+    }
+}
+
+impl fmt::Display for Refusal {
+    fn fmt(&self, f: &mut fmt::Formatter<'_>) -> fmt::Result {
+        write!(
+            f,
+            "REFUSED {}: {}; try: {}",
+            self.name, self.reason, self.advice
+        )
+    }
+}
+
+impl Error for Refusal {}

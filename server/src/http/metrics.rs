@@ -1,0 +1,122 @@
+use crate::cluster::Cluster;
+use crate::command::memory_used;
+use crate::snapshot::Snapshot;
+use crate::stats::Stats;
+use prometheus::{Encoder, IntCounterVec, IntGaugeVec, Opts, Registry, TextEncoder};
+
+/// A count of each thread: its name, what it is, and where it stands.
+type OfThreads = (&'static str, &'static str, fn(&Stats) -> u64);
+
+const DONE: &str = "Commands that were done, refused ones among them";
+const FORWARDED: &str = "Requests that a server forwarded to the one that executed them";
+const RACED: &str = "Tries that found a shard with another thread";
+const WAITED: &str = "Commands that began to wait for a shard that nobody executes";
+const REFUSED: &str = "Commands that waited in vain";
+const WAITING: &str = "Connections whose next command waits for a shard";
+const OF_THREADS: [OfThreads; 10] = [
+    ("commands_total", DONE, |it| it.commands.get()),
+    ("forwarded_total", FORWARDED, |it| it.forwarded.get()),
+    ("raced_total", RACED, |it| it.raced.get()),
+    ("waited_total", WAITED, |it| it.waited.get()),
+    ("refused_total", REFUSED, |it| it.refused.get()),
+    ("accepted_total", "Connections that came", |it| {
+        it.accepted.get()
+    }),
+    ("connections", "Connections that are open", |it| {
+        it.open.get()
+    }),
+    ("waiting", WAITING, |it| it.waiting.get()),
+    ("received_bytes_total", "Bytes that came", |it| {
+        it.received.get()
+    }),
+    ("sent_bytes_total", "Bytes that went", |it| it.sent.get()),
+];
+
+/// How all stands, in the text format of Prometheus.
+pub(super) fn text(cluster: &Cluster, snapshot: &Snapshot) -> prometheus::Result<Vec<u8>> {
+    let registry = Registry::new_custom(Some("durkenzo".into()), None)?;
+    for (name, help, of) in OF_THREADS {
+        let family = Family::new(&registry, name, help, &["thread"])?;
+        for (thread, inlet) in cluster.inlets().iter().enumerate() {
+            family.set(&[&thread.to_string()], of(inlet.stats()));
+        }
+    }
+    servers(&registry, snapshot)?;
+    shards(&registry, snapshot)?;
+    let uptime = Family::new(&registry, "uptime_seconds", "Seconds since the start", &[])?;
+    uptime.set(&[], cluster.started.elapsed().as_secs());
+    let memory = Family::new(&registry, "memory_bytes", "Memory of the process", &[])?;
+    memory.set(&[], memory_used());
+    let mut text = Vec::new();
+    TextEncoder::new().encode(&registry.gather(), &mut text)?;
+    Ok(text)
+}
+
+fn servers(registry: &Registry, snapshot: &Snapshot) -> prometheus::Result<()> {
+    let family = |name, help| Family::new(registry, name, help, &["server"]);
+    let admissions = family("admissions_total", "Admissions of the server to shards")?;
+    let owned = family("owned_shards", "Shards that the server owns")?;
+    let up = family("up", "Whether requests reach the server")?;
+    for row in &snapshot.servers {
+        let server = row.server.to_string();
+        admissions.set(&[&server], row.admissions);
+        owned.set(&[&server], row.shards as u64);
+        let is_away = matches!(row.standing, "stopped" | "failed");
+        up.set(&[&server], u64::from(!is_away));
+    }
+    Ok(())
+}
+
+fn shards(registry: &Registry, snapshot: &Snapshot) -> prometheus::Result<()> {
+    let family = |name, help| Family::new(registry, name, help, &["shard"]);
+    let keys = family("keys", "Keys of the shard that hold something")?;
+    let generation = family("generation", "Steps of the shard's history")?;
+    let owner = family("owner", "The server that owns the shard, or 0")?;
+    let labels = ["shard", "stand"];
+    let stand = Family::new(registry, "stand", "1 for the shard's stand", &labels)?;
+    for row in &snapshot.shards {
+        let shard = row.shard.to_string();
+        keys.set(&[&shard], row.keys);
+        generation.set(&[&shard], row.generation);
+        owner.set(&[&shard], row.owner.into());
+        stand.set(&[&shard, row.stand], 1);
+    }
+    Ok(())
+}
+
+/// Numbers of one name: counters where that ends in `_total`, and else gauges.
+enum Family {
+    Counters(IntCounterVec),
+    Gauges(IntGaugeVec),
+}
+
+impl Family {
+    fn new(
+        registry: &Registry,
+        name: &str,
+        help: &str,
+        labels: &[&str],
+    ) -> prometheus::Result<Family> {
+        let opts = Opts::new(name, help);
+        if name.ends_with("_total") {
+            let counters = IntCounterVec::new(opts, labels)?;
+            registry.register(Box::new(counters.clone()))?;
+            Ok(Family::Counters(counters))
+        } else {
+            let gauges = IntGaugeVec::new(opts, labels)?;
+            registry.register(Box::new(gauges.clone()))?;
+            Ok(Family::Gauges(gauges))
+        }
+    }
+
+    /// Sets the number with these labels, once.
+    fn set(&self, labels: &[&str], value: u64) {
+        match self {
+            Family::Counters(counters) => counters.with_label_values(labels).inc_by(value),
+            Family::Gauges(gauges) => {
+                let value = i64::try_from(value).unwrap_or(i64::MAX);
+                gauges.with_label_values(labels).set(value);
+            }
+        }
+    }
+}

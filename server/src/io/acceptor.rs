@@ -1,0 +1,103 @@
+use super::inlet::WAKE;
+use crate::cluster::Cluster;
+use mio::net::{TcpListener, TcpStream};
+use mio::{Events, Interest, Poll, Token, Waker};
+use std::io::{self, ErrorKind, Write};
+use std::net::SocketAddr;
+use std::sync::Arc;
+use std::time::Duration;
+
+const LISTENER: Token = Token(0);
+/// How long nothing is accepted after the system had no room for a connection.
+const PAUSE: Duration = Duration::from_millis(20);
+
+/// Accepts connections, and gives them to the threads in turn.
+#[derive(Debug)]
+pub struct Acceptor {
+    cluster: Arc<Cluster>,
+    listener: TcpListener,
+    poll: Poll,
+    waker: Arc<Waker>,
+    turn: usize,
+}
+
+impl Acceptor {
+    /// One that listens there.
+    pub fn new(cluster: Arc<Cluster>, address: SocketAddr) -> io::Result<Acceptor> {
+        let poll = Poll::new()?;
+        let mut listener = TcpListener::bind(address)?;
+        poll.registry()
+            .register(&mut listener, LISTENER, Interest::READABLE)?;
+        let waker = Arc::new(Waker::new(poll.registry(), WAKE)?);
+        let turn = 0;
+        Ok(Acceptor {
+            cluster,
+            listener,
+            poll,
+            waker,
+            turn,
+        })
+    }
+
+    /// Where it listens.
+    pub fn address(&self) -> io::Result<SocketAddr> {
+        self.listener.local_addr()
+    }
+
+    /// What wakes it when the cluster stops.
+    pub fn waker(&self) -> Arc<Waker> {
+        self.waker.clone()
+    }
+
+    /// Accepts until the cluster stops.
+    pub fn run(mut self) {
+        let mut events = Events::with_capacity(8);
+        let mut timeout = None;
+        while !self.cluster.is_stopping() {
+            match self.poll.poll(&mut events, timeout) {
+                Err(error) if error.kind() != ErrorKind::Interrupted => {
+                    tracing::error!(%error, "nothing more is accepted");
+                    return;
+                }
+                _ => {}
+            }
+            // An edge comes once, so what a full system left is tried again later.
+            timeout = self.accept_all().err().map(|error| {
+                tracing::warn!(%error, "a connection isn't accepted");
+                std::thread::sleep(PAUSE);
+                PAUSE
+            });
+        }
+    }
+
+    fn accept_all(&mut self) -> io::Result<()> {
+        while !self.cluster.is_stopping() {
+            match self.listener.accept() {
+                Ok((stream, _)) => self.hand_on(stream),
+                Err(error) if error.kind() == ErrorKind::WouldBlock => break,
+                Err(error) if is_of_the_client(&error) => {}
+                Err(error) => return Err(error),
+            }
+        }
+        Ok(())
+    }
+
+    fn hand_on(&mut self, mut stream: TcpStream) {
+        let inlets = self.cluster.inlets();
+        let open: u64 = inlets.iter().map(|it| it.stats().open.get()).sum();
+        if open as usize >= self.cluster.configuration.most_clients {
+            // Whether it reads that or not, it is let go.
+            let _ = stream.write_all(b"-ERR max number of clients reached\r\n");
+            return;
+        }
+        self.turn = (self.turn + 1) % inlets.len();
+        inlets[self.turn].bring(stream);
+    }
+}
+
+fn is_of_the_client(error: &io::Error) -> bool {
+    matches!(
+        error.kind(),
+        ErrorKind::ConnectionAborted | ErrorKind::ConnectionReset | ErrorKind::Interrupted
+    )
+}

@@ -1,0 +1,108 @@
+use crate::stats::Stats;
+use mio::net::TcpStream;
+use mio::{Poll, Token, Waker};
+use std::fmt;
+use std::io;
+use std::sync::atomic::{AtomicU64, Ordering};
+use std::sync::{Arc, Mutex, PoisonError};
+
+/// The token of what wakes a thread.
+pub(super) const WAKE: Token = Token(usize::MAX);
+
+/// What reaches a thread from others.
+pub struct Inlet {
+    brought: Mutex<Brought>,
+    waker: Waker,
+    stats: Arc<Stats>,
+    version: AtomicU64,
+}
+
+/// What others brought since the thread looked last.
+#[derive(Debug, Default)]
+pub(super) struct Brought {
+    pub(super) streams: Vec<TcpStream>,
+    pub(super) answers: Vec<Delivery>,
+}
+
+/// An answer of the control to a connection.
+#[derive(Debug)]
+pub(super) struct Delivery {
+    pub(super) place: usize,
+    pub(super) id: u64,
+    pub(super) bytes: Vec<u8>,
+}
+
+impl Inlet {
+    /// That of the thread that polls this.
+    pub fn new(poll: &Poll, servers: u16) -> io::Result<Inlet> {
+        Ok(Inlet {
+            brought: Mutex::default(),
+            waker: Waker::new(poll.registry(), WAKE)?,
+            stats: Arc::new(Stats::new(servers)),
+            version: AtomicU64::new(0),
+        })
+    }
+
+    /// Has the thread own a connection.
+    pub fn bring(&self, stream: TcpStream) {
+        self.change(|it| it.streams.push(stream));
+    }
+
+    /// Has the thread look at what others brought or changed.
+    pub fn wake(&self) {
+        if let Err(error) = self.waker.wake() {
+            tracing::error!(%error, "a thread can't be woken");
+        }
+    }
+
+    /// What the thread counts.
+    pub fn stats(&self) -> &Arc<Stats> {
+        &self.stats
+    }
+
+    /// The version of the servers' presence that the thread has acted upon.
+    pub fn version(&self) -> u64 {
+        self.version.load(Ordering::Acquire)
+    }
+
+    /// Notes that the thread has no pass of a server that was away in this version.
+    pub(super) fn set_version(&self, version: u64) {
+        self.version.store(version, Ordering::Release);
+    }
+
+    /// Takes what others brought.
+    pub(super) fn take(&self) -> Brought {
+        let mut brought = self.brought.lock().unwrap_or_else(PoisonError::into_inner);
+        std::mem::take(&mut brought)
+    }
+
+    fn change(&self, change: impl FnOnce(&mut Brought)) {
+        change(&mut self.brought.lock().unwrap_or_else(PoisonError::into_inner));
+        self.wake();
+    }
+}
+
+impl fmt::Debug for Inlet {
+    fn fmt(&self, f: &mut fmt::Formatter<'_>) -> fmt::Result {
+        f.debug_struct("Inlet")
+            .field("stats", &self.stats)
+            .finish_non_exhaustive()
+    }
+}
+
+/// Where the answer to a command of the control goes.
+#[derive(Clone, Debug)]
+pub struct ReplyTo {
+    pub(super) inlet: Arc<Inlet>,
+    pub(super) place: usize,
+    pub(super) id: u64,
+}
+
+impl ReplyTo {
+    /// Sends the answer, once.
+    pub fn send(self, bytes: Vec<u8>) {
+        let (place, id) = (self.place, self.id);
+        self.inlet
+            .change(|it| it.answers.push(Delivery { place, id, bytes }));
+    }
+}

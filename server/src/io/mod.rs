@@ -1,0 +1,9 @@
+//! Threads that own connections, and do at the board what these ask for.
+mod acceptor;
+mod connection;
+mod inlet;
+mod worker;
+
+pub use acceptor::Acceptor;
+pub use inlet::{Inlet, ReplyTo};
+pub use worker::Worker;

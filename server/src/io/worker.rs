@@ -1,0 +1,250 @@
+use super::connection::{Connection, Turn};
+use super::inlet::{Brought, Inlet, ReplyTo, WAKE};
+use crate::admission::Wait;
+use crate::cluster::Cluster;
+use crate::command::{Executor, Session};
+use crate::control::Asked;
+use crate::resp::OwnedCommand;
+use mio::net::TcpStream;
+use mio::{Events, Interest, Poll, Token};
+use slab::Slab;
+use std::io::{self, ErrorKind};
+use std::sync::atomic::{AtomicU64, Ordering};
+use std::sync::mpsc::Sender;
+use std::sync::Arc;
+use std::time::{Duration, Instant};
+
+/// How many bytes are read at once.
+const ROOM: usize = 64 << 10;
+/// How many events are taken at once.
+const EVENTS: usize = 256;
+/// How long a thread with commands that wait sleeps, where nobody wakes it: so exact is the time that they wait.
+const TICK: Duration = Duration::from_millis(5);
+
+/// The number of the last connection.
+static LAST_ID: AtomicU64 = AtomicU64::new(0);
+
+/// A thread that owns connections.
+#[derive(Debug)]
+pub struct Worker {
+    cluster: Arc<Cluster>,
+    inlet: Arc<Inlet>,
+    poll: Poll,
+    executor: Executor,
+    control: Sender<Asked>,
+    connections: Slab<Connection>,
+    /// Connections that have a turn in the next round.
+    queue: Vec<usize>,
+    /// Connections whose next command waits for a shard that nobody executes.
+    waiting: Vec<usize>,
+    /// Whether all that is queued waits for shards that other threads have.
+    is_racing: bool,
+    changes: u64,
+    last_event: Instant,
+    buffer: Box<[u8]>,
+}
+
+impl Worker {
+    /// A thread to be, which polls this, and asks the control there.
+    pub fn new(
+        cluster: Arc<Cluster>,
+        inlet: Arc<Inlet>,
+        poll: Poll,
+        executor: Executor,
+        control: Sender<Asked>,
+    ) -> Worker {
+        Worker {
+            cluster,
+            inlet,
+            poll,
+            executor,
+            control,
+            connections: Slab::new(),
+            queue: Vec::new(),
+            waiting: Vec::new(),
+            is_racing: false,
+            changes: 0,
+            last_event: Instant::now(),
+            buffer: vec![0; ROOM].into(),
+        }
+    }
+
+    /// Serves until the cluster stops, and then for its grace.
+    pub fn run(mut self) -> io::Result<()> {
+        let mut events = Events::with_capacity(EVENTS);
+        let mut deadline = None;
+        loop {
+            self.wait(&mut events)?;
+            for event in &events {
+                self.note(event);
+            }
+            self.refresh()?;
+            self.look_at_waiting();
+            self.run_queue();
+            if self.cluster.is_stopping() {
+                let grace = self.cluster.configuration.grace;
+                let end = *deadline.get_or_insert_with(|| Instant::now() + grace);
+                if self.is_quiet() || Instant::now() >= end {
+                    return Ok(());
+                }
+            }
+        }
+    }
+
+    /// Waits for events, no longer than until something else is due.
+    fn wait(&mut self, events: &mut Events) -> io::Result<()> {
+        let busy_poll = self.cluster.configuration.busy_poll;
+        let timeout = if !self.queue.is_empty() {
+            if self.is_racing {
+                std::thread::yield_now();
+            }
+            Some(Duration::ZERO)
+        } else if !self.waiting.is_empty() || self.cluster.is_stopping() {
+            Some(TICK)
+        } else if !busy_poll.is_zero() && self.last_event.elapsed() < busy_poll {
+            Some(Duration::ZERO)
+        } else {
+            None
+        };
+        match self.poll.poll(events, timeout) {
+            Err(error) if error.kind() != ErrorKind::Interrupted => return Err(error),
+            _ => {}
+        }
+        if !busy_poll.is_zero() && !events.is_empty() {
+            self.last_event = Instant::now();
+        }
+        Ok(())
+    }
+
+    fn note(&mut self, event: &mio::event::Event) {
+        if event.token() == WAKE {
+            return self.take_brought();
+        }
+        let place = event.token().0;
+        let connection = self.connections.get_mut(place);
+        if connection.is_some_and(|it| it.note(event)) {
+            self.enqueue(place);
+        }
+    }
+
+    fn take_brought(&mut self) {
+        let Brought { streams, answers } = self.inlet.take();
+        for stream in streams {
+            if let Err(error) = self.open(stream) {
+                tracing::warn!(%error, "a connection isn't served");
+            }
+        }
+        for answer in answers {
+            let connection = self.connections.get_mut(answer.place);
+            if let Some(connection) = connection.filter(|it| it.session.id == answer.id) {
+                connection.take_answer(&answer.bytes);
+                self.enqueue(answer.place);
+            }
+        }
+    }
+
+    fn open(&mut self, mut stream: TcpStream) -> io::Result<()> {
+        stream.set_nodelay(true)?;
+        let entry = self.connections.vacant_entry();
+        let interest = Interest::READABLE | Interest::WRITABLE;
+        let token = Token(entry.key());
+        self.poll
+            .registry()
+            .register(&mut stream, token, interest)?;
+        let id = LAST_ID.fetch_add(1, Ordering::Relaxed) + 1;
+        let is_known = self.cluster.configuration.password.is_none();
+        entry.insert(Connection::new(stream, Session::new(id, is_known)));
+        self.inlet.stats().accepted.add(1);
+        self.count_open();
+        Ok(())
+    }
+
+    fn count_open(&self) {
+        self.inlet.stats().open.set(self.connections.len() as u64);
+    }
+
+    fn enqueue(&mut self, place: usize) {
+        if let Some(connection) = self.connections.get_mut(place) {
+            if !std::mem::replace(&mut connection.is_queued, true) {
+                self.queue.push(place);
+            }
+        }
+    }
+
+    /// Gives back the passes of servers that went away, and says so.
+    fn refresh(&mut self) -> io::Result<()> {
+        let version = self.executor.admission().refresh();
+        let version = version.map_err(io::Error::other)?;
+        self.inlet.set_version(version);
+        Ok(())
+    }
+
+    /// Gives a turn to what waits: to all after a change, and else to those that have waited in vain.
+    fn look_at_waiting(&mut self) {
+        if self.waiting.is_empty() {
+            return;
+        }
+        let changes = self.cluster.changes();
+        let is_changed = std::mem::replace(&mut self.changes, changes) != changes;
+        let (wait, connections) = (self.cluster.configuration.wait, &self.connections);
+        let is_due = |place: &usize| {
+            is_changed || connections.get(*place).is_none_or(|it| it.has_waited(wait))
+        };
+        let (due, waiting) = self.waiting.drain(..).partition::<Vec<_>, _>(is_due);
+        self.waiting = waiting;
+        for place in due {
+            self.enqueue(place);
+        }
+    }
+
+    /// Gives each queued connection a turn.
+    fn run_queue(&mut self) {
+        let mut queue = std::mem::take(&mut self.queue);
+        self.is_racing = true;
+        for place in queue.drain(..) {
+            let Some(connection) = self.connections.get_mut(place) else {
+                continue;
+            };
+            connection.is_queued = false;
+            let wait = self.cluster.configuration.wait;
+            match connection.turn(&mut self.executor, &mut self.buffer, wait) {
+                Turn::Rest => self.is_racing = false,
+                Turn::Again => {
+                    self.is_racing = false;
+                    self.enqueue(place);
+                }
+                Turn::Wait(Wait::Busy(_)) => self.enqueue(place),
+                Turn::Wait(_) => self.waiting.push(place),
+                Turn::Control(command) => self.ask(place, command),
+                Turn::Over => self.close(place),
+            }
+        }
+        if self.queue.is_empty() {
+            self.queue = queue;
+        }
+        self.inlet.stats().waiting.set(self.waiting.len() as u64);
+    }
+
+    fn ask(&mut self, place: usize, command: OwnedCommand) {
+        let (inlet, id) = (self.inlet.clone(), self.connections[place].session.id);
+        let reply_to = ReplyTo { inlet, place, id };
+        if let Err(error) = self.control.send(Asked { command, reply_to }) {
+            // The control ends after all threads that ask it, or by a fault of its own.
+            tracing::error!(%error, "the control is gone");
+            self.close(place);
+        }
+    }
+
+    fn close(&mut self, place: usize) {
+        let mut connection = self.connections.remove(place);
+        // The drop closes it, by which it is deregistered too.
+        let _ = self.poll.registry().deregister(connection.stream());
+        self.count_open();
+    }
+
+    /// Whether nothing is under way but commands that wait for a shard that nobody executes.
+    fn is_quiet(&self) -> bool {
+        let mut connections = self.connections.iter().map(|(_, it)| it);
+        self.queue.is_empty() && connections.all(|it| it.is_quiet() || it.is_waiting())
+    }
+}

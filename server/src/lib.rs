@@ -1,0 +1,25 @@
+//! A server that Redis clients talk to. It owns sockets, threads and queues, and decides nothing about who executes:
+//! each such decision is a call of the proved library (crate `durkenzo`).
+//!
+//! A request goes through it so: a thread of [`io`] reads it by [`resp`], [`command`] says of which shard its keys are,
+//! [`admission`] comes to that shard's body as whichever server the board admits, and [`body`] does it. [`control`]
+//! moves shards and restarts servers meanwhile, on a thread of its own, and [`http`] shows them.
+#![forbid(unsafe_code)]
+#![warn(missing_docs)]
+pub mod admission;
+pub mod body;
+pub mod cluster;
+pub mod command;
+pub mod configure;
+pub mod control;
+pub mod domains;
+pub mod http;
+pub mod io;
+pub mod keyspace;
+pub mod options;
+pub mod presence;
+pub mod resp;
+pub mod run;
+pub mod settings;
+pub mod snapshot;
+pub mod stats;

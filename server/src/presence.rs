@@ -1,0 +1,91 @@
+//! Which servers requests reach.
+use std::sync::atomic::{AtomicU64, AtomicU8, Ordering};
+
+/// How far a server's restart has come.
+#[derive(Clone, Copy, Debug, PartialEq, Eq)]
+#[repr(u8)]
+pub enum Standing {
+    /// It is up.
+    Up,
+    /// It is up, and a restart was asked for.
+    Asked,
+    /// It is up, takes no further shards, and may be stopped.
+    Approved,
+    /// It was stopped for its restart.
+    Stopped,
+    /// It has failed.
+    Failed,
+}
+
+impl Standing {
+    const ALL: [Standing; 5] = [
+        Standing::Up,
+        Standing::Asked,
+        Standing::Approved,
+        Standing::Stopped,
+        Standing::Failed,
+    ];
+
+    /// Whether requests reach the server.
+    pub fn is_reached(self) -> bool {
+        !matches!(self, Standing::Stopped | Standing::Failed)
+    }
+
+    /// The word for it.
+    pub fn name(self) -> &'static str {
+        match self {
+            Standing::Up => "up",
+            Standing::Asked => "asked",
+            Standing::Approved => "approved",
+            Standing::Stopped => "stopped",
+            Standing::Failed => "failed",
+        }
+    }
+}
+
+/// The standing of each server, which the control alone changes, after the library made the step.
+#[derive(Debug)]
+pub struct Presence {
+    standings: Box<[AtomicU8]>,
+    version: AtomicU64,
+}
+
+impl Presence {
+    /// Servers 1 to this one, all up.
+    pub fn new(servers: u16) -> Presence {
+        let up = || AtomicU8::new(Standing::Up as u8);
+        Presence {
+            standings: (0..servers).map(|_| up()).collect(),
+            version: AtomicU64::new(0),
+        }
+    }
+
+    /// The number of servers.
+    pub fn servers(&self) -> u16 {
+        // The board has at most 4,095.
+        self.standings.len() as u16
+    }
+
+    /// The server's standing.
+    pub fn standing(&self, server: u16) -> Option<Standing> {
+        let index = usize::from(server).checked_sub(1)?;
+        let byte = self.standings.get(index)?.load(Ordering::Acquire);
+        Standing::ALL.get(usize::from(byte)).copied()
+    }
+
+    /// Whether there is such a server, and requests reach it.
+    pub fn is_reached(&self, server: u16) -> bool {
+        self.standing(server).is_some_and(Standing::is_reached)
+    }
+
+    /// Sets the standing of a server that there is, and returns the version since then.
+    pub fn set(&self, server: u16, standing: Standing) -> u64 {
+        self.standings[usize::from(server) - 1].store(standing as u8, Ordering::Release);
+        self.version.fetch_add(1, Ordering::AcqRel) + 1
+    }
+
+    /// How many changes there were.
+    pub fn version(&self) -> u64 {
+        self.version.load(Ordering::Acquire)
+    }
+}

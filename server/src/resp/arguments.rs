@@ -1,0 +1,57 @@
+use super::Command;
+
+/// The place of an argument in the bytes that it was read from.
+#[derive(Clone, Copy, Debug, PartialEq, Eq)]
+pub(super) struct Span {
+    pub(super) start: usize,
+    pub(super) end: usize,
+}
+
+/// The arguments of one command, kept from command to command so that reading one allocates nothing.
+#[derive(Debug, Default)]
+pub struct Arguments {
+    spans: Vec<Span>,
+    /// The unquoted words of a command that came as a line; what came with lengths lies in the input.
+    words: Vec<u8>,
+    is_line: bool,
+}
+
+impl Arguments {
+    /// Forgets the last command.
+    pub(super) fn clear(&mut self) {
+        self.spans.clear();
+        self.words.clear();
+        self.is_line = false;
+    }
+
+    /// Adds the argument at this place of the input.
+    pub(super) fn push(&mut self, start: usize, end: usize) {
+        self.spans.push(Span { start, end });
+    }
+
+    /// Has words be taken from now on that don't lie in the input as they are.
+    pub(super) fn begin_line(&mut self) {
+        self.is_line = true;
+    }
+
+    /// Adds a byte to the word of a line.
+    pub(super) fn push_byte(&mut self, byte: u8) {
+        self.words.push(byte);
+    }
+
+    /// Where the next word of a line begins.
+    pub(super) fn word_start(&self) -> usize {
+        self.words.len()
+    }
+
+    /// Ends the word of a line that began there.
+    pub(super) fn end_word(&mut self, start: usize) {
+        self.push(start, self.words.len());
+    }
+
+    /// The command, whose input is the one that it was parsed from.
+    pub fn command<'a>(&'a self, input: &'a [u8]) -> Command<'a> {
+        let bytes = if self.is_line { &self.words } else { input };
+        Command::new(bytes, &self.spans)
+    }
+}

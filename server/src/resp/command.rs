@@ -1,0 +1,79 @@
+use super::arguments::Span;
+
+/// A command: its name and its arguments, which may be any bytes.
+#[derive(Clone, Copy, Debug)]
+pub struct Command<'a> {
+    bytes: &'a [u8],
+    spans: &'a [Span],
+}
+
+impl<'a> Command<'a> {
+    pub(super) fn new(bytes: &'a [u8], spans: &'a [Span]) -> Command<'a> {
+        Command { bytes, spans }
+    }
+
+    /// How many arguments there are, the name among them.
+    pub fn len(&self) -> usize {
+        self.spans.len()
+    }
+
+    /// Whether it is none, as an empty line is.
+    pub fn is_empty(&self) -> bool {
+        self.spans.is_empty()
+    }
+
+    /// The argument at this place, from 0, which is the name; an empty one past the last.
+    pub fn get(&self, index: usize) -> &'a [u8] {
+        self.spans
+            .get(index)
+            .map_or(&[], |it| &self.bytes[it.start..it.end])
+    }
+
+    /// The arguments behind this many.
+    pub fn from(&self, first: usize) -> Command<'a> {
+        Command::new(self.bytes, self.spans.get(first..).unwrap_or(&[]))
+    }
+
+    /// All arguments in order.
+    pub fn iter(&self) -> impl Iterator<Item = &'a [u8]> {
+        let bytes = self.bytes;
+        self.spans.iter().map(move |it| &bytes[it.start..it.end])
+    }
+
+    /// How many bytes the arguments have.
+    pub fn size(&self) -> usize {
+        self.spans.iter().map(|it| it.end - it.start).sum()
+    }
+
+    /// Whether the argument at this place is this word, in whatever case.
+    pub fn is(&self, index: usize, word: &str) -> bool {
+        index < self.len() && self.get(index).eq_ignore_ascii_case(word.as_bytes())
+    }
+}
+
+/// A command that owns its bytes.
+#[derive(Clone, Debug)]
+pub struct OwnedCommand {
+    bytes: Box<[u8]>,
+    spans: Box<[Span]>,
+}
+
+impl OwnedCommand {
+    /// A copy of the command.
+    pub fn new(command: Command<'_>) -> OwnedCommand {
+        let (mut bytes, mut spans) = (Vec::with_capacity(command.size()), Vec::new());
+        for argument in command.iter() {
+            let start = bytes.len();
+            bytes.extend_from_slice(argument);
+            let end = bytes.len();
+            spans.push(Span { start, end });
+        }
+        let (bytes, spans) = (bytes.into(), spans.into());
+        OwnedCommand { bytes, spans }
+    }
+
+    /// The command.
+    pub fn command(&self) -> Command<'_> {
+        Command::new(&self.bytes, &self.spans)
+    }
+}

@@ -1,0 +1,14 @@
+//! The protocol of Redis clients, versions 2 and 3: what they send, and what they are answered.
+mod arguments;
+mod command;
+mod fault;
+mod line;
+pub mod number;
+mod parser;
+mod replies;
+
+pub use arguments::Arguments;
+pub use command::{Command, OwnedCommand};
+pub use fault::ProtocolFault;
+pub use parser::{parse, Unparsed, MAX_ARGUMENTS, MAX_COMMAND, MAX_LINE};
+pub use replies::{Protocol, Replies, MAX_REPLY};

@@ -1,0 +1,236 @@
+use super::{line, number, Arguments, ProtocolFault};
+
+/// The most bytes of a command, all that stands between its arguments among them.
+pub const MAX_COMMAND: usize = 1 << 20;
+/// The most arguments of a command, its name among them.
+pub const MAX_ARGUMENTS: usize = 1_024;
+/// The most bytes of a command that comes as a line.
+pub const MAX_LINE: usize = 64 << 10;
+/// The most bytes of a line with a length.
+const MAX_LENGTH_LINE: usize = 24;
+/// What stands behind an argument.
+const LINE_END: &[u8] = b"\r\n";
+
+/// Why there is no command.
+#[derive(Clone, Copy, Debug, PartialEq, Eq)]
+pub enum Unparsed {
+    /// There is none in fewer than so many bytes of input.
+    Incomplete(usize),
+    /// There will be none.
+    Malformed(ProtocolFault),
+}
+
+impl From<ProtocolFault> for Unparsed {
+    fn from(fault: ProtocolFault) -> Unparsed {
+        Unparsed::Malformed(fault)
+    }
+}
+
+/// Reads the command with which the input begins, and returns where it ends. An empty line, and one of no arguments,
+/// is a command without a name.
+pub fn parse(input: &[u8], arguments: &mut Arguments) -> Result<usize, Unparsed> {
+    arguments.clear();
+    match input.first() {
+        None => Err(Unparsed::Incomplete(1)),
+        Some(b'*') => parse_array(input, arguments),
+        Some(_) => parse_line(input, arguments),
+    }
+}
+
+fn parse_array(input: &[u8], arguments: &mut Arguments) -> Result<usize, Unparsed> {
+    let (count, mut at) = length(input, 1, ProtocolFault::ArrayLength)?;
+    // A number below 0 is none, as in Redis.
+    let count = usize::try_from(count).unwrap_or(0);
+    if count > MAX_ARGUMENTS {
+        return Err(ProtocolFault::ArrayLength.into());
+    }
+    for _ in 0..count {
+        at = parse_argument(input, at, arguments)?;
+    }
+    Ok(at)
+}
+
+fn parse_argument(input: &[u8], at: usize, arguments: &mut Arguments) -> Result<usize, Unparsed> {
+    match input.get(at) {
+        None => return Err(Unparsed::Incomplete(at + 1)),
+        Some(b'$') => {}
+        Some(other) => return Err(ProtocolFault::NoLength(*other).into()),
+    }
+    let (length, start) = length(input, at + 1, ProtocolFault::ArgumentLength)?;
+    let length = usize::try_from(length)
+        .ok()
+        .filter(|it| *it <= MAX_COMMAND)
+        .ok_or(ProtocolFault::ArgumentLength)?;
+    let end = start + length;
+    let next = end + LINE_END.len();
+    if next > MAX_COMMAND {
+        return Err(ProtocolFault::TooLarge.into());
+    }
+    match input.get(end..next) {
+        None => Err(Unparsed::Incomplete(next)),
+        Some(LINE_END) => {
+            arguments.push(start, end);
+            Ok(next)
+        }
+        Some(_) => Err(ProtocolFault::NoLineEnd.into()),
+    }
+}
+
+/// The number in the line from here on, and where the next line begins.
+fn length(input: &[u8], at: usize, fault: ProtocolFault) -> Result<(i64, usize), Unparsed> {
+    let line = &input[at..];
+    let end = line
+        .iter()
+        .take(MAX_LENGTH_LINE)
+        .position(|it| *it == b'\n');
+    let Some(end) = end else {
+        return Err(if line.len() < MAX_LENGTH_LINE {
+            Unparsed::Incomplete(input.len() + 1)
+        } else {
+            fault.into()
+        });
+    };
+    let digits = line[..end].strip_suffix(b"\r").ok_or(fault)?;
+    let number = number::parse(digits).ok_or(fault)?;
+    Ok((number, at + end + 1))
+}
+
+fn parse_line(input: &[u8], arguments: &mut Arguments) -> Result<usize, Unparsed> {
+    let Some(end) = input.iter().take(MAX_LINE).position(|it| *it == b'\n') else {
+        return Err(if input.len() < MAX_LINE {
+            Unparsed::Incomplete(input.len() + 1)
+        } else {
+            ProtocolFault::LongLine.into()
+        });
+    };
+    let line = &input[..end];
+    line::words(line.strip_suffix(b"\r").unwrap_or(line), arguments)?;
+    Ok(end + 1)
+}
+
+#[cfg(test)]
+mod tests {
+    use super::*;
+
+    fn parsed(input: &[u8]) -> Result<(Vec<Vec<u8>>, usize), Unparsed> {
+        let mut arguments = Arguments::default();
+        let end = parse(input, &mut arguments)?;
+        let command = arguments.command(input);
+        Ok((command.iter().map(<[u8]>::to_vec).collect(), end))
+    }
+
+    fn words(input: &[u8]) -> Vec<String> {
+        let (words, end) = parsed(input).unwrap();
+        assert_eq!(end, input.len());
+        let text = |it: Vec<u8>| String::from_utf8(it).unwrap();
+        words.into_iter().map(text).collect()
+    }
+
+    #[test]
+    fn arrays_and_lines_are_commands() {
+        assert_eq!(words(b"*2\r\n$3\r\nGET\r\n$1\r\na\r\n"), ["GET", "a"]);
+        assert_eq!(words(b"*2\r\n$3\r\nGET\r\n$0\r\n\r\n"), ["GET", ""]);
+        assert_eq!(words(b"SET a  b\r\n"), ["SET", "a", "b"]);
+        assert_eq!(words(b"PING\n"), ["PING"]);
+        assert_eq!(words(b"\r\n"), [""; 0]);
+        assert_eq!(words(b"*0\r\n"), [""; 0]);
+        assert_eq!(words(b"*-1\r\n"), [""; 0]);
+    }
+
+    #[test]
+    fn each_front_of_a_command_is_incomplete() {
+        let whole = b"*3\r\n$3\r\nSET\r\n$1\r\na\r\n$12\r\nhello\r\nworld\r\n";
+        for end in 0..whole.len() {
+            match parsed(&whole[..end]) {
+                Err(Unparsed::Incomplete(needs)) => assert!(end < needs && needs <= whole.len()),
+                other => panic!("{end} bytes: {other:?}"),
+            }
+        }
+        assert_eq!(parsed(whole).unwrap().0[2], b"hello\r\nworld");
+    }
+
+    #[test]
+    fn what_is_too_large_is_refused_at_once() {
+        use ProtocolFault::*;
+        for (input, fault) in [
+            (&b"*9223372036854775808\r\n"[..], ArrayLength),
+            (b"*99999999999999999999999999", ArrayLength),
+            (b"*1025\r\n", ArrayLength),
+            (b"*x\r\n", ArrayLength),
+            (b"*1\r\n$9223372036854775808\r\n", ArgumentLength),
+            (b"*1\r\n$9223372036854775807\r\n", ArgumentLength),
+            (b"*1\r\n$1048577\r\n", ArgumentLength),
+            (b"*1\r\n$1048576\r\n", TooLarge),
+            (b"*1\r\n$-1\r\n", ArgumentLength),
+            (b"*1\r\n$1\n", ArgumentLength),
+            (b"*1\r\nGET\r\n", NoLength(b'G')),
+            (b"*1\r\n$1\r\nabc", NoLineEnd),
+            (b"SET a \"b\r\n", Quotes),
+            (&[b'x'; MAX_LINE], LongLine),
+        ] {
+            assert_eq!(parsed(input), Err(Unparsed::Malformed(fault)), "{input:?}");
+        }
+    }
+
+    /// A generator of fixed numbers, which a failure can be looked up by.
+    struct Random(u64);
+
+    impl Random {
+        fn below(&mut self, limit: usize) -> usize {
+            self.0 ^= self.0 << 13;
+            self.0 ^= self.0 >> 7;
+            self.0 ^= self.0 << 17;
+            (self.0 % limit as u64) as usize
+        }
+
+        fn word(&mut self) -> Vec<u8> {
+            (0..self.below(20)).map(|_| self.below(256) as u8).collect()
+        }
+    }
+
+    fn written(words: &[Vec<u8>]) -> Vec<u8> {
+        let mut bytes = format!("*{}\r\n", words.len()).into_bytes();
+        for word in words {
+            bytes.extend(format!("${}\r\n", word.len()).bytes());
+            bytes.extend_from_slice(word);
+            bytes.extend_from_slice(LINE_END);
+        }
+        bytes
+    }
+
+    #[test]
+    fn what_was_written_is_read() {
+        let mut random = Random(88_172_645_463_325_252);
+        for _ in 0..2_000 {
+            let words: Vec<_> = (0..random.below(9)).map(|_| random.word()).collect();
+            let mut bytes = written(&words);
+            let end = bytes.len();
+            bytes.extend(random.word());
+            assert_eq!(parsed(&bytes), Ok((words, end)));
+        }
+    }
+
+    #[test]
+    fn spoilt_bytes_are_answered_within_the_input() {
+        let mut random = Random(1_181_783_497_276_652_981);
+        let pieces: [&[u8]; 10] = [
+            b"*", b"$", b"\r\n", b"\n", b"-1", b"3", b"GET", b"\"", b"'", b"\\x4",
+        ];
+        for _ in 0..50_000 {
+            let mut bytes = match random.below(2) {
+                0 => written(&[random.word(), random.word()]),
+                _ => Vec::new(),
+            };
+            for _ in 0..random.below(8) {
+                let at = random.below(bytes.len() + 1);
+                let piece = pieces[random.below(pieces.len())];
+                bytes.splice(at..at, piece.iter().copied());
+            }
+            match parsed(&bytes) {
+                Ok((_, end)) => assert!(0 < end && end <= bytes.len()),
+                Err(Unparsed::Incomplete(needs)) => assert!(needs > bytes.len()),
+                Err(Unparsed::Malformed(_)) => {}
+            }
+        }
+    }
+}

@@ -1,0 +1,161 @@
+use super::number::Digits;
+use std::fmt::Display;
+use std::io::Write;
+
+/// The most bytes of a reply: enough for as many pairs as a scan gives.
+pub const MAX_REPLY: usize = 8 << 20;
+/// Room that isn't kept once all was sent.
+const KEPT_ROOM: usize = 16 << 10;
+
+/// The version of the protocol in which a client is answered.
+#[derive(Clone, Copy, Debug, Default, PartialEq, Eq)]
+pub enum Protocol {
+    /// RESP2, with which each connection begins.
+    #[default]
+    Two,
+    /// RESP3, which a client asks for by HELLO.
+    Three,
+}
+
+/// What a connection is answered, and hasn't been sent yet.
+#[derive(Debug, Default)]
+pub struct Replies {
+    bytes: Vec<u8>,
+    sent: usize,
+    /// The version in which answers are written.
+    pub protocol: Protocol,
+}
+
+impl Replies {
+    /// The bytes that weren't sent yet.
+    pub fn unsent(&self) -> &[u8] {
+        &self.bytes[self.sent..]
+    }
+
+    /// Notes that so many more bytes were sent.
+    pub fn note_sent(&mut self, count: usize) {
+        self.sent += count;
+        if self.sent == self.bytes.len() {
+            self.sent = 0;
+            self.bytes.clear();
+            if self.bytes.capacity() > KEPT_ROOM {
+                self.bytes = Vec::new();
+            }
+        }
+    }
+
+    /// A whole reply that was written elsewhere, in the same version.
+    pub fn append(&mut self, reply: &[u8]) {
+        self.bytes.extend_from_slice(reply);
+    }
+
+    /// Where the next reply begins.
+    pub fn mark(&self) -> usize {
+        self.bytes.len()
+    }
+
+    /// Whether the reply that began at the mark has more bytes than a reply may have.
+    pub fn is_too_large(&self, mark: usize) -> bool {
+        self.bytes.len() - mark > MAX_REPLY
+    }
+
+    /// Takes back what was written since the mark.
+    pub fn take_back(&mut self, mark: usize) {
+        self.bytes.truncate(mark);
+    }
+
+    /// A word that is no data, as OK.
+    pub fn simple(&mut self, word: &str) {
+        self.line(b'+', word.as_bytes());
+    }
+
+    /// A refusal, whose first word is its name. Bytes that would end the line are shown as spaces.
+    pub fn error(&mut self, fault: impl Display) {
+        let start = self.bytes.len() + 1;
+        self.bytes.push(b'-');
+        // Memory takes whatever is written.
+        let _ = write!(self.bytes, "{fault}");
+        for byte in &mut self.bytes[start..] {
+            if matches!(byte, b'\r' | b'\n') {
+                *byte = b' ';
+            }
+        }
+        self.bytes.extend_from_slice(b"\r\n");
+    }
+
+    /// A number.
+    pub fn number(&mut self, number: i64) {
+        self.line(b':', Digits::new(number).as_bytes());
+    }
+
+    /// A number of things.
+    pub fn count(&mut self, count: usize) {
+        self.number(i64::try_from(count).unwrap_or(i64::MAX));
+    }
+
+    /// Any bytes.
+    pub fn bulk(&mut self, bytes: &[u8]) {
+        self.length(b'$', bytes.len());
+        self.bytes.extend_from_slice(bytes);
+        self.bytes.extend_from_slice(b"\r\n");
+    }
+
+    /// That there is nothing.
+    pub fn null(&mut self) {
+        self.bytes.extend_from_slice(match self.protocol {
+            Protocol::Two => b"$-1\r\n",
+            Protocol::Three => b"_\r\n",
+        });
+    }
+
+    /// So many replies follow, which are one.
+    pub fn array(&mut self, length: usize) {
+        self.length(b'*', length);
+    }
+
+    /// So many names follow, each with its value.
+    pub fn map(&mut self, length: usize) {
+        match self.protocol {
+            Protocol::Two => self.array(2 * length),
+            Protocol::Three => self.length(b'%', length),
+        }
+    }
+
+    fn length(&mut self, kind: u8, length: usize) {
+        let length = i64::try_from(length).unwrap_or(i64::MAX);
+        self.line(kind, Digits::new(length).as_bytes());
+    }
+
+    fn line(&mut self, kind: u8, bytes: &[u8]) {
+        self.bytes.push(kind);
+        self.bytes.extend_from_slice(bytes);
+        self.bytes.extend_from_slice(b"\r\n");
+    }
+}
+
+#[cfg(test)]
+mod tests {
+    use super::*;
+
+    #[test]
+    fn replies_are_written_in_both_versions() {
+        let mut replies = Replies::default();
+        replies.simple("OK");
+        replies.error("ERR a\r\nb");
+        replies.number(-7);
+        replies.bulk(b"x\r\n");
+        replies.null();
+        replies.map(1);
+        replies.protocol = Protocol::Three;
+        replies.null();
+        replies.map(1);
+        assert_eq!(
+            replies.unsent(),
+            b"+OK\r\n-ERR a  b\r\n:-7\r\n$3\r\nx\r\n\r\n$-1\r\n*2\r\n_\r\n%1\r\n"
+        );
+        replies.note_sent(5);
+        assert!(replies.unsent().starts_with(b"-ERR"));
+        replies.note_sent(replies.unsent().len());
+        assert!(replies.unsent().is_empty());
+    }
+}

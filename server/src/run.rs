@@ -1,0 +1,192 @@
+//! How the server begins and ends.
+use crate::admission::Admission;
+use crate::body::Memory;
+use crate::cluster::Cluster;
+use crate::command::Executor;
+use crate::configure::configuration;
+use crate::control::{Asked, Controller};
+use crate::http;
+use crate::io::{Acceptor, Inlet, Worker};
+use crate::keyspace::Keyspace;
+use crate::options::{LogFormat, Options};
+use mio::Poll;
+use std::error::Error;
+use std::io::IsTerminal;
+use std::net::SocketAddr;
+use std::sync::mpsc::{channel, Sender};
+use std::sync::Arc;
+use std::thread::{self, JoinHandle};
+use std::time::Duration;
+use tokio::signal::unix::{signal, SignalKind};
+
+/// Why the server doesn't begin, or ended early.
+pub type Fault = Box<dyn Error + Send + Sync>;
+
+/// A thread that runs.
+type Running = JoinHandle<Result<(), Fault>>;
+
+/// Threads for clients where nothing is said, at most.
+const MOST_USUAL_THREADS: usize = 4;
+
+/// Serves until a signal ends it.
+pub fn run(options: &Options) -> Result<(), Fault> {
+    begin_log(options)?;
+    let storage = Memory;
+    let cluster = Arc::new(Cluster::new(configuration(options)?, &storage)?);
+    let (control, asked) = channel();
+    let polls = polls(options, &cluster)?;
+    let mut controller = Controller::new(cluster.clone())?;
+    if !options.vacant {
+        controller.assign_all()?;
+    }
+    let address = SocketAddr::new(options.bind, options.port);
+    let told = |error| format!("{address}: {error}; --port takes another port");
+    let acceptor = Acceptor::new(cluster.clone(), address).map_err(told)?;
+    announce(options, &cluster, acceptor.address()?);
+    let waker = acceptor.waker();
+    let mut threads = workers(&cluster, polls, &control)?;
+    drop(control);
+    threads.push(spawn(&cluster, "acceptor", move || {
+        acceptor.run();
+        Ok(())
+    })?);
+    threads.push(spawn(&cluster, "control", move || {
+        controller.run(asked);
+        Ok(())
+    })?);
+    let attended = attend(options, &cluster);
+    cluster.stop();
+    waker.wake()?;
+    let ended = threads.into_iter().map(|it| {
+        let panicked = |_| Err("a thread panicked".into());
+        it.join().unwrap_or_else(panicked)
+    });
+    // All are waited for; what a thread says comes before that one ended.
+    let ended = ended.fold(Ok(()), Result::and).and(attended);
+    tracing::info!("stopped");
+    ended
+}
+
+fn begin_log(options: &Options) -> Result<(), Fault> {
+    let filter = tracing_subscriber::EnvFilter::try_new(&options.log)?;
+    let log = tracing_subscriber::fmt()
+        .with_env_filter(filter)
+        .with_writer(std::io::stderr)
+        .with_ansi(std::io::stderr().is_terminal())
+        .with_target(false);
+    match options.log_format {
+        LogFormat::Text => log.try_init(),
+        LogFormat::Json => log.json().try_init(),
+    }
+}
+
+/// Makes what each thread for clients polls, and has the cluster know what reaches them.
+fn polls(options: &Options, cluster: &Cluster) -> Result<Vec<Poll>, Fault> {
+    let processors = thread::available_parallelism().map_or(1, usize::from);
+    let usual = processors.min(MOST_USUAL_THREADS);
+    let count = options.threads.map_or(usual, usize::from);
+    let polls = (0..count)
+        .map(|_| Poll::new())
+        .collect::<Result<Vec<_>, _>>()?;
+    let inlets = polls
+        .iter()
+        .map(|it| Inlet::new(it, cluster.configuration.servers).map(Arc::new));
+    cluster.set_inlets(inlets.collect::<Result<_, _>>()?);
+    Ok(polls)
+}
+
+fn workers(
+    cluster: &Arc<Cluster>,
+    polls: Vec<Poll>,
+    control: &Sender<Asked>,
+) -> Result<Vec<Running>, Fault> {
+    let mut threads = Vec::new();
+    for (number, poll) in polls.into_iter().enumerate() {
+        let inlet = cluster.inlets()[number].clone();
+        let admission = Admission::new(cluster.clone(), inlet.stats().clone())?;
+        let keyspace = Keyspace::new(&cluster.configuration.rule)?;
+        let executor = Executor::new(cluster.clone(), admission, keyspace);
+        let worker = Worker::new(cluster.clone(), inlet, poll, executor, control.clone());
+        let run = move || worker.run().map_err(Into::into);
+        threads.push(spawn(cluster, &format!("clients-{number}"), run)?);
+    }
+    Ok(threads)
+}
+
+/// Stops the cluster when a thread ends, however it does.
+struct StopsAtEnd(Arc<Cluster>);
+
+impl Drop for StopsAtEnd {
+    fn drop(&mut self) {
+        self.0.stop();
+    }
+}
+
+fn spawn(
+    cluster: &Arc<Cluster>,
+    name: &str,
+    work: impl FnOnce() -> Result<(), Fault> + Send + 'static,
+) -> Result<Running, Fault> {
+    let end = StopsAtEnd(cluster.clone());
+    let thread = thread::Builder::new()
+        .name(name.to_owned())
+        .spawn(move || {
+            let _end = end;
+            work()
+        })?;
+    Ok(thread)
+}
+
+fn announce(options: &Options, cluster: &Cluster, address: SocketAddr) {
+    let (servers, shards) = (cluster.configuration.servers, cluster.shards());
+    let by = cluster.configuration.rule.name();
+    tracing::info!(%address, servers, shards, by, "serving Redis clients");
+    tracing::warn!("data lies {}", cluster.storage);
+    for unkept in &cluster.configuration.unkept {
+        tracing::warn!("not kept of the settings: {unkept}");
+    }
+    if !options.bind.is_loopback() && cluster.configuration.password.is_none() {
+        tracing::warn!(
+            "anybody who reaches {address} may read, write and move shards: --password-file"
+        );
+    }
+}
+
+/// Serves the page, and waits for a signal, or for the end of a thread.
+fn attend(options: &Options, cluster: &Arc<Cluster>) -> Result<(), Fault> {
+    let runtime = tokio::runtime::Builder::new_current_thread()
+        .enable_all()
+        .build()?;
+    let site = async {
+        match options.http_port {
+            0 => std::future::pending().await,
+            port => http::serve(cluster.clone(), SocketAddr::new(options.bind, port)).await,
+        }
+    };
+    runtime.block_on(async {
+        tokio::select! {
+            ended = site => ended,
+            ended = signalled(cluster) => ended,
+        }
+    })
+}
+
+/// Waits for a signal that ends the server, or for the end of a thread.
+async fn signalled(cluster: &Cluster) -> Result<(), Fault> {
+    let mut terminate = signal(SignalKind::terminate())?;
+    let mut interrupt = signal(SignalKind::interrupt())?;
+    let mut tick = tokio::time::interval(Duration::from_millis(200));
+    loop {
+        tokio::select! {
+            _ = terminate.recv() => break,
+            _ = interrupt.recv() => break,
+            _ = tick.tick() => {
+                if cluster.is_stopping() {
+                    return Err("a thread ended".into());
+                }
+            }
+        }
+    }
+    tracing::info!("stopping");
+    Ok(())
+}

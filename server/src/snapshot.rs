@@ -1,0 +1,138 @@
+//! How servers and shards stand, for whoever looks.
+use crate::body::Shard;
+use crate::cluster::Cluster;
+use durkenzo::{Pass, PassFault, Record, Stand};
+use serde::Serialize;
+use std::fmt;
+use std::sync::Arc;
+
+/// How a shard stands.
+#[derive(Clone, Debug, Serialize)]
+pub struct ShardRow {
+    /// Its number.
+    pub shard: u16,
+    /// The name of its stand.
+    pub stand: &'static str,
+    /// Its owner, or 0.
+    pub owner: u16,
+    /// Its next or previous owner, or 0.
+    pub other: u16,
+    /// Whether a server is admitted to it now.
+    pub is_admitted: bool,
+    /// How many steps its history has.
+    pub generation: u64,
+    /// How many keys of it hold something.
+    pub keys: u64,
+}
+
+impl ShardRow {
+    /// That of a shard with this record.
+    pub fn new(shard: u16, record: Record, keys: u64) -> ShardRow {
+        let (stand, owner, other) = match record.stand {
+            Stand::Vacant => ("Vacant", 0, 0),
+            Stand::Serving(owner) => ("Serving", owner, 0),
+            Stand::Prepared { owner, next } => ("Prepared", owner, next),
+            Stand::Forwarding { owner, next } => ("Forwarding", owner, next),
+            Stand::Taken { owner, previous } => ("Taken", owner, previous),
+            Stand::Paused(owner) => ("Paused", owner, 0),
+        };
+        let (is_admitted, generation) = (record.admitted, record.generation);
+        ShardRow {
+            shard,
+            stand,
+            owner,
+            other,
+            is_admitted,
+            generation,
+            keys,
+        }
+    }
+}
+
+/// As scripts are answered by `look`.
+impl fmt::Display for ShardRow {
+    fn fmt(&self, f: &mut fmt::Formatter<'_>) -> fmt::Result {
+        let ShardRow {
+            stand,
+            owner,
+            other,
+            generation,
+            ..
+        } = self;
+        let admitted = if self.is_admitted { "admitted" } else { "idle" };
+        write!(f, "{stand} {owner} {other} {admitted} {generation}")
+    }
+}
+
+/// How a server stands.
+#[derive(Clone, Debug, Serialize)]
+pub struct ServerRow {
+    /// Its number.
+    pub server: u16,
+    /// How far its restart has come.
+    pub standing: &'static str,
+    /// The servers that fail together with it have the same.
+    pub domain: u16,
+    /// How many shards it owns.
+    pub shards: usize,
+    /// How often it was admitted to a shard.
+    pub admissions: u64,
+}
+
+/// How all stands.
+#[derive(Clone, Debug, Serialize)]
+pub struct Snapshot {
+    /// Each server, by number.
+    pub servers: Vec<ServerRow>,
+    /// Each shard, by number.
+    pub shards: Vec<ShardRow>,
+}
+
+/// Looks at a cluster.
+pub struct Observer {
+    cluster: Arc<Cluster>,
+    /// Any server sees all records.
+    pass: Pass<Shard>,
+}
+
+impl Observer {
+    /// One of this cluster.
+    pub fn new(cluster: Arc<Cluster>) -> Result<Observer, PassFault> {
+        let pass = cluster.board.pass(1)?;
+        Ok(Observer { cluster, pass })
+    }
+
+    /// How the shard stands, if there is one.
+    pub fn shard(&mut self, shard: u16) -> Option<ShardRow> {
+        let record = self.pass.look(shard).ok()?;
+        Some(ShardRow::new(shard, record, self.cluster.keys(shard)))
+    }
+
+    /// How all stands, each record at a moment of its own.
+    pub fn snapshot(&mut self) -> Snapshot {
+        let shards = 0..self.cluster.shards();
+        let shards: Vec<_> = shards.filter_map(|it| self.shard(it)).collect();
+        let servers = 1..=self.cluster.presence.servers();
+        let servers = servers.map(|it| self.server(it, &shards)).collect();
+        Snapshot { servers, shards }
+    }
+
+    fn server(&self, server: u16, shards: &[ShardRow]) -> ServerRow {
+        let index = usize::from(server) - 1;
+        let standing = self.cluster.presence.standing(server);
+        let inlets = self.cluster.inlets().iter();
+        ServerRow {
+            server,
+            standing: standing.map_or("unknown", |it| it.name()),
+            domain: self.cluster.configuration.domains.domain_of(server),
+            shards: shards.iter().filter(|it| it.owner == server).count(),
+            admissions: inlets.map(|it| it.stats().executed[index].get()).sum(),
+        }
+    }
+}
+
+impl fmt::Debug for Observer {
+    fn fmt(&self, f: &mut fmt::Formatter<'_>) -> fmt::Result {
+        f.debug_struct("Observer").finish_non_exhaustive()
+    }
+}

@@ -1,0 +1,274 @@
+#!/usr/bin/env python3
+"""Every command, beside redis-server and by redis-py: commands.py PROGRAM. It needs redis-server and redis-py."""
+import contextlib
+import socket
+import subprocess
+import tempfile
+import time
+
+import redis
+from served import Client, Refused, main, served
+
+# Each is sent to both servers, whose answers have to be the same bytes.
+ALIKE = """
+GET a
+SET a 10
+GET a
+INCR a
+INCRBY a -20
+DECR a
+DECRBY a 5
+APPEND a 0
+INCR a
+STRLEN a
+SET a 007
+INCR a
+INCRBY a 1x
+SET a hello
+APPEND a world
+GET a
+STRLEN a
+SET a 9223372036854775807
+INCR a
+DECRBY a -9223372036854775808
+SET a b NX
+SET a b XX
+SET a c XX GET
+SET none x XX
+SET fresh x NX GET
+SET a b NX XX
+SET a b WHAT
+SET a b KEEPTTL
+GET
+GET a b
+SET a
+MSET a
+MSET {a}1 x {a}2
+MSET {a}1 x {a}2 7
+MGET {a}1 {a}2 {a}3
+EXISTS {a}1 {a}1 {a}3
+DEL {a}1 {a}2 {a}3
+TYPE a
+TYPE nothing
+PING
+PING hello
+PING a b
+ECHO hello
+ECHO
+SELECT 0
+SELECT 99
+SELECT x
+MULTI
+SET {m}a 1
+INCR {m}a
+GET {m}b
+EXEC
+MULTI
+MULTI
+DISCARD
+DISCARD
+EXEC
+MULTI
+INCR
+EXEC
+MULTI
+PING
+ECHO x
+EXEC
+MULTI
+SET {m}a text
+INCR {m}a
+GET {m}a
+EXEC
+AUTH secret
+AUTH other secret
+CLIENT SETNAME me
+CLIENT GETNAME
+CLIENT SETNAME two\twords
+CLIENT SETNAME
+CLIENT NOSUCH
+COMMAND NOSUCH
+CONFIG NOSUCH
+GETX a
+DBSIZE
+NOSUCH a b
+CONFIG GET appendonly
+CONFIG GET nosuch
+COMMAND COUNT x
+SCAN x
+SCAN 0 COUNT 0
+SCAN 0 COUNT x
+SCAN 0 NOSUCH 1
+SCAN 0 MATCH nosuch:* COUNT 1000
+HELLO 4
+"""
+# What only one of them has; each is answered by what begins so.
+OWN = [
+    ("SET a b EX 10", "NOEXPIRY"),
+    ("MGET a b c d e f", "CROSSSHARD"),
+    ("SM LOOK 0", "Serving"),
+    ("SM LOOK 64", "REFUSED UnknownShard"),
+    ("SM LOOK x", "REFUSED BadLine: it is written SM LOOK k"),
+    ("SM NOSUCH", "REFUSED BadLine"),
+    ("SM ADD 0", "REFUSED WrongPhase"),
+    ("SM MIGRATE 0 9", "REFUSED UnknownServer"),
+    ("SM MIGRATE 0 1", "REFUSED SameServer"),
+    ("SM STOPPED 1", "REFUSED NotApproved"),
+    ("SM APPROVE 1", "REFUSED NotAsked"),
+    ("SM BACK 1", "REFUSED AlreadyUp"),
+    ("SM AT 9 GET a", "REFUSED UnknownServer"),
+    ("SM AT 1 PING", "ERR SM AT"),
+    ("FLUSHALL", "ERR unknown command 'FLUSHALL'"),
+]
+
+
+@contextlib.contextmanager
+def redis_served():
+    """A redis-server that keeps nothing; its port."""
+    with socket.socket() as free, tempfile.TemporaryDirectory() as room:
+        free.bind(("127.0.0.1", 0))
+        port = free.getsockname()[1]
+        free.close()
+        command = ["redis-server", "--port", str(port), "--save", "", "--appendonly", "no", "--dir", room]
+        with subprocess.Popen(command, stdout=subprocess.DEVNULL) as process:
+            try:
+                for _ in range(100):
+                    with contextlib.suppress(OSError), Client(port):
+                        break
+                    time.sleep(0.05)
+                yield port
+            finally:
+                process.terminate()
+
+
+def by_hello(client, version):
+    """Has the connection speak this version."""
+    client.raw("HELLO", version)
+    return client
+
+
+def answers_are_those_of_redis(program):
+    """In both versions of the protocol."""
+    count, differences = 0, []
+    with redis_served() as other, served(program) as server:
+        for version in (2, 3):
+            with Client(other) as theirs, server.client() as ours:
+                by_hello(theirs, version).raw("FLUSHALL")
+                by_hello(ours, version)
+                for line in ALIKE.strip().split("\n"):
+                    words = line.split(" ")
+                    wanted, found = theirs.raw(*words), ours.raw(*words)
+                    if wanted != found:
+                        differences.append(f"{line} in version {version}: Redis {wanted!r}, and we {found!r}")
+                    count += 1
+                for key in ("a", "fresh", "{m}a", "{m}b", "none"):
+                    ours.raw("DEL", key)
+    assert not differences, "\n".join(differences)
+    return f"{count} answers"
+
+
+def other_answers_are_named(program):
+    with served(program) as server, server.client() as client:
+        for line, wanted in OWN:
+            client.send(*line.split(" "))
+            found = client.read()
+            text = found if isinstance(found, str) else str(found)
+            if not text.startswith(wanted):
+                raise AssertionError(f"{line}: {text}")
+        for key in (b"", b"k" * 256):
+            client.send("GET", key)
+            assert str(client.read()).startswith("BADKEY"), key[:9]
+        client.send("SET", "a", b"v" * 65536)
+        assert str(client.read()).startswith("TOOLONG")
+        assert client.ask("SET", b"k" * 255, b"v" * 65535) == "OK"
+
+
+def redis_py_does_all(program):
+    with served(program) as server:
+        client = redis.Redis(port=server.port, decode_responses=True, client_name="me")
+        assert client.ping() and client.set("a", 1) and client.incr("a", 5) == 6 and client.get("a") == "6"
+        assert client.append("a", "x") == 2 and client.strlen("a") == 2 and client.exists("a", "a") == 2
+        assert client.mset({"{t}a": 1, "{t}b": "x"}) and client.mget("{t}a", "{t}b", "{t}c") == ["1", "x", None]
+        with client.pipeline() as pipe:
+            assert pipe.set("{t}c", 1).incr("{t}c").get("{t}c").execute() == [True, 2, "2"]
+        with client.pipeline(transaction=False) as pipe:
+            answers = pipe.set("x", 1).decr("y").get("z").delete("x", "x").execute()
+        assert answers == [True, -1, None, 1], answers
+        assert client.client_getname() == "me" and client.echo("hi") == "hi" and client.type("a") == "string"
+        assert client.info("persistence")["storage"].startswith("in memory alone")
+        assert client.config_get("save") == {"save": ""} and client.dbsize() == 5
+        assert client.set("a", "b", nx=True) is None and client.decr("y", 4) == -5
+        try:
+            client.execute_command("INCR", "{t}b")
+            raise AssertionError("a text was added to")
+        except redis.ResponseError as error:
+            assert str(error) == "value is not an integer or out of range", error
+
+
+def scans_give_each_key_once_in_order(program):
+    for options in ([], ["--ranges", 8], ["--bounds", "k1,k25,k9"], ["--ranges", 5, "--hash"]):
+        with served(program, *options) as server:
+            client = redis.Redis(port=server.port, decode_responses=True)
+            with client.pipeline(transaction=False) as pipe:
+                for number in range(700):
+                    pipe.set(f"k{number}", number)
+                pipe.execute()
+            keys = sorted(f"k{it}" for it in range(700))
+            assert sorted(client.scan_iter(count=7)) == keys, options
+            assert sorted(client.scan_iter("k1*", count=500)) == [it for it in keys if it.startswith("k1")]
+            assert client.scan(0, _type="list") is not None and list(client.scan_iter(_type="list")) == []
+            found = client.execute_command("SCANRANGE", "k2", "k3", 40)
+            assert found[::2] == [it for it in keys if "k2" <= it < "k3"][:40], (options, found)
+            assert found[1::2] == [it[1:] for it in found[::2]]
+            assert client.execute_command("SCANRANGE", "", "", 1000)[::2] == keys[:100]
+            assert client.execute_command("SCANRANGE", "z", "a", 9) == []
+            assert client.dbsize() == 700
+
+
+def passwords_are_asked_for(program):
+    with tempfile.NamedTemporaryFile("w", suffix=".txt") as file:
+        file.write("secret\n")
+        file.flush()
+        with served(program, "--password-file", file.name) as server, server.client() as client:
+            for words, wanted in [
+                (("GET", "a"), "NOAUTH"),
+                (("SM", "SHARDS"), "NOAUTH"),
+                (("AUTH", "wrong"), "WRONGPASS"),
+                (("AUTH", "user", "secret"), "WRONGPASS"),
+                (("HELLO", "3"), "NOAUTH"),
+                (("HELLO", "3", "AUTH", "default", "wrong"), "WRONGPASS"),
+            ]:
+                client.send(*words)
+                found = client.read()
+                assert isinstance(found, Refused) and str(found).startswith(wanted), (words, found)
+            assert client.ask("AUTH", "secret") == "OK" and client.ask("GET", "a") is None
+            assert redis.Redis(port=server.port, password="secret").ping()
+
+
+def redis_cli_speaks_with_it(program):
+    with served(program) as server:
+
+        def said(*words, given=None):
+            command = ["redis-cli", "-p", str(server.port), *words]
+            ran = subprocess.run(command, input=given, capture_output=True, text=True, timeout=20)
+            assert ran.returncode == 0, ran.stderr
+            return ran.stdout
+
+        assert said("-3", "ping").strip() == "PONG"
+        assert "errors: 0, replies: 2" in said("--pipe", given="SET a b\r\nGET a\r\n")
+        assert said(given='set q "two words"\nget q\n').split("\n")[:2] == ["OK", "two words"]
+        assert sorted(said("--scan").split()) == ["a", "q"]
+        assert "Sampled 2 keys" in said("--bigkeys")
+
+
+TESTS = [
+    answers_are_those_of_redis,
+    other_answers_are_named,
+    redis_py_does_all,
+    scans_give_each_key_once_in_order,
+    passwords_are_asked_for,
+    redis_cli_speaks_with_it,
+]
+
+if __name__ == "__main__":
+    main(TESTS)

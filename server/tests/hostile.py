@@ -1,0 +1,206 @@
+#!/usr/bin/env python3
+"""Clients that send what they shouldn't, or nothing, or read nothing: hostile.py PROGRAM."""
+import contextlib
+import random
+import resource
+import select
+import socket
+import subprocess
+import time
+
+from served import Client, Refused, main, packed, served
+
+SEED = 20_251_126
+SPOILT_BYTES = 1_000_000
+IDLE = 10_000
+# What an idle connection with half a command may take of memory.
+MOST_IDLE_BYTES = 2_000
+MEBIBYTE = 1 << 20
+PIECES = [
+    b"*", b"$", b"\r\n", b"\n", b"-1", b"9223372036854775808", b"\x00", b"\xff" * 9, b'"', b"*1024\r\n", b"$65536\r\n",
+]  # fmt: skip
+COMMANDS = [
+    ("GET", "a"), ("SET", "a", "b" * 40), ("INCR", "n"), ("MGET", "{t}a", "{t}b"), ("MULTI",), ("EXEC",), ("DISCARD",),
+    ("SCAN", "0"), ("SCANRANGE", "", "", "10"), ("CLIENT", "SETNAME", "x"), ("HELLO", "3"), ("HELLO", "2"),
+    ("ECHO", "x"), ("APPEND", "a", "x"), ("DEL", "a"),
+    ("INFO",), ("COMMAND",), ("SM", "LOOK", "0"), ("SM", "AT", "1", "GET", "a"),
+    ("SM", "MIGRATE", "0", "2"), ("SELECT", "0"), ("TYPE", "a"), ("CONFIG", "GET", "*"), ("AUTH", "x"), ("RESET",),
+]  # fmt: skip
+
+
+def spoilt(chance):
+    """Commands of which some bytes are changed, lost or added."""
+    bytes_ = bytearray(b"".join(packed(*chance.choice(COMMANDS)) for _ in range(chance.randrange(1, 20))))
+    for _ in range(chance.randrange(1, 5)):
+        at = chance.randrange(len(bytes_))
+        match chance.randrange(4):
+            case 0:
+                bytes_[at] = chance.randrange(256)
+            case 1:
+                del bytes_[at : at + chance.randrange(1, 9)]
+            case 2:
+                bytes_[at:at] = chance.choice(PIECES)
+            case _:
+                bytes_[at:at] = bytes(chance.randrange(256) for _ in range(chance.randrange(1, 9)))
+        bytes_ = bytes_ or bytearray(b"*")
+    return bytes(bytes_)
+
+
+def sent(port, bytes_):
+    """Sends them, and reads what is answered until nothing comes for a while or the connection ends."""
+    with socket.create_connection(("127.0.0.1", port), 10) as one, contextlib.suppress(ConnectionError):
+        one.sendall(bytes_)
+        one.shutdown(socket.SHUT_WR)
+        while one.recv(1 << 16):
+            pass
+
+
+def spoilt_bytes_crash_and_leak_nothing(program):
+    chance = random.Random(SEED)
+    with served(program) as server:
+        for _ in range(200):
+            sent(server.port, spoilt(chance))
+        before, memory = server.at_rest(), server.memory()
+        count, connections = 0, 0
+        while count < SPOILT_BYTES:
+            bytes_ = spoilt(chance)
+            sent(server.port, bytes_)
+            count, connections = count + len(bytes_), connections + 1
+        grown = server.memory() - memory
+        assert server.settle(before) <= before, f"{before} descriptors before, and {server.descriptors()} after"
+        assert grown < 8 * MEBIBYTE, f"{grown} bytes more"
+        with server.client() as client:
+            assert client.ask("PING") == "PONG"
+        return f"{count} bytes in {connections} connections"
+
+
+def each_bound_is_told(program):
+    """What is too large is answered once, and the connection ends."""
+    with served(program) as server:
+        for bytes_, wanted in [
+            (b"*1\r\n$9223372036854775808\r\n", b"-ERR Protocol error: invalid bulk length"),
+            (b"*1\r\n$1048577\r\n", b"-ERR Protocol error: invalid bulk length"),
+            (b"*9223372036854775807\r\n", b"-ERR Protocol error: invalid multibulk length"),
+            (b"*1025\r\n", b"-ERR Protocol error: invalid multibulk length"),
+            (b"*1\r\nGET\r\n", b"-ERR Protocol error: expected '$', got 'G'"),
+            (b"x" * 70_000, b"-ERR Protocol error: too big inline request"),
+            (b'SET a "b\r\n', b"-ERR Protocol error: unbalanced quotes in request"),
+            (b"*9\r\n" + b"$200000\r\n" + b"v" * 200_000 + b"\r\n", None),
+        ]:
+            with socket.create_connection(("127.0.0.1", server.port), 10) as one:
+                one.sendall(bytes_)
+                if wanted is None:
+                    continue
+                answer = b""
+                with contextlib.suppress(ConnectionError):
+                    while more := one.recv(4096):
+                        answer += more
+                # Unread bytes may have the system drop the answer with the connection.
+                assert answer == wanted + b"\r\n" or not answer and len(bytes_) > 65536, (bytes_[:30], answer)
+
+
+def slow_senders_are_served(program):
+    """Byte by byte, and others meanwhile."""
+    with served(program) as server, server.client() as slow, server.client() as other:
+        for byte in packed("SET", "slow", "text") + b"GET slow\r\n":
+            slow.socket.sendall(bytes([byte]))
+            assert other.ask("PING") == "PONG"
+        assert (slow.read(), slow.read()) == ("OK", b"text")
+
+
+def who_never_reads_takes_no_memory(program):
+    with served(program) as server, server.client() as client:
+        client.ask("SET", "a", b"v" * 60_000)
+        before = server.memory()
+        with socket.create_connection(("127.0.0.1", server.port), 2) as deaf:
+            deaf.setblocking(False)
+            taken, end = 0, time.monotonic() + 1.5
+            while time.monotonic() < end:
+                if not select.select([], [deaf], [], 0.2)[1]:
+                    break
+                with contextlib.suppress(BlockingIOError):
+                    taken += deaf.send(b"GET a\r\n" * 2_000)
+            assert client.ask("PING") == "PONG"
+            grown = server.memory() - before
+        assert grown < 16 * MEBIBYTE, f"{grown} bytes more after {taken} bytes of requests"
+        # A reply has a bound too.
+        answers = client.piped([("MGET", *["a"] * 200), ("PING",)])
+        assert str(answers[0]).startswith("TOOLARGE") and answers[1] == "PONG", answers[1]
+        client.ask("MULTI")
+        assert set(client.piped([("GET", "a")] * 200)) == {"QUEUED"}
+        answers = client.ask("EXEC")
+        assert len(answers) == 200 and str(answers[-1]).startswith("TOOLARGE")
+        return f"{taken} bytes of requests taken, {max(grown, 0) >> 10} KiB more memory"
+
+
+def transactions_are_bounded(program):
+    with served(program) as server, server.client() as client:
+        client.ask("MULTI")
+        answers = client.piped([("INCR", "a")] * 1_100)
+        assert answers[1_023] == "QUEUED" and str(answers[1_024]).startswith("QUEUEFULL")
+        client.send("EXEC")
+        assert str(client.read()).startswith("EXECABORT") and client.ask("GET", "a") is None
+        client.ask("MULTI")
+        answers = client.piped([("SET", "a", 1), ("SET", "b", 1), ("SET", "c", 1), ("SET", "d", 1), ("EXEC",)])
+        assert any(str(it).startswith("CROSSSHARD") for it in answers) and str(answers[-1]).startswith("EXECABORT")
+
+
+def idle_connections_cost_little(program):
+    with served(program) as server:
+        before, memory = server.at_rest(), server.memory()
+        idle = []
+        try:
+            for _ in range(IDLE):
+                one = socket.create_connection(("127.0.0.1", server.port), 10)
+                one.sendall(b"*3\r\n$3\r\nSET\r\n$3\r\n")
+                idle.append(one)
+            load = ["redis-benchmark", "-p", str(server.port), "-t", "get", "-n", "50000", "-q", "-c", "50"]
+            subprocess.run(load, stdout=subprocess.DEVNULL, timeout=30, check=True)
+            each = (server.memory() - memory) / IDLE
+            assert each < MOST_IDLE_BYTES, f"{each:.0f} bytes each"
+            idle[5_000].sendall(b"abc\r\n$1\r\nx\r\n")
+            assert idle[5_000].recv(100) == b"+OK\r\n"
+        finally:
+            for one in idle:
+                one.close()
+        assert server.settle(before) <= before, f"{server.descriptors()} descriptors"
+        return f"{IDLE} connections, {each:.0f} bytes each"
+
+
+def more_clients_than_allowed_are_told(program):
+    with served(program, "--max-clients", 3) as server, contextlib.ExitStack() as stack:
+        clients = [stack.enter_context(server.client()) for _ in range(3)]
+        assert all(it.ask("PING") == "PONG" for it in clients)
+        with Client(server.port) as one:
+            answer = one.read()
+            assert isinstance(answer, Refused) and "max number of clients" in str(answer), answer
+
+
+def quick_ends_leave_nothing(program):
+    with served(program) as server:
+        before = server.at_rest()
+        for turn in range(1_000):
+            with socket.create_connection(("127.0.0.1", server.port), 10) as one:
+                if turn % 2:
+                    one.sendall(b"PING\r\n")
+                if turn % 3 == 0:
+                    # A reset in place of an end.
+                    one.setsockopt(socket.SOL_SOCKET, socket.SO_LINGER, b"\1\0\0\0\0\0\0\0")
+        assert server.settle(before) <= before, f"{before} before, {server.descriptors()} after"
+
+
+TESTS = [
+    spoilt_bytes_crash_and_leak_nothing,
+    each_bound_is_told,
+    slow_senders_are_served,
+    who_never_reads_takes_no_memory,
+    transactions_are_bounded,
+    idle_connections_cost_little,
+    more_clients_than_allowed_are_told,
+    quick_ends_leave_nothing,
+]
+
+if __name__ == "__main__":
+    most = resource.getrlimit(resource.RLIMIT_NOFILE)[1]
+    resource.setrlimit(resource.RLIMIT_NOFILE, (most, most))
+    main(TESTS)

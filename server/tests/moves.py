@@ -1,0 +1,205 @@
+#!/usr/bin/env python3
+"""Migrations, restarts and pauses while clients call: moves.py PROGRAM."""
+import multiprocessing
+import subprocess
+import threading
+import time
+
+from served import Client, Refused, main, served
+
+SERVERS, SHARDS, CLIENTS = 4, 64, 6
+KEYS = [f"count:{it}" for it in range(200)]
+
+
+def add(port, number, stop, told):
+    """Adds 1 to keys until it is told to stop; tells how many additions were acknowledged, how many refused, what one
+    of those was answered, and the longest time of a pipeline, in milliseconds."""
+    done, refused, example, longest, turn = 0, 0, "", 0, number
+    with Client(port) as client:
+        while not stop.is_set():
+            keys = [KEYS[(turn + it * 7) % len(KEYS)] for it in range(1 + number % 3 * 8)]
+            turn += 13
+            began = time.monotonic()
+            answers = client.piped([("INCR", it) for it in keys])
+            longest = max(longest, time.monotonic() - began)
+            errors = [it for it in answers if isinstance(it, Refused)]
+            done, refused = done + len(answers) - len(errors), refused + len(errors)
+            example = str(errors[0]) if errors else example
+    told.put((done, refused, example, longest * 1000))
+
+
+def loaded(server, work):
+    """Does the work while clients add; returns a sentence on what they came to."""
+    stop, told = multiprocessing.Event(), multiprocessing.Queue()
+    clients = [multiprocessing.Process(target=add, args=(server.port, it, stop, told)) for it in range(CLIENTS)]
+    for client in clients:
+        client.start()
+    try:
+        time.sleep(0.3)
+        said = work()
+        time.sleep(0.3)
+    finally:
+        stop.set()
+        found = [told.get(timeout=30) for _ in clients]
+        for client in clients:
+            client.join()
+    done, refused = sum(it[0] for it in found), sum(it[1] for it in found)
+    with server.client() as client:
+        counted = sum(int(client.ask("GET", it) or 0) for it in KEYS)
+    assert refused == 0, f"{refused} refused, as {[it[2] for it in found if it[2]][0]}"
+    assert counted == done, f"{done} acknowledged, and {counted} counted"
+    return f"{said}, {done} additions, 0 refused, all counted, longest {max(it[3] for it in found):.0f} ms"
+
+
+def migrations_are_not_noticed(program):
+    """Each shard migrates to each server in turn, and more."""
+
+    def migrate(server):
+        with server.client() as control:
+            rounds = 12
+            for turn in range(rounds):
+                for shard in range(SHARDS):
+                    owner = int(control.ask("SM", "LOOK", shard).split(" ")[1])
+                    assert control.ask("SM", "MIGRATE", shard, owner % SERVERS + 1) == "OK"
+            return f"{rounds * SHARDS} migrations"
+
+    with served(program, "--servers", SERVERS, "--shards", SHARDS) as server:
+        return loaded(server, lambda: migrate(server))
+
+
+def slow_migrations_are_forwarded(program):
+    """With a pause between their steps, so that requests come in each phase."""
+
+    def migrate(server):
+        with server.client() as control:
+            for shard in range(0, SHARDS, 8):
+                owner = int(control.ask("SM", "LOOK", shard).split(" ")[1])
+                assert control.ask("SM", "MIGRATE", shard, owner % SERVERS + 1) == "OK"
+            text = control.ask("INFO", "stats").decode()
+            forwarded = int(text.partition("forwarded_requests:")[2].partition("\r")[0])
+            assert forwarded > 0, "nothing was forwarded"
+            return f"{forwarded} forwarded"
+
+    with served(program, "--servers", SERVERS, "--shards", SHARDS, "--pace", 20) as server:
+        return loaded(server, lambda: migrate(server))
+
+
+def restarts_are_not_noticed(program):
+    """All servers in turn, three times."""
+
+    def restart(server):
+        with server.client() as control:
+            for _ in range(3):
+                assert len(control.ask("SM", "RESTART")) == SERVERS
+            rows = [it.decode().split(" ") for it in control.ask("SM", "SERVERS")]
+            assert all(it[1] == "up" and it[3] == str(SHARDS // SERVERS) for it in rows), rows
+            return f"{3 * SERVERS} restarts"
+
+    with served(program, "--servers", SERVERS, "--shards", SHARDS) as server:
+        return loaded(server, lambda: restart(server))
+
+
+def paused_shards_hold_back_who_asks_for_them(program):
+    """Others go on, and a command that waited is done at the resume, or refused after --wait."""
+    with served(program, "--wait", 400) as server, server.client() as control, server.client() as client:
+        control.ask("SET", "held", 1)
+        with server.client() as look:
+            before = [it.decode().split(" ") for it in look.ask("SM", "SHARDS")]
+        shard = next(it[0] for it in before if it[-1] == "1")
+        assert control.ask("SM", "PAUSE", shard) == "OK"
+        waiting = []
+        thread = threading.Thread(target=lambda: waiting.extend(client.piped([("INCR", "held"), ("GET", "held")])))
+        thread.start()
+        free = next(it for it in KEYS if is_free(control, it))
+        assert control.ask("INCR", free) == 1 and not waiting
+        assert control.ask("SM", "RESUME", shard) == "OK"
+        thread.join()
+        assert waiting == [2, b"2"], waiting
+        assert control.ask("SM", "PAUSE", shard) == "OK"
+        began = time.monotonic()
+        refused = client.piped([("INCR", "held"), ("PING",)])
+        assert str(refused[0]).startswith("SHARDPAUSED") and refused[1] == "PONG", refused
+        assert 0.35 < time.monotonic() - began < 2
+        assert control.ask("SM", "RESUME", shard) == "OK" and client.ask("GET", "held") == b"2"
+
+
+def is_free(client, key):
+    """Whether the key's shard isn't paused: the command waits and is refused else."""
+    client.send("GET", key)
+    return not isinstance(client.read(), Refused)
+
+
+def failed_servers_are_told(program):
+    """Who asks for a failed server's shard waits until that is drained, or the server is back."""
+    with served(program, "--wait", 300) as server, server.client() as control:
+        for key in KEYS[:40]:
+            control.ask("SET", key, 1)
+        assert control.ask("SM", "FAIL", 1) == "OK"
+        answers = control.piped([("GET", it) for it in KEYS[:40]])
+        down = [str(it) for it in answers if isinstance(it, Refused)]
+        assert down and all(it.startswith("SERVERDOWN server 1") for it in down), answers
+        with server.client() as client:
+            key = KEYS[[isinstance(it, Refused) for it in answers].index(True)]
+            client.send("INCR", key)
+            assert len(control.ask("SM", "DRAIN", 1)) == 16
+            assert client.read() == 2, "who waited for a drained shard was refused"
+        assert not any(isinstance(it, Refused) for it in control.piped([("GET", it) for it in KEYS[:40]]))
+        assert control.ask("SM", "BACK", 1) == "OK"
+
+
+def vacant_shards_are_placed(program):
+    """Who asks for a shard that nobody owns waits until it has an owner."""
+    with served(program, "--vacant", "--shards", 4, "--wait", 300) as server, server.client() as control:
+        with server.client() as client:
+            client.send("INCR", "a")
+            assert str(client.read()).startswith("SHARDVACANT")
+            client.send("INCR", "a")
+            assert control.ask("SM", "ASSIGN", 3, 2) == "OK"
+            assert [it.decode() for it in control.ask("SM", "PLACE")] == ["0>1", "1>1", "2>1"]
+            assert client.read() == 1
+
+
+def requests_at_a_server_go_as_in_scripts(program):
+    """A migration step by step, seen by clients with old maps."""
+    with served(program, "--servers", 3, "--bounds", "m") as server, server.client() as client:
+
+        def at(number):
+            client.send("SM", "AT", number, "INCR", "a")
+            answer = client.read()
+            return answer if isinstance(answer, int) else str(answer).split(":")[0].removeprefix("REFUSED ")
+
+        found = [at(1), at(2)]
+        for step in (("PREPARE_ADD", 0, 2), ("PREPARE_DROP", 0), ("ADD", 0), ("DROP", 0)):
+            assert client.ask("SM", *step) == "OK"
+            found += [at(1), at(2)]
+        wanted = [1, "NotExecutor", 2, "NotExecutor", 3, "NotYet", 4, 5, "NotExecutor", 6]
+        assert found == wanted, found
+
+
+def a_server_ends_after_what_it_was_sent(program):
+    """A signal in the midst of a load ends it with status 0, and no answer is cut."""
+    with served(program) as server:
+        load = ["redis-benchmark", "-p", str(server.port), "-t", "set", "-n", "10000000", "-q"]
+        with subprocess.Popen(load, stdout=subprocess.DEVNULL, stderr=subprocess.DEVNULL) as process:
+            time.sleep(0.5)
+            began = time.monotonic()
+            server.process.terminate()
+            status = server.process.wait(timeout=10)
+            process.kill()
+        assert status == 0 and time.monotonic() - began < 8, status
+        server.process.poll = lambda: None  # it was to end here
+
+
+TESTS = [
+    migrations_are_not_noticed,
+    slow_migrations_are_forwarded,
+    restarts_are_not_noticed,
+    paused_shards_hold_back_who_asks_for_them,
+    failed_servers_are_told,
+    vacant_shards_are_placed,
+    requests_at_a_server_go_as_in_scripts,
+    a_server_ends_after_what_it_was_sent,
+]
+
+if __name__ == "__main__":
+    main(TESTS)

@@ -1,0 +1,171 @@
+"""A server that runs for a test, what it takes of the machine, and a plain client of it."""
+import contextlib
+import json
+import os
+import pathlib
+import socket
+import subprocess
+import sys
+import time
+
+SECONDS = 20
+
+
+class Refused(Exception):
+    """An answer that is an error; its text."""
+
+
+class Client:
+    """A connection that speaks the protocol, one command or a whole pipeline at a time."""
+
+    def __init__(self, port):
+        self.socket = socket.create_connection(("127.0.0.1", port), SECONDS)
+        self.socket.setsockopt(socket.IPPROTO_TCP, socket.TCP_NODELAY, 1)
+        self.stream = self.socket.makefile("rb", 1 << 16)
+
+    def __enter__(self):
+        return self
+
+    def __exit__(self, *_):
+        self.stream.close()
+        self.socket.close()
+
+    def send(self, *words):
+        self.socket.sendall(packed(*words))
+
+    def ask(self, *words):
+        """The answer to a command; an error is raised."""
+        self.send(*words)
+        answer = self.read()
+        if isinstance(answer, Refused):
+            raise answer
+        return answer
+
+    def piped(self, commands):
+        """The answers to these commands, which are sent at once; errors are among them."""
+        self.socket.sendall(b"".join(packed(*it) for it in commands))
+        return [self.read() for _ in commands]
+
+    def raw(self, *words):
+        """The answer's bytes as they came."""
+        self.send(*words)
+        return self.bytes_of_one()
+
+    def line(self):
+        line = self.stream.readline()
+        if not line.endswith(b"\r\n"):
+            raise ConnectionError(f"the connection ended within {line!r}")
+        return line
+
+    def read(self):
+        line = self.line()
+        kind, rest = line[:1], line[1:-2]
+        if kind == b"+":
+            return rest.decode()
+        if kind == b"-":
+            return Refused(rest.decode(errors="replace"))
+        if kind == b":":
+            return int(rest)
+        if kind == b"$":
+            return None if rest == b"-1" else self.stream.read(int(rest) + 2)[:-2]
+        if kind == b"*":
+            return [self.read() for _ in range(int(rest))]
+        raise ConnectionError(f"an answer begins with {line!r}")
+
+    def bytes_of_one(self):
+        line = self.line()
+        kind, rest = line[:1], line[1:-2]
+        if kind == b"$" and rest != b"-1":
+            return line + self.stream.read(int(rest) + 2)
+        count = {b"*": 1, b"%": 2}.get(kind, 0) * int(rest or 0) if kind in b"*%" else 0
+        return line + b"".join(self.bytes_of_one() for _ in range(count))
+
+
+def packed(*words):
+    """A command as clients write it."""
+    words = [it if isinstance(it, bytes) else str(it).encode() for it in words]
+    return b"*%d\r\n" % len(words) + b"".join(b"$%d\r\n%s\r\n" % (len(it), it) for it in words)
+
+
+class Server:
+    """A server that runs: its port, its process, and what that has."""
+
+    def __init__(self, process, port):
+        self.process, self.port = process, port
+
+    def client(self):
+        return Client(self.port)
+
+    def is_alive(self):
+        return self.process.poll() is None
+
+    def descriptors(self):
+        return len(os.listdir(f"/proc/{self.process.pid}/fd"))
+
+    def memory(self):
+        """Its bytes of memory."""
+        return int(pathlib.Path(f"/proc/{self.process.pid}/statm").read_text().split()[1]) * 4096
+
+    def at_rest(self):
+        """How many descriptors it has once that number hasn't changed for a while."""
+        last, since = -1, time.monotonic()
+        while time.monotonic() < since + 0.3:
+            if (now := self.descriptors()) != last:
+                last, since = now, time.monotonic()
+            time.sleep(0.02)
+        return last
+
+    def settle(self, descriptors):
+        """Waits until it has no more descriptors than these, and returns how many it has."""
+        end = time.monotonic() + SECONDS
+        while self.descriptors() > descriptors and time.monotonic() < end:
+            time.sleep(0.05)
+        return self.descriptors()
+
+
+@contextlib.contextmanager
+def served(program, *options):
+    """Runs the server with these options while the body runs, and sees that it ends well when it is told to."""
+    command = [program, "--port", "0", "--http-port", "0", "--log-format", "json", *map(str, options)]
+    with subprocess.Popen(command, stderr=subprocess.PIPE, stdin=subprocess.DEVNULL, text=True) as process:
+        try:
+            server = Server(process, port_of(process))
+            yield server
+            if not server.is_alive():
+                raise AssertionError(f"the server ended with {process.returncode}: {process.stderr.read()[-2000:]}")
+        finally:
+            process.terminate()
+            said = process.communicate(timeout=SECONDS)[1]
+        if process.returncode != 0:
+            raise AssertionError(f"at its stop the server ended with {process.returncode}: {said[-2000:]}")
+
+
+def port_of(process):
+    """The port that the log tells."""
+    for line in process.stderr:
+        fields = json.loads(line).get("fields", {}) if line.startswith("{") else {}
+        if "address" in fields:
+            return int(fields["address"].rpartition(":")[2])
+    raise AssertionError(f"the server ended with {process.wait()} before it served")
+
+
+def run(tests, program):
+    """Runs these tests of the program, each by its name, and says what failed; returns the exit status."""
+    failed = 0
+    for test in tests:
+        name = test.__name__.replace("_", " ")
+        began = time.monotonic()
+        try:
+            told = test(program)
+            print(f"passed: {name}{': ' + told if told else ''}, {time.monotonic() - began:.1f} s", flush=True)
+        except Exception as error:  # whatever went wrong there, the other tests go on
+            failed += 1
+            reason = f"{type(error).__name__}: {error}".replace("\n", "\n    ")
+            print(f"FAILED: {name}\n    {reason}", flush=True)
+    return bool(failed)
+
+
+def main(tests):
+    if len(sys.argv) != 2:
+        sys.exit(f"{sys.argv[0]} PROGRAM")
+    sys.exit(run(tests, sys.argv[1]))

@@ -1,0 +1,110 @@
+#!/usr/bin/env python3
+"""The page, /metrics and /healthz, and other ways to begin: site.py PROGRAM."""
+import contextlib
+import json
+import re
+import socket
+import subprocess
+import tempfile
+import time
+import urllib.error
+import urllib.request
+
+from served import Refused, main, served
+
+SAMPLE = re.compile(r'^durkenzo_\w+(\{\w+="\w+"(,\w+="\w+")*\})? \d+$')
+
+
+def free_port():
+    with socket.socket() as one:
+        one.bind(("127.0.0.1", 0))
+        return one.getsockname()[1]
+
+
+def got(port, path):
+    """The body at this path; tried again while nobody listens there yet."""
+    for _ in range(100):
+        with contextlib.suppress(ConnectionError, urllib.error.URLError):
+            with urllib.request.urlopen(f"http://127.0.0.1:{port}{path}", timeout=5) as answer:
+                return answer.read().decode()
+        time.sleep(0.05)
+    raise AssertionError(f"nothing answers at {path}")
+
+
+def the_page_shows_how_all_stands(program):
+    port = free_port()
+    with served(program, "--http-port", port, "--servers", 3, "--shards", 6) as server, server.client() as client:
+        assert "<title>Durkenzo</title>" in got(port, "/") and got(port, "/healthz") == "ok\n"
+        client.ask("SET", "a", 1)
+        assert client.ask("SM", "PREPARE_ADD", 0, 2) == "OK"
+        state = json.loads(got(port, "/state.json"))
+        assert [it["shards"] for it in state["servers"]] == [2, 2, 2]
+        row = state["shards"][0]
+        assert (row["stand"], row["owner"], row["other"]) == ("Prepared", 1, 2), row
+        assert sum(it["keys"] for it in state["shards"]) == 1
+
+
+def metrics_are_in_the_format_of_prometheus(program):
+    port = free_port()
+    with served(program, "--http-port", port, "--threads", 2) as server, server.client() as client:
+        client.piped([("SET", "a", 1)] * 100)
+        lines = got(port, "/metrics").splitlines()
+        samples = [it for it in lines if not it.startswith("#")]
+        assert all(SAMPLE.match(it) for it in samples), [it for it in samples if not SAMPLE.match(it)]
+        done = [int(it.split()[1]) for it in samples if it.startswith("durkenzo_commands_total")]
+        assert len(done) == 2 and sum(done) == 100, done
+        assert "# TYPE durkenzo_commands_total counter" in lines and "# TYPE durkenzo_keys gauge" in lines
+
+
+def settings_of_scripts_are_taken(program):
+    """Servers, bounds, ops and domains; what isn't kept of them is told."""
+    rows = {
+        "version": 2, "bounds": ["", "m"], "groups": [{"limit": 2, "down": 2}], "ops": 2, "kept": 9, "ceiling": 1000,
+        "servers": [{"id": it + 1, "domain": it // 2, "capacity": 1} for it in range(4)], "workers": 1,
+        "shards": [{"group": 0, "load": 1, "cap": 1}] * 2, "domains": [{"domain": it, "down": 1} for it in range(2)],
+    }  # fmt: skip
+    with tempfile.NamedTemporaryFile("w", suffix=".json") as file:
+        json.dump(rows, file)
+        file.flush()
+        with served(program, "--settings", file.name) as server, server.client() as client:
+            settings = b"\n".join(client.ask("SM", "SETTINGS")).decode()
+            assert "servers 4\nshards 2\nkeys by ranges\nrestarts at once 2\nceiling 1000" in settings, settings
+            assert "not kept: capacities of servers" in settings
+            for server_number in (1, 2, 3):
+                assert client.ask("SM", "ASK", server_number) == "OK"
+            assert client.ask("SM", "APPROVE", 1) == "OK"
+            client.send("SM", "APPROVE", 2)
+            found = client.read()
+            assert isinstance(found, Refused) and str(found).startswith("REFUSED DomainCap"), found
+            assert client.ask("SM", "APPROVE", 3) == "OK"
+
+
+def what_is_not_accepted_is_told(program):
+    taken = socket.socket()
+    taken.bind(("127.0.0.1", 0))
+    taken.listen()
+    port = taken.getsockname()[1]
+    for words, wanted in [
+        (["--port", port], "--port takes another port"),
+        (["--port", 0, "--http-port", port], "--http-port takes another port"),
+        (["--servers", 0], "0 is not in 1..=4095"),
+        (["--settings", "/nowhere"], "/nowhere: No such file"),
+        (["--bounds", "m,a"], "a bound is not above the one before it"),
+        (["--servers", 2, "--domains", 3], "3 domains need a server each"),
+        (["--password-file", "/dev/null"], "its first line is empty"),
+    ]:
+        command = [program, *map(str, words)]
+        ran = subprocess.run(command, capture_output=True, text=True, timeout=20, stdin=subprocess.DEVNULL)
+        assert ran.returncode in (1, 2) and wanted in ran.stderr, (words, ran.returncode, ran.stderr[-300:])
+    taken.close()
+
+
+TESTS = [
+    the_page_shows_how_all_stands,
+    metrics_are_in_the_format_of_prometheus,
+    settings_of_scripts_are_taken,
+    what_is_not_accepted_is_told,
+]
+
+if __name__ == "__main__":
+    main(TESTS)

@@ -1,0 +1,88 @@
+"""What the server for Redis clients passes, over the static library that the proofs built: its unit tests, and the
+scripts of server/tests/ over a server that runs."""
+import shutil
+import subprocess
+import sys
+
+import runs
+import sources
+from testing.library import PROVED
+from testing.part import Verdict, verdict
+
+FOLDER = sources.TOP / "server"
+SCRIPTS = ("commands", "moves", "hostile", "site")
+REDIS = ("redis-server", "redis-cli", "redis-benchmark")
+HEADINGS = ("Network:", "Servers and shards:", "Threads and waiting:", "Log:")
+PASSED, FAILED, REASON = "passed: ", "FAILED: ", "    "
+
+
+def python_with_redis():
+    """A Python that has redis-py: this one, or the system's."""
+    for python in (sys.executable, "/usr/bin/python3"):
+        if shutil.which(python) and not runs.finished([python, "-c", "import redis"]).status:
+            return python
+    return None
+
+
+def lacking():
+    """What this machine lacks for the scripts."""
+    found = [it for it in REDIS if not shutil.which(it)]
+    return found if python_with_redis() else [*found, "python3-redis"]
+
+
+def skipped(say):
+    """Says what isn't tried, for want of what."""
+    if not shutil.which("cargo"):
+        say("cargo isn't installed: the server for Redis clients isn't tried")
+    elif absent := lacking():
+        say(f"no {', '.join(absent)}: of the server for Redis clients unit tests run alone; tools/setup installs them")
+
+
+def by_cargo(serve, name, *words):
+    """A run of cargo in the server's folder that has to end with 0."""
+    ran = serve.cargo(*words)
+    return verdict(name, ran.returncode == 0, f"{ran.stdout[-2000:]}{ran.stderr[-2000:]}")
+
+
+def verdicts_of(lines):
+    """Gives what a script of tests says, a verdict for each."""
+    name, reason = None, []
+    for line in [*lines, ""]:
+        if name and not line.startswith(REASON):
+            yield Verdict(name, "\n".join(reason) or name)
+            name, reason = None, []
+        if name:
+            reason.append(line)
+        elif line.startswith(FAILED):
+            name = line.removeprefix(FAILED)
+        elif line.startswith(PASSED):
+            yield Verdict(line.removeprefix(PASSED), None)
+
+
+def said_by(script, python, program):
+    """What a script finds of the program; that it finds nothing is a failure."""
+    ran = runs.finished([python, FOLDER / "tests" / f"{script}.py", program])
+    found = list(verdicts_of(ran.output.decode(errors="replace").splitlines()))
+    yield from found
+    if not found or bool(ran.status) != any(it.reason for it in found):
+        yield Verdict(script, f"it ended with {ran.status}: {ran.complaint.decode(errors='replace')[-2000:]}")
+
+
+def passed(_room):
+    """All of it; nothing where the library wasn't built, or cargo isn't there."""
+    if not PROVED.is_file() or not shutil.which("cargo"):
+        return
+    serve = runs.loaded("serve")
+    try:
+        program = serve.built()
+    except serve.Missing as missing:
+        yield Verdict("the server is built", str(missing))
+        return
+    yield by_cargo(serve, "the server's unit tests", "test", "--release")
+    if shutil.which("cargo-clippy"):
+        yield by_cargo(serve, "clippy of the server", "clippy", "--release", "--all-targets", "--", "-D", "warnings")
+    told = subprocess.run([sources.TOP / "sm", "serve", "--help"], capture_output=True, text=True).stdout
+    yield verdict("./sm serve --help", all(it in told for it in HEADINGS), told)
+    if not lacking():
+        for script in SCRIPTS:
+            yield from said_by(script, python_with_redis(), program)
