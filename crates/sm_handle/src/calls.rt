@@ -38,7 +38,7 @@ impl Handle {
         };
         match Box::new(alloc, HandleState::Chief(chief)) {
             Ok(state) => {
-                self.put(state);
+                self.keep(alloc, state);
                 Ok(())
             }
             Err(_) => Err(OpenFault::NoMemory),
@@ -122,7 +122,7 @@ impl Handle {
         chief.put(state);
         match Box::new(alloc, made?) {
             Ok(state) => {
-                self.put(state);
+                self.keep(alloc, state);
                 Ok(())
             }
             Err(_) => Err(ActFault::NoMemory),

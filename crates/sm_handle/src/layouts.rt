@@ -23,7 +23,7 @@ impl Handle {
         let layout = layout_of(alloc, text, parts)?;
         match Box::new(alloc, HandleState::Layout(layout)) {
             Ok(state) => {
-                self.put(state);
+                self.keep(alloc, state);
                 Ok(())
             }
             Err(_) => Err(CutFault::Layout(LayoutFault::NoMemory)),

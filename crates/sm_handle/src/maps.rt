@@ -20,7 +20,7 @@ impl Handle {
     {
         let map = KeyMachine::new(alloc);
         let state = Box::new(alloc, HandleState::Map(map))?;
-        self.put(state);
+        self.keep(alloc, state);
         Ok(())
     }
 
@@ -63,7 +63,7 @@ impl Handle {
         let made = made?;
         let parts = ReplyParts::of(&made);
         *place = HandleState::Reply(made);
-        reply.put(place);
+        reply.keep(alloc, place);
         Ok(parts)
     }
 }

@@ -34,7 +34,7 @@ impl Handle {
         chief.put(state);
         match Box::new(alloc, made?) {
             Ok(state) => {
-                self.put(state);
+                self.keep(alloc, state);
                 Ok(())
             }
             Err(_) => Err(ActFault::NoMemory),

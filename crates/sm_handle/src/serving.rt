@@ -44,7 +44,7 @@ impl Handle {
         };
         match Box::new(alloc, HandleState::TextChief(chief)) {
             Ok(state) => {
-                self.put(state);
+                self.keep(alloc, state);
                 Ok(())
             }
             Err(_) => Err(OpenFault::NoMemory),
@@ -73,7 +73,7 @@ impl Handle {
         pass.put(state);
         match Box::new(alloc, made?) {
             Ok(state) => {
-                self.put(state);
+                self.keep(alloc, state);
                 Ok(())
             }
             Err(_) => Err(ActFault::NoMemory),

@@ -142,6 +142,32 @@ fn random_requests_beside_the_standard_library() {
     }
 }
 
+/// The memory of this process that is in use, in bytes; nothing where the system doesn't tell.
+fn memory() -> Option<usize> {
+    let told = std::fs::read_to_string("/proc/self/statm").ok()?;
+    Some(told.split(' ').nth(1)?.parse::<usize>().ok()? * 4096)
+}
+
+#[test]
+fn replies_and_texts_that_are_written_over_are_let_go() {
+    let mut map = Map::new().unwrap();
+    let mut rounds = |count| {
+        for round in 0..count {
+            map.put("key", format!("text {round}")).unwrap();
+            map.get("key").unwrap();
+        }
+    };
+    rounds(50_000);
+    let before = memory();
+    rounds(200_000);
+    if let (Some(before), Some(after)) = (before, memory()) {
+        assert!(
+            after < before + (4 << 20),
+            "{before} bytes, and then {after}"
+        );
+    }
+}
+
 #[test]
 fn a_map_is_a_body() {
     let bodies: Vec<Map> = (0..4).map(|_| Map::new().unwrap()).collect();
