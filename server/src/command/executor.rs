@@ -295,14 +295,21 @@ mod tests {
     use crate::chance::Chance;
     use crate::cluster::Configuration;
     use crate::keyspace::Rule;
+    use crate::settings::MAX_CEILING;
     use crate::stats::Stats;
 
     /// A cluster of two servers, the first of which owns both shards, and what does a thread's commands there.
     fn begun() -> (Arc<Cluster>, Executor) {
+        begun_below(MAX_CEILING)
+    }
+
+    /// The same, where generations stay below this.
+    fn begun_below(ceiling: u64) -> (Arc<Cluster>, Executor) {
         let rule = Rule::Bounds(vec![Vec::new(), b"m".to_vec()]);
         let keyspace = Keyspace::new(&rule).unwrap();
         let configuration = Configuration {
             servers: 2,
+            ceiling,
             ..Configuration::new(rule)
         };
         let cluster = Arc::new(Cluster::new(configuration, &Memory).unwrap());
@@ -400,6 +407,20 @@ mod tests {
         let wait = Wait::Paused(0);
         let done = executor.refuse(&mut session, b"INCR a\nPING\n", wait, &mut replies);
         assert!(done == 7 && replies.unsent().starts_with(b"-SHARDPAUSED"));
+    }
+
+    #[test]
+    fn a_shard_whose_generations_are_spent_is_refused_by_name() {
+        let (_, mut executor) = begun_below(6);
+        assert_eq!(
+            answers(&mut executor, "INCR a\nINCR a\nPING\nINCR a\n"),
+            ":1 :2 +PONG :3"
+        );
+        let refused = answers(&mut executor, "INCR a\nINCR z\n");
+        assert_eq!(
+            refused,
+            "-REFUSED Spent: the shard's generations are spent :1"
+        );
     }
 
     /// Commands of all kinds, good and bad ones.
