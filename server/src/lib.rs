@@ -8,6 +8,8 @@
 #![warn(missing_docs)]
 pub mod admission;
 pub mod body;
+#[cfg(test)]
+mod chance;
 pub mod cluster;
 pub mod command;
 pub mod configure;

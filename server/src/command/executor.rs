@@ -292,16 +292,24 @@ impl Executor {
 mod tests {
     use super::*;
     use crate::body::Memory;
+    use crate::chance::Chance;
     use crate::cluster::Configuration;
     use crate::keyspace::Rule;
+    use crate::settings::MAX_CEILING;
     use crate::stats::Stats;
 
     /// A cluster of two servers, the first of which owns both shards, and what does a thread's commands there.
     fn begun() -> (Arc<Cluster>, Executor) {
+        begun_below(MAX_CEILING)
+    }
+
+    /// The same, where generations stay below this.
+    fn begun_below(ceiling: u64) -> (Arc<Cluster>, Executor) {
         let rule = Rule::Bounds(vec![Vec::new(), b"m".to_vec()]);
         let keyspace = Keyspace::new(&rule).unwrap();
         let configuration = Configuration {
             servers: 2,
+            ceiling,
             ..Configuration::new(rule)
         };
         let cluster = Arc::new(Cluster::new(configuration, &Memory).unwrap());
@@ -399,5 +407,81 @@ mod tests {
         let wait = Wait::Paused(0);
         let done = executor.refuse(&mut session, b"INCR a\nPING\n", wait, &mut replies);
         assert!(done == 7 && replies.unsent().starts_with(b"-SHARDPAUSED"));
+    }
+
+    #[test]
+    fn a_shard_whose_generations_are_spent_is_refused_by_name() {
+        let (_, mut executor) = begun_below(6);
+        assert_eq!(
+            answers(&mut executor, "INCR a\nINCR a\nPING\nINCR a\n"),
+            ":1 :2 +PONG :3"
+        );
+        let refused = answers(&mut executor, "INCR a\nINCR z\n");
+        assert_eq!(
+            refused,
+            "-REFUSED Spent: the shard's generations are spent :1"
+        );
+    }
+
+    /// Commands of all kinds, good and bad ones.
+    fn some_commands(chance: &mut Chance) -> Vec<u8> {
+        let lines = [
+            "GET a",
+            "SET a 1",
+            "SET z hello",
+            "INCR a",
+            "INCR z",
+            "APPEND a 2",
+            "MGET a b",
+            "MGET a z",
+            "PING",
+            "MULTI",
+            "EXEC",
+            "DISCARD",
+            "SCAN 0",
+            "SCANRANGE a z 9",
+            "DBSIZE",
+            "SM AT 1 GET a",
+            "SM AT 2 GET a",
+            "NOSUCH",
+            "GET",
+            "ECHO \"two words\"",
+            "",
+            "HELLO 3",
+            "HELLO 2",
+            "CLIENT ID",
+            "RESET",
+            "DEL a z",
+            "MSET a 1 b 2",
+        ];
+        let mut bytes = Vec::new();
+        for _ in 0..200 {
+            bytes.extend_from_slice(chance.one(&lines).as_bytes());
+            bytes.extend_from_slice(b"\r\n");
+            let text = chance.bytes(30);
+            bytes.extend(format!("*3\r\n$3\r\nSET\r\n$1\r\nb\r\n${}\r\n", text.len()).bytes());
+            bytes.extend(text);
+            bytes.extend_from_slice(b"\r\n");
+        }
+        bytes
+    }
+
+    #[test]
+    fn commands_in_pieces_are_answered_as_whole_ones() {
+        let mut chance = Chance::new(6_364_136_223_846_793_005);
+        for _ in 0..20 {
+            let bytes = some_commands(&mut chance);
+            let (mut whole, mut pieces) = (Replies::default(), Replies::default());
+            let (mut one, mut two) = (Session::new(1, true), Session::new(1, true));
+            begun().1.run(&mut one, &bytes, &mut whole);
+            let (_, mut executor) = begun();
+            let (mut done, mut end) = (0, 0);
+            while end < bytes.len() {
+                end = (end + 1 + chance.below(40)).min(bytes.len());
+                done += executor.run(&mut two, &bytes[done..end], &mut pieces).0;
+            }
+            assert_eq!(done, bytes.len());
+            assert!(whole.unsent() == pieces.unsent());
+        }
     }
 }

@@ -148,20 +148,23 @@ impl<'a> Scanner<'a> {
         let most = number::parse(command.get(3)).ok_or(Fault::NotInteger)?;
         let most = usize::try_from(most).unwrap_or(0).min(MAX_PAIRS);
         let high = (!high.is_empty()).then_some(high);
-        let mut found = Vec::new();
+        let mut found: Vec<OwnedPair> = Vec::new();
         for shard in self.keyspace.shards_within(low, high) {
+            let is_full = found.len() >= most;
+            if is_full && self.keyspace.is_ordered() {
+                break;
+            }
+            // Of a further shard only what lies below the last pair is wanted.
+            let last = found.last().filter(|_| is_full).map(|it| it.0.clone());
             let range = Range {
                 low: Bound::Included(low),
-                high,
+                high: last.as_deref().or(high),
                 most,
             };
             found.extend(self.pairs(shard, range)?);
-            if self.keyspace.is_ordered() && found.len() >= most {
-                break;
-            }
+            found.sort_unstable();
+            found.truncate(most);
         }
-        found.sort_unstable();
-        found.truncate(most);
         replies.array(2 * found.len());
         for (key, value) in &found {
             replies.bulk(key);

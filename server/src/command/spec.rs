@@ -132,6 +132,24 @@ pub static COMMANDS: [Spec; 31] = [
     data("type", 2, Keys::First, false, DataWord::Type),
 ];
 
+/// How many letters names begin with.
+const LETTERS: usize = 26;
+
+/// Where the commands of each letter begin, and at last how many there are.
+static STARTS: [usize; LETTERS + 1] = starts();
+
+const fn starts() -> [usize; LETTERS + 1] {
+    let (mut starts, mut letter, mut index) = ([0; LETTERS + 1], 0, 0);
+    while letter <= LETTERS {
+        while index < COMMANDS.len() && COMMANDS[index].name.as_bytes()[0] < b'a' + letter as u8 {
+            index += 1;
+        }
+        starts[letter] = index;
+        letter += 1;
+    }
+    starts
+}
+
 impl Spec {
     /// That of the command; refused where there is none, or it takes another number of arguments.
     pub fn of(command: Command<'_>) -> Result<&'static Spec, Fault> {
@@ -151,14 +169,12 @@ impl Spec {
 
     /// That of this name, in whatever case.
     pub fn named(name: &[u8]) -> Option<&'static Spec> {
-        let mut small = [0; 12];
-        let small = small.get_mut(..name.len())?;
-        small.copy_from_slice(name);
-        small.make_ascii_lowercase();
-        let index = COMMANDS
-            .binary_search_by(|it| it.name.as_bytes().cmp(small))
-            .ok()?;
-        Some(&COMMANDS[index])
+        let letter = name.first()?.to_ascii_lowercase();
+        let place = usize::from(letter.checked_sub(b'a')?);
+        let last = *STARTS.get(place + 1)?;
+        COMMANDS[STARTS[place]..last]
+            .iter()
+            .find(|it| it.name.as_bytes().eq_ignore_ascii_case(name))
     }
 
     /// The shard of the command's keys, or none where it has none; refused where they are of several.
@@ -214,7 +230,8 @@ mod tests {
             let name = spec.name.to_uppercase();
             assert_eq!(Spec::named(name.as_bytes()).unwrap().name, spec.name);
         }
-        assert!(Spec::named(b"").is_none());
-        assert!(Spec::named(b"flushallflushall").is_none());
+        for name in ["", "flushall", "setx", "se", "zzz", "{", "1", "\u{ff}"] {
+            assert!(Spec::named(name.as_bytes()).is_none(), "{name}");
+        }
     }
 }

@@ -131,7 +131,15 @@ impl Controller {
         self.told(shard, made)
     }
 
+    /// Moves the shard to this server, while clients notice nothing.
     pub(super) fn migrate(&mut self, shard: u16, server: u16) -> Result<Answer, Refusal> {
+        if self.cluster.is_stopping() {
+            return Err(Refusal::new(
+                "Stopping",
+                "the process ends",
+                "start it again",
+            ));
+        }
         let made = self.mover.migrate(shard, server);
         self.told(shard, made)?;
         tracing::debug!(shard, server, "migrated");

@@ -15,7 +15,8 @@ impl Controller {
     pub(super) fn approve(&mut self, server: u16) -> Result<Answer, Refusal> {
         let presence = &self.cluster.presence;
         let is_away = |it| !matches!(presence.standing(it), Some(Standing::Up | Standing::Asked));
-        if !self.cluster.configuration.domains.has_room(server, is_away) {
+        let has_room = self.cluster.configuration.domains.has_room(server, is_away);
+        if presence.standing(server) == Some(Standing::Asked) && !has_room {
             return Err(Refusal::of_restart(RestartFault::DomainCap, server));
         }
         self.step(
@@ -58,7 +59,7 @@ impl Controller {
             .iter()
             .any(|it| it.version() < version)
         {
-            if Instant::now() > end {
+            if Instant::now() > end || self.cluster.is_stopping() {
                 let reason = format!(
                     "a thread hasn't noticed yet that server {server} is {}",
                     standing.name()

@@ -111,6 +111,7 @@ fn parse_line(input: &[u8], arguments: &mut Arguments) -> Result<usize, Unparsed
 #[cfg(test)]
 mod tests {
     use super::*;
+    use crate::chance::Chance;
 
     fn parsed(input: &[u8]) -> Result<(Vec<Vec<u8>>, usize), Unparsed> {
         let mut arguments = Arguments::default();
@@ -172,22 +173,6 @@ mod tests {
         }
     }
 
-    /// A generator of fixed numbers, which a failure can be looked up by.
-    struct Random(u64);
-
-    impl Random {
-        fn below(&mut self, limit: usize) -> usize {
-            self.0 ^= self.0 << 13;
-            self.0 ^= self.0 >> 7;
-            self.0 ^= self.0 << 17;
-            (self.0 % limit as u64) as usize
-        }
-
-        fn word(&mut self) -> Vec<u8> {
-            (0..self.below(20)).map(|_| self.below(256) as u8).collect()
-        }
-    }
-
     fn written(words: &[Vec<u8>]) -> Vec<u8> {
         let mut bytes = format!("*{}\r\n", words.len()).into_bytes();
         for word in words {
@@ -200,30 +185,30 @@ mod tests {
 
     #[test]
     fn what_was_written_is_read() {
-        let mut random = Random(88_172_645_463_325_252);
+        let mut chance = Chance::new(88_172_645_463_325_252);
         for _ in 0..2_000 {
-            let words: Vec<_> = (0..random.below(9)).map(|_| random.word()).collect();
+            let words: Vec<_> = (0..chance.below(9)).map(|_| chance.bytes(20)).collect();
             let mut bytes = written(&words);
             let end = bytes.len();
-            bytes.extend(random.word());
+            bytes.extend(chance.bytes(20));
             assert_eq!(parsed(&bytes), Ok((words, end)));
         }
     }
 
     #[test]
     fn spoilt_bytes_are_answered_within_the_input() {
-        let mut random = Random(1_181_783_497_276_652_981);
+        let mut chance = Chance::new(1_181_783_497_276_652_981);
         let pieces: [&[u8]; 10] = [
             b"*", b"$", b"\r\n", b"\n", b"-1", b"3", b"GET", b"\"", b"'", b"\\x4",
         ];
         for _ in 0..50_000 {
-            let mut bytes = match random.below(2) {
-                0 => written(&[random.word(), random.word()]),
+            let mut bytes = match chance.below(2) {
+                0 => written(&[chance.bytes(20), chance.bytes(20)]),
                 _ => Vec::new(),
             };
-            for _ in 0..random.below(8) {
-                let at = random.below(bytes.len() + 1);
-                let piece = pieces[random.below(pieces.len())];
+            for _ in 0..chance.below(8) {
+                let at = chance.below(bytes.len() + 1);
+                let piece = chance.one(&pieces);
                 bytes.splice(at..at, piece.iter().copied());
             }
             match parsed(&bytes) {
