@@ -72,6 +72,8 @@ def passed(_room):
     """All of it; nothing where the library wasn't built, or cargo isn't there."""
     if not PROVED.is_file() or not shutil.which("cargo"):
         return
+    # It was just proved, or taken over as proved: it is as new as its sources, which is how ./sm serve sees that.
+    PROVED.touch()
     serve = runs.loaded("serve")
     try:
         program = serve.built()
