@@ -4,7 +4,8 @@
 ghost use Rattle.std.specs.Prelude.{◌≡◌, OnOk, Ok};
 ghost use Rattle.std.specs.Io.KnownBytes.{IsAtEnd};
 ghost use Rattle.sm_model.specs.Runs.{WroteScript};
-ghost use Rattle.sm_threads.specs.Runs.{WroteAnswers};
+ghost use Rattle.sm_run.specs.Runs.{RanScript};
+ghost use Rattle.sm_threads.specs.Runs.{WritesAnswers};
 
 mod counts_table;
 mod help;
@@ -168,7 +169,8 @@ fn run_on<
     R: Threads + Wait + Clone + Send + Sync + Drop + 'static,
 >(rt: &R, alloc: Global, runner: Runner, dialogue: &mut Dialogue<I, W>) -> Result<Status, RunFault>
     ensures model { runner ≡ Runner.Model → OnOk result (WroteScript dialogue.old dialogue.new) }
-    ensures threads { runner ≡ Runner.Threads → result ≡ Ok Status.Ran → WroteAnswers dialogue.old dialogue.new }
+    ensures threads { runner ≡ Runner.Threads → result ≡ Ok Status.Ran
+        → RanScript WritesAnswers dialogue.old dialogue.new }
     ensures read_all { result ≡ Ok Status.Ran → IsAtEnd dialogue.new.reading.left }
 {
     match runner {

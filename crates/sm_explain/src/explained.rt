@@ -1,7 +1,7 @@
 use crate::explained_session::ExplainedSession;
 use crate::listener::Listener;
 use sm_run::{BeginFault, Engine};
-use sm_settings::Settings;
+use std::alloc::Global;
 use std::marker::Model;
 
 /// An engine whose sessions answer as those of another do, and tell a listener why lines were refused. Contracts see
@@ -38,12 +38,12 @@ impl<E: Engine, L: Listener + Copy + Drop> Engine for Explained<E, L> {
 
     ghost ready = { λ engine. E.ready engine };
 
-    ghost begins = { λ values session. E.begins values session };
+    ghost begins = { λ first session. E.begins first session };
 
-    ghost refuses = { λ values fault. E.refuses values fault };
+    ghost refuses = { λ first fault. E.refuses first fault };
 
-    fn begin(&mut self, settings: Settings) -> Result<Self::Session, BeginFault> {
-        match self.engine.begin(settings) {
+    fn begin(&mut self, alloc: Global, first: &[u8]) -> Result<Self::Session, BeginFault> {
+        match self.engine.begin(alloc, first) {
             Ok(inner) => Ok(ExplainedSession::new(inner, self.listener)),
             Err(fault) => Err(fault),
         }

@@ -5,3 +5,4 @@ pub mod Planning
 pub mod Requests
 pub mod Scripts
 pub mod Settling
+pub mod Ways

@@ -18,8 +18,9 @@ use Rattle.sm_service.specs.declared.request.Request.{Request}
 use Rattle.sm_service.specs.Service.{key_of_request}
 use Rattle.sm_table.specs.Standing.{StandsFor, WorldView}
 use Rattle.sm_table.specs.World.{WorldState, count_of, is_there}
-use Rattle.sm_model.specs.Calls.{answer_of, answer_without_steps, answered, called, drained, ends_in_step, requested_by}
-use Rattle.sm_model.specs.Calls.{route_for, shard_for, unless_route}
+use Rattle.sm_model.specs.Calls.{answer_of, answer_without_steps, answered, called, ends_in_step}
+use Rattle.sm_model.specs.Calls.{route_for, shard_for}
+use Rattle.sm_model.proofs.Ways.{drained, requested_by, unless_route}
 use Rattle.sm_model.specs.Sessions.{GivesAnswer, IsAt}
 
 -- a call that ends in a step has the answer to that

@@ -27,14 +27,16 @@ use Rattle.sm_table.specs.declared.world_answer.WorldAnswer.TheVariants.{Replied
 use Rattle.sm_table.specs.declared.world_fault.WorldFault.{WorldFault}
 use Rattle.sm_table.specs.declared.world_fault.WorldFault.TheVariants as fault
 use Rattle.sm_table.specs.Standing.{Follows, GoesAs, StandsFor, WorldView}
-use Rattle.sm_table.specs.World.{WorldState, Mark, Plain, Unmade, Unserved, count_of, ended, is_there, made_unless}
-use Rattle.sm_table.specs.World.{mark_of, may_go, outcome, served, with_room, worked, world_record}
+use Rattle.sm_table.specs.World.{WorldState, Mark, Plain, Unmade, Unserved, count_of, ended, is_there}
+use Rattle.sm_table.specs.World.{mark_of, may_go, outcome, with_room, world_record}
 use Rattle.sm_session.specs.Service.{counter_text}
-use Rattle.sm_model.specs.Calls.{Stepped, after_arrival, after_hops, after_sending, answer_of, called, is_begun}
-use Rattle.sm_model.specs.Calls.{is_sent, requested, shard_for, stepped}
+use Rattle.sm_model.specs.Calls.{Stepped, after_hops, answer_of, called, is_begun}
+use Rattle.sm_model.specs.Calls.{is_sent, shard_for, stepped}
+use Rattle.sm_model.proofs.Ways.{after_arrival, after_sending, requested}
 use Rattle.sm_model.specs.Sessions.{Arrives, Ends, EndsAt, IsIdle, Steps}
 use Rattle.sm_model.proofs.Answering.{follows_plain}
 use Rattle.sm_model.proofs.Settling.{Settles, settles}
+use Rattle.sm_table.specs.lemmas.Steps.{made_unless, served, worked}
 
 -- a call whose steps come to this one ends with it
 ends_with : (after : WorldView Request) (w : WorldState Request) (result : Result (WorldAnswer Reply) WorldFault)

@@ -32,18 +32,20 @@ use Rattle.sm_desk.specs.declared.command.Command.TheVariants.{Change as ChangeO
 use Rattle.sm_desk.specs.Desk.{is_reached}
 use Rattle.sm_envelope.specs.Envelope.{EnvelopeView, one_hop_more, sent_on}
 use Rattle.sm_envelope.specs.declared.envelope.TheConstants.{MOST_HOPS}
-use Rattle.sm_table.specs.World.{WorldState, Plain, after_hop, arrived, controlled, count_of, ended, flight_to, freed}
-use Rattle.sm_table.specs.World.{hand_of, hopped, is_there, let_go, made_unless, published, reached, served, with_room}
-use Rattle.sm_table.specs.World.{worked, world_record}
+use Rattle.sm_table.specs.World.{WorldState, Plain, after_hop, arrived, count_of, ended, flight_to}
+use Rattle.sm_table.specs.World.{hand_of, is_there, reached, with_room}
+use Rattle.sm_table.specs.World.{world_record}
 use Rattle.sm_ownership.specs.History.{kept}
 use Rattle.sm_ownership.specs.Rules.{admit_fault, forward_to}
 use Rattle.sm_envelope.specs.declared.refusal.Refusal.TheVariants.{KeptFull, Unreachable as NotReached}
 use Rattle.sm_table.specs.Standing.{IsSound}
 use Rattle.sm_table.specs.lemmas.Soundness.{shard_within, sound_next}
 use Rattle.sm_session.specs.Service.{counter_text}
-use Rattle.sm_model.specs.Calls.{Stepped, after_arrival, after_hops, after_sending, answer_of, called, is_begun}
-use Rattle.sm_model.specs.Calls.{is_forwarded, is_sent, requested, requested_at, requested_by, shard_for, stepped}
+use Rattle.sm_model.specs.Calls.{Stepped, after_hops, answer_of, called, is_begun}
+use Rattle.sm_model.specs.Calls.{is_forwarded, is_sent, requested_at, shard_for, stepped}
 use Rattle.sm_model.specs.Calls.{world_after_calls}
+use Rattle.sm_model.proofs.Ways.{after_arrival, after_sending, requested, requested_by}
+use Rattle.sm_table.specs.lemmas.Steps.{controlled, freed, hopped, let_go, made_unless, published, served, worked}
 
 -- the last step answers the script, and no request is under way
 pub record Settles (went : Stepped) : Type 0 where

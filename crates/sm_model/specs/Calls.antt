@@ -1,9 +1,8 @@
 -- What each call of a script answers on a world, and the world that it leaves.
 use Rattle.std.specs.Prelude.{ℕ, zero, suc, Bool, true, false, Option, Some, None, Result, Ok, Err, if◌then◌else◌, List}
 use Rattle.std.specs.Prelude.{[], ◌∷◌, length, replicate}
-use Rattle.std.specs.Option.{option_or}
+use Rattle.std.specs.Option.{option_map_or, option_or}
 use Rattle.sm_envelope.specs.declared.envelope.TheConstants.{MOST_HOPS}
-use Rattle.sm_envelope.specs.declared.refusal.Refusal.{Refusal}
 use Rattle.sm_envelope.specs.declared.refusal.Refusal.TheVariants as refusal
 use Rattle.sm_ownership.specs.declared.admit_fault.AdmitFault.TheVariants as admit
 use Rattle.sm_place.specs.Plans.{assign_plan, drain_plan}
@@ -44,20 +43,15 @@ settings_frame settings = record {
   limits = replicate (length settings.bounds) settings.kept;
 }
 
--- the answer to a request that was refused; want of memory has none, as it ends the run
-abbrev pub refused_answer : Refusal → Option LineAnswer
-refused_answer refusal.NoMemory = None
-refused_answer refusal.TooManyHops = Some (IsRefused refused.TooManyHops)
-refused_answer (refusal.Admit fault) = Some (IsRefused (refused.Admit fault))
-refused_answer refusal.KeptFull = Some (IsRefused refused.KeptFull)
-refused_answer refusal.Unreachable = Some (IsRefused refused.Unreachable)
-
--- the answer to a call that ended in this step; the last step of a call has one, but for want of memory
+-- the answer to a call that ended in this step; its last step has one, but for want of memory, which ends the run
 abbrev pub answer_of : Result (WorldAnswer Reply) WorldFault → Option LineAnswer
 answer_of (Ok Made) = Some IsMade
 answer_of (Ok (Seen state)) = Some (IsSeen state)
 answer_of (Ok (Way route)) = Some (IsWay route)
-answer_of (Ok (Refused why)) = refused_answer why
+answer_of (Ok (Refused refusal.TooManyHops)) = Some (IsRefused refused.TooManyHops)
+answer_of (Ok (Refused (refusal.Admit fault))) = Some (IsRefused (refused.Admit fault))
+answer_of (Ok (Refused refusal.KeptFull)) = Some (IsRefused refused.KeptFull)
+answer_of (Ok (Refused refusal.Unreachable)) = Some (IsRefused refused.Unreachable)
 answer_of (Ok (Replied number server reply place)) = Some (Executed reply server place)
 answer_of (Err (fault.Command why)) = Some (IsRefused (refused.Command why))
 answer_of (Err (fault.Admit why)) = Some (IsRefused (refused.Admit why))
@@ -99,28 +93,11 @@ after_hops zero w = stepped w (Deliver 0)
 after_hops (suc hops) w = let reached = stepped w (Deliver 0) in
     if is_forwarded reached.0 then after_hops hops reached.1 else reached
 
--- a request that a server began is finished
-abbrev pub after_arrival : ℕ → Result (WorldAnswer Reply) WorldFault → WorldState Request → Stepped
-after_arrival shard result w = if is_begun result then stepped w (Finish shard) else (result, w)
-
--- a request that was sent arrives, and is finished where a server began it
-abbrev pub after_sending : ℕ → Result (WorldAnswer Reply) WorldFault → WorldState Request → Stepped
-after_sending shard result w = if is_sent result
-    then (let reached = after_hops MOST_HOPS w in after_arrival shard reached.0 reached.1) else (result, w)
-
--- a request goes to this server
+-- a request is sent to this server, arrives, and is finished where a server began it
 abbrev pub requested_at : WorldState Request → Request → ℕ → ℕ → Stepped
-requested_at w request shard server = let sent = stepped w (Send server 0 request) in after_sending shard sent.0 sent.1
-
--- a request goes to the shard's owner, and is refused where there is none
-abbrev pub requested : WorldState Request → Request → ℕ → Option ℕ → Stepped
-requested w request shard None = (Ok (Refused (refusal.Admit admit.Vacant)), w)
-requested w request shard (Some owner) = requested_at w request shard owner
-
--- a client's request goes to the server of the shard's published route, where there is one
-abbrev pub requested_by : WorldState Request → Request → ℕ → Option Route → Stepped
-requested_by w request shard None = (Ok Made, w)
-requested_by w request shard (Some route) = requested_at w request shard route.server
+requested_at w request shard server = let sent = stepped w (Send server 0 request) in
+    if is_sent sent.0 then (let reached = after_hops MOST_HOPS sent.1 in
+    if is_begun reached.0 then stepped reached.1 (Finish shard) else reached) else sent
 
 -- the shard of a request's key
 abbrev pub shard_for : WorldState Request → Request → ℕ
@@ -134,30 +111,23 @@ ends_in_step (call.RequestByRoute request) = false
 ends_in_step (call.Load key clients each) = false
 ends_in_step asked = true
 
--- the plan for the server's shards, where the server exists
-abbrev pub drained : WorldState Request → ℕ → LineAnswer
-drained w server =
-    if is_there w server then Planned (drain_plan w.desk.books server) else IsRefused refused.UnknownServer
-
 -- the last published route of a request's shard
 abbrev pub route_for : WorldState Request → Request → Option Route
 route_for w request = routes_of w.publications (shard_for w request)
-
--- a client's request is refused where there is no route
-abbrev pub unless_route : Option Route → Option LineAnswer
-unless_route None = Some (IsRefused refused.NoRoute)
-unless_route (Some route) = None
 
 -- the answer to a call that makes no step here: a plan by the books of the world, that a client has no route, or that
 -- clients at the same time don't run here
 abbrev pub answer_without_steps : WorldState Request → Call → Option LineAnswer
 answer_without_steps w call.Place = Some (Planned (assign_plan w.desk.books))
-answer_without_steps w (call.Drain server) = Some (drained w server)
-answer_without_steps w (call.RequestByRoute request) = unless_route (route_for w request)
+answer_without_steps w (call.Drain server) =
+    Some (if is_there w server then Planned (drain_plan w.desk.books server) else IsRefused refused.UnknownServer)
+answer_without_steps w (call.RequestByRoute request) =
+    option_map_or (λ route. None) (route_for w request) (Some (IsRefused refused.NoRoute))
 answer_without_steps w (call.Load key clients each) = Some (IsError NotHere)
 answer_without_steps w asked = None
 
--- the steps of a call, where it makes any
+-- the steps of a call, where it makes any: a request goes to the shard's owner, and is refused where there is none; a
+-- client's goes by the published route
 abbrev pub called : WorldState Request → Call → Stepped
 called w (call.Control command) = stepped w (Control command)
 called w (call.Hold shard server) = stepped w (Hold shard server)
@@ -166,10 +136,11 @@ called w (call.Checkpoint shard server) = stepped w (Checkpoint shard server)
 called w (call.Publish shard) = stepped w (Publish shard)
 called w (call.Route key) = stepped w (RouteOf key)
 called w (call.Look shard) = stepped w (Look shard)
-called w (call.Request request) =
-    requested w request (shard_for w request) (owner_of (world_record w (shard_for w request)).stand)
+called w (call.Request request) = option_map_or (requested_at w request (shard_for w request))
+    (owner_of (world_record w (shard_for w request)).stand) (Ok (Refused (refusal.Admit admit.Vacant)), w)
 called w (call.RequestAt server request) = requested_at w request (shard_for w request) server
-called w (call.RequestByRoute request) = requested_by w request (shard_for w request) (route_for w request)
+called w (call.RequestByRoute request) = option_map_or
+    (λ route. requested_at w request (shard_for w request) route.server) (route_for w request) (Ok Made, w)
 called w asked = (Ok Made, w)
 
 -- the answer to a call: that of a call that makes no step, or that to its last step

@@ -6,9 +6,6 @@ use Rattle.sm_lines.specs.Transcripts.{Transcript}
 use Rattle.sm_lines.specs.Writing.{Wrote}
 use Rattle.sm_model.specs.Script.{script, script_before}
 use Rattle.sm_run.specs.Openings.{IfKnown, settings_in}
-use Rattle.sm_run.specs.declared.begin_fault.BeginFault.{BeginFault}
-use Rattle.sm_run.specs.declared.begin_fault.BeginFault.TheVariants.{NoMemory}
-use Rattle.sm_settings.specs.SettingsLine.{SettingsValues}
 
 -- what was written is the script of the input
 abbrev pub WroteScript : Transcript → Transcript → Type 0
@@ -21,10 +18,6 @@ AcceptsSettings was = IfKnown (to_come was.reading) (λ bytes. IsOk (settings_in
 -- the input, where it is known, begins with settings that are refused
 abbrev pub RefusesSettings : Transcript → Type 0
 RefusesSettings was = IfKnown (to_come was.reading) (λ bytes. IsErr (settings_in (lines_of bytes)))
-
--- the only reason for which the model begins no session with settings that are accepted
-abbrev pub LacksMemory : SettingsValues → BeginFault → Type 0
-LacksMemory settings fault = fault ≡ NoMemory
 
 -- what a run has to write before it comes to the line after these: the script of these lines
 abbrev pub WritesScript : List (List ℕ) → List ℕ → Type 0

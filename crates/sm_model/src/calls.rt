@@ -4,8 +4,9 @@ ghost use Rattle.std.specs.Prelude.{◌≡◌, ◌≢◌, ◌<◌, false, true, 
 ghost use Rattle.sm_ranges.specs.Ranges.{shard_of};
 ghost use Rattle.sm_service.specs.Service.{key_of_request};
 ghost use Rattle.sm_service.specs.declared.reply.Reply.{Reply as AnyReply};
+ghost use Rattle.sm_table.specs.declared.world_answer.WorldAnswer.TheVariants.{Refused as AnyRefused};
 ghost use Rattle.sm_table.specs.World.{Plain, Unmade, Unserved, mark_of, may_go};
-ghost use Rattle.sm_model.specs.Calls.{answer_of, ends_in_step, is_begun, is_forwarded, is_sent, refused_answer};
+ghost use Rattle.sm_model.specs.Calls.{answer_of, ends_in_step, is_begun, is_forwarded, is_sent};
 ghost use Rattle.sm_model.specs.Sessions.{Arrives, Ends, HasAnswer, Steps};
 ghost use Rattle.sm_script.specs.declared.call.Call.TheVariants as call;
 
@@ -181,7 +182,7 @@ fn answer_of_made(made: WorldAnswer<Reply>) -> Result<LineAnswer, AllocError>
 
 /// The answer to a request that was refused; an error is want of memory.
 fn answer_of_refusal(refusal: Refusal) -> Result<LineAnswer, AllocError>
-    ensures ok { IfOk result (λ answer. refused_answer refusal ≡ Some answer) }
+    ensures ok { IfOk result (λ answer. answer_of (Ok (AnyRefused refusal)) ≡ Some answer) }
     ensures err { OnErr result (refusal ≡ Refusal.NoMemory) }
 {
     match refusal {

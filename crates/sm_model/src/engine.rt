@@ -1,13 +1,13 @@
 ghost use Rattle.std.specs.Prelude.{◌≡◌, ◌≢◌, OnOk, Ok, Err};
 ghost use Rattle.sm_run.specs.Runs.{StoppedEarly};
 ghost use Rattle.sm_run.specs.Watching.{KeepsWatch};
-ghost use Rattle.sm_model.specs.Runs.{AcceptsSettings, LacksMemory, RefusesSettings, WritesScript, WroteScript};
+ghost use Rattle.sm_run.specs.Openings.{HasNone, RefusesLine};
+ghost use Rattle.sm_model.specs.Runs.{AcceptsSettings, RefusesSettings, WritesScript, WroteScript};
 
 use crate::world_backend::WorldBackend;
 use sm_lines::Dialogue;
-use sm_run::{BeginFault, Engine, RunFault, Status, run};
+use sm_run::{BeginFault, Engine, RunFault, Status, read_settings, run};
 use sm_session::Session;
-use sm_settings::settings::Settings;
 use std::alloc::Global;
 use std::io::{Read, Write};
 
@@ -26,7 +26,7 @@ impl ModelEngine {
 
 impl Engine for ModelEngine {
     ghost use Rattle.sm_script.specs.declared.line.TheConstants.{MAX_LINE as LINE_LIMIT};
-    ghost use Rattle.sm_model.specs.Runs.{LacksMemory};
+    ghost use Rattle.sm_run.specs.Openings.{BeginsLine, HasNone, RefusesLine};
     ghost use Rattle.sm_model.specs.Sessions.{IsNew};
 
     type Session = Session<WorldBackend>;
@@ -35,11 +35,12 @@ impl Engine for ModelEngine {
 
     ghost MAX_LINE = { LINE_LIMIT };
 
-    ghost begins = { IsNew };
+    ghost begins = { BeginsLine IsNew };
 
-    ghost refuses = { LacksMemory };
+    ghost refuses = { RefusesLine HasNone };
 
-    fn begin(&mut self, settings: Settings) -> Result<Session<WorldBackend>, BeginFault> {
+    fn begin(&mut self, alloc: Global, first: &[u8]) -> Result<Session<WorldBackend>, BeginFault> {
+        let settings = read_settings(alloc, first)?;
         match WorldBackend::new(self.alloc, settings) {
             Ok(backend) => Ok(Session::new(self.alloc, backend)),
             Err(_) => Err(BeginFault::NoMemory),
@@ -67,7 +68,7 @@ pub fn run_model<R: Read + Drop, W: Write + Drop>(
 
     // Exactly the script of all lines before the one at which a fault came was written, but for a front of that
     // line's answer.
-    ensures stopped { StoppedEarly LacksMemory WritesScript result dialogue.old dialogue.new }
+    ensures stopped { StoppedEarly (RefusesLine HasNone) WritesScript result dialogue.old dialogue.new }
     ensures no_thread { result ≢ Err RunFault.NoThread }
     ensures watched { KeepsWatch result dialogue.old dialogue.new }
 {

@@ -2,14 +2,15 @@
 use Rattle.std.proofs.Common.{◌≡◌, ◌≢◌, ◌∙◌, true, false, ℕ, List, [], ◌∷◌, ap, refl, sym, subst, inr, Result, Ok}
 use Rattle.std.proofs.Common.{Err, OnOk, IfOk}
 use Rattle.std.proofs.lemmas.Bool.{false≢true}
+use Rattle.sm_lines.specs.Reading.{Reading, TookLines}
 use Rattle.sm_lines.specs.Transcripts.{Transcript}
 use Rattle.sm_lines.specs.Writing.{Writing, Wrote, WroteShort}
-use Rattle.sm_settings.specs.SettingsLine.{SettingsValues}
 use Rattle.sm_settings.specs.declared.settings_fault.SettingsFault.{SettingsFault}
 use Rattle.sm_run.specs.Openings.{IsRefused, RefusedScript, settings_line}
-use Rattle.sm_run.specs.Runs.{StoppedEarly}
+use Rattle.sm_run.specs.Runs.{StoppedEarly, Unbegun}
 use Rattle.sm_run.specs.Watching.{KeepsWatch}
 use Rattle.sm_run.specs.declared.begin_fault.BeginFault.{BeginFault}
+use Rattle.sm_run.specs.declared.begin_fault.BeginFault.TheVariants.{Settings as IsOfSettings}
 use Rattle.sm_run.specs.declared.run_fault.RunFault.{RunFault}
 use Rattle.sm_run.specs.declared.run_fault.RunFault.TheVariants.{Read, Write, NoMemory, NoThread}
 use Rattle.sm_run.specs.declared.status.Status.{Status}
@@ -27,37 +28,40 @@ pub record Refusing (result : Result Status RunFault) (is_why : SettingsFault �
     pub no_thread : result ≡ Err NoThread → new ≡ old
     pub read : result ≢ Err Read
 
-pub refused_script : (refuses : SettingsValues → BeginFault → Type 0) (result : Result Status RunFault)
+pub refused_by_engine : (refuses : List ℕ → BeginFault → Type 0) (was now : Reading) (first : List ℕ)
+    (fault : BeginFault) → TookLines was now (first ∷ []) → refuses first fault
+    → (why : SettingsFault) → fault ≡ IsOfSettings why → IsRefused refuses why was now
+refused_by_engine refuses was now first fault took refused why is =
+    let P : BeginFault → Type 0 = refuses first in inr (first, took, inr (subst P is refused))
+
+pub refused_script : (refuses : List ℕ → BeginFault → Type 0) (result : Result Status RunFault)
     {is_why : SettingsFault → Type 0} (was now : Transcript)
     → Refusing result is_why was.writing now.writing
     → ((why : SettingsFault) → is_why why → IsRefused refuses why was.reading now.reading)
-    → result ≡ Ok BadSettings → RefusedScript refuses was now
+    → result ≡ Ok BadSettings → RefusedScript refuses Wrote was now
 refused_script refuses (Ok status) was now r refused is = record
-    { fault = r.wrote.0; refused = refused r.wrote.0 r.wrote.1; wrote = r.wrote.2 }
+    { fault = r.wrote.0; refused = refused r.wrote.0 r.wrote.1; written = r.wrote.2 }
 refused_script refuses (Err fault) was now r refused is = absurd (let no : false ≡ true = cc in false≢true no)
 
-pub refused_early : (refuses : SettingsValues → BeginFault → Type 0) (writes : List (List ℕ) → List ℕ → Type 0)
+pub refused_early : (refuses : List ℕ → BeginFault → Type 0) (writes : List (List ℕ) → List ℕ → Type 0)
     (result : Result Status RunFault) {is_why : SettingsFault → Type 0} (was now : Transcript)
     → Refusing result is_why was.writing now.writing
     → ((why : SettingsFault) → is_why why → IsRefused refuses why was.reading now.reading)
-    → Touched was.reading now.reading
+    → Touched was.reading now.reading → (result ≡ Err NoThread → Unbegun refuses was now)
     → writes [] [] → StoppedEarly refuses writes result was now
-refused_early refuses writes result was now r refused touched none =
+refused_early refuses writes result was now r refused touched unbegun none =
     early_refused refuses writes result was now r.read
-    (λ is. stopped_first writes was now none (r.no_memory is) touched)
-    (λ is. stopped_first writes was now none (r.no_thread is) touched)
-    (λ is. let short = r.write is in record { fault = short.0; refused = refused short.0 short.1; wrote = short.2 })
+    (λ is. stopped_first writes was now none (r.no_memory is) touched) unbegun
+    (λ is. let short = r.write is in record { fault = short.0; refused = refused short.0 short.1; written = short.2 })
 
 pub refused_watched : (result : Result Status RunFault) {is_why : SettingsFault → Type 0} (was now : Transcript)
     → Refusing result is_why was.writing now.writing → Touched was.reading now.reading
     → now.reading.failed ≡ was.reading.failed → KeepsWatch result was now
 refused_watched result {is_why} was now r touched unfailed = record {
   read_all = λ is. not_ran result r.status is;
-  write_failed = λ is. (r.write is).2.failed;
   reader_unfailed = λ _. unfailed;
   writer_unfailed = kept result r;
   reads = of_touched was.reading now.reading touched;
-  read_calls = λ is. absurd (r.read is);
   none_waits = waits result r;
 }
   where

@@ -15,19 +15,15 @@ use Rattle.sm_lines.specs.declared.TheConstants.{PIECE}
 use Rattle.sm_lines.specs.declared.watch.TheConstants.{COUNT_LIMIT}
 use Rattle.sm_lines.specs.lemmas.Answering.{AnswersAll-more, sends_none}
 use Rattle.sm_lines.specs.lemmas.Taking.{no_lines, reads_last, reads_more, lines_given, took_more, took_none}
-use Rattle.sm_settings.specs.SettingsLine.{SettingsValues, settings_of, values_of}
-use Rattle.sm_settings.specs.declared.settings.Settings.{Settings}
 use Rattle.sm_run.specs.declared.opening.Opening.{Opening}
-use Rattle.sm_run.specs.declared.opening.Opening.TheVariants.{Accepted, Refused}
+use Rattle.sm_run.specs.declared.opening.Opening.TheVariants.{Kept, Refused}
 use Rattle.sm_settings.specs.declared.settings_fault.SettingsFault.{SettingsFault}
 use Rattle.sm_run.specs.Faults.{status_of}
-use Rattle.sm_run.specs.Openings.{IsOpening, IsRefused, ReadIsRefused, RefusedShort, TookFirst, settings_in}
-use Rattle.sm_run.specs.Runs.{IsSession, RanScript, StoppedAt, StoppedEarly, StoppedReading, StoppedWriting}
-use Rattle.sm_run.specs.Runs.{WritesFor, WroteBefore}
+use Rattle.sm_run.specs.Openings.{IsOpening, IsRefused, RefusedScript}
+use Rattle.sm_run.specs.Runs.{RanScript, StoppedAt, StoppedEarly, StoppedWriting, Unbegun, WritesFor}
 use Rattle.sm_lines.specs.declared.answer_fault.AnswerFault.{AnswerFault}
 use Rattle.sm_lines.specs.declared.answer_fault.AnswerFault.TheVariants as answer
 use Rattle.sm_run.specs.declared.begin_fault.BeginFault.{BeginFault}
-use Rattle.sm_run.specs.declared.begin_fault.BeginFault.TheVariants.{Settings as IsOfSettings}
 use Rattle.sm_run.specs.declared.run_fault.RunFault.{RunFault}
 use Rattle.sm_run.specs.declared.run_fault.RunFault.TheVariants.{Read, Write, NoMemory, NoThread}
 use Rattle.sm_run.specs.declared.status.Status.{Status}
@@ -39,14 +35,12 @@ use Rattle.sm_run.specs.declared.status.Status.TheVariants.{Ran}
 abbrev pub Touched : Reading → Reading → Type 0
 Touched was now = TookPart was now now.ended ⊎ ((line : List ℕ) × TookLines was now (line ∷ []))
 
-pub touched_first : (was now : Reading) (lines : List (List ℕ)) → TookFirst was now lines → Touched was now
-touched_first was now [] (took, first) =
+pub touched_refused : (refuses : List ℕ → BeginFault → Type 0) (fault : SettingsFault) (was now : Reading)
+    → IsRefused refuses fault was now → Touched was now
+touched_refused refuses fault was now (inl (took, ended, is)) =
     let P : List ℕ → Type 0 = λ t. Reads was now t now.ended in
     inl ([], All-nil (λ b. b ≢ 10), subst P (no_lines took.taken took.are) took.reads)
-touched_first was now (line ∷ []) (took, first) = inr (line, took)
-touched_first was now (line ∷ more ∷ lines) (took, inl one) = absurd (omega (arith, one))
-touched_first was now (line ∷ more ∷ lines) (took, inr none) = absurd
-    (let no : suc (suc (length lines)) ≡ 0 = ap length none.0 in omega (arith, no))
+touched_refused refuses fault was now (inr (first, took, why)) = inr (first, took)
 
 touched_orderly : (was now : Reading) → Touched was now → IsOrderly was
 touched_orderly was now (inl part) = part.2.before
@@ -54,45 +48,50 @@ touched_orderly was now (inr line) = line.1.reads.before
 
 -- nothing was written, and no more than the first line was touched
 pub stopped_first : (writes : List (List ℕ) → List ℕ → Type 0) (was now : Transcript) → writes [] []
-    → now.writing ≡ was.writing → Touched was.reading now.reading → StoppedAt writes was now
+    → now.writing ≡ was.writing → Touched was.reading now.reading → StoppedAt StopsAfter writes was now
 stopped_first writes was now none same touched =
     let P : Writing → Type 0 = λ w. Sends was.writing w [] in
     record {
       before = [];
-      stops = record {
+      why = record {
         next = was.reading;
         took = took_none was.reading
             (touched_orderly was.reading now.reading touched);
         touched = touched;
       };
-      wrote = ([], none, subst P (sym same) (sends_none was.writing));
+      text = [];
+      whole = none;
+      wrote = subst P (sym same) (sends_none was.writing);
     }
 
 -- the reader stopped in the first line
 pub none_read : (writes : List (List ℕ) → List ℕ → Type 0) (was now : Transcript) → writes [] []
-    → now.writing ≡ was.writing → ReaderStopped was.reading now.reading → StoppedReading writes was now
+    → now.writing ≡ was.writing → ReaderStopped was.reading now.reading
+    → StoppedAt (ReadingStopped (1 + COUNT_LIMIT)) writes was now
 none_read writes was now none same stopped =
     let P : Writing → Type 0 = λ w. Sends was.writing w [] in
     record {
       before = [];
       why = inl (was.reading, took_none was.reading stopped.part.2.before, stopped);
-      wrote = ([], none, subst P (sym same) (sends_none was.writing));
+      text = [];
+      whole = none;
+      wrote = subst P (sym same) (sends_none was.writing);
     }
 
--- nothing but the settings' fault was to be written
-pub early_refused : (refuses : SettingsValues → BeginFault → Type 0) (writes : List (List ℕ) → List ℕ → Type 0)
+-- nothing but the first line's fault was to be written
+pub early_refused : (refuses : List ℕ → BeginFault → Type 0) (writes : List (List ℕ) → List ℕ → Type 0)
     (result : Result Status RunFault) (was now : Transcript)
-    → result ≢ Err Read → (result ≡ Err NoMemory → StoppedAt writes was now)
-    → (result ≡ Err NoThread → StoppedAt writes was now)
-    → (result ≡ Err Write → RefusedShort refuses was now) → StoppedEarly refuses writes result was now
+    → result ≢ Err Read → (result ≡ Err NoMemory → StoppedAt StopsAfter writes was now)
+    → (result ≡ Err NoThread → Unbegun refuses was now)
+    → (result ≡ Err Write → RefusedScript refuses WroteShort was now) → StoppedEarly refuses writes result was now
 early_refused refuses writes result was now not_read memory thread short =
     record { read = λ is. absurd (not_read is); no_memory = memory; no_thread = thread; write = λ is. inr (short is) }
 
--- no settings were read
-pub early_unread : (refuses : SettingsValues → BeginFault → Type 0) (writes : List (List ℕ) → List ℕ → Type 0)
+-- no line was read
+pub early_unread : (refuses : List ℕ → BeginFault → Type 0) (writes : List (List ℕ) → List ℕ → Type 0)
     (result : Result Status RunFault) (was now : Transcript)
-    → (result ≡ Err Read → StoppedReading writes was now) → (result ≡ Err NoMemory → StoppedAt writes was now)
-    → result ≢ Err NoThread → result ≢ Err Write
+    → (result ≡ Err Read → StoppedAt (ReadingStopped (1 + COUNT_LIMIT)) writes was now)
+    → (result ≡ Err NoMemory → StoppedAt StopsAfter writes was now) → result ≢ Err NoThread → result ≢ Err Write
     → StoppedEarly refuses writes result was now
 early_unread refuses writes result was now reading memory some_thread not_written =
     record {
@@ -103,20 +102,12 @@ early_unread refuses writes result was now reading memory some_thread not_writte
           (not_written is);
     }
 
--- ---- the settings in front
+-- ---- the first line
 
--- the first line of the input was taken off as these settings
-pub record Opened (was now : Reading) (settings : SettingsValues) : Type 0 where
-  pub first : List ℕ
-  pub took : TookLines was now (first ∷ [])
-  pub accepted : settings_of first ≡ Ok settings
-
-pub opened : (was now : Reading) (opening : Opening) (settings : Settings) → opening ≡ Accepted settings
-    → IsOpening was now opening → Opened was now (values_of settings)
-opened was now opening settings is opens =
-    let P : Opening → Type 0 = λ o. IsOpening was now o in
-    let o = subst P is opens in
-    record { first = o.0; took = o.1; accepted = o.2 }
+-- a line that was kept
+pub opened : (was now : Reading) (opening : Opening) → opening ≡ Kept → IsOpening was now opening
+    → TookLines was now (now.line ∷ [])
+opened was now opening is opens = let P : Opening → Type 0 = λ o. IsOpening was now o in subst P is opens
 
 -- a session's lines were answered where nothing was written before
 pub answered_after : {S T : Type 0} {answers : S → List ℕ → List ℕ → S → Type 0} {answered : Result T AnswerFault}
@@ -128,30 +119,17 @@ answered_after {S} {T} {answers} {answered} {begun} {ended} was mid now same a =
     begun ended in
     subst P same a
 
--- they were refused by their rules
-pub refused_by_rules : (refuses : SettingsValues → BeginFault → Type 0) (was now : Reading) (fault : SettingsFault)
-    (lines : List (List ℕ)) → TookFirst was now lines → settings_in lines ≡ Err fault → IsRefused refuses fault was now
-refused_by_rules refuses was now fault lines took is =
-    let P : Result SettingsValues SettingsFault → Type 0 = ReadIsRefused refuses fault in
-    (lines, took, subst P (sym is) refl)
-
--- the settings in front were refused
-pub refused_opening : (refuses : SettingsValues → BeginFault → Type 0) (was now : Reading) (opening : Opening)
+-- one that no engine begins a session with
+pub refused_opening : (refuses : List ℕ → BeginFault → Type 0) (was now : Reading) (opening : Opening)
     (fault : SettingsFault) → opening ≡ Refused fault → IsOpening was now opening
-    → Touched was now × IsRefused refuses fault was now
+    → IsRefused refuses fault was now
 refused_opening refuses was now opening fault is opens =
-    let P : Opening → Type 0 = λ o. IsOpening was now o in
-    let o = subst P is opens in
-    (touched_first was now o.0 o.1, refused_by_rules refuses was now fault o.0 o.1 o.2)
-
--- they were refused by the engine
-pub refused_by_engine : (refuses : SettingsValues → BeginFault → Type 0) (was now : Reading)
-    (settings : SettingsValues) (fault : BeginFault) (why : SettingsFault)
-    → Opened was now settings → refuses settings fault → fault ≡ IsOfSettings why → IsRefused refuses why was now
-refused_by_engine refuses was now settings fault why o refused is =
-    let P : Result SettingsValues SettingsFault → Type 0 = ReadIsRefused refuses why in
-    let Q : BeginFault → Type 0 = refuses settings in
-    (o.first ∷ [], (o.took, inl refl), subst P (sym o.accepted) (subst Q is refused))
+    let P : Opening → Type 0 = λ o. IsOpening was now o in any (subst P is opens)
+  where
+    any : IsRefused (λ _ _. ⊥) fault was now → IsRefused refuses fault was now
+    any (inl none) = inl none
+    any (inr (first, took, inl long)) = inr (first, took, inl long)
+    any (inr (first, took, inr never)) = absurd never
 
 -- ---- the lines after the settings
 
@@ -169,48 +147,23 @@ reading_more most was mid now first done one (inr counted) = inr
     (took_more was mid now (first ∷ []) done one counted.0, (let many = counted.1 in omega (arith, many)))
 
 -- the whole script ran
-pub ran_session : {S T : Type 0} (begins : SettingsValues → S → Type 0) (answers : S → List ℕ → List ℕ → S → Type 0)
-    (settings : SettingsValues) (answered : Result T AnswerFault)
+pub ran_session : {S T : Type 0} (begins : List ℕ → S → Type 0) (answers : S → List ℕ → List ℕ → S → Type 0)
+    (first : List ℕ) (answered : Result T AnswerFault)
     (was : Transcript) (mid : Reading) (now : Transcript) (begun ended : S)
-    → Opened was.reading mid settings → begins settings begun → status_of answered ≡ Ok Ran
+    → TookLines was.reading mid (first ∷ []) → begins first begun → status_of answered ≡ Ok Ran
     → AnsweredInput answers answered (record { reading = mid; writing = was.writing }) now begun ended
-    → RanScript begins answers was now
-ran_session begins answers settings (Err fault) was mid now begun ended o began is a = absurd
+    → RanScript (WritesFor begins answers) was now
+ran_session begins answers first (Err fault) was mid now begun ended took began is a = absurd
     (let no : false ≡ true = cc in false≢true no)
-ran_session begins answers settings (Ok all) was mid now begun ended o began is a = record {
-  first = o.first;
+ran_session begins answers first (Ok all) was mid now begun ended took began is a = record {
+  first = first;
   lines = a.ran.0;
   text = a.ran.1.0;
-  took = took_more was.reading mid now.reading (o.first ∷ []) a.ran.0 o.took a.ran.2;
+  took = took_more was.reading mid now.reading (first ∷ []) a.ran.0 took a.ran.2;
   all = a.ran.3;
-  session = record {
-    settings = settings;
-    begun = begun;
-    ended = ended;
-    accepted = o.accepted;
-    began = began;
-    answered = a.ran.1.1;
-  };
+  whole = (begun, ended, began, a.ran.1.1);
   wrote = a.ran.1.2;
 }
-
--- the answers to the lines after the settings are what a run has to write
-session_wrote : {S : Type 0} (begins : SettingsValues → S → Type 0) (answers : S → List ℕ → List ℕ → S → Type 0)
-    (settings : SettingsValues) (was now : Writing) (first : List ℕ) (done : List (List ℕ)) (begun ended : S)
-    → settings_of first ≡ Ok settings → begins settings begun → RanTo answers was now begun ended done
-    → WroteBefore (WritesFor begins answers) was now (first ∷ done)
-session_wrote begins answers settings was now first done begun ended accepted began ran = (
-  ran.0,
-  record {
-    settings = settings;
-    begun = begun;
-    ended = ended;
-    accepted = accepted;
-    began = began;
-    answered = ran.1;
-  },
-  ran.2.0,
-)
 
 -- ---- a front of the answers
 
@@ -307,25 +260,20 @@ front_of_cut waiting text sent answer count left cut = elim (cases_lt (length wa
 ]
 
 -- a front of a session's answers was written
-write_session : {S : Type 0} (begins : SettingsValues → S → Type 0) (answers : S → List ℕ → List ℕ → S → Type 0)
-    (settings : SettingsValues)
+write_session : {S : Type 0} (begins : List ℕ → S → Type 0) (answers : S → List ℕ → List ℕ → S → Type 0)
+    (first : List ℕ)
     (was : Transcript) (mid : Reading) (now : Transcript) (begun last : S) (done : List (List ℕ)) (text : List ℕ)
-    → Opened was.reading mid settings → begins settings begun → AnswersAll answers begun done text last
+    → TookLines was.reading mid (first ∷ []) → begins first begun → AnswersAll answers begun done text last
     → WroteShort was.writing now.writing text → StopsAfter mid now.reading done
     → StoppedWriting (WritesFor begins answers) was now
-write_session {S} begins answers settings was mid now begun last done text o began all short stops =
+write_session {S} begins answers first was mid now begun last done text took began all short stops =
     at_cut (cut_at answers begun last done text sent all)
   where
     sent : ℕ
     sent = short.front.count - length was.writing.waiting
 
-    session : (lines : List (List ℕ)) (text : List ℕ) (ended : S) → AnswersAll answers begun lines text ended
-        → IsSession begins answers o.first lines text
-    session lines text ended all = record
-        { settings = settings; begun = begun; ended = ended; accepted = o.accepted; began = began; answered = all }
-
-    stopped : StopsAfter was.reading now.reading (o.first ∷ done)
-    stopped = stops_more was.reading mid now.reading o.first done o.took stops
+    stopped : StopsAfter was.reading now.reading (first ∷ done)
+    stopped = stops_more was.reading mid now.reading first done took stops
 
     front : {cut : List ℕ} → take sent text ≡ cut → was.writing.waiting ≡ []
         → Appends was.writing.written now.writing.written cut
@@ -336,11 +284,11 @@ write_session {S} begins answers settings was mid now begun last done text o beg
         subst P (ap (λ (w : List ℕ). take short.front.count (w ++ text)) none
         ∙ ap (λ n. take n text) all_sent ∙ is) short.front.wrote
 
-    short_of : (first answer : List ℕ) (left : ℕ) → take sent text ≡ first ++ take left answer
-        → WroteShort was.writing now.writing (first ++ answer)
-    short_of first answer left cut =
+    short_of : (whole answer : List ℕ) (left : ℕ) → take sent text ≡ whole ++ take left answer
+        → WroteShort was.writing now.writing (whole ++ answer)
+    short_of whole answer left cut =
         let P : List ℕ → Type 0 = λ t. Appends was.writing.written now.writing.written t in
-        let n = front_of_cut was.writing.waiting text first answer short.front.count left cut in
+        let n = front_of_cut was.writing.waiting text whole answer short.front.count left cut in
         record {
           front = record { count = n.0; wrote = subst P n.1 short.front.wrote };
           none_waits = short.none_waits;
@@ -350,33 +298,37 @@ write_session {S} begins answers settings was mid now begun last done text o beg
     at_cut : ((done ≡ []) × (text ≡ [])) ⊎ Cut answers begun done text sent
         → StoppedWriting (WritesFor begins answers) was now
     at_cut (inl none) =
-        let P : List (List ℕ) → Type 0 = λ l. StopsAfter was.reading now.reading (o.first ∷ l) in
+        let P : List (List ℕ) → Type 0 = λ l. StopsAfter was.reading now.reading (first ∷ l) in
         let Q : List ℕ → Type 0 = WroteShort was.writing now.writing in
         record {
           before = [];
-          line = o.first;
+          line = first;
           rest = [];
           stops = subst P none.0 stopped;
           text = [];
           answer = [];
           whole = refl;
-          next = session [] [] begun (refl, refl);
+          next = (begun, begun, began, (refl, refl));
           short = subst Q none.1 short;
           count = sent;
           wrote = front (ap (take sent) none.1);
         }
     at_cut (inr c) =
-        let P : List (List ℕ) → Type 0 = λ l. StopsAfter was.reading now.reading (o.first ∷ l) in
+        let P : List (List ℕ) → Type 0 = λ l. StopsAfter was.reading now.reading (first ∷ l) in
         record {
-          before = o.first ∷ c.done;
+          before = first ∷ c.done;
           line = c.line;
           rest = c.rest;
           stops = subst P c.are stopped;
           text = c.sent;
           answer = c.answer;
-          whole = session c.done c.sent c.mid c.answered;
-          next = session (c.done ++ c.line ∷ []) (c.sent ++ c.answer) c.after
-              (AnswersAll-more answers begun c.mid c.after c.done c.line c.sent c.answer c.answered c.next);
+          whole = (begun, c.mid, began, c.answered);
+          next = (
+            begun,
+            c.after,
+            began,
+            AnswersAll-more answers begun c.mid c.after c.done c.line c.sent c.answer c.answered c.next,
+          );
           short = short_of c.sent c.answer c.left c.cut;
           count = c.left;
           wrote = front c.cut;
@@ -385,24 +337,25 @@ write_session {S} begins answers settings was mid now begun last done text o beg
 -- ---- a session
 
 -- how a run stopped whose session's lines were answered so
-pub early_session : {S T : Type 0} (refuses : SettingsValues → BeginFault → Type 0)
-    (begins : SettingsValues → S → Type 0) (answers : S → List ℕ → List ℕ → S → Type 0) (settings : SettingsValues)
+pub early_session : {S T : Type 0} (refuses : List ℕ → BeginFault → Type 0)
+    (begins : List ℕ → S → Type 0) (answers : S → List ℕ → List ℕ → S → Type 0) (first : List ℕ)
     (answered : Result T AnswerFault) (was : Transcript) (mid : Reading) (now : Transcript) (begun ended : S)
-    → Opened was.reading mid settings → begins settings begun
+    → TookLines was.reading mid (first ∷ []) → begins first begun
     → AnsweredInput answers answered (record { reading = mid; writing = was.writing }) now begun ended
     → StoppedEarly refuses (WritesFor begins answers) (status_of answered) was now
-early_session refuses begins answers settings (Ok all) was mid now begun ended o began a =
+early_session refuses begins answers first (Ok all) was mid now begun ended took began a =
     record { read = λ e. never e; no_memory = λ e. never e; no_thread = λ e. never e; write = λ e. never e }
   where
     never : {A : Type 0} {fault : RunFault} → status_of (Ok all) ≡ Err fault → A
     never is = let no : false ≡ true = cc in absurd (false≢true no)
-early_session refuses begins answers settings (Err answer.Read) was mid now begun ended o began a =
+early_session refuses begins answers first (Err answer.Read) was mid now begun ended took began a =
     let stop = a.read refl in
-    let at : StoppedReading (WritesFor begins answers) was now = record {
-      before = o.first ∷ stop.0;
-      why = reading_more COUNT_LIMIT was.reading mid now.reading o.first stop.0 o.took stop.2;
-      wrote = session_wrote begins answers settings was.writing now.writing o.first stop.0 begun ended o.accepted
-          began stop.1;
+    let at : StoppedAt (ReadingStopped (1 + COUNT_LIMIT)) (WritesFor begins answers) was now = record {
+      before = first ∷ stop.0;
+      why = reading_more COUNT_LIMIT was.reading mid now.reading first stop.0 took stop.2;
+      text = stop.1.0;
+      whole = (begun, ended, began, stop.1.1);
+      wrote = stop.1.2.0;
     } in
     record {
       read = λ _. at;
@@ -410,23 +363,24 @@ early_session refuses begins answers settings (Err answer.Read) was mid now begu
       no_thread = λ e. (let no : false ≡ true = cc in absurd (false≢true no));
       write = λ e. (let no : false ≡ true = cc in absurd (false≢true no));
     }
-early_session refuses begins answers settings (Err answer.NoMemory) was mid now begun ended o began a =
+early_session refuses begins answers first (Err answer.NoMemory) was mid now begun ended took began a =
     let stop = a.no_memory refl in
-    let at : StoppedAt (WritesFor begins answers) was now = record {
-      before = o.first ∷ stop.0;
-      stops = stops_more was.reading mid now.reading o.first stop.0 o.took stop.3;
-      wrote = session_wrote begins answers settings was.writing now.writing o.first stop.0 begun stop.1 o.accepted
-          began stop.2;
+    let at : StoppedAt StopsAfter (WritesFor begins answers) was now = record {
+      before = first ∷ stop.0;
+      why = stops_more was.reading mid now.reading first stop.0 took stop.3;
+      text = stop.2.0;
+      whole = (begun, stop.1, began, stop.2.1);
+      wrote = stop.2.2.0;
     } in
     record {
       read = λ e. (let no : false ≡ true = cc in absurd (false≢true no));
       no_memory = λ _. at;
-      no_thread = λ _. at;
+      no_thread = λ e. (let no : false ≡ true = cc in absurd (false≢true no));
       write = λ e. (let no : false ≡ true = cc in absurd (false≢true no));
     }
-early_session refuses begins answers settings (Err answer.Write) was mid now begun ended o began a =
+early_session refuses begins answers first (Err answer.Write) was mid now begun ended took began a =
     let stop = a.write refl in
-    let at = write_session begins answers settings was mid now begun stop.1 stop.0 stop.2 o began stop.3 stop.4 stop.5
+    let at = write_session begins answers first was mid now begun stop.1 stop.0 stop.2 took began stop.3 stop.4 stop.5
     in
     record {
       read = λ e. (let no : false ≡ true = cc in absurd (false≢true no));

@@ -7,13 +7,11 @@ use Rattle.sm_lines.specs.Answers.{AnsweredInput, ReadingStopped, StopsAfter}
 use Rattle.sm_lines.specs.Reading.{Reading, Reads, ReaderStopped, TookLines, TookPart}
 use Rattle.sm_lines.specs.Transcripts.{Transcript}
 use Rattle.sm_lines.specs.Writing.{Writing}
-use Rattle.sm_lines.specs.declared.TheConstants.{PIECE}
 use Rattle.sm_lines.specs.declared.watch.TheConstants.{COUNT_LIMIT}
-use Rattle.sm_lines.specs.lemmas.Taking.{lines_given, reads_last, reads_more}
+use Rattle.sm_lines.specs.lemmas.Taking.{reads_last, reads_more}
 use Rattle.sm_lines.specs.declared.answer_fault.AnswerFault.{AnswerFault}
 use Rattle.sm_lines.specs.declared.answer_fault.AnswerFault.TheVariants as answer
 use Rattle.sm_run.specs.Faults.{status_of}
-use Rattle.sm_run.specs.Runs.{RanScript, StoppedReading}
 use Rattle.sm_run.specs.Watching.{KeepsWatch}
 use Rattle.sm_run.specs.declared.run_fault.RunFault.{RunFault}
 use Rattle.sm_run.specs.declared.run_fault.RunFault.TheVariants.{Read, Write, NoMemory, NoThread}
@@ -45,14 +43,6 @@ of_reading most was now done (inl stopped) = then_read was stopped.0 now done st
     (stopped.2.part.0, stopped.2.part.2)
 of_reading most was now done (inr counted) = of_lines was now done counted.0
 
--- calls or lines were too many
-why_stopped : (was now : Reading) (done : List (List ℕ)) → ReadingStopped COUNT_LIMIT was now done
-    → (now.failed ≡ true) ⊎ (COUNT_LIMIT ≤ PIECE * now.calls)
-why_stopped was now done (inl stopped) = elim stopped.2.why
-    [ inl failed ↦ inl failed | inr many ↦ inr (omega (arith, many)) ]
-why_stopped was now done (inr counted) = inr
-    (let many = counted.1 in let given = lines_given was now done counted.0 in omega (arith, many, given))
-
 -- where a session answered the lines
 pub watched_session : {S T : Type 0} (answers : S → List ℕ → List ℕ → S → Type 0) (answered : Result T AnswerFault)
     (was : Transcript) (mid : Reading) (now : Transcript) (begun ended : S) (first : List ℕ)
@@ -63,23 +53,19 @@ pub watched_session : {S T : Type 0} (answers : S → List ℕ → List ℕ → 
     → KeepsWatch (status_of answered) was now
 watched_session answers (Ok all) was mid now begun ended first took unfailed a read_unfailed write_unfailed = record {
   read_all = λ _. (a.ran.2.reads.after.end a.ran.3).1;
-  write_failed = λ e. (let no : false ≡ true = cc in absurd (false≢true no));
   reader_unfailed = λ _. read_unfailed (λ e. cc) ∙ unfailed;
   writer_unfailed = λ _. write_unfailed (λ e. cc);
   reads = then_read was.reading mid now.reading (first ∷ []) took (of_lines mid now.reading a.ran.0 a.ran.2);
-  read_calls = λ e. (let no : false ≡ true = cc in absurd (false≢true no));
   none_waits = λ _. a.ran.1.2.1;
 }
 watched_session answers (Err answer.Read) was mid now begun ended first took unfailed a read_unfailed write_unfailed =
     let stop = a.read refl in
     record {
       read_all = λ e. (let no : false ≡ true = cc in absurd (false≢true no));
-      write_failed = λ e. (let no : false ≡ true = cc in absurd (false≢true no));
       reader_unfailed = λ other. absurd (other refl);
       writer_unfailed = λ _. write_unfailed (λ e. cc);
       reads = then_read was.reading mid now.reading (first ∷ []) took
           (of_reading COUNT_LIMIT mid now.reading stop.0 stop.2);
-      read_calls = λ _. why_stopped mid now.reading stop.0 stop.2;
       none_waits = λ _. stop.1.2.1;
     }
 watched_session answers (Err answer.NoMemory) was mid now begun ended first took unfailed a read_unfailed
@@ -87,22 +73,18 @@ watched_session answers (Err answer.NoMemory) was mid now begun ended first took
     let stop = a.no_memory refl in
     record {
       read_all = λ e. (let no : false ≡ true = cc in absurd (false≢true no));
-      write_failed = λ e. (let no : false ≡ true = cc in absurd (false≢true no));
       reader_unfailed = λ _. read_unfailed (λ e. cc) ∙ unfailed;
       writer_unfailed = λ _. write_unfailed (λ e. cc);
       reads = then_read was.reading mid now.reading (first ∷ []) took (of_stop mid now.reading stop.0 stop.3);
-      read_calls = λ e. (let no : false ≡ true = cc in absurd (false≢true no));
       none_waits = λ _. stop.2.2.1;
     }
 watched_session answers (Err answer.Write) was mid now begun ended first took unfailed a read_unfailed write_unfailed =
     let stop = a.write refl in
     record {
       read_all = λ e. (let no : false ≡ true = cc in absurd (false≢true no));
-      write_failed = λ _. stop.4.failed;
       reader_unfailed = λ _. read_unfailed (λ e. cc) ∙ unfailed;
       writer_unfailed = λ other. absurd (other refl);
       reads = then_read was.reading mid now.reading (first ∷ []) took (of_stop mid now.reading stop.0 stop.5);
-      read_calls = λ e. (let no : false ≡ true = cc in absurd (false≢true no));
       none_waits = λ _. stop.4.none_waits;
     }
 
@@ -121,11 +103,9 @@ pub watched_unread : (fault : RunFault) (was now : Transcript) → fault ≢ Wri
     → now.writing ≡ was.writing → KeepsWatch (Err fault) was now
 watched_unread fault was now not_write stopped touched some_thread unfailed unwritten = record {
   read_all = λ e. (let no : false ≡ true = cc in absurd (false≢true no));
-  write_failed = λ is. absurd (not_write cc);
   reader_unfailed = unfailed;
   writer_unfailed = λ _. ap (λ (w : Writing). w.failed) unwritten;
   reads = by_fault fault not_write stopped touched some_thread;
-  read_calls = λ is. elim (stopped is).why [ inl failed ↦ inl failed | inr many ↦ inr (omega (arith, many)) ];
   none_waits = λ none. ap (λ (w : Writing). w.waiting) unwritten ∙ none;
 }
   where

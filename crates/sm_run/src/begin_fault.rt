@@ -1,10 +1,10 @@
 use sm_settings::SettingsFault;
 use std::alloc::AllocError;
 
-/// Why an engine began no session with settings that are accepted otherwise.
+/// Why an engine began no session.
 #[derive(Clone, Copy, PartialEq, Eq, Drop)]
 pub enum BeginFault {
-    /// The engine can't run these settings, for this reason.
+    /// The first line is no settings, or the engine can't run them, for this reason.
     Settings(SettingsFault),
     /// Memory was refused.
     NoMemory,

@@ -1,15 +1,12 @@
 ghost use Rattle.std.specs.Prelude.{ℕ, IfErr, IfOk};
-ghost use Rattle.sm_settings.specs.SettingsLine.{values_of};
-ghost use Rattle.sm_settings.specs.SettingsRules.{KeepsRules};
 
 use crate::begin_fault::BeginFault;
 use sm_lines::Responder;
-use sm_settings::Settings;
+use std::alloc::Global;
 
-/// What runs scripts: from a script's settings it makes a session, which responds to the other lines until it is ended.
+/// What runs scripts: from a script's first line it makes a session, which responds to the others until it is ended.
 pub trait Engine {
-    ghost use Rattle.std.specs.Prelude.{⊤};
-    ghost use Rattle.sm_settings.specs.SettingsLine.{SettingsValues};
+    ghost use Rattle.std.specs.Prelude.{⊤, List};
     ghost use Rattle.sm_run.specs.declared.begin_fault.BeginFault.{BeginFault};
 
     /// A run of one script. It has to be ended: it may hold what can't be dropped.
@@ -24,20 +21,20 @@ pub trait Engine {
     /// start threads. Whoever calls it owes this once, and every call keeps it.
     ghost ready: { Self → Type 0 } = { λ _. ⊤ };
 
-    /// The sessions that may be made from these settings.
-    ghost begins: { SettingsValues → Self.Session → Type 0 };
+    /// The sessions that may be made from this first line.
+    ghost begins: { List ℕ → Self.Session → Type 0 };
 
-    /// Why no session may be made from these settings.
-    ghost refuses: { SettingsValues → BeginFault → Type 0 };
+    /// Why no session may be made from this first line.
+    ghost refuses: { List ℕ → BeginFault → Type 0 };
 
-    /// A session with these settings, before its first line, or why there is none.
-    fn begin(&mut self, settings: Settings) -> Result<Self::Session, BeginFault>
+    /// A session as a script's first line asks for it, before the second, or why there is none. The line has at most
+    /// [`MAX_SETTINGS`](sm_settings::MAX_SETTINGS) bytes; [`read_settings`](crate::read_settings) reads it.
+    fn begin(&mut self, alloc: Global, first: &[u8]) -> Result<Self::Session, BeginFault>
         requires ready { ready self.old }
-        requires rules { KeepsRules (values_of settings) }
         ensures ready { ready self.new }
-        ensures begun { IfOk result (begins (values_of settings)) }
+        ensures begun { IfOk result (begins first.now) }
         ensures session_ready { IfOk result Self.Session.ready }
-        ensures refused { IfErr result (refuses (values_of settings)) };
+        ensures refused { IfErr result (refuses first.now) };
 
     /// Ends a session.
     fn end(&mut self, session: Self::Session)

@@ -1,5 +1,4 @@
-//! Runs a script: reads the settings in front, makes a session of an engine with them, and answers each other line by
-//! it.
+//! Runs a script: reads the first line, has an engine make a session from it, and answers each other line by that.
 //!
 //! ```rust
 //! let mut written = Vec::new(alloc);
@@ -19,7 +18,7 @@ mod status;
 
 pub use begin_fault::BeginFault;
 pub use engine::Engine;
-pub use opening::Opening;
+pub use opening::{Opening, read_settings};
 pub use run_fault::RunFault;
 pub use running::run;
 pub use status::Status;

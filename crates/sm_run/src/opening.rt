@@ -1,9 +1,11 @@
-ghost use Rattle.std.specs.Prelude.{◌≡◌, ◌≢◌, ◌⊎◌, ℕ, List, [], ◌∷◌, IfOk, IfErr, OnOk};
-ghost use Rattle.sm_lines.specs.Reading.{ReaderStopped, TookLines, TookPart};
+ghost use Rattle.std.specs.Prelude.{◌≡◌, ◌≢◌, IfOk, IfErr, OnOk, Ok};
+ghost use Rattle.sm_lines.specs.Reading.{ReaderStopped, TookPart};
 ghost use Rattle.sm_lines.specs.Writing.{Wrote, WroteShort};
-ghost use Rattle.sm_run.specs.Openings.{IsOpening, ReadsAs, settings_line};
+ghost use Rattle.sm_settings.specs.SettingsLine.{settings_of, values_of};
+ghost use Rattle.sm_settings.specs.SettingsRules.{KeepsRules};
+ghost use Rattle.sm_run.specs.Openings.{HasNone, IsOpening, RefusesLine, settings_line};
 
-use crate::{RunFault, Status};
+use crate::{BeginFault, RunFault, Status};
 use sm_lines::{Dialogue, Next, ReadFault};
 use sm_settings::{MAX_SETTINGS, Settings, SettingsFault};
 use std::alloc::{AllocError, Global};
@@ -12,29 +14,27 @@ use std::io::{Read, Write};
 /// What the first line of the input is.
 #[derive(Drop)]
 pub enum Opening {
-    /// These settings.
-    Accepted(Settings),
-    /// No settings, for this reason.
+    /// A line that isn't too long for settings, and is kept.
+    Kept,
+    /// None that settings could stand in, for this reason.
     Refused(SettingsFault),
 }
 
-/// Reads the first line as settings. Input without a line has no settings either.
+/// Reads the first line. Input without a line has no settings either.
 pub(crate) fn open<R: Read + Drop, W: Write + Drop>(
-    alloc: Global,
     dialogue: &mut Dialogue<R, W>,
 ) -> Result<Opening, RunFault>
     ensures opening { IfOk result (IsOpening dialogue.old.reading dialogue.new.reading) }
     ensures read { result ≡ Err RunFault.Read → ReaderStopped dialogue.old.reading dialogue.new.reading }
     ensures no_memory { result ≡ Err RunFault.NoMemory
-        → TookPart dialogue.old.reading dialogue.new.reading dialogue.new.reading.ended
-        ⊎ ((line : List ℕ) × TookLines dialogue.old.reading dialogue.new.reading (line ∷ [])) }
+        → TookPart dialogue.old.reading dialogue.new.reading dialogue.new.reading.ended }
     ensures write { result ≢ Err RunFault.Write }
     ensures no_thread { result ≢ Err RunFault.NoThread }
     ensures unfailed { result ≢ Err RunFault.Read → dialogue.new.reading.failed ≡ dialogue.old.reading.failed }
     ensures unwritten { dialogue.new.writing ≡ dialogue.old.writing }
 {
     match dialogue.next_line(MAX_SETTINGS) {
-        Ok(Next::Line) => read_settings(alloc, dialogue.line()),
+        Ok(Next::Line) => Ok(Opening::Kept),
         Ok(Next::LongLine) => Ok(Opening::Refused(SettingsFault::TooLong)),
         Ok(Next::End) => Ok(Opening::Refused(SettingsFault::BadJson)),
         Err(ReadFault::Read) => Err(RunFault::Read),
@@ -42,15 +42,16 @@ pub(crate) fn open<R: Read + Drop, W: Write + Drop>(
     }
 }
 
-/// The settings of the line, or why it has none; an error is want of memory.
-fn read_settings(alloc: Global, line: &[u8]) -> Result<Opening, RunFault>
-    ensures ok { IfOk result (ReadsAs line.now) }
-    ensures err { IfErr result (λ fault. fault ≡ RunFault.NoMemory) }
+/// The settings of a script's first line, or why no engine begins a session with it.
+pub fn read_settings(alloc: Global, first: &[u8]) -> Result<Settings, BeginFault>
+    ensures ok { IfOk result (λ settings. settings_of first.now ≡ Ok (values_of settings)) }
+    ensures rules { IfOk result (λ settings. KeepsRules (values_of settings)) }
+    ensures err { IfErr result (RefusesLine HasNone first.now) }
 {
-    match Settings::read(alloc, line) {
-        Ok(settings) => Ok(Opening::Accepted(settings)),
-        Err(SettingsFault::NoMemory) => Err(RunFault::NoMemory),
-        Err(fault) => Ok(Opening::Refused(fault)),
+    match Settings::read(alloc, first) {
+        Ok(settings) => Ok(settings),
+        Err(SettingsFault::NoMemory) => Err(BeginFault::NoMemory),
+        Err(fault) => Err(BeginFault::Settings(fault)),
     }
 }
 

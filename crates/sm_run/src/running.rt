@@ -3,7 +3,7 @@ ghost use Rattle.sm_lines.specs.Answers.{AnsweredInput, AnswersLine};
 ghost use Rattle.sm_lines.specs.Writing.{Wrote, WroteShort};
 ghost use Rattle.sm_settings.specs.declared.settings_fault.SettingsFault.{SettingsFault as AnyFault};
 ghost use Rattle.sm_run.specs.Faults.{status_of};
-ghost use Rattle.sm_run.specs.Openings.{RefusedScript, Unbegun, settings_line};
+ghost use Rattle.sm_run.specs.Openings.{RefusedScript, settings_line};
 ghost use Rattle.sm_run.specs.Runs.{RanScript, StoppedEarly, WritesFor};
 ghost use Rattle.sm_run.specs.Watching.{KeepsWatch};
 
@@ -30,20 +30,19 @@ pub fn run<R: Read + Drop, W: Write + Drop, E: Engine>(
 ) -> Result<Status, RunFault>
     requires { E.ready engine.old }
     ensures ran { result ≡ Ok Status.Ran
-        → RanScript E.begins (AnswersLine E.Session.gives E.Session.gives_long E.MAX_LINE) dialogue.old dialogue.new }
-    ensures bad_settings { result ≡ Ok Status.BadSettings → RefusedScript E.refuses dialogue.old dialogue.new }
+        → RanScript (WritesFor E.begins (AnswersLine E.Session.gives E.Session.gives_long E.MAX_LINE))
+        dialogue.old dialogue.new }
+    ensures bad_settings { result ≡ Ok Status.BadSettings → RefusedScript E.refuses Wrote dialogue.old dialogue.new }
     // Exactly the answers to all lines before the one at which a fault came were written, but for a front of that
     // line's.
     ensures stopped { StoppedEarly E.refuses
         (WritesFor E.begins (AnswersLine E.Session.gives E.Session.gives_long E.MAX_LINE)) result
         dialogue.old dialogue.new }
-    ensures no_thread { result ≡ Err RunFault.NoThread
-        → Unbegun E.refuses BeginFault.NoThread dialogue.old dialogue.new }
     ensures watched { KeepsWatch result dialogue.old dialogue.new }
     ensures ready { E.ready engine.new }
 {
-    match open(alloc, dialogue) {
-        Ok(Opening::Accepted(settings)) => match engine.begin(settings) {
+    match open(dialogue) {
+        Ok(Opening::Kept) => match engine.begin(alloc, dialogue.line()) {
             Ok(session) => ending(run_session(alloc, dialogue, engine, session)),
             Err(fault) => leave_unbegun(alloc, dialogue, fault),
         },

@@ -6,14 +6,16 @@ use Rattle.sm_script.specs.declared.fault.LineFault.{LineFault}
 use Rattle.sm_script.specs.declared.fault.ParseFault.{ParseFault}
 use Rattle.sm_script.specs.declared.fault.ParseFault.TheVariants.{Line, NoMemory}
 use Rattle.sm_script.specs.declared.line.TheConstants.{MAX_LINE}
-use Rattle.sm_script.specs.Lines.{IsFaultIn, IsFaultOf, IsRequestFault, some_call, has_no_answer, has_request}
-use Rattle.sm_script.specs.Lines.{call_of_words, call_of_line, unless_fault, with_request}
+use Rattle.std.specs.Option.{option_map_or}
+use Rattle.std.specs.Result.{result_map_both}
+use Rattle.sm_script.specs.Lines.{IsFaultIn, IsFaultOf, IsRequestFault, has_no_answer, has_request}
+use Rattle.sm_script.specs.Lines.{call_of_words, call_of_line}
 use Rattle.sm_script.specs.Words.{words_of}
 use Rattle.sm_service.specs.declared.request.Request.{Request}
 
 -- why the words give no call is why the line gives none
 some_fault : (fault : ParseFault) (asked : Result Call LineFault) → IsFaultIn fault asked
-    → IsFaultOf fault (some_call asked)
+    → IsFaultOf fault (result_map_both Some (λ fault. fault) asked)
 some_fault (Line fault) (Ok asked) is = cc
 some_fault (Line fault) (Err other) is = cc
 some_fault NoMemory (Ok asked) has = has
@@ -31,7 +33,7 @@ fault_of_line line words fault answered short view is =
 pub fault_of_request : (made : Request → Call) (none : Option LineFault) (asked : Result Request LineFault)
     (fault : ParseFault) → ((request : Request) → IsTrue (has_request (made request))) → none ≡ None
     → IsRequestFault fault asked
-    → IsFaultIn fault (unless_fault none (with_request made asked))
+    → IsFaultIn fault (option_map_or Err none (result_map_both made (λ fault. fault) asked))
 fault_of_request made (Some other) asked fault has is why = absurd (cc)
 fault_of_request made None (Ok request) (Line fault) has is why = absurd (cc)
 fault_of_request made None (Err other) (Line fault) has is why = cc

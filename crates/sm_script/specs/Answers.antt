@@ -69,19 +69,6 @@ command_fault_name (command.Place place.NoCapacity) = codes "NoCapacity"
 command_fault_name (command.Place place.DomainLimit) = codes "DomainLimit"
 command_fault_name (command.Restart fault) = restart_fault_name fault
 
--- the shard, group or domain at which a step of a restart was refused
-abbrev pub restart_fault_number : RestartFault → Option ℕ
-restart_fault_number (restart.ShardCap shard) = Some shard
-restart_fault_number (restart.GroupCap group) = Some group
-restart_fault_number (restart.DomainCap domain) = Some domain
-restart_fault_number (restart.StillServing shard) = Some shard
-restart_fault_number fault = None
-
--- the shard, group or domain at which a command's refusal came
-abbrev pub command_fault_number : CommandFault → Option ℕ
-command_fault_number (command.Restart fault) = restart_fault_number fault
-command_fault_number fault = None
-
 -- the name of an admission's refusal
 abbrev pub admit_fault_name : AdmitFault → List ℕ
 admit_fault_name admit.Vacant = codes "Vacant"
@@ -108,9 +95,12 @@ refused_name (refused.Admit fault) = admit_fault_name fault
 refused_name refused.TooManyHops = codes "TooManyHops"
 refused_name refused.KeptFull = codes "KeptFull"
 
--- the number that the answer gives after it, where there is one
+-- the number that the answer gives after it, where there is one: of the shard, group or domain at which it came
 abbrev pub refused_number : Refused → Option ℕ
-refused_number (refused.Command fault) = command_fault_number fault
+refused_number (refused.Command (command.Restart (restart.ShardCap shard))) = Some shard
+refused_number (refused.Command (command.Restart (restart.GroupCap group))) = Some group
+refused_number (refused.Command (command.Restart (restart.DomainCap domain))) = Some domain
+refused_number (refused.Command (command.Restart (restart.StillServing shard))) = Some shard
 refused_number why = None
 
 -- a name, and the number after it
@@ -127,33 +117,19 @@ stand_name (Forwarding owner next) = codes "Forwarding"
 stand_name (Taken owner previous) = codes "Taken"
 stand_name (Paused owner) = codes "Paused"
 
--- the number of a server, or 0 where there is none
-abbrev pub server_number : Option ℕ → ℕ
-server_number server = unwrap_or server 0
-
--- whether a server is admitted
-abbrev pub admission_name : Bool → List ℕ
-admission_name admitted = if admitted then codes "admitted" else codes "idle"
-
--- a shard's record: its stand, the owner, the next or the previous owner, the admission and the generation, between
--- single spaces
+-- a shard's record, between single spaces: its stand, its owner and the other server, or 0, admission and generation
 abbrev pub record_text : Record → List ℕ
 record_text state =
     join_with_byte 32 (
-    stand_name state.stand ∷ decimal (server_number (owner_of state.stand))
-    ∷ decimal (server_number (other_of state.stand)) ∷
-    admission_name state.admitted ∷ decimal state.generation ∷ []
+    stand_name state.stand ∷ decimal (unwrap_or (owner_of state.stand) 0)
+    ∷ decimal (unwrap_or (other_of state.stand) 0)
+    ∷ (if state.admitted then codes "admitted" else codes "idle") ∷ decimal state.generation ∷ []
     )
 
 -- a shard's route: the shard, the server and the generation, between single spaces
 abbrev pub route_text : Route → List ℕ
 route_text route =
     codes "route " ++ join_with_byte 32 (decimal route.shard ∷ decimal route.server ∷ decimal route.generation ∷ [])
-
--- the route, where there is one
-abbrev pub way_text : Option Route → List ℕ
-way_text (Some route) = route_text route
-way_text None = codes "none"
 
 -- bytes, and before them how many they are
 abbrev pub counted : List ℕ → List ℕ
@@ -179,10 +155,6 @@ reply_text WrongKind = codes "reply WrongKind"
 reply_text Overflow = codes "reply Overflow"
 reply_text TooLong = codes "reply TooLong"
 
--- the server that executed a request, and the request's place
-abbrev pub place_text : ℕ → ℕ → List ℕ
-place_text server place = codes " @" ++ decimal server ++ codes "#" ++ decimal place
-
 -- a move of a plan
 abbrev pub move_text : Move → List ℕ
 move_text one = codes " " ++ decimal one.shard ++ codes ">" ++ decimal one.to
@@ -191,17 +163,9 @@ move_text one = codes " " ++ decimal one.shard ++ codes ">" ++ decimal one.to
 abbrev pub left_text : ℕ → List ℕ
 left_text shard = codes " " ++ decimal shard
 
--- a plan: its moves, and the shards that are left
-abbrev pub moves_text : List Move → List ℕ
-moves_text moves = codes "plan" ++ flat_map move_text moves
-
--- the shards that a plan leaves
-abbrev pub all_left_text : List ℕ → List ℕ
-all_left_text shards = codes " left" ++ flat_map left_text shards
-
--- a plan: its moves, and what it leaves
+-- a plan: its moves, and the shards that it leaves
 abbrev pub plan_text : PlanView → List ℕ
-plan_text plan = moves_text plan.moves ++ all_left_text plan.left
+plan_text plan = codes "plan" ++ flat_map move_text plan.moves ++ codes " left" ++ flat_map left_text plan.left
 
 -- what the counts of a load say
 abbrev pub load_verdict_name : LoadVerdict → List ℕ
@@ -215,7 +179,9 @@ answer_text Made = codes "ok"
 answer_text (IsRefused why) = codes "refused " ++ numbered (refused_name why) (refused_number why)
 answer_text (Planned plan) = plan_text plan
 answer_text (Seen state) = record_text state
-answer_text (Executed reply server place) = reply_text reply ++ place_text server place
-answer_text (Way route) = way_text route
+answer_text (Executed reply server place) =
+    reply_text reply ++ codes " @" ++ decimal server ++ codes "#" ++ decimal place
+answer_text (Way None) = codes "none"
+answer_text (Way (Some route)) = route_text route
 answer_text (Loaded verdict) = codes "load " ++ load_verdict_name verdict
 answer_text (Error fault) = codes "error " ++ line_fault_name fault

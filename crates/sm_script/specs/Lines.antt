@@ -1,8 +1,9 @@
 -- What a line of a script asks for.
-use Rattle.std.specs.Prelude.{◌≡◌, ℕ, ℤ, Bool, true, false, ◌==◌, IsOk, IsOkAnd, IsSomeAnd, IsTrue, if◌then◌else◌}
+use Rattle.std.specs.Prelude.{◌≡◌, ℕ, Bool, true, false, ◌==◌, IsOk, IsOkAnd, IsSomeAnd, IsTrue, if◌then◌else◌}
 use Rattle.std.specs.Prelude.{List, [], ◌∷◌, length, nat_lt, codes, Option, None, Some, Result, Ok, Err}
 use Rattle.std.specs.List.{join_with_byte}
-use Rattle.std.specs.Option.{option_map_or}
+use Rattle.std.specs.Option.{ok_or, option_map, option_map_or}
+use Rattle.std.specs.Result.{result_map_both}
 use Rattle.sm_script.specs.Answers.{line_fault_name}
 use Rattle.sm_script.specs.Words.{words_of}
 use Rattle.sm_script.specs.Numbers.{number, increment_of}
@@ -31,56 +32,22 @@ use Rattle.sm_service.specs.declared.request.Request.TheVariants.{Append as Appe
 use Rattle.sm_service.specs.declared.request.Request.TheVariants.{Inc as IncRequest, Del as DelRequest}
 use Rattle.sm_service.specs.declared.request.Request.TheVariants.{Scan as ScanRequest}
 
--- an addition to a count, where the number is one
-abbrev pub inc_request : List ℕ → Option ℤ → Result Request LineFault
-inc_request key (Some amount) = Ok (IncRequest key amount)
-inc_request key None = Err BadNumber
-
--- the request of a word and a key; here and below, other words don't run with such words after them
-abbrev pub key_request : Word → List ℕ → Result Request LineFault
-key_request Get key = Ok (GetRequest key)
-key_request Del key = Ok (DelRequest key)
-key_request _ key = Err NotHere
-
--- of a key and a text
-abbrev pub text_request : Word → List ℕ → List ℕ → Result Request LineFault
-text_request Put key text = Ok (PutRequest key text)
-text_request Append key tail = Ok (AppendRequest key tail)
-text_request _ key text = Err NotHere
-
--- of a key and a number
-abbrev pub number_request : Word → List ℕ → List ℕ → Result Request LineFault
-number_request Inc key amount = inc_request key (increment_of amount)
-number_request _ key amount = Err NotHere
-
--- of two keys and a limit
-abbrev pub range_request : Word → List ℕ → List ℕ → ℕ → Result Request LineFault
-range_request Scan low high most = Ok (ScanRequest low high most)
-range_request _ low high most = Err NotHere
-
 -- the request of a word and the words after it, of these shapes, where nothing is wrong with them
 abbrev pub request_with : List Shape → Word → List (List ℕ) → Result Request LineFault
-request_with (Key ∷ []) word (key ∷ []) = key_request word key
-request_with (Key ∷ Text ∷ []) word (key ∷ text) = text_request word key (join_with_byte 32 text)
-request_with (Key ∷ Increment ∷ []) word (key ∷ amount ∷ []) = number_request word key amount
-request_with (Key ∷ Key ∷ Limit ∷ []) word (low ∷ high ∷ most ∷ []) = range_request word low high (number most)
+request_with (Key ∷ []) Get (key ∷ []) = Ok (GetRequest key)
+request_with (Key ∷ []) Del (key ∷ []) = Ok (DelRequest key)
+request_with (Key ∷ Text ∷ []) Put (key ∷ text) = Ok (PutRequest key (join_with_byte 32 text))
+request_with (Key ∷ Text ∷ []) Append (key ∷ tail) = Ok (AppendRequest key (join_with_byte 32 tail))
+request_with (Key ∷ Increment ∷ []) Inc (key ∷ amount ∷ []) =
+    ok_or (option_map (IncRequest key) (increment_of amount)) BadNumber
+request_with (Key ∷ Key ∷ Limit ∷ []) Scan (low ∷ high ∷ most ∷ []) = Ok (ScanRequest low high (number most))
 request_with _ _ _ = Err NotHere
 
 -- a change of the shard
 abbrev pub change_call : ℕ → Change → Call
 change_call shard change = call.Control (command.Change shard change)
 
--- the call that makes the request, where there is one
-abbrev pub with_request : (Request → Call) → Result Request LineFault → Result Call LineFault
-with_request made (Ok request) = Ok (made request)
-with_request made (Err fault) = Err fault
-
--- the call of a word with no word after it
-abbrev pub bare_call : Word → Result Call LineFault
-bare_call Place = Ok call.Place
-bare_call _ = Err NotHere
-
--- of a shard
+-- the call of a word and a shard; here and below, other words don't run with such words after them
 abbrev pub shard_call : Word → ℕ → Result Call LineFault
 shard_call PrepareDrop shard = Ok (change_call shard change.PrepareDropShard)
 shard_call Add shard = Ok (change_call shard change.AddShard)
@@ -112,48 +79,32 @@ shard_and_server_call Hold shard server = Ok (call.Hold shard server)
 shard_and_server_call Checkpoint shard server = Ok (call.Checkpoint shard server)
 shard_and_server_call _ shard server = Err NotHere
 
--- of a key
-abbrev pub key_call : Word → List ℕ → Result Call LineFault
-key_call Route key = Ok (call.Route key)
-key_call _ key = Err NotHere
-
--- of a key, a number of clients and how many requests each makes
-abbrev pub load_call : Word → List ℕ → ℕ → ℕ → Result Call LineFault
-load_call Load key clients each = Ok (call.Load key clients each)
-load_call _ key clients each = Err NotHere
-
 -- the call of a word that is no request, and of the words after it, of these shapes, where nothing is wrong with them
 abbrev pub call_with : List Shape → Word → List (List ℕ) → Result Call LineFault
-call_with [] word [] = bare_call word
+call_with [] Place [] = Ok call.Place
 call_with (Shard ∷ []) word (shard ∷ []) = shard_call word (number shard)
 call_with (Server ∷ []) word (server ∷ []) = server_call word (number server)
 call_with (Shard ∷ Server ∷ []) word (shard ∷ server ∷ []) = shard_and_server_call word (number shard) (number server)
-call_with (Key ∷ []) word (key ∷ []) = key_call word key
-call_with (Key ∷ Clients ∷ Each ∷ []) word (key ∷ clients ∷ each ∷ []) =
-    load_call word key (number clients) (number each)
+call_with (Key ∷ []) Route (key ∷ []) = Ok (call.Route key)
+call_with (Key ∷ Clients ∷ Each ∷ []) Load (key ∷ clients ∷ each ∷ []) =
+    Ok (call.Load key (number clients) (number each))
 call_with _ _ _ = Err NotHere
-
--- the fault, or else the call
-abbrev pub unless_fault : Option LineFault → Result Call LineFault → Result Call LineFault
-unless_fault None asked = asked
-unless_fault (Some fault) asked = Err fault
 
 -- the request of a row and the words after its own, made into a call
 abbrev pub request_call : (Request → Call) → FormRow → List (List ℕ) → Result Call LineFault
-request_call made row words =
-    unless_fault (arguments_fault row.shapes words) (with_request made (request_with row.shapes row.word words))
+request_call made row words = option_map_or Err (arguments_fault row.shapes words)
+    (result_map_both made (λ fault. fault) (request_with row.shapes row.word words))
 
 -- the call of a row and the words after its own
 abbrev pub plain_call : FormRow → List (List ℕ) → Result Call LineFault
 plain_call row words =
     if is_request row.topic then request_call call.Request row words
-    else unless_fault (arguments_fault row.shapes words) (call_with row.shapes row.word words)
+    else option_map_or Err (arguments_fault row.shapes words) (call_with row.shapes row.word words)
 
 -- the request of a row and the words after its own, to the server
 abbrev pub at_server : List ℕ → FormRow → List (List ℕ) → Result Call LineFault
-at_server server row words =
-    unless_fault (arguments_fault (Server ∷ row.shapes) (server ∷ words))
-    (with_request (call.RequestAt (number server)) (request_with row.shapes row.word words))
+at_server server row words = option_map_or Err (arguments_fault (Server ∷ row.shapes) (server ∷ words))
+    (result_map_both (call.RequestAt (number server)) (λ fault. fault) (request_with row.shapes row.word words))
 
 -- the words after `at`: a server, and a request; whether there is such a request is seen first
 abbrev pub at_call : List (List ℕ) → Result Call LineFault
@@ -183,17 +134,12 @@ abbrev pub has_no_answer : List ℕ → Bool
 has_no_answer [] = true
 has_no_answer (byte ∷ bytes) = byte == 35
 
--- a call, where there is no fault
-abbrev pub some_call : Result Call LineFault → Result (Option Call) LineFault
-some_call (Ok asked) = Ok (Some asked)
-some_call (Err fault) = Err fault
-
 -- what the line asks for, where it asks for anything
 unfoldable pub call_of_line : List ℕ → Result (Option Call) LineFault
 call_of_line line =
     if has_no_answer line then Ok None
     else (if nat_lt MAX_LINE (length line) then Err LineTooLong
-    else some_call (call_of_words (words_of line)))
+    else result_map_both Some (λ fault. fault) (call_of_words (words_of line)))
 
 -- whether memory is taken for the call
 abbrev pub has_request : Call → Bool

@@ -1,7 +1,7 @@
 ghost use Rattle.std.specs.Prelude.{◌≡◌, ◌<◌, ℕ, List, [], ◌∷◌, ◌++◌, length, IfOk, IfErr, IfNone, IsTrue};
 ghost use Rattle.sm_script.specs.Forms.{row_of_form};
 ghost use Rattle.sm_script.specs.Grammar.{takes_word, arguments_fault};
-ghost use Rattle.sm_script.specs.Lines.{bare_call, shard_call, server_call, call_with};
+ghost use Rattle.sm_script.specs.Lines.{shard_call, server_call, call_with};
 ghost use Rattle.sm_script.specs.Lines.{at_server, at_call, client_call, request_call, plain_call, call_as};
 ghost use Rattle.sm_script.specs.Lines.{call_of_words};
 ghost use Rattle.sm_script.specs.Lines.{has_no_answer, call_of_line, IsFaultIn, IsFaultOf, meaning_if_long};
@@ -29,7 +29,7 @@ pub const MAX_LINE: usize = 70_000;
 
 // The call of a word with no word after it.
 fn bare_call(word: Word) -> Result<Call, LineFault>
-    ensures { result ≡ bare_call word }
+    ensures { result ≡ call_with [] word [] }
 {
     match word {
         Word::Place => Ok(Call::Place),

@@ -1,5 +1,5 @@
-ghost use Rattle.std.specs.Prelude.{◌≡◌, ◌++◌, OnOk, OnErr};
-ghost use Rattle.sm_script.specs.Answers.{all_left_text, left_text, move_text, moves_text, plan_text};
+ghost use Rattle.std.specs.Prelude.{◌≡◌, ◌++◌, OnOk, OnErr, codes, flat_map};
+ghost use Rattle.sm_script.specs.Answers.{left_text, move_text, plan_text};
 
 use crate::append::append_all;
 use itoa::Buffer;
@@ -27,7 +27,7 @@ fn append_move(out: &mut Vec<u8>, one: &Move) -> Result<(), AllocError>
 
 // Appends the moves.
 fn append_moves(out: &mut Vec<u8>, moves: &[Move]) -> Result<(), AllocError>
-    ensures ok { OnOk result (out.new.items ≡ out.old.items ++ moves_text moves.now) }
+    ensures ok { OnOk result (out.new.items ≡ out.old.items ++ (codes "plan" ++ flat_map move_text moves.now)) }
     ensures err { OnErr result (out.new.items ≡ out.old.items) }
 {
     let start = out.len();
@@ -52,7 +52,7 @@ fn append_shard(out: &mut Vec<u8>, shard: ShardId) -> Result<(), AllocError>
 
 // Appends the shards that are left.
 fn append_left(out: &mut Vec<u8>, left: &[ShardId]) -> Result<(), AllocError>
-    ensures ok { OnOk result (out.new.items ≡ out.old.items ++ all_left_text left.now) }
+    ensures ok { OnOk result (out.new.items ≡ out.old.items ++ (codes " left" ++ flat_map left_text left.now)) }
     ensures err { OnErr result (out.new.items ≡ out.old.items) }
 {
     let start = out.len();

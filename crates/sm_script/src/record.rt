@@ -1,5 +1,5 @@
-ghost use Rattle.std.specs.Prelude.{◌≡◌, ◌++◌, OnOk, OnErr, unwrap_or};
-ghost use Rattle.sm_script.specs.Answers.{stand_name, admission_name, record_text};
+ghost use Rattle.std.specs.Prelude.{◌≡◌, ◌++◌, OnOk, OnErr, codes, if◌then◌else◌, unwrap_or};
+ghost use Rattle.sm_script.specs.Answers.{stand_name, record_text};
 
 use crate::append::append_all;
 use itoa::Buffer;
@@ -34,7 +34,7 @@ fn server_number(server: Option<ServerId>) -> u16
 
 // How an answer says whether a server is admitted.
 fn admission_name(admitted: bool) -> &'static str
-    ensures { result.now ≡ admission_name admitted }
+    ensures { result.now ≡ (if admitted then codes "admitted" else codes "idle") }
 {
     if admitted { "admitted" } else { "idle" }
 }

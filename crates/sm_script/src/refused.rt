@@ -1,6 +1,5 @@
 ghost use Rattle.std.specs.Prelude.{◌≡◌};
-ghost use Rattle.sm_script.specs.Answers.{command_fault_name, command_fault_number, admit_fault_name};
-ghost use Rattle.sm_script.specs.Answers.{restart_fault_name, restart_fault_number};
+ghost use Rattle.sm_script.specs.Answers.{command_fault_name, admit_fault_name, restart_fault_name};
 
 use sm_desk::command::CommandFault;
 use sm_ownership::admit_fault::AdmitFault;
@@ -72,7 +71,11 @@ impl Refused {
         ensures { result ≡ refused_number self }
     {
         match self {
-            Refused::Command(fault) => command_fault_number(fault),
+            Refused::Command(CommandFault::Restart(fault)) => match fault {
+                RestartFault::ShardCap(k) | RestartFault::StillServing(k) => Some(k.number()),
+                RestartFault::GroupCap(n) | RestartFault::DomainCap(n) => Some(n),
+                _ => None,
+            },
             _ => None,
         }
     }
@@ -96,16 +99,6 @@ fn command_fault_name(fault: CommandFault) -> &'static str
     }
 }
 
-// The shard, group or domain at which the refusal of a command came.
-fn command_fault_number(fault: CommandFault) -> Option<u16>
-    ensures { result ≡ command_fault_number fault }
-{
-    match fault {
-        CommandFault::Restart(fault) => restart_fault_number(fault),
-        _ => None,
-    }
-}
-
 // The name that an answer gives to the refusal of a step of a restart.
 fn restart_fault_name(fault: RestartFault) -> &'static str
     ensures { result.now ≡ restart_fault_name fault }
@@ -121,19 +114,6 @@ fn restart_fault_name(fault: RestartFault) -> &'static str
         RestartFault::StillServing(_) => "StillServing",
         RestartFault::AlreadyUp => "AlreadyUp",
         RestartFault::AlreadyFailed => "AlreadyFailed",
-    }
-}
-
-// The shard, group or domain at which a step of a restart was refused.
-fn restart_fault_number(fault: RestartFault) -> Option<u16>
-    ensures { result ≡ restart_fault_number fault }
-{
-    match fault {
-        RestartFault::ShardCap(k) => Some(k.number()),
-        RestartFault::GroupCap(g) => Some(g),
-        RestartFault::DomainCap(d) => Some(d),
-        RestartFault::StillServing(k) => Some(k.number()),
-        _ => None,
     }
 }
 

@@ -1,6 +1,6 @@
-ghost use Rattle.std.specs.Prelude.{◌≡◌, ◌++◌, OnOk, OnErr};
+ghost use Rattle.std.specs.Prelude.{◌≡◌, ◌++◌, OnOk, OnErr, codes, decimal};
 ghost use Rattle.sm_service.specs.declared.reply.Reply.TheVariants.{Pairs};
-ghost use Rattle.sm_script.specs.Answers.{reply_text, pair_text, place_text};
+ghost use Rattle.sm_script.specs.Answers.{reply_text, pair_text};
 
 use crate::append::append_all;
 use itoa::Buffer;
@@ -90,7 +90,8 @@ fn append_reply(out: &mut Vec<u8>, reply: &Reply) -> Result<(), AllocError>
 
 // Appends who executed a request, and its place.
 fn append_place(out: &mut Vec<u8>, server: ServerId, place: u64) -> Result<(), AllocError>
-    ensures ok { OnOk result (out.new.items ≡ out.old.items ++ place_text server place) }
+    ensures ok { OnOk result (out.new.items
+        ≡ out.old.items ++ (codes " @" ++ decimal server ++ codes "#" ++ decimal place)) }
     ensures err { OnErr result (out.new.items ≡ out.old.items) }
 {
     let mut by = Buffer::new();
@@ -113,7 +114,8 @@ pub(crate) fn append_executed(
     server: ServerId,
     place: u64,
 ) -> Result<(), AllocError>
-    ensures ok { OnOk result (out.new.items ≡ out.old.items ++ (reply_text reply.now ++ place_text server place)) }
+    ensures ok { OnOk result (out.new.items ≡ out.old.items
+        ++ (reply_text reply.now ++ codes " @" ++ decimal server ++ codes "#" ++ decimal place)) }
     ensures err { OnErr result (out.new.items ≡ out.old.items) }
 {
     let start = out.len();

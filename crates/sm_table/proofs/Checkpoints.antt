@@ -26,8 +26,7 @@ use Rattle.sm_table.specs.declared.world_fault.WorldFault.TheVariants.{NoMemory,
 use Rattle.sm_desk.specs.Desk.{is_known, DeskView}
 use Rattle.sm_body.specs.Service.{Service}
 use Rattle.sm_table.specs.World.{WorldState, Plain, Unmade, count_of, is_there, outcome, with_entry, world_record}
-use Rattle.sm_table.specs.World.{world_table}
-use Rattle.sm_table.specs.Standing.{IsSound, WorldView, view_of, StandsFor, Follows}
+use Rattle.sm_table.specs.Standing.{IsSound, WorldView, view_of, StandsFor, Follows, world_table}
 use Rattle.sm_table.specs.Bodies.{BodiesView, Past, kept_in, no_past, past_after, past_at, past_of}
 use Rattle.sm_table.proofs.Holding.{past_shards}
 use Rattle.sm_table.proofs.Pasts.{past_of-push, past_of-push_none, past_of-push_other}

@@ -22,7 +22,7 @@ use Rattle.sm_ownership.specs.History.{record_at, after_done, all_of, kept}
 use Rattle.sm_table.specs.Bodies.{BodiesView, Past, kept_in, no_past, past_after, past_at, past_of}
 use Rattle.sm_ownership.specs.Tables.{TableView, table_done}
 use Rattle.sm_body.specs.Service.{Service}
-use Rattle.sm_table.specs.World.{WorldState, Mark, Plain, Unserved, count_of, ended, worked, served, outcome}
+use Rattle.sm_table.specs.World.{WorldState, Mark, Plain, Unserved, count_of, ended, outcome}
 use Rattle.sm_table.specs.Standing.{IsSound, WorldView, view_of, StandsFor, Follows}
 use Rattle.sm_ownership.specs.lemmas.Growth.{fits-push, table_of-push}
 use Rattle.sm_table.proofs.Pasts.{past_of-push, past_of-push_none, past_of-push_other}
@@ -30,6 +30,7 @@ use Rattle.sm_table.proofs.Parts.{parts_of, Keeps, parts-from_StandsFor, Follows
 use Rattle.sm_desk.specs.Desk.{DeskView}
 use Rattle.sm_table.specs.declared.world.Flight.{Flight}
 use Rattle.sm_table.specs.lemmas.Entries.{hand_within}
+use Rattle.sm_table.specs.lemmas.Steps.{served, worked}
 
 -- what is in hand, by its parts
 abbrev pub in_hand : {Q : Type 0} → ℕ → Option (Work Q) → Option (InHand Q)

@@ -20,10 +20,11 @@ use Rattle.sm_envelope.specs.Envelope.{EnvelopeView}
 use Rattle.sm_ownership.specs.History.{kept}
 use Rattle.sm_ownership.specs.Routes.{is_old, routes_of}
 use Rattle.sm_body.specs.Service.{Service}
-use Rattle.sm_table.specs.World.{WorldState, Mark, Plain, Unmade, Unserved, StepOutcome, count_of, controlled, is_there}
-use Rattle.sm_table.specs.World.{reached, arrived, without_flight, delivered, with_room, worked, served}
-use Rattle.sm_table.specs.World.{after_admission, made_unless, after_hold, after_checkpoint, let_go, freed, published}
+use Rattle.sm_table.specs.World.{WorldState, Mark, Plain, Unmade, Unserved, StepOutcome, count_of, is_there}
+use Rattle.sm_table.specs.World.{reached, arrived, without_flight, with_room}
+use Rattle.sm_table.specs.World.{after_admission, after_hold, after_checkpoint}
 use Rattle.sm_table.specs.World.{next, world_after}
+use Rattle.sm_table.specs.lemmas.Steps.{controlled, delivered, freed, let_go, made_unless, published, served, worked}
 
 -- the later world has the frame of the earlier one, its history and then these entries, and its publications and then
 -- these routes

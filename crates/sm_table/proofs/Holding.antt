@@ -19,15 +19,16 @@ use Rattle.sm_table.specs.declared.world_fault.WorldFault.TheVariants.{NotHeld, 
 use Rattle.sm_desk.specs.Desk.{is_known, DeskView}
 use Rattle.sm_table.specs.Hands.{is_alone}
 use Rattle.sm_body.specs.Service.{Service}
-use Rattle.sm_table.specs.World.{WorldState, Plain, count_of, is_there, world_record, world_table, ended, let_go, freed}
+use Rattle.sm_table.specs.World.{WorldState, Plain, count_of, is_there, world_record, ended}
 use Rattle.sm_table.specs.World.{outcome}
-use Rattle.sm_table.specs.Standing.{WorldView, view_of, StandsFor, Follows, with_admission}
+use Rattle.sm_table.specs.Standing.{WorldView, view_of, StandsFor, Follows, with_admission, world_table}
 use Rattle.sm_table.proofs.Admissions.{entered, entered_parts, entered_keeps}
 use Rattle.sm_table.proofs.Endings.{in_hand, done_parts, done_parts_of}
 use Rattle.sm_table.specs.Bodies.{BodiesView}
 use Rattle.sm_table.specs.declared.world.Flight.{Flight}
 use Rattle.sm_table.proofs.Pasts.{past_of-push_none}
 use Rattle.sm_table.proofs.Parts.{parts-from_StandsFor, Follows-unchanged, Follows-changed}
+use Rattle.sm_table.specs.lemmas.Steps.{freed, let_go}
 
 in_hand-alone : {Q : Type 0} (own : ℕ) (some : Option (Work Q)) → true ≡ is_none some
     → in_hand own some ≡ in_hand own None

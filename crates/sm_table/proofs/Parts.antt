@@ -12,8 +12,8 @@ use Rattle.sm_desk.specs.Desk.{DeskView}
 use Rattle.sm_ownership.specs.Tables.{TableView}
 use Rattle.sm_table.specs.Bodies.{BodiesView, Past, past_at, past_of}
 use Rattle.sm_body.specs.Service.{Service}
-use Rattle.sm_table.specs.World.{WorldState, Mark, StepOutcome, count_of, last_routes, world_table, outcome}
-use Rattle.sm_table.specs.Standing.{IsSound, WorldView, view_of, StandsFor, Follows}
+use Rattle.sm_table.specs.World.{WorldState, Mark, StepOutcome, count_of, last_routes, outcome}
+use Rattle.sm_table.specs.Standing.{IsSound, WorldView, view_of, StandsFor, Follows, world_table}
 use Rattle.sm_table.specs.lemmas.Soundness.{sound_next}
 
 -- the parts of a world, where the bodies have these pasts

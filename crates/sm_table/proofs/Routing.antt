@@ -26,10 +26,11 @@ use Rattle.sm_table.specs.declared.world_answer.WorldAnswer.TheVariants.{Made, W
 use Rattle.sm_table.specs.declared.world_fault.WorldFault.TheVariants.{OldRoute, WrongPhase}
 use Rattle.sm_table.specs.Bodies.{BodiesView}
 use Rattle.sm_table.specs.Standing.{Follows, IsSound, StandsFor, WorldView, view_of}
-use Rattle.sm_table.specs.World.{StepOutcome, Plain, WorldState, count_of, last_routes, outcome, published}
+use Rattle.sm_table.specs.World.{StepOutcome, Plain, WorldState, count_of, last_routes, outcome}
 use Rattle.sm_table.specs.World.{world_record}
 use Rattle.sm_table.proofs.Parts.{Follows-unchanged}
 use Rattle.sm_table.specs.lemmas.Soundness.{sound_next}
+use Rattle.sm_table.specs.lemmas.Steps.{published}
 
 -- the last routes of so many shards
 abbrev pub row_of : List Route → ℕ → List (Option Route)

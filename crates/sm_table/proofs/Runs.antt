@@ -26,11 +26,13 @@ use Rattle.sm_envelope.specs.Envelope.{EnvelopeView}
 use Rattle.sm_ownership.specs.History.{all_of, kept, said}
 use Rattle.sm_body.specs.Service.{Service}
 use Rattle.sm_table.specs.World.{Frame, WorldState, Mark, Plain, Unmade, Unserved, StepOutcome, count_of, world_record}
-use Rattle.sm_table.specs.World.{controlled, is_there, reached, after_hop, hopped, arrived, without_flight, delivered}
-use Rattle.sm_table.specs.World.{with_room, worked, served, after_admission, made_unless, let_go, freed, published}
+use Rattle.sm_table.specs.World.{is_there, reached, after_hop, arrived, without_flight}
+use Rattle.sm_table.specs.World.{with_room, after_admission}
 use Rattle.sm_table.specs.World.{empty_world, answer, next, outcome, world_after, world_of}
 use Rattle.sm_table.proofs.Extensions.{extends_after}
 use Rattle.sm_ownership.specs.lemmas.Requests.{all_of-append, all_of-push_some}
+use Rattle.sm_table.specs.lemmas.Steps.{controlled, delivered, freed, hopped, let_go, made_unless, published, served}
+use Rattle.sm_table.specs.lemmas.Steps.{worked}
 
 slice_get-middle : {X : Type 0} (xs : List X) (x : X) (ys : List X) → slice_get (xs ++ x ∷ ys) (length xs) ≡ Some x
 slice_get-middle [] x ys = refl

@@ -21,10 +21,14 @@ use Rattle.sm_place.specs.Sound.{AreSound}
 use Rattle.sm_rows.specs.declared.server_row.ServerRow.{ServerRow}
 use Rattle.sm_tasks.specs.Caps.{MeetsCaps}
 use Rattle.sm_ownership.specs.History.{after_admit, record_at, IsLegal, admits_only, is_admission_of, latest_of}
+use Rattle.sm_ownership.specs.History.{table_of}
 use Rattle.sm_ownership.specs.Tables.{TableView}
 use Rattle.sm_table.specs.Bodies.{BodiesView, Past, past_at, past_of}
 use Rattle.sm_table.specs.World.{Frame, WorldState, StepOutcome, count_of, last_routes, mark_of, outcome, world_record}
-use Rattle.sm_table.specs.World.{world_table}
+
+-- the world's ownership table
+abbrev pub world_table : {Q : Type 0} → WorldState Q → List Record
+world_table w = table_of (count_of w) w.frame.ceiling w.history
 
 -- a frame that a world can be made with: bounds of a layout, and a desk whose books are sound and keep the caps, with a
 -- vacant shard for each range

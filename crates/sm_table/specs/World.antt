@@ -3,7 +3,7 @@
 use Rattle.std.specs.Prelude.{ℕ, Bool, true, false, Option, Some, None, Result, Ok, Err, nat_lt, if◌then◌else◌, List}
 use Rattle.std.specs.Prelude.{[], ◌∷◌, ◌++◌, length, map, remove, replicate, slice_get, slice_index_or, slice_set}
 use Rattle.std.specs.List.{range_with_len}
-use Rattle.std.specs.Option.{option_map, option_or}
+use Rattle.std.specs.Option.{option_map, option_map_or, option_or}
 use Rattle.sm_body.specs.Service.{Service}
 use Rattle.sm_ranges.specs.Ranges.{shard_of}
 use Rattle.sm_ownership.specs.declared.admit_fault.AdmitFault.{AdmitFault}
@@ -43,16 +43,14 @@ use Rattle.sm_ownership.specs.Routes.{is_old, record_route, routes_of}
 use Rattle.sm_ownership.specs.Rules.{admit_fault, forward_to}
 use Rattle.sm_ownership.specs.Tables.{record_fault}
 
--- what stays as it is made: the bounds of the shards, the desk at the start, the greatest generation, and how many
--- requests each shard keeps at most
+-- what stays as it is made: bounds of shards, the desk at the start, the greatest generation, most requests by shard
 pub record Frame : Type 0 where
   pub bounds : List (List ℕ)
   pub start : DeskView
   pub ceiling : ℕ
   pub limits : List ℕ
 
--- a world: its desk, its history, what was published in order, the envelopes in flight, and by shard what the server
--- that is admitted to it has in hand
+-- a world: desk, history, what was published in order, envelopes in flight, by shard what its server has in hand
 pub record WorldState (Q : Type 0) : Type 0 where
   pub frame : Frame
   pub desk : DeskView
@@ -61,8 +59,7 @@ pub record WorldState (Q : Type 0) : Type 0 where
   pub in_flight : List (Flight Q)
   pub in_hand : List (Option (InHand Q))
 
--- how a step went: as it should, with its memory refused and nothing changed, or as a `Finish` whose service was
--- refused memory
+-- how a step went: as it should, with its memory refused and nothing changed, or as a `Finish` whose service lacked it
 pub data Mark : Type 0 where
   Plain : Mark
   Unmade : Mark
@@ -81,13 +78,9 @@ may_go step mark = false
 abbrev pub count_of : {Q : Type 0} → WorldState Q → ℕ
 count_of w = length w.frame.bounds
 
--- the world's ownership table
-abbrev pub world_table : {Q : Type 0} → WorldState Q → List Record
-world_table w = table_of (count_of w) w.frame.ceiling w.history
-
--- the record of a shard in a world
+-- the record of a shard in a world's ownership table
 abbrev pub world_record : {Q : Type 0} → WorldState Q → ℕ → Record
-world_record w shard = record_at (world_table w) shard
+world_record w shard = record_at (table_of (count_of w) w.frame.ceiling w.history) shard
 
 -- by shard, the last route that was published
 abbrev pub last_routes : {Q : Type 0} → WorldState Q → List (Option Route)
@@ -121,47 +114,32 @@ abbrev pub with_change : {Q : Type 0} → WorldState Q → Command → WorldStat
 with_change w (ChangeOf shard change) = with_entry w 0 shard (Changed change)
 with_change w command = w
 
--- a command, which a fault of the desk forbids
-abbrev pub controlled : {Q R : Type 0} → WorldState Q → Command → Option CommandFault → StepOutcome Q R
-controlled w command (Some fault) = (Err (CommandRefused fault), w)
-controlled w command None = (Ok Made, record (with_change w command) { desk = commanded w.desk command })
-
 -- a command is carried out where neither the desk nor the table refuses it
 abbrev pub after_control : {Q R : Type 0} → WorldState Q → Command → StepOutcome Q R
-after_control w command = controlled w command (option_or (desk_fault w.desk command) (table_fault w command))
+after_control w command = option_map_or (λ fault. (Err (CommandRefused fault), w))
+    (option_or (desk_fault w.desk command) (table_fault w command))
+    (Ok Made, record (with_change w command) { desk = commanded w.desk command })
 
--- a look at a shard's record
-abbrev pub after_look : {Q R : Type 0} → WorldState Q → ℕ → StepOutcome Q R
-after_look w shard = if nat_lt shard (count_of w) then (Ok (Seen (world_record w shard)), w) else (Err UnknownShard, w)
+-- an envelope in flight to a server
+abbrev pub flight_to : {Q : Type 0} → ℕ → EnvelopeView Q (Unit {0}) → Flight Q
+flight_to to envelope = record { to = to; envelope = envelope }
 
--- a direct envelope is put last in flight, for the shard whose range covers the request's key, where the server is
--- reached
+-- a direct envelope of this number, for the shard whose range covers the request's key
+abbrev pub new_envelope : {Q R : Type 0} → Service Q R → List (List ℕ) → ℕ → Q → EnvelopeView Q (Unit {0})
+new_envelope service bounds n asked = record
+    { number = n; shard = shard_of bounds (service.key_of asked); mode = Direct; hops = 0; request = asked; note = tt }
+
+-- a new envelope is put last in flight, where the server is reached
 abbrev pub after_send : {Q R : Type 0} → Service Q R → WorldState Q → ℕ → ℕ → Q → StepOutcome Q R
 after_send service w to number request =
     if is_there w to
     then (if is_reached w.desk to
     then (
       Ok Sent,
-      record w {
-        in_flight = w.in_flight ++ record {
-          to = to;
-          envelope = record {
-            number = number;
-            shard = shard_of w.frame.bounds (service.key_of request);
-            mode = Direct;
-            hops = 0;
-            request = request;
-            note = tt;
-          };
-        } ∷ [];
-      },
+      record w { in_flight = w.in_flight ++ flight_to to (new_envelope service w.frame.bounds number request) ∷ [] },
     )
     else (Err Unreachable, w))
     else (Err UnknownServer, w)
-
--- an envelope in flight to a server
-abbrev pub flight_to : {Q : Type 0} → ℕ → EnvelopeView Q (Unit {0}) → Flight Q
-flight_to to envelope = record { to = to; envelope = envelope }
 
 -- the request of an envelope, as the server that begins it has it in hand
 abbrev pub hand_of : {Q : Type 0} → ℕ → EnvelopeView Q (Unit {0}) → InHand Q
@@ -184,34 +162,21 @@ after_hop desk in_flight (Ok hop) =
     else (Refused NotReached, in_flight)
 after_hop desk in_flight (Err envelope) = (Refused TooManyHops, in_flight)
 
--- a forwarded envelope is on its way, or was refused
-abbrev pub hopped : {Q R : Type 0} → WorldState Q → WorldAnswer R × List (Flight Q) → StepOutcome Q R
-hopped w hop = (Ok hop.0, record w { in_flight = hop.1 })
-
 -- a server that forwards requests on the shard forwards the envelope; any other begins it or refuses it
 abbrev pub arrived : {Q R : Type 0} → WorldState Q → ℕ → EnvelopeView Q (Unit {0}) → Option ℕ → StepOutcome Q R
 arrived w at envelope None =
     reached w at envelope (admit_fault w.frame.ceiling (world_record w envelope.shard) at envelope.mode)
-arrived w at envelope (Some to) = hopped w (after_hop w.desk w.in_flight (sent_on envelope at (Some to)))
+arrived w at envelope (Some to) = let hop = after_hop w.desk w.in_flight (sent_on envelope at (Some to)) in
+    (Ok hop.0, record w { in_flight = hop.1 })
 
 -- a world without the envelope at this place
 abbrev pub without_flight : {Q : Type 0} → WorldState Q → ℕ → WorldState Q
 without_flight w place = record w { in_flight = remove w.in_flight place }
 
--- the delivery of an envelope, if there is one
-abbrev pub delivered : {Q R : Type 0} → WorldState Q → ℕ → Option (Flight Q) → StepOutcome Q R
-delivered w place None = (Err NoEnvelope, w)
-delivered w place (Some flight) = arrived (without_flight w place) flight.to flight.envelope
-    (forward_to (world_record w flight.envelope.shard) flight.to)
-
 -- the envelope at this place of those in flight reaches its server
 abbrev pub after_deliver : {Q R : Type 0} → WorldState Q → ℕ → StepOutcome Q R
-after_deliver w place = delivered w place (slice_get w.in_flight place)
-
--- the envelope at this place of those in flight is lost
-abbrev pub after_lose : {Q R : Type 0} → WorldState Q → ℕ → StepOutcome Q R
-after_lose w place =
-    if nat_lt place (length w.in_flight) then (Ok Made, without_flight w place) else (Err NoEnvelope, w)
+after_deliver w place = option_map_or (λ flight. arrived (without_flight w place) flight.to flight.envelope
+    (forward_to (world_record w flight.envelope.shard) flight.to)) (slice_get w.in_flight place) (Err NoEnvelope, w)
 
 -- the admission ends so
 abbrev pub ended : {Q : Type 0} → WorldState Q → ℕ → ℕ → Ending Q → WorldState Q
@@ -227,33 +192,25 @@ with_room service w mark shard server work = (
 )
 
 -- an admission with work ends by its request, or refused where the shard keeps as many as it may
-abbrev pub worked : {Q R : Type 0} → Service Q R → WorldState Q → Mark → ℕ → ℕ → Option (Work Q) → StepOutcome Q R
-worked service w mark shard server None = (Err NotHeld, w)
-worked service w mark shard server (Some work) =
+abbrev pub finished : {Q R : Type 0} → Service Q R → WorldState Q → Mark → ℕ → ℕ → Work Q → StepOutcome Q R
+finished service w mark shard server work =
     if nat_lt (length (kept w.history shard)) (slice_index_or w.frame.limits shard 0)
     then with_room service w mark shard server work
     else (Ok (Refused KeptFull), ended w shard server Nothing)
 
--- the end of the admission in hand, if there is one
-abbrev pub served : {Q R : Type 0} → Service Q R → WorldState Q → Mark → ℕ → Option (InHand Q) → StepOutcome Q R
-served service w mark shard None = (Err NotHeld, w)
-served service w mark shard (Some hand) = worked service w mark shard hand.server hand.work
-
 -- the server with the shard's request in hand executes it, and its admission ends
 abbrev pub after_finish : {Q R : Type 0} → Service Q R → WorldState Q → Mark → ℕ → StepOutcome Q R
-after_finish service w mark shard = served service w mark shard (slice_index_or w.in_hand shard None)
-
--- what an admission makes, or its fault and nothing
-abbrev pub made_unless : {Q R : Type 0} → Option AdmitFault → WorldState Q → WorldState Q → StepOutcome Q R
-made_unless (Some fault) w made = (Err (AdmitRefused fault), w)
-made_unless None w made = (Ok Made, made)
+after_finish service w mark shard =
+    option_map_or (λ hand. option_map_or (finished service w mark shard hand.server) hand.work (Err NotHeld, w))
+    (slice_index_or w.in_hand shard None) (Err NotHeld, w)
 
 -- an admission without a request makes this of the world, or is refused by its first fault
 abbrev pub after_admission : {Q R : Type 0} → WorldState Q → ℕ → ℕ → WorldState Q → StepOutcome Q R
 after_admission w shard server made =
     if nat_lt shard (count_of w)
     then (if is_there w server
-    then made_unless (admit_fault w.frame.ceiling (world_record w shard) server Direct) w made
+    then option_map_or (λ fault. (Err (AdmitRefused fault), w))
+    (admit_fault w.frame.ceiling (world_record w shard) server Direct) (Ok Made, made)
     else (Err UnknownServer, w))
     else (Err UnknownShard, w)
 
@@ -263,20 +220,12 @@ after_hold w shard server =
     after_admission w shard server
     (with_hand (with_entry w server shard (Admit server Direct)) shard (Some (record { server = server; work = None })))
 
--- an admission without work ends with nothing
-abbrev pub let_go : {Q R : Type 0} → WorldState Q → ℕ → ℕ → Option (Work Q) → StepOutcome Q R
-let_go w shard server None = (Ok Made, ended w shard server Nothing)
-let_go w shard server (Some work) = (Err NotHeld, w)
-
--- the end of what holds a shard, if anything does
-abbrev pub freed : {Q R : Type 0} → WorldState Q → ℕ → Option (InHand Q) → StepOutcome Q R
-freed w shard None = (Err NotHeld, w)
-freed w shard (Some hand) = let_go w shard hand.server hand.work
-
--- the admission without a request ends
+-- the admission without a request ends with nothing
 abbrev pub after_free : {Q R : Type 0} → WorldState Q → ℕ → StepOutcome Q R
 after_free w shard =
-    if nat_lt shard (count_of w) then freed w shard (slice_index_or w.in_hand shard None) else (Err UnknownShard, w)
+    if nat_lt shard (count_of w) then option_map_or (λ hand.
+    option_map_or (λ work. (Err NotHeld, w)) hand.work (Ok Made, ended w shard hand.server Nothing))
+    (slice_index_or w.in_hand shard None) (Err NotHeld, w) else (Err UnknownShard, w)
 
 -- the server is admitted to the shard, makes the shard's state its base, and its admission ends
 abbrev pub after_checkpoint : {Q R : Type 0} → WorldState Q → ℕ → ℕ → StepOutcome Q R
@@ -285,27 +234,25 @@ after_checkpoint w shard server =
     (with_entry (with_entry w server shard (Admit server Direct)) server shard
     (Done (checkpoint_ending (kept w.history shard))))
 
--- the publication of a shard's route, if it has one
-abbrev pub published : {Q R : Type 0} → WorldState Q → Option Route → StepOutcome Q R
-published w None = (Err WrongPhase, w)
-published w (Some route) =
-    if is_old (routes_of w.publications route.shard) route then (Err OldRoute, w)
-    else (Ok Made, record w { publications = w.publications ++ route ∷ [] })
-
 -- the shard's owner at its generation is published, where it has one and that is above the shard's last route
 abbrev pub after_publish : {Q R : Type 0} → WorldState Q → ℕ → StepOutcome Q R
 after_publish w shard =
-    if nat_lt shard (count_of w) then published w (record_route shard (world_record w shard)) else (Err UnknownShard, w)
+    if nat_lt shard (count_of w) then option_map_or (λ route.
+    if is_old (routes_of w.publications route.shard) route then (Err OldRoute, w)
+    else (Ok Made, record w { publications = w.publications ++ route ∷ [] }))
+    (record_route shard (world_record w shard)) (Err WrongPhase, w) else (Err UnknownShard, w)
 
 -- what a step that went so answers, and the world that it leaves
 abbrev pub outcome : {Q R : Type 0} → Service Q R → WorldState Q → Mark → Step Q → StepOutcome Q R
 outcome service w Unmade step = (Err NoMemory, w)
 outcome service w mark (Control command) = after_control w command
-outcome service w mark (Look shard) = after_look w shard
+outcome service w mark (Look shard) =
+    if nat_lt shard (count_of w) then (Ok (Seen (world_record w shard)), w) else (Err UnknownShard, w)
 outcome service w mark (Send to number request) = after_send service w to number request
 outcome service w mark (Deliver place) = after_deliver w place
 outcome service w mark (Finish shard) = after_finish service w mark shard
-outcome service w mark (Lose place) = after_lose w place
+outcome service w mark (Lose place) =
+    if nat_lt place (length w.in_flight) then (Ok Made, without_flight w place) else (Err NoEnvelope, w)
 outcome service w mark (Hold shard server) = after_hold w shard server
 outcome service w mark (Free shard) = after_free w shard
 outcome service w mark (CheckpointAt shard server) = after_checkpoint w shard server

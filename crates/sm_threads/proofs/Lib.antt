@@ -2,3 +2,4 @@ pub mod Answering
 pub mod Beginnings
 pub mod Clients
 pub mod Telling
+pub mod Lines

@@ -43,32 +43,18 @@ use Rattle.sm_cluster.specs.declared.loading.LoadReport.{LoadReport}
 use Rattle.sm_threads.specs.Refusals.{call_refused, command_refused, hold_refused, publish_refused}
 use Rattle.sm_threads.specs.Sessions.{SessionValue}
 
--- the session with this cluster, with this client, and with these clients for loads
-abbrev pub with_cluster : SessionValue → ClusterValue Request → SessionValue
-with_cluster session cluster = record session { cluster = cluster }
-
 -- a session whose client is now this
 abbrev pub with_client : SessionValue → ClientValue Request → SessionValue
 with_client session client = record session { client = client }
 
--- a session whose other clients are now these
-abbrev pub with_loaders : SessionValue → List (ClientValue Request) → SessionValue
-with_loaders session loaders = record session { loaders = loaders }
-
--- the answer to a call that is made or refused
-abbrev pub answer_to : {T F : Type 0} → (F → Refused) → Result T F → LineAnswer
-answer_to refusal (Ok made) = Made
-answer_to refusal (Err fault) = IsRefused (refusal fault)
-
--- the same of a call that may end the run for want of memory, which has no answer
+-- the answer to a call that is made or refused; one that ends the run for want of memory has none
 abbrev pub may_answer : {T F : Type 0} → (F → Option Refused) → Result T F → Option LineAnswer
 may_answer refusal (Ok made) = Some Made
 may_answer refusal (Err fault) = option_map IsRefused (refusal fault)
 
 -- ---- requests
 
--- the request was executed as the cluster promises of its calls: by an answer for this client, which then has met the
--- answer's history
+-- the request was executed by an answer that the cluster promises this client, which then has met the answer's history
 pub record WasExecuted (client : ClientValue Request) (request : Request) (reply : Reply) (server place : ℕ)
     (after : ClientValue Request) : Type 0 where
   pub answer : AnswerValue Request Reply
@@ -80,18 +66,13 @@ pub record WasExecuted (client : ClientValue Request) (request : Request) (reply
   pub met : IsMet answer.note.number answer.note.seen after.pass.seen
   pub others : after ≡ client_seeing client after.pass
 
--- what a request of this client is answered: it was executed, or refused for a fault that its call may have, which
--- leaves the client
+-- what a request of this client is answered: it was executed, or refused for a fault that its call may have
 abbrev pub WasAnswered : (ClientValue Request → CallFault → Type 0) → ClientValue Request → Request → LineAnswer
     → ClientValue Request → Type 0
 WasAnswered may client request (Executed reply server place) after = WasExecuted client request reply server place after
 WasAnswered may client request (IsRefused why) after =
     (fault : CallFault) × may after fault × (call_refused fault ≡ Some why)
 WasAnswered may client request answer after = ⊥
-
--- the shard of a request's key
-abbrev pub shard_for : ClientValue Request → Request → ℕ
-shard_for client request = shard_of client.bounds (key_of_request request)
 
 -- a request goes to a server that exists, or is refused
 abbrev pub AnsweredWhere : Bool → SessionValue → Request → LineAnswer → SessionValue → Type 0
@@ -126,8 +107,7 @@ Looked before shard (Seen state) after =
 Looked before shard answer after =
     (length before.cluster.bounds ≤ shard) × (answer ≡ IsRefused refused.UnknownShard) × (after ≡ before)
 
--- a route is the last one of the key's shard in all publications that the client's router then has seen, or the read
--- was refused
+-- a route is the last one of the key's shard that the client's router then has seen, or the read was refused
 abbrev pub RoutedKey : SessionValue → List ℕ → LineAnswer → SessionValue → Type 0
 RoutedKey before key (Way route) after =
     Extends after.client.router.seen before.client.router.seen
@@ -136,19 +116,12 @@ RoutedKey before key (Way route) after =
     × (after ≡ with_client before (client_reading before.client after.client.router))
 RoutedKey before key answer after = ⊥
 
--- a plan for the server's shards, where the server exists
-abbrev pub drain_answer : ClusterValue Request → ℕ → LineAnswer
-drain_answer cluster server =
-    if is_known cluster.control.desk.books.servers server then Planned (drain_plan cluster.control.desk.books server)
-    else IsRefused refused.UnknownServer
-
--- a call leaves the session with this cluster, and its client has then seen all that the cluster tells, and all that
--- its control has
+-- a call leaves the session with this cluster, whose client has then seen all that the cluster tells or its control has
 abbrev pub TellsClient : SessionValue → SessionValue → Type 0
 TellsClient before after =
     PassLooks before.client.pass after.client.pass × Begins after.cluster.told after.client.pass.seen
     × Begins after.cluster.control.chair.seen after.client.pass.seen
-    × (after ≡ with_cluster (looking before after.client.pass) after.cluster)
+    × (after ≡ record (looking before after.client.pass) { cluster = after.cluster })
 
 -- a command was made or refused as the cluster's control says
 abbrev pub WasCommanded : SessionValue → Command → LineAnswer → SessionValue → Type 0
@@ -157,7 +130,7 @@ WasCommanded before command answer after =
     × Commanded
     (desk_fault before.cluster.control.desk command) before.cluster.control after.cluster.control command made
     × TellsMore (cluster_commanded before.cluster after.cluster.control) after.cluster
-    × (answer ≡ answer_to command_refused made) × TellsClient before after
+    × (may_answer (λ fault. Some (command_refused fault)) made ≡ Some answer) × TellsClient before after
 
 -- a hold was made or refused as the cluster says, and its end
 abbrev pub WasHeld : SessionValue → ℕ → ℕ → LineAnswer → SessionValue → Type 0
@@ -199,7 +172,7 @@ abbrev pub WasRequested : SessionValue → Request → LineAnswer → SessionVal
 WasRequested before request answer after =
     (seen : PassValue Request) × PassLooks before.client.pass seen
     × AnsweredByOwner (looking before seen)
-    (owner_of (record_of seen (shard_for before.client request)).stand) request answer after
+    (owner_of (record_of seen (shard_of before.client.bounds (key_of_request request))).stand) request answer after
 
 -- a request goes by the published route
 abbrev pub WasRouted : SessionValue → Request → LineAnswer → SessionValue → Type 0
@@ -209,14 +182,13 @@ WasRouted before request answer after =
     (client_reading before.client after.client.router) request answer after.client
     × (after ≡ with_client before after.client)
 
--- so many of the session's clients made so many additions each, of which each was acknowledged or refused, and the
--- answer says whether the counts that another one was told differ by those that were acknowledged. Nothing else in the
--- session has changed
+-- so many clients of the session made so many additions each, of which each was acknowledged or refused, and the answer
+-- says whether the counts that another one was told differ by the acknowledged. Nothing else in the session has changed
 abbrev pub WasLoaded : SessionValue → List ℕ → ℕ → ℕ → LineAnswer → SessionValue → Type 0
 WasLoaded before key clients each (Loaded verdict) after =
     (report : LoadReport) × (report.acked + report.refused ≡ clients * each)
     × IsLoadOf key clients each before.loaders report after.loaders
-    × IsVerdictOn report verdict × (after ≡ with_loaders before after.loaders)
+    × IsVerdictOn report verdict × (after ≡ record before { loaders = after.loaders })
 WasLoaded before key clients each answer after = ⊥
 
 -- what may be answered to a call
@@ -231,7 +203,10 @@ Answers before (call.Look shard) answer after = Looked before shard answer after
 Answers before (call.Load key clients each) answer after = WasLoaded before key clients each answer after
 Answers before call.Place answer after =
     (answer ≡ Planned (assign_plan before.cluster.control.desk.books)) × (after ≡ before)
-Answers before (call.Drain server) answer after = (answer ≡ drain_answer before.cluster server) × (after ≡ before)
+Answers before (call.Drain server) answer after =
+    (answer ≡ (if is_known before.cluster.control.desk.books.servers server
+    then Planned (drain_plan before.cluster.control.desk.books server)
+    else IsRefused refused.UnknownServer)) × (after ≡ before)
 Answers before (call.Request request) answer after = WasRequested before request answer after
 Answers before (call.RequestAt server request) answer after = AnsweredAt before server request answer after
 Answers before (call.RequestByRoute request) answer after = WasRouted before request answer after

@@ -16,7 +16,6 @@ use Rattle.sm_run.specs.declared.begin_fault.BeginFault.{BeginFault}
 use Rattle.sm_run.specs.declared.begin_fault.BeginFault.TheVariants as begin
 use Rattle.sm_script.specs.declared.refused.Refused.{Refused}
 use Rattle.sm_script.specs.declared.refused.Refused.TheVariants as refused
-use Rattle.sm_server.specs.declared.refusal.Refusal.{Refusal}
 use Rattle.sm_server.specs.declared.refusal.Refusal.TheVariants as server
 use Rattle.sm_settings.specs.declared.settings_fault.SettingsFault.TheVariants.{TooManyWorkers}
 
@@ -51,18 +50,13 @@ publish_refused route.WrongPhase = Some refused.WrongPhase
 publish_refused route.OldRoute = Some refused.OldRoute
 publish_refused route.NoMemory = None
 
--- the refusal of a request by a server
-abbrev pub request_refused : Refusal → Option Refused
-request_refused server.WrongShard = Some refused.WrongShard
-request_refused server.TooManyHops = Some refused.TooManyHops
-request_refused (server.Admit refusal) = Some (admit_refused refusal)
-request_refused server.KeptFull = Some refused.KeptFull
-request_refused server.NoMemory = None
-
 -- the refusal of a request
 abbrev pub call_refused : CallFault → Option Refused
 call_refused call.NoRoute = Some refused.NoRoute
 call_refused call.Unreachable = Some refused.Unreachable
-call_refused (call.Refused refusal) = request_refused refusal
-call_refused call.NoMemory = None
+call_refused (call.Refused server.WrongShard) = Some refused.WrongShard
+call_refused (call.Refused server.TooManyHops) = Some refused.TooManyHops
+call_refused (call.Refused (server.Admit refusal)) = Some (admit_refused refusal)
+call_refused (call.Refused server.KeptFull) = Some refused.KeptFull
 call_refused call.Closed = Some refused.Closed
+call_refused _ = None

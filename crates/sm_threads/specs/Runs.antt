@@ -1,22 +1,11 @@
--- What a run on a cluster has read and written.
+-- What a run on a cluster has written.
 use Rattle.std.specs.Prelude.{ℕ, List}
-use Rattle.sm_lines.specs.Answers.{AnswersLine}
-use Rattle.sm_lines.specs.Transcripts.{Transcript}
-use Rattle.sm_run.specs.Runs.{RanScript, WritesFor}
-use Rattle.sm_script.specs.declared.line.TheConstants.{MAX_LINE}
-use Rattle.sm_session.specs.LongLines.{RespondsLong}
+use Rattle.sm_run.specs.Openings.{BeginsLine}
+use Rattle.sm_run.specs.Runs.{WritesFor}
 use Rattle.sm_session.specs.Responses.{Responds}
 use Rattle.sm_threads.specs.Calls.{Answers}
-use Rattle.sm_threads.specs.Sessions.{IsBegun, SessionValue}
+use Rattle.sm_threads.specs.Sessions.{IsBegun}
 
--- what may be written for a line, whatever its length, and the session that it leaves
-abbrev pub WritesLine : SessionValue → List ℕ → List ℕ → SessionValue → Type 0
-WritesLine = AnswersLine (Responds Answers) (λ session start text. RespondsLong start text) MAX_LINE
-
--- the settings in front of the input were accepted, and what was written is a session's answers to the lines after them
-abbrev pub WroteAnswers : Transcript → Transcript → Type 0
-WroteAnswers was now = RanScript IsBegun WritesLine was now
-
--- what a run has to write before it comes to the line after these
+-- what may be written for these lines of a script
 abbrev pub WritesAnswers : List (List ℕ) → List ℕ → Type 0
-WritesAnswers before text = WritesFor IsBegun WritesLine before text
+WritesAnswers = WritesFor (BeginsLine IsBegun) (Responds Answers)

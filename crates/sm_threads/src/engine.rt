@@ -1,9 +1,10 @@
 use crate::cluster_backend::ClusterBackend;
 use crate::counts_listener::CountsListener;
 use sm_cluster::Counts;
-use sm_run::{BeginFault, Engine};
+use sm_run::{BeginFault, Engine, read_settings};
 use sm_session::Session;
 use sm_settings::settings::Settings;
+use std::alloc::Global;
 use std::marker::PhantomData;
 use std::sync::Wait;
 use std::thread::Threads;
@@ -46,6 +47,7 @@ impl<
     ghost use Rattle.sm_script.specs.declared.line.TheConstants.{MAX_LINE as LINE_LIMIT};
     ghost use Rattle.sm_settings.specs.SettingsLine.{values_of};
     ghost use Rattle.sm_settings.specs.SettingsRules.{KeepsRules};
+    ghost use Rattle.sm_run.specs.Openings.{BeginsLine, RefusesLine};
     ghost use Rattle.sm_threads.specs.Beginning.{BeginsSessions};
     ghost use Rattle.sm_threads.specs.Sessions.{IsBegun, MayRefuse};
 
@@ -59,12 +61,19 @@ impl<
     ghost ready = { λ _. IsSync R.row × BeginsSessions (λ settings. KeepsRules (values_of settings)) F.pre F.step
         (λ settings. IsBegun (values_of settings)) (λ settings. MayRefuse (values_of settings)) };
 
-    ghost begins = { IsBegun };
+    ghost begins = { BeginsLine IsBegun };
 
-    ghost refuses = { MayRefuse };
+    ghost refuses = { RefusesLine MayRefuse };
 
-    fn begin(&mut self, settings: Settings) -> Result<Session<ClusterBackend<R>>, BeginFault> {
-        (self.begin)(settings)
+    fn begin(
+        &mut self,
+        alloc: Global,
+        first: &[u8],
+    ) -> Result<Session<ClusterBackend<R>>, BeginFault> {
+        match read_settings(alloc, first) {
+            Ok(settings) => (self.begin)(settings),
+            Err(fault) => Err(fault),
+        }
     }
 
     fn end(&mut self, session: Session<ClusterBackend<R>>) {

@@ -1,9 +1,9 @@
 //! The answers to calls that a cluster refused.
 ghost use Rattle.std.specs.Prelude.{◌≡◌, IfOk, OnErr, None, Some};
 ghost use Rattle.std.specs.Option.{option_map};
-ghost use Rattle.sm_threads.specs.Calls.{answer_to, may_answer};
+ghost use Rattle.sm_threads.specs.Calls.{may_answer};
 ghost use Rattle.sm_threads.specs.Refusals.{admit_refused, begin_fault, call_refused, command_refused};
-ghost use Rattle.sm_threads.specs.Refusals.{hold_refused, publish_refused, request_refused};
+ghost use Rattle.sm_threads.specs.Refusals.{hold_refused, publish_refused};
 
 use sm_cluster::{CallFault, HoldFault, StartFault};
 use sm_control::ControlFault;
@@ -29,7 +29,7 @@ pub(crate) fn begin_fault(fault: StartFault) -> BeginFault
 
 /// The answer to a command.
 pub(crate) fn command_answer(made: Result<(), ControlFault>) -> LineAnswer
-    ensures { result ≡ answer_to command_refused made }
+    ensures { may_answer (λ fault. Some (command_refused fault)) made ≡ Some result }
 {
     match made {
         Ok(()) => LineAnswer::Made,
@@ -95,8 +95,9 @@ pub(crate) fn call_refused(fault: CallFault) -> Result<LineAnswer, AllocError>
 
 /// The answer to a request that a server refused; an error is want of memory.
 fn request_refused(refusal: Refusal) -> Result<LineAnswer, AllocError>
-    ensures ok { IfOk result (λ answer. option_map LineAnswer.Refused (request_refused refusal) ≡ Some answer) }
-    ensures err { OnErr result (request_refused refusal ≡ None) }
+    ensures ok { IfOk result (λ answer.
+        option_map LineAnswer.Refused (call_refused (CallFault.Refused refusal)) ≡ Some answer) }
+    ensures err { OnErr result (call_refused (CallFault.Refused refusal) ≡ None) }
 {
     match refusal {
         Refusal::WrongShard => Ok(LineAnswer::Refused(Refused::WrongShard)),

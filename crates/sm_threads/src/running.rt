@@ -1,10 +1,11 @@
-ghost use Rattle.std.specs.Prelude.{◌≡◌, Err, IfErr, IfOk, Ok};
-ghost use Rattle.sm_run.specs.Openings.{RefusedScript, Unbegun};
-ghost use Rattle.sm_run.specs.Runs.{StoppedEarly};
+ghost use Rattle.std.specs.Prelude.{◌≡◌, IfErr, IfOk, Ok};
+ghost use Rattle.sm_lines.specs.Writing.{Wrote};
+ghost use Rattle.sm_run.specs.Openings.{RefusedScript, RefusesLine};
+ghost use Rattle.sm_run.specs.Runs.{RanScript, StoppedEarly};
 ghost use Rattle.sm_run.specs.Watching.{KeepsWatch};
 ghost use Rattle.sm_settings.specs.SettingsLine.{values_of};
 ghost use Rattle.sm_settings.specs.SettingsRules.{KeepsRules};
-ghost use Rattle.sm_threads.specs.Runs.{WritesAnswers, WroteAnswers};
+ghost use Rattle.sm_threads.specs.Runs.{WritesAnswers};
 ghost use Rattle.sm_threads.specs.Sessions.{IsBegun, MayRefuse};
 
 use crate::cluster_backend::ClusterBackend;
@@ -36,14 +37,12 @@ pub fn run_threads<
     G: Gate + Clone + Send + Sync + Drop + 'static,
 >(rt: &R, alloc: Global, dialogue: &mut Dialogue<I, W>, gate: &G) -> Result<Status, RunFault>
     // What was written is answers that the cluster may give, one after another, and nothing else.
-    ensures ran { result ≡ Ok Status.Ran → WroteAnswers dialogue.old dialogue.new }
-    ensures bad_settings { result ≡ Ok Status.BadSettings → RefusedScript MayRefuse
+    ensures ran { result ≡ Ok Status.Ran → RanScript WritesAnswers dialogue.old dialogue.new }
+    ensures bad_settings { result ≡ Ok Status.BadSettings → RefusedScript (RefusesLine MayRefuse) Wrote
         dialogue.old dialogue.new }
     // Exactly the answers to all lines before the one at which a fault came were written, but for a front of that
     // line's.
-    ensures stopped { StoppedEarly MayRefuse WritesAnswers result dialogue.old dialogue.new }
-    ensures no_thread { result ≡ Err RunFault.NoThread → Unbegun MayRefuse BeginFault.NoThread
-        dialogue.old dialogue.new }
+    ensures stopped { StoppedEarly (RefusesLine MayRefuse) WritesAnswers result dialogue.old dialogue.new }
     ensures watched { KeepsWatch result dialogue.old dialogue.new }
 {
     let begin = |settings: Settings| -> Result<Session<ClusterBackend<R>>, BeginFault>
@@ -72,12 +71,10 @@ pub fn run_threads_explained<
     listener: L,
     counts_listener: C,
 ) -> Result<Status, RunFault>
-    ensures ran { result ≡ Ok Status.Ran → WroteAnswers dialogue.old dialogue.new }
-    ensures bad_settings { result ≡ Ok Status.BadSettings → RefusedScript MayRefuse
+    ensures ran { result ≡ Ok Status.Ran → RanScript WritesAnswers dialogue.old dialogue.new }
+    ensures bad_settings { result ≡ Ok Status.BadSettings → RefusedScript (RefusesLine MayRefuse) Wrote
         dialogue.old dialogue.new }
-    ensures stopped { StoppedEarly MayRefuse WritesAnswers result dialogue.old dialogue.new }
-    ensures no_thread { result ≡ Err RunFault.NoThread → Unbegun MayRefuse BeginFault.NoThread
-        dialogue.old dialogue.new }
+    ensures stopped { StoppedEarly (RefusesLine MayRefuse) WritesAnswers result dialogue.old dialogue.new }
     ensures watched { KeepsWatch result dialogue.old dialogue.new }
 {
     let begin = |settings: Settings| -> Result<Session<ClusterBackend<R>>, BeginFault>

@@ -7,8 +7,8 @@ use crate::stops::{
     Runs, is_written, is_written_in_two, wrong_stop_of_reader, wrong_stop_of_writer,
 };
 use sm_lines::{Dialogue, Watched};
-use sm_run::{BeginFault, Engine, RunFault, Status, run};
-use sm_settings::{MAX_SETTINGS, Settings};
+use sm_run::{BeginFault, Engine, RunFault, Status, read_settings, run};
+use sm_settings::MAX_SETTINGS;
 use std::alloc::{AllocError, Global};
 use std::io::{Read, Write};
 use std::process::Abort;
@@ -31,7 +31,8 @@ impl Engine for EchoEngine {
 
     ghost refuses = { λ _ _. ⊤ };
 
-    fn begin(&mut self, _settings: Settings) -> Result<Echo, BeginFault> {
+    fn begin(&mut self, alloc: Global, first: &[u8]) -> Result<Echo, BeginFault> {
+        let _settings = read_settings(alloc, first)?;
         Ok(Echo)
     }
 

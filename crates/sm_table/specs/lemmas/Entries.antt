@@ -33,9 +33,9 @@ use Rattle.sm_place.specs.Books.{moved, no_shard, shard_at}
 use Rattle.sm_place.specs.declared.shard.Shard.{Shard}
 use Rattle.sm_desk.specs.lemmas.Changes.{let_through}
 use Rattle.sm_ownership.specs.History.{vacant, after_change, after_kind, admits_only, acts_as, fits}
-use Rattle.sm_table.specs.World.{WorldState, count_of, world_table, world_record, with_entry, with_hand, table_fault}
+use Rattle.sm_table.specs.World.{WorldState, count_of, world_record, with_entry, with_hand, table_fault}
 use Rattle.sm_table.specs.World.{ended}
-use Rattle.sm_table.specs.Standing.{AgreesWithHand, IsFlight, IsLedTo, IsSound, IsThere}
+use Rattle.sm_table.specs.Standing.{AgreesWithHand, IsFlight, IsLedTo, IsSound, IsThere, world_table}
 use Rattle.sm_ownership.specs.lemmas.Faults.{change_fits-no_fault, admit_fault-none}
 use Rattle.sm_ownership.specs.Tables.{record_fault}
 use Rattle.sm_table.specs.lemmas.Names.{names_after}

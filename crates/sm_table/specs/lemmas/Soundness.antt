@@ -37,15 +37,17 @@ use Rattle.sm_envelope.specs.declared.envelope.TheConstants.{MOST_HOPS}
 use Rattle.sm_ownership.specs.History.{checkpoint_ending, vacant, record_at, kept}
 use Rattle.sm_body.specs.Service.{Service}
 use Rattle.sm_table.specs.World.{Frame, WorldState, Mark, Plain, Unmade, Unserved, StepOutcome, count_of, world_record}
-use Rattle.sm_table.specs.World.{is_there, table_fault, with_change, controlled, after_look, after_send, flight_to}
-use Rattle.sm_table.specs.World.{reached, after_hop, hopped, arrived, without_flight, delivered, after_lose, with_room}
-use Rattle.sm_table.specs.World.{worked, served, after_admission, made_unless, after_hold, after_checkpoint}
-use Rattle.sm_table.specs.World.{let_go, freed, after_free, published, empty_world, next}
+use Rattle.sm_table.specs.World.{is_there, table_fault, with_change, after_send, flight_to}
+use Rattle.sm_table.specs.World.{reached, after_hop, arrived, without_flight, with_room}
+use Rattle.sm_table.specs.World.{after_admission, after_hold, after_checkpoint}
+use Rattle.sm_table.specs.World.{after_free, empty_world, next}
 use Rattle.sm_table.specs.World.{world_after, world_of}
 use Rattle.sm_table.specs.Standing.{IsFrame, IsFlight, IsLedTo, IsThere, AgreesWithHand, IsSound, desk_after}
 use Rattle.sm_ownership.specs.lemmas.Growth.{record_at-empty}
 use Rattle.sm_table.specs.lemmas.Names.{known_forward}
 use Rattle.sm_table.specs.lemmas.Entries.{led_on, sound_change, sound_admit, sound_admit_done, sound_done}
+use Rattle.sm_table.specs.lemmas.Steps.{after_look, after_lose, controlled, delivered, freed, hopped, let_go}
+use Rattle.sm_table.specs.lemmas.Steps.{made_unless, published, served, worked}
 
 pub map-replicate : {A B : Type 0} (f : A → B) (count : ℕ) (x : A) → map f (replicate count x) ≡ replicate count (f x)
 map-replicate f zero x = refl

@@ -1,4 +1,3 @@
-use Rattle.std.proofs.lemmas.Bool.{false≢true}
 use Rattle.sm_model.proofs.Scripts.{accepted_settings, begins_alone, refused_settings, writes_script, wrote_script}
 use Rattle.sm_run.specs.lemmas.Rewording.{early_as}
 use Rattle.sm_model.proofs.engine.run_model.Goals as goal
@@ -13,7 +12,7 @@ pub returns-clause-stopped : goal.returns-clause-stopped
 returns-clause-stopped g c = early_as _ _ _ _ _ _ writes_script c.run.ensures.stopped
 
 pub returns-clause-no_thread : goal.returns-clause-no_thread
-returns-clause-no_thread g c = λ is. false≢true (begins_alone _ _ (c.run.ensures.no_thread is))
+returns-clause-no_thread g c = λ is. begins_alone _ _ (c.run.ensures.stopped.no_thread is)
 
 pub returns-clause-ran : goal.returns-clause-ran
 returns-clause-ran g c = λ is. accepted_settings _ _ (c.run.ensures.ran is)

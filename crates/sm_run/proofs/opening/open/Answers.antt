@@ -1,17 +1,10 @@
-use Rattle.std.proofs.Common.{inr}
-use Rattle.sm_run.proofs.Openings.{end_opening, long_opening, one_line, read_opening}
+use Rattle.sm_run.proofs.Openings.{end_opening, line_opening, long_opening}
 use Rattle.sm_run.proofs.opening.open.Goals as goal
 
 pub returns-in-Ok-Line-clause-opening : goal.returns-in-Ok-Line-clause-opening
 returns-in-Ok-Line-clause-opening g c =
-    read_opening c.args.dialogue.now.reading c.next_line.new.self.reading c.in-Ok-Line.field-0 _
-    c.read_settings.result c.in-Ok-Line.field-0-is c.in-Ok-Line.ensures.took c.line.ensures
-    c.read_settings.ensures.ok
-
-pub returns-in-Ok-Line-clause-no_memory : goal.returns-in-Ok-Line-clause-no_memory
-returns-in-Ok-Line-clause-no_memory g c = λ _.
-    inr (one_line c.args.dialogue.now.reading c.next_line.new.self.reading c.in-Ok-Line.field-0
-    c.in-Ok-Line.field-0-is c.in-Ok-Line.ensures.took)
+    line_opening c.args.dialogue.now.reading c.next_line.new.self.reading c.in-Ok-Line.field-0
+    c.in-Ok-Line.field-0-is c.in-Ok-Line.ensures.took
 
 pub returns-in-Ok-LongLine-clause-opening : goal.returns-in-Ok-LongLine-clause-opening
 returns-in-Ok-LongLine-clause-opening g c =

@@ -1,7 +1,6 @@
 use Rattle.std.proofs.Common.{◌≡◌, ◌+◌, ◌*◌, List, ap, drop, length, subst, sym, ◌∙◌, ℕ}
 use Rattle.sm_cluster.specs.Calls.{ClientValue}
 use Rattle.sm_service.specs.declared.request.Request.{Request}
-use Rattle.sm_threads.specs.Calls.{with_loaders}
 use Rattle.sm_threads.specs.Loads.{IsLoadOf}
 use Rattle.sm_threads.specs.Sessions.{SessionValue}
 use Rattle.sm_threads.proofs.Clients.{take_all}
@@ -25,5 +24,5 @@ returns-clause-answers g c =
       subst (λ (s : SessionValue). IsLoadOf c.args.key c.args.clients c.args.each s.loaders report after) c.self.view_is
           mine,
       c.verdict_on.ensures,
-      ap (λ (s : SessionValue). with_loaders s after) c.self.view_is,
+      ap (λ (s : SessionValue). record s { loaders = after }) c.self.view_is,
     )

@@ -1,0 +1,2 @@
+-- Lemmas that the proofs of crates above cite.
+pub mod Lengths
