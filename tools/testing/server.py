@@ -34,6 +34,8 @@ def skipped(say):
     """Says what isn't tried, for want of what."""
     if not shutil.which("cargo"):
         say("cargo isn't installed: the server for Redis clients isn't tried")
+    elif not runs.loaded("serve").has_crates():
+        say("cargo finds no crates: the server for Redis clients isn't tried; tools/setup installs them")
     elif absent := lacking():
         say(f"no {', '.join(absent)}: of the server for Redis clients unit tests run alone; tools/setup installs them")
 
@@ -69,12 +71,12 @@ def said_by(script, python, program):
 
 
 def passed(_room):
-    """All of it; nothing where the library wasn't built, or cargo isn't there."""
-    if not PROVED.is_file() or not shutil.which("cargo"):
+    """All of it; nothing where the library wasn't built, or cargo or other people's crates aren't there."""
+    serve = runs.loaded("serve")
+    if not PROVED.is_file() or not shutil.which("cargo") or not serve.has_crates():
         return
     # It was just proved, or taken over as proved: it is as new as its sources, which is how ./sm serve sees that.
     PROVED.touch()
-    serve = runs.loaded("serve")
     try:
         program = serve.built()
     except serve.Missing as missing:
