@@ -9,6 +9,8 @@ pub struct ProvedBody {
     map: Map,
     /// What was told last, which a reply borrows.
     told: Told,
+    /// How many keys held something when that was last asked, unless a request may have changed it since.
+    keys: Option<usize>,
 }
 
 impl ProvedBody {
@@ -17,6 +19,7 @@ impl ProvedBody {
         Ok(ProvedBody {
             map: Map::new()?,
             told: Told::Nothing,
+            keys: Some(0),
         })
     }
 
@@ -111,6 +114,9 @@ impl ProvedBody {
 
 impl ShardBody for ProvedBody {
     fn apply<'a>(&'a mut self, request: Request<'_>) -> Reply<'a> {
+        if !matches!(request, Request::Get(_) | Request::Scan(_)) {
+            self.keys = None;
+        }
         if let Err(refusal) = self.make(request) {
             return Reply::Refused(refusal);
         }
@@ -133,7 +139,7 @@ impl ShardBody for ProvedBody {
     }
 
     fn keys(&mut self) -> usize {
-        self.map.len() as usize
+        *self.keys.get_or_insert_with(|| self.map.len() as usize)
     }
 }
 
