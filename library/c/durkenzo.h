@@ -23,7 +23,8 @@
 extern "C" {
 #endif
 
-/* What a caller keeps between calls: nothing, a control, a pass, a pass with an admission, a layout or a plan. */
+/* What a caller keeps between calls: nothing, a control, a pass, a pass with an admission, a layout, a plan, or what
+ * the sample service has: a map, a reply, an envelope or an answer. */
 typedef struct durkenzo_handle {
     bool full;
     void *owned;
@@ -96,8 +97,50 @@ enum durkenzo_code {
     DURKENZO_NOT_RISING = 52,      /* a bound isn't above the one before it */
     DURKENZO_BOUND_TOO_LONG = 53,  /* a bound has more than 255 bytes */
     DURKENZO_TOO_SHORT = 55,       /* what would be written is longer than the room for it */
-    DURKENZO_NO_MORE = 56          /* the plan has no such line */
+    DURKENZO_NO_MORE = 56,         /* the plan has no such line, or the reply no such pair */
+    DURKENZO_KEY_EMPTY = 57,       /* a key has at least one byte */
+    DURKENZO_KEY_TOO_LONG = 58,    /* a key has at most 255 bytes */
+    DURKENZO_FORWARD = 60,         /* the envelope goes on to the server `to` */
+    DURKENZO_WRONG_SHARD = 61,     /* 61 to 63 refuse an envelope: its key is of another shard */
+    DURKENZO_TOO_MANY_HOPS = 62,   /* it was forwarded as often as it may be */
+    DURKENZO_KEPT_FULL = 63        /* the shard keeps as many requests as it may; make a checkpoint */
 };
+
+/* Requests to the sample service. Keys have 1 to 255 bytes, texts at most 65,535. */
+enum durkenzo_request_kind {
+    DURKENZO_GET = 1,
+    DURKENZO_PUT = 2,    /* the key is to hold the text `other`, in place of the text that it held */
+    DURKENZO_APPEND = 3, /* the key is to hold its text followed by `other` */
+    DURKENZO_ADD = 4,    /* `amount` is added to the key's count */
+    DURKENZO_REMOVE = 5, /* the key is to hold nothing */
+    DURKENZO_SCAN = 6    /* `amount` pairs with keys from `key` on and below `other`, and at most 100 */
+};
+
+/* Replies of the sample service. From WRONG_KIND on nothing has changed. */
+enum durkenzo_reply_kind {
+    DURKENZO_NOTHING = 0,    /* the key holds nothing, or held nothing to remove */
+    DURKENZO_DONE = 1,
+    DURKENZO_TEXT = 2,       /* a text of `length` bytes */
+    DURKENZO_COUNT = 3,      /* this `count`, after an addition the sum */
+    DURKENZO_PAIRS = 4,      /* `length` pairs, in the order of their keys */
+    DURKENZO_WRONG_KIND = 5, /* the key holds a count, and a text was asked for, or the other way round */
+    DURKENZO_OVERFLOW = 6,   /* the sum would have more than 64 bits */
+    DURKENZO_TOO_LONG = 7    /* the text would have more than 65,535 bytes */
+};
+
+/* A reply, or what a pair of it holds. */
+typedef struct durkenzo_parts {
+    int64_t count;
+    size_t length;
+    uint8_t kind;
+} durkenzo_parts;
+
+/* An answer, but for its reply. */
+typedef struct durkenzo_answer_parts {
+    uint64_t number; /* that of its envelope */
+    uint64_t place;  /* how many requests of the shard were executed before */
+    uint16_t server; /* which executed it */
+} durkenzo_answer_parts;
 
 /* A part of a text, from `start` up to `end`. */
 typedef struct durkenzo_part {
@@ -156,8 +199,8 @@ uint32_t durkenzo_finish(durkenzo_handle *pass, uint64_t *generation);
  * WRONG_HANDLE (also where the other pass has an admission), NO_MEMORY. */
 uint32_t durkenzo_split(durkenzo_handle *from, durkenzo_handle *pass);
 
-/* Tells the pass all that another pass had seen, which has to be one of the same board; that one's handle then keeps
- * nothing. Error: WRONG_HANDLE (also where one of them has an admission). */
+/* Tells the pass all that another pass, or an answer, had seen, which has to be of the same board; that one's handle
+ * then keeps nothing. Error: WRONG_HANDLE (also where one of them has an admission). */
 uint32_t durkenzo_meet(durkenzo_handle *pass, durkenzo_handle *other);
 
 /* Makes this change of the shard, for this server where the kind names one. Errors: WRONG_HANDLE, BAD_ARGUMENT,
@@ -191,6 +234,58 @@ uint32_t durkenzo_shard_of(durkenzo_handle *layout, const uint8_t *key, size_t l
 /* Writes the bound at which the shard begins into `room` bytes, and its length; 255 bytes are always enough. Errors:
  * WRONG_HANDLE, UNKNOWN_SHARD past the last, TOO_SHORT. */
 uint32_t durkenzo_bound(durkenzo_handle *layout, uint16_t shard, uint8_t *into, size_t room, size_t *length);
+
+/* Makes an empty map of the sample service: a body of yours, as any other. The handle keeps it, in place of what it
+ * kept. Error: NO_MEMORY. */
+uint32_t durkenzo_map(durkenzo_handle *map);
+
+/* Writes how many keys of the map hold something. Error: WRONG_HANDLE. */
+uint32_t durkenzo_map_length(durkenzo_handle *map, uint64_t *length);
+
+/* Makes this request of the map. The reply's handle keeps the reply, in place of what it kept, and its parts are
+ * written. Errors: WRONG_HANDLE, BAD_ARGUMENT (the kind, or `amount` of a scan), KEY_EMPTY, KEY_TOO_LONG, NO_MEMORY. */
+uint32_t durkenzo_ask(durkenzo_handle *map, durkenzo_handle *reply, uint8_t kind, const uint8_t *key, size_t key_length,
+                      const uint8_t *other, size_t other_length, int64_t amount, durkenzo_parts *parts);
+
+/* Writes the text that was replied into `room` bytes, and its length. The handle may keep an answer. Errors:
+ * WRONG_HANDLE (also where the reply is no text), TOO_SHORT. */
+uint32_t durkenzo_reply_text(durkenzo_handle *reply, uint8_t *into, size_t room, size_t *length);
+
+/* Writes what the key of the pair at this place of the reply, from 0, held. Errors: WRONG_HANDLE, NO_MORE. */
+uint32_t durkenzo_pair(durkenzo_handle *reply, size_t at, durkenzo_parts *parts);
+
+/* Writes the key of that pair into `room` bytes, and its length. Errors: WRONG_HANDLE, NO_MORE, TOO_SHORT. */
+uint32_t durkenzo_pair_key(durkenzo_handle *reply, size_t at, uint8_t *into, size_t room, size_t *length);
+
+/* Writes the text that it held into `room` bytes, and its length. Errors: as above. */
+uint32_t durkenzo_pair_text(durkenzo_handle *reply, size_t at, uint8_t *into, size_t room, size_t *length);
+
+/* Opens a board of the sample service, whose requests the library executes itself: `shards` of them (1 to 4,096),
+ * each of which keeps at most `kept` requests between checkpoints; the rest as durkenzo_open. Passes, looks,
+ * changes, restarts, plans, split and meet are the same. Errors: as durkenzo_open. */
+uint32_t durkenzo_open_service(durkenzo_handle *control, size_t shards, size_t kept, uint16_t servers, uint16_t ops,
+                               uint64_t ceiling);
+
+/* Makes an envelope with your number for the shard, that carries this request and a note of all that the pass has seen.
+ * Its handle keeps it, in place of what it kept. Errors: UNKNOWN_SHARD, and those of durkenzo_ask. */
+uint32_t durkenzo_envelope(durkenzo_handle *pass, durkenzo_handle *envelope, uint64_t number, uint16_t shard,
+                           uint8_t kind, const uint8_t *key, size_t key_length, const uint8_t *other,
+                           size_t other_length, int64_t amount);
+
+/* Has the pass's server serve the envelope, which has to be of the same board; the layout says which keys the shard
+ * has. Where it answers OK, the envelope's handle keeps the answer. FORWARD writes the server `to` that the envelope
+ * goes to, with one hop more. Else the envelope comes back: WRONG_HANDLE, WRONG_SHARD, TOO_MANY_HOPS, KEPT_FULL,
+ * NO_MEMORY, and 21 to 26 or RACED, which write `read`. */
+uint32_t durkenzo_serve(durkenzo_handle *pass, durkenzo_handle *layout, durkenzo_handle *envelope, uint16_t *to,
+                        durkenzo_record *read);
+
+/* Writes the parts of the answer, and of its reply. durkenzo_meet tells a pass what the answer has seen, so that what
+ * the pass asks next comes after it. Error: WRONG_HANDLE. */
+uint32_t durkenzo_answer(durkenzo_handle *answer, durkenzo_answer_parts *parts, durkenzo_parts *reply);
+
+/* Makes the shard's state its base, so that it keeps no request, and writes the shard's generation since then. Errors:
+ * WRONG_HANDLE, UNKNOWN_SHARD, NO_MEMORY, and 21 to 26 or RACED, which write `read`. */
+uint32_t durkenzo_checkpoint(durkenzo_handle *pass, uint16_t shard, uint64_t *generation, durkenzo_record *read);
 
 /* Lets go what the handle keeps: an admission ends, and the handle keeps nothing. */
 void durkenzo_close(durkenzo_handle *handle);

@@ -4,7 +4,7 @@ import threading
 import unittest
 
 import durkenzo
-from durkenzo import Board, Layout, Phase, Plan
+from durkenzo import Board, Layout, Map, Phase, Plan
 
 
 class Counter:
@@ -146,6 +146,33 @@ class Boards(unittest.TestCase):
                 counts += look.run(shard, lambda body: body.count)
         self.assertEqual(counts, sum(done))
         self.assertGreater(counts, 0)
+
+
+class Maps(unittest.TestCase):
+    def test_what_keys_hold(self):
+        held = Map()
+        self.assertIsNone(held.get(b"name"))
+        held.put(b"name", b"durk")
+        held.append(b"name", b"enzo")
+        self.assertEqual((held.get(b"name"), held.add(b"visits", 3), held.add(b"visits", -5)), (b"durkenzo", 3, -2))
+        self.assertEqual(held.scan(b"a", b"z"), [(b"name", b"durkenzo"), (b"visits", -2)])
+        self.assertEqual((len(held), held.scan(b"a", b"z", 1)), (2, [(b"name", b"durkenzo")]))
+        self.assertEqual((held.remove(b"name"), held.remove(b"name"), held.get(b"name")), (True, False, None))
+
+    def test_refusals_change_nothing(self):
+        held = Map()
+        held.put(b"text", b"a")
+        held.add(b"count", (1 << 63) - 1)
+        self.assertRaises(durkenzo.WrongKind, held.add, b"text", 1)
+        self.assertRaises(durkenzo.WrongKind, held.put, b"count", b"a")
+        self.assertRaises(durkenzo.CountOverflow, held.add, b"count", 1)
+        self.assertRaises(durkenzo.CountOverflow, held.add, b"count", 1 << 63)
+        self.assertRaises(durkenzo.TextTooLong, held.put, b"text", bytes(65_536))
+        self.assertRaises(durkenzo.KeyEmpty, held.get, b"")
+        self.assertRaises(durkenzo.KeyTooLong, held.get, bytes(256))
+        self.assertEqual((held.get(b"text"), held.get(b"count")), (b"a", (1 << 63) - 1))
+        held.close()
+        self.assertRaises(durkenzo.WrongHandle, held.get, b"text")
 
 
 if __name__ == "__main__":

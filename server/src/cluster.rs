@@ -88,8 +88,9 @@ impl Cluster {
     /// A cluster whose data lies there; nobody owns a shard yet.
     pub fn new(configuration: Configuration, storage: &dyn Storage) -> Result<Cluster, BuildFault> {
         let shards = configuration.rule.shards();
-        let bodies: Vec<Shard> = (0..shards).map(|it| storage.open(it)).collect();
-        let keys = bodies.iter().map(|it| AtomicU64::new(it.keys() as u64));
+        let bodies = (0..shards).map(|it| storage.open(it));
+        let mut bodies: Vec<Shard> = bodies.collect::<Result<_, _>>()?;
+        let keys = bodies.iter_mut().map(|it| AtomicU64::new(it.keys() as u64));
         let keys = keys.collect();
         let board = Board::builder()
             .servers(configuration.servers)

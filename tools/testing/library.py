@@ -14,6 +14,8 @@ PROVED = sources.CRATES / "sm_c/out/libsm_c.a"
 PROGRAM = sources.CRATES / "sm_cli/out/sm_cli"
 COUNTED = "every admission was counted\n"
 SECONDS = 170
+# The Pythons of which one may have what makes a wheel: Debian's, and the first of the PATH.
+PYTHONS = ("/usr/bin/python3", "python3")
 
 
 def ran(name, command, folder, wanted=None, **env):
@@ -72,6 +74,27 @@ def in_python(room):
     yield ran("the Python example", ["python3", "example.py"], FOLDER / "python", **env)
 
 
+def wheel_maker():
+    """Returns a Python that can make and install a wheel with no network, or None."""
+    for python in filter(None, map(shutil.which, PYTHONS)):
+        needs = [python, "-c", "import setuptools, pip, wheel, venv"]
+        if subprocess.run(needs, capture_output=True).returncode == 0:
+            return python
+    return None
+
+
+def in_wheel(room, python):
+    """The wheel brings its shared object: its example runs in a fresh environment with no variable set."""
+    venv = room / "venv"
+    yield ran("make wheel", ["make", "wheel", f"BUILD={room}/build", f"PYTHON={python}"], FOLDER)
+    yield ran("a fresh venv", [python, "-m", "venv", "--without-pip", venv], room)
+    install = [python, "-m", "pip", "--python", venv / "bin/python", "install", "--quiet", "--no-index"]
+    yield ran("the wheel is installed", [*install, *(room / "build/wheel").glob("*.whl")], room)
+    # Isolated, so that the module beside the example isn't found.
+    example = ["env", "-i", venv / "bin/python", "-I", FOLDER / "python/example.py"]
+    yield ran("the Python example by the wheel", example, room)
+
+
 def passed(room):
     """All of it; nothing where the library wasn't built: that it has to be is the proofs' part."""
     room = pathlib.Path(room)
@@ -82,3 +105,5 @@ def passed(room):
     if shutil.which("gcc") and shutil.which("make"):
         yield from in_c(room)
         yield from in_python(room)
+        if python := wheel_maker():
+            yield from in_wheel(room, python)

@@ -150,6 +150,8 @@ def proved(say):
     """The stage after the proofs: the programs that they made. Rattle's own compiler may decline one, which `rt ci`
     then says."""
     program = Program(PROVED, "proved")
+    if not library.wheel_maker():
+        say("no python3 has pip, setuptools and wheel: the library's wheel isn't tried")
     server.skipped(say)
     parts = [
         Part("pictures, proved", program.pictures),

@@ -1,6 +1,7 @@
 //! The codes by which calls answer C.
 ghost use Rattle.std.specs.Prelude.{◌≢◌};
 
+use crate::requests::RequestFault;
 use crate::word_fault::WordFault;
 use sm_control::ControlFault;
 use sm_desk::CommandFault;
@@ -9,8 +10,10 @@ use sm_handle::{ActFault, CutFault};
 use sm_ownership::admit_fault::AdmitFault;
 use sm_ownership::change_fault::ChangeFault;
 use sm_place::PlaceFault;
+use sm_ranges::key::KeyFault;
 use sm_ranges::layout::LayoutFault;
 use sm_rule::{AdmitRefusal, MakeFault};
+use sm_server::{CheckpointFault, Refusal};
 use sm_tasks::RestartFault;
 
 /// The handle keeps nothing, or nothing that the call is for.
@@ -36,6 +39,9 @@ pub(crate) const RACED: u32 = 15;
 
 /// The word has no admission that could end.
 pub(crate) const NOT_ADMITTED: u32 = 27;
+
+/// The envelope goes on to another server.
+pub(crate) const FORWARD: u32 = 60;
 
 /// The code of what forbids a step of a word.
 pub(crate) fn code_of_word(fault: WordFault) -> u32
@@ -83,9 +89,24 @@ pub(crate) fn code_of_cut(fault: CutFault) -> u32
     }
 }
 
+/// The code of why parts are no request.
+pub(crate) fn code_of_request(fault: RequestFault) -> u32
+    ensures { result ≢ 0 }
+{
+    match fault {
+        RequestFault::Argument => BAD_ARGUMENT,
+        RequestFault::Key(fault) => match fault {
+            KeyFault::Empty => 57,
+            KeyFault::TooLong => 58,
+            KeyFault::NoMemory => NO_MEMORY,
+        },
+    }
+}
+
 /// The code of why a call on a handle did nothing.
 pub(crate) fn code_of_act(fault: ActFault) -> u32
-    ensures { result ≢ 0 }
+    ensures refused { result ≢ 0 }
+    ensures stays { result ≢ FORWARD }
 {
     match fault {
         ActFault::WrongHandle => WRONG_HANDLE,
@@ -94,9 +115,10 @@ pub(crate) fn code_of_act(fault: ActFault) -> u32
         ActFault::NoMemory => NO_MEMORY,
         ActFault::TooShort => 55,
         ActFault::NoMore => 56,
-        ActFault::Admit(refusal) => match refusal {
-            AdmitRefusal::Refused(fault, _) => code_of_admit(fault),
-            AdmitRefusal::Raced { .. } => RACED,
+        ActFault::Admit(refusal) => code_of_admission(refusal),
+        ActFault::Checkpoint(fault) => match fault {
+            CheckpointFault::Admit(refusal) => code_of_admission(refusal),
+            CheckpointFault::NoMemory => NO_MEMORY,
         },
         ActFault::Command(fault) => match fault {
             ControlFault::Command(fault) => code_of_command(fault),
@@ -105,8 +127,33 @@ pub(crate) fn code_of_act(fault: ActFault) -> u32
     }
 }
 
+/// The code of why a server refused an envelope.
+pub(crate) fn code_of_refusal(refusal: Refusal) -> u32
+    ensures refused { result ≢ 0 }
+    ensures stays { result ≢ FORWARD }
+{
+    match refusal {
+        Refusal::WrongShard => 61,
+        Refusal::TooManyHops => 62,
+        Refusal::KeptFull => 63,
+        Refusal::NoMemory => NO_MEMORY,
+        Refusal::Admit(refusal) => code_of_admission(refusal),
+    }
+}
+
+fn code_of_admission(refusal: AdmitRefusal) -> u32
+    ensures refused { result ≢ 0 }
+    ensures stays { result ≢ FORWARD }
+{
+    match refusal {
+        AdmitRefusal::Refused(fault, _) => code_of_admit(fault),
+        AdmitRefusal::Raced { .. } => RACED,
+    }
+}
+
 fn code_of_change(fault: ChangeFault) -> u32
-    ensures { result ≢ 0 }
+    ensures refused { result ≢ 0 }
+    ensures stays { result ≢ FORWARD }
 {
     match fault {
         ChangeFault::UnknownShard => UNKNOWN_SHARD,
@@ -118,7 +165,8 @@ fn code_of_change(fault: ChangeFault) -> u32
 }
 
 fn code_of_admit(fault: AdmitFault) -> u32
-    ensures { result ≢ 0 }
+    ensures refused { result ≢ 0 }
+    ensures stays { result ≢ FORWARD }
 {
     match fault {
         AdmitFault::Vacant => 21,
@@ -131,7 +179,8 @@ fn code_of_admit(fault: AdmitFault) -> u32
 }
 
 fn code_of_command(fault: CommandFault) -> u32
-    ensures { result ≢ 0 }
+    ensures refused { result ≢ 0 }
+    ensures stays { result ≢ FORWARD }
 {
     match fault {
         CommandFault::UnknownServer => 30,
@@ -146,7 +195,8 @@ fn code_of_command(fault: CommandFault) -> u32
 }
 
 fn code_of_restart(fault: RestartFault) -> u32
-    ensures { result ≢ 0 }
+    ensures refused { result ≢ 0 }
+    ensures stays { result ≢ FORWARD }
 {
     match fault {
         RestartFault::NotUp => 40,

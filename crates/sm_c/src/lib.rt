@@ -16,10 +16,14 @@ ghost use Rattle.sm_c.specs.Words.{AcceptsWord, AdmitsWord, ArePartsOf, ChangesW
 mod codes;
 mod kinds;
 mod layouts;
+mod maps;
 mod notes;
 mod plans;
 mod read;
 mod record_parts;
+mod replies;
+mod requests;
+mod services;
 mod word_fault;
 mod words;
 

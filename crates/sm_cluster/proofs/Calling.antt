@@ -70,7 +70,6 @@ module _ {Q R : Type 0} (service : Service Q R) (before : ClientValue Q) (number
         back = why.back;
         server = why.server;
         before = why.before;
-        after = why.after;
         is_its = record {
           number_is = way.number ∙ sent.number_is;
           shard_is = way.shard ∙ sent.shard_is;
@@ -80,13 +79,11 @@ module _ {Q R : Type 0} (service : Service Q R) (before : ClientValue Q) (number
         };
         new = new_told asked.sent.note.board before.pass.board why.server asked.sent.note.seen before.pass.seen
             why.before sent.board sent.seen why.new;
-        looks = why.looks;
         served =
             subst
             (λ (pair : List (List ℕ) × BoardValue). Served service (is_here service pair.0 pair.1.limits.count
-            why.envelope) why.before why.after why.envelope (outcome.Refused refusal why.back))
+            why.envelope) why.before why.envelope (outcome.Refused refusal why.back))
             (λ i. (of.bounds i, sent.board i)) why.served;
-        read = begins_begins why.after.seen told seen why.read more;
         given = begins_begins why.back.note.seen told seen why.given more;
       }
 

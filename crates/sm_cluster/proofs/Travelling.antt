@@ -6,10 +6,11 @@ use Rattle.sm_body.specs.Service.{Service}
 use Rattle.sm_envelope.specs.Envelope.{ShellView, shell_of, whole}
 use Rattle.sm_ownership.specs.declared.entry.Entry.{Entry}
 use Rattle.sm_rule.specs.Boards.{BoardValue}
-use Rattle.sm_rule.specs.Passes.{PassLooks, PassValue}
+use Rattle.sm_rule.specs.Passes.{PassValue}
 use Rattle.sm_rule.specs.Views.{Begins}
 use Rattle.sm_rule.specs.lemmas.Passing.{begins_begins}
 use Rattle.sm_server.specs.lemmas.Beginnings.{none_begins}
+use Rattle.sm_server.specs.declared.outcome.Outcome.{Outcome}
 use Rattle.sm_server.specs.declared.outcome.Outcome.TheVariants.{Answered, Forward, Refused}
 use Rattle.sm_server.specs.Answers.{AnswerValue, IsAnswer}
 use Rattle.sm_server.specs.declared.refusal.Refusal.{Refusal}
@@ -19,7 +20,7 @@ use Rattle.sm_cluster.specs.declared.call_refused.CallFault.TheVariants as call
 use Rattle.sm_cluster.specs.declared.reply.CallReply.TheVariants as reply
 use Rattle.sm_cluster.specs.Passes.{IsNewPass}
 use Rattle.sm_cluster.specs.Replies.{CallValue, ComesBackFor, Fits, IsAnswerTo, IsOfTheWay, IsOnTheWay, IsRefusalTo}
-use Rattle.sm_cluster.specs.Telling.{IsNotedAgain}
+use Rattle.sm_cluster.specs.Telling.{IsNotedAgain, IsToldOf}
 
 pub begins_same : {Q : Type 0} (history : List (Entry Q)) → Begins history history
 begins_same history = ([], sym (append-nil history))
@@ -96,7 +97,7 @@ new_told board other server told earlier pass board_is begins new = record {
 
 -- a server's step on an envelope, by a new pass that was told what its note had seen
 module _ {Q R : Type 0} (service : Service Q R) (stepped asked : CallValue Q) (board : BoardValue) (server : ℕ)
-    (before after : PassValue Q) (envelope : Sent Q)
+    (before : PassValue Q) (envelope : Sent Q)
     (board_is : stepped.sent.note.board ≡ board) (new : IsNewPass board server stepped.sent.note.seen before)
     (noted : IsNotedAgain stepped.sent envelope)
     (bounds : asked.bounds ≡ stepped.bounds) (way : IsOnTheWay asked.sent stepped.sent) where
@@ -107,44 +108,46 @@ module _ {Q R : Type 0} (service : Service Q R) (stepped asked : CallValue Q) (b
   still = way_noted asked.sent stepped.sent envelope way noted
 
   -- an answer is one to the call
-  pub answered : (answer : AnswerValue Q R) → Served service
-      (is_here service stepped.bounds board.limits.count envelope) before after envelope (Answered answer)
+  answered : (answer : AnswerValue Q R) → Served service
+      (is_here service stepped.bounds board.limits.count envelope) before envelope (Answered answer)
       → IsAnswerTo service asked.sent answer
   answered answer served =
       answers service before envelope asked.sent answer (noted.board ∙ (board_is ∙ sym new.board_is)) still served.1
 
-  pub forwards : (to : ℕ) (back : Sent Q) → Served service (is_here service stepped.bounds board.limits.count envelope)
-      before after envelope (Forward to back) → IsOnTheWay asked.sent back
+  forwards : (to : ℕ) (back : Sent Q) → Served service (is_here service stepped.bounds board.limits.count envelope)
+      before envelope (Forward to back) → IsOnTheWay asked.sent back
   forwards to back served =
       way_on asked.sent envelope back still served.1 (ap number_of_shell served.2.shell)
       (ap shard_of_shell served.2.shell)
 
   -- a refusal comes back with a note of all by which it was decided
-  pub refuses : (refusal : Refusal) (back again : Sent Q) → PassLooks before after → Served service
-      (is_here service stepped.bounds board.limits.count envelope) before after envelope (Refused refusal back)
-      → IsNotedAgain back again → Begins after.seen again.note.seen
-      → IsOnTheWay asked.sent again × IsRefusalTo service asked refusal again.note.seen
-  refuses refusal back again looks served noted_back read = (
-    way_noted asked.sent back again (way_on asked.sent envelope back still served.1 (ap number_of_shell served.2)
-        (ap shard_of_shell served.2)) noted_back,
+  refuses : (refusal : Refusal) (back : Sent Q) → Served service
+      (is_here service stepped.bounds board.limits.count envelope) before envelope (Refused refusal back)
+      → IsOnTheWay asked.sent back × IsRefusalTo service asked refusal back.note.seen
+  refuses refusal back served = (
+    way_on asked.sent envelope back still served.1 (ap number_of_shell served.2) (ap shard_of_shell served.2),
     record {
       envelope = envelope;
       back = back;
       server = server;
       before = before;
-      after = after;
       way = still;
       new = new_told board asked.sent.note.board server stepped.sent.note.seen asked.sent.note.seen before board_asked
           way.told new;
-      looks = looks;
       served =
           subst (λ (pair : List (List ℕ) × BoardValue). Served service
-          (is_here service pair.0 pair.1.limits.count envelope) before after envelope (Refused refusal back))
+          (is_here service pair.0 pair.1.limits.count envelope) before envelope (Refused refusal back))
           (λ i. (sym bounds i, board_asked i)) served;
-      read = read;
-      given = noted_back.told;
+      given = begins_same back.note.seen;
     },
   )
+
+  pub told : (outcome : Outcome (AnswerValue Q R) (Sent Q)) → Served service
+      (is_here service stepped.bounds board.limits.count envelope) before envelope outcome
+      → IsToldOf service asked outcome
+  told (Answered answer) served = answered answer served
+  told (Forward to back) served = forwards to back served
+  told (Refused refusal back) served = refuses refusal back served
 
 -- what holds a message up on its way sends its envelope back
 pub comes_back : {Q R : Type 0} (service : Service Q R) (asked : CallValue Q) (fault : CallFault) (back : Sent Q)

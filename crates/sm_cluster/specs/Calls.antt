@@ -79,13 +79,10 @@ pub record WasRefused {Q R : Type 0} (service : Service Q R) (client : ClientVal
   pub back : Sent Q
   pub server : ℕ
   pub before : PassValue Q
-  pub after : PassValue Q
   pub is_its : IsEnvelopeOf client.pass (shard_asked service client request) number request envelope
   pub new : IsNewPass client.pass.board server client.pass.seen before
-  pub looks : PassLooks before after
-  pub served : Served service (is_here service client.bounds client.pass.board.limits.count envelope) before after
+  pub served : Served service (is_here service client.bounds client.pass.board.limits.count envelope) before
       envelope (outcome.Refused refusal back)
-  pub read : Begins after.seen told
   pub given : Begins back.note.seen told
 
 -- why a call at a server isn't answered, and the client that this leaves: it asks for no route; where a server refused

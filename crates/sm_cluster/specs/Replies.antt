@@ -6,7 +6,7 @@ use Rattle.sm_body.specs.Service.{Service}
 use Rattle.sm_ownership.specs.declared.mode.Mode.{Mode}
 use Rattle.sm_ownership.specs.declared.entry.Entry.{Entry}
 use Rattle.sm_ownership.specs.History.{NoneBy}
-use Rattle.sm_rule.specs.Passes.{PassLooks, PassValue}
+use Rattle.sm_rule.specs.Passes.{PassValue}
 use Rattle.sm_rule.specs.Views.{Begins}
 use Rattle.sm_server.specs.Answers.{AnswerValue, IsAnswer}
 use Rattle.sm_server.specs.declared.refusal.Refusal.{Refusal}
@@ -51,13 +51,10 @@ pub record IsRefusalTo {Q R : Type 0} (service : Service Q R) (asked : CallValue
   pub back : Sent Q
   pub server : ℕ
   pub before : PassValue Q
-  pub after : PassValue Q
   pub way : IsOnTheWay asked.sent envelope
   pub new : IsNewPass asked.sent.note.board server asked.sent.note.seen before
-  pub looks : PassLooks before after
-  pub served : Served service (is_here service asked.bounds asked.sent.note.board.limits.count envelope) before after
+  pub served : Served service (is_here service asked.bounds asked.sent.note.board.limits.count envelope) before
       envelope (outcome.Refused refusal back)
-  pub read : Begins after.seen told
   pub given : Begins back.note.seen told
 
 -- what may hold a message up on its way: a shut door, or want of memory

@@ -160,13 +160,7 @@ fn serve_anew<S: Service>(
         (record { bounds = ground.now.layout; sent = envelope }) result }
 {
     let (mut pass, envelope) = pass_for(ground, server, envelope);
-    match serve(&ground.board, &ground.layout, &mut pass, envelope) {
-        Outcome::Answered(answer) => Outcome::Answered(answer),
-        Outcome::Forward(to, envelope) => Outcome::Forward(to, envelope),
-        Outcome::Refused(refusal, envelope) => {
-            Outcome::Refused(refusal, told_by(&ground.board, pass, envelope))
-        }
-    }
+    serve(&ground.board, &ground.layout, &mut pass, envelope)
 }
 
 // A new pass of the server, which has seen what the envelope's note had, and the envelope with a note of that.
@@ -183,21 +177,4 @@ fn pass_for<S: Service>(
     let mut pass = ground.pass_told(server, note);
     let note = ground.board.note(&mut pass);
     (pass, shell.whole(request, note))
-}
-
-// The envelope with a note that has also seen what the pass has.
-fn told_by<S: Service>(
-    board: &Board<S>,
-    mut pass: Pass<S>,
-    envelope: Envelope<S::Request, Note<S>>,
-) -> Envelope<S::Request, Note<S>>
-    requires board { pass.board ≡ board.now }
-    requires note { envelope.note.board ≡ board.now }
-    requires free { pass.held ≡ None }
-    ensures envelope { IsNotedAgain envelope result }
-    ensures told { Begins pass.seen result.note.seen }
-{
-    let (request, note, shell) = envelope.parts();
-    board.meet(&mut pass, note);
-    shell.whole(request, pass.into_note())
 }

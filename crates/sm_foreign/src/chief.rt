@@ -1,15 +1,13 @@
-ghost use Rattle.std.specs.Prelude.{◌≡◌, ◌<◌, ◌≤◌, All, IfOk, IfSome, length, map};
+ghost use Rattle.std.specs.Prelude.{◌≡◌, ◌<◌, ◌≤◌, [], All, IfOk, IfSome, length, map};
 ghost use Rattle.std.specs.Arc.{arc_value};
 ghost use Rattle.sm_ranges.specs.declared.stand.Stand.TheVariants.{Vacant};
 ghost use Rattle.sm_control.specs.Controls.{Commanded};
 ghost use Rattle.sm_desk.specs.Desk.{desk_fault};
 ghost use Rattle.sm_place.specs.Plans.{assign_plan, drain_plan};
-ghost use Rattle.sm_foreign.specs.declared.foreign.Foreign.{Foreign as ForeignValue};
-ghost use Rattle.sm_foreign.specs.Chiefs.{foreign_of};
 
-use crate::foreign::Foreign;
 use crate::free_pass::FreePass;
 use crate::open_fault::OpenFault;
+use sm_body::service::Service;
 use sm_control::{Control, ControlFault, DrainFault};
 use sm_desk::{Command, Desk};
 use sm_place::{Books, BooksFault, Plan};
@@ -23,40 +21,42 @@ use std::alloc::{AllocError, Global};
 use std::marker::Model;
 use std::sync::Arc;
 
-/// A board of foreign bodies and its control. Contracts see the control.
+/// A board and its control. Contracts see the control.
 #[derive(Drop)]
-pub struct Chief {
-    board: Arc<Board<Foreign>>,
-    control: Control<Foreign>,
+pub struct Chief<S: Service> {
+    board: Arc<Board<S>>,
+    control: Control<S>,
 }
 
-impl Model for Chief {
+impl<S: Service> Model for Chief<S> {
     ghost use Rattle.std.specs.Prelude.{◌≡◌};
     ghost use Rattle.std.specs.Arc.{arc_value};
     ghost use Rattle.sm_control.specs.Controls.{ControlValue};
 
-    ghost Value = { ControlValue (Unit {0}) };
+    ghost Value = { ControlValue S.Request };
 
     ghost view = { λ chief. chief.control };
 
     ghost invariant = { λ chief. chief.control.chair.board ≡ arc_value chief.board };
 }
 
-impl Chief {
-    /// The chief of a new board with a body for each number, of servers 1 to this one (at most 4,095), at most `ops`
-    /// of which
-    /// (at most 4,095) restart at once; generations stay at or below the ceiling (3 to 2^36 - 1).
+impl<S: Service> Chief<S> {
+    /// The chief of a new board with these bodies, which have applied nothing yet, of servers 1 to this one (at most
+    /// 4,095), at most `ops` of which (at most 4,095) restart at once; generations stay at or below the ceiling (3 to
+    /// 2^36 - 1).
     pub fn make(
         alloc: Global,
-        numbers: &[u64],
+        bodies: Vec<S>,
         servers: u16,
         ops: u16,
         ceiling: u64,
-    ) -> Result<Chief, OpenFault>
-        ensures count { IfOk result (λ chief. chief.chair.board.limits.count ≡ length numbers.now) }
+    ) -> Result<Chief<S>, OpenFault>
+        requires initial { All (λ body. S.base body ≡ S.initial) bodies.items }
+        requires before { All (λ body. S.before body ≡ 0) bodies.items }
+        requires empty { All (λ body. S.requests body ≡ []) bodies.items }
+        ensures count { IfOk result (λ chief. chief.chair.board.limits.count ≡ length bodies.items) }
         ensures ceiling { IfOk result (λ chief. chief.chair.board.limits.ceiling ≡ ceiling) }
-        ensures numbers { IfOk result (λ chief.
-            chief.chair.board.limits.bodies ≡ map (λ (body : ForeignValue). body.number) (foreign_of numbers.now)) }
+        ensures bodies { IfOk result (λ chief. chief.chair.board.limits.bodies ≡ map S.limit bodies.items) }
         ensures ops { IfOk result (λ chief. chief.desk.ops ≡ ops) }
     {
         if servers > 4095 {
@@ -65,14 +65,12 @@ impl Chief {
         if ops > 4095 {
             return Err(OpenFault::Restarts);
         }
-        let Ok(bodies) = bodies_of(alloc, numbers) else {
-            return Err(OpenFault::NoMemory);
-        };
+        let count = bodies.len();
         let (board, chair) = match Board::make(alloc, bodies, ceiling) {
             Ok(made) => made,
             Err(fault) => return Err(OpenFault::Board(fault)),
         };
-        let desk = match desk_of(alloc, servers, numbers.len(), ops) {
+        let desk = match desk_of(alloc, servers, count, ops) {
             Ok(desk) => desk,
             Err(fault) => return Err(OpenFault::Books(fault)),
         };
@@ -86,7 +84,7 @@ impl Chief {
     }
 
     /// A new pass on the board, admitted as this server, or never. It is refused for want of memory alone.
-    pub fn pass(&self, server: Option<ServerId>) -> Result<FreePass<Foreign>, AllocError>
+    pub fn pass(&self, server: Option<ServerId>) -> Result<FreePass<S>, AllocError>
         ensures board { IfOk result (λ free. free.board ≡ self.now.chair.board) }
         ensures server { IfOk result (λ free. free.server ≡ server) }
     {
@@ -115,16 +113,6 @@ impl Chief {
     {
         self.control.command(&self.board, command)
     }
-}
-
-// The bodies of these numbers.
-fn bodies_of(alloc: Global, numbers: &[u64]) -> Result<Vec<Foreign>, AllocError>
-    ensures { IfOk result (λ bodies. bodies.items ≡ foreign_of numbers.now) }
-{
-    numbers
-        .iter()
-        .map(|number| Foreign { number: *number })
-        .collect(alloc)
 }
 
 // Servers 1 to this one, each in a domain of its own.

@@ -1,14 +1,27 @@
-ghost use Rattle.std.specs.Prelude.{◌≡◌, []};
+ghost use Rattle.std.specs.Prelude.{◌≡◌, IfOk};
+ghost use Rattle.sm_foreign.specs.Chiefs.{foreign_of};
 
 use sm_body::service::{ApplyFault, Service};
 use sm_ranges::server_id::ServerId;
-use std::alloc::AllocError;
+use std::alloc::{AllocError, Global};
 
 /// A body that another program owns, by the number under which that program knows it. It answers no request here. The
 /// number takes the place of the limit that a board keeps for each shard, so contracts of the board tell it.
 #[derive(Clone, Copy, Drop)]
 pub struct Foreign {
     pub number: u64,
+}
+
+impl Foreign {
+    /// The bodies of these numbers. They are refused for want of memory alone.
+    pub fn all(alloc: Global, numbers: &[u64]) -> Result<Vec<Foreign>, AllocError>
+        ensures { IfOk result (λ bodies. bodies.items ≡ foreign_of numbers.now) }
+    {
+        numbers
+            .iter()
+            .map(|number| Foreign { number: *number })
+            .collect(alloc)
+    }
 }
 
 impl Service for Foreign {

@@ -1,8 +1,9 @@
-//! A board whose bodies another program owns, each known here by a number, with its control and with passes that keep
-//! it alive.
+//! A board with its control, and passes that keep it alive: of bodies that another program owns, each known here by a
+//! number, or of a service.
 //!
 //! ```rust
-//! let Ok(mut chief) = Chief::make(alloc, &[70, 80], 2, 1, 100) else {
+//! let bodies = Foreign::all(alloc, &[70, 80])?;
+//! let Ok(mut chief) = Chief::make(alloc, bodies, 2, 1, 100) else {
 //!     return Err("no board".into());
 //! };
 //! let free = chief.pass(Some(one))?;
@@ -15,6 +16,7 @@ pub mod foreign;
 pub mod free_pass;
 pub mod held_pass;
 pub mod open_fault;
+mod serving;
 
 pub use chief::Chief;
 pub use foreign::Foreign;

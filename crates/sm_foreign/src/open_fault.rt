@@ -1,7 +1,7 @@
 use sm_place::BooksFault;
 use sm_rule::MakeFault;
 
-/// Why there is no board of foreign bodies with its control.
+/// Why there is no board with its control.
 #[derive(Clone, Copy, Drop)]
 pub enum OpenFault {
     /// The board has no shard or too many, or its ceiling is out of bounds; or memory for it was refused.

@@ -15,7 +15,7 @@ use Rattle.sm_foreign.specs.Chiefs.{foreign_of}
 use Rattle.sm_handle.specs.declared.act_fault.ActFault.{ActFault}
 use Rattle.sm_handle.specs.declared.act_fault.ActFault.TheVariants.{WrongHandle, Admit, Command as CommandRefused}
 use Rattle.sm_handle.specs.declared.handle_state.HandleState.{HandleState}
-use Rattle.sm_handle.specs.declared.handle_state.HandleState.TheVariants.{Chief, Free, Held}
+use Rattle.sm_handle.specs.declared.handle_state.HandleState.TheVariants.{Chief, Free, Held, TextChief, TextPass}
 
 -- a pass that held nothing was admitted to the shard and holds the permit, and the number is that of the shard's body
 abbrev pub AdmitsState : HandleState → HandleState → ℕ → Mode → ℕ → Type 0
@@ -40,6 +40,7 @@ EndsState before after generation = ⊥
 -- the pass has seen more, in which this is the shard's record, and what it holds is as it was
 abbrev pub LooksState : HandleState → HandleState → ℕ → Record → Type 0
 LooksState (Free before) (Free after) shard state = PassLooks before after × (state ≡ record_of after shard)
+LooksState (TextPass before) (TextPass after) shard state = PassLooks before after × (state ≡ record_of after shard)
 LooksState (Held before) (Held after) shard state =
     PassLooks before.held.0 after.held.0 × (after.held.1 ≡ before.held.1) × (state ≡ record_of after.held.0 shard)
 LooksState before after shard state = ⊥
@@ -50,12 +51,17 @@ CommandsState (Chief before) (Chief after) command (Ok made) =
     Commanded (desk_fault before.value.desk command) before.value after.value command (Ok tt)
 CommandsState (Chief before) (Chief after) command (Err (CommandRefused fault)) =
     Commanded (desk_fault before.value.desk command) before.value after.value command (Err fault)
+CommandsState (TextChief before) (TextChief after) command (Ok made) =
+    Commanded (desk_fault before.value.desk command) before.value after.value command (Ok tt)
+CommandsState (TextChief before) (TextChief after) command (Err (CommandRefused fault)) =
+    Commanded (desk_fault before.value.desk command) before.value after.value command (Err fault)
 CommandsState before after command (Ok made) = ⊥
 CommandsState before after command (Err fault) = (fault ≡ WrongHandle) × (after ≡ before)
 
 -- a new pass on the board of the control, with this server or none
 abbrev pub IsPassOfState : HandleState → Option ℕ → HandleState → Type 0
 IsPassOfState (Chief chief) server (Free pass) = (pass.board ≡ chief.value.chair.board) × (pass.server ≡ server)
+IsPassOfState (TextChief chief) server (TextPass pass) = (pass.board ≡ chief.value.chair.board) × (pass.server ≡ server)
 IsPassOfState chief server pass = ⊥
 
 -- the same of handles, which keep a state or none

@@ -1,5 +1,6 @@
 use sm_control::ControlFault;
 use sm_rule::AdmitRefusal;
+use sm_server::CheckpointFault;
 
 /// Why a call did nothing.
 #[derive(Clone, Copy, Drop)]
@@ -14,10 +15,12 @@ pub enum ActFault {
     NoMemory,
     /// The caller has less room than what would be written.
     TooShort,
-    /// The plan has no such line.
+    /// The plan has no such line, or the reply no such pair.
     NoMore,
     /// The pass isn't admitted.
     Admit(AdmitRefusal),
+    /// There is no checkpoint.
+    Checkpoint(CheckpointFault),
     /// The command is refused.
     Command(ControlFault),
 }

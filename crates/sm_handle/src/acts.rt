@@ -61,6 +61,13 @@ pub fn look(state: HandleState, k: ShardId) -> (HandleState, Result<Record, ActF
             let record = free.look(k);
             (HandleState::Free(free), Ok(record))
         }
+        HandleState::TextPass(mut free) => {
+            if u32::from(k.number()) >= free.count() {
+                return (HandleState::TextPass(free), Err(ActFault::UnknownShard));
+            }
+            let record = free.look(k);
+            (HandleState::TextPass(free), Ok(record))
+        }
         HandleState::Held(lasting) => {
             let mut held = lasting.into_held();
             if u32::from(k.number()) >= held.count() {
@@ -85,6 +92,10 @@ pub fn pass(state: &HandleState, server: Option<ServerId>) -> Result<HandleState
             Ok(free) => Ok(HandleState::Free(free)),
             Err(_) => Err(ActFault::NoMemory),
         },
+        HandleState::TextChief(chief) => match chief.pass(server) {
+            Ok(free) => Ok(HandleState::TextPass(free)),
+            Err(_) => Err(ActFault::NoMemory),
+        },
         _ => Err(ActFault::WrongHandle),
     }
 }
@@ -100,6 +111,13 @@ pub fn command(state: HandleState, command: Command) -> (HandleState, Result<(),
                 Err(fault) => Err(ActFault::Command(fault)),
             };
             (HandleState::Chief(chief), made)
+        }
+        HandleState::TextChief(mut chief) => {
+            let made = match chief.command(command) {
+                Ok(()) => Ok(()),
+                Err(refusal) => Err(ActFault::Command(refusal)),
+            };
+            (HandleState::TextChief(chief), made)
         }
         other => (other, Err(ActFault::WrongHandle)),
     }

@@ -8,7 +8,7 @@ use crate::acts;
 use crate::handle::Handle;
 use crate::handle_state::HandleState;
 use sm_desk::Command;
-use sm_foreign::{Chief, OpenFault};
+use sm_foreign::{Chief, Foreign, OpenFault};
 use sm_ownership::mode::Mode;
 use sm_ownership::record::Record;
 use sm_ranges::server_id::ServerId;
@@ -29,13 +29,16 @@ impl Handle {
         ensures made { OnOk result (IsOpened self.new.owned.state numbers.now ops ceiling) }
         ensures refused { IfErr result (λ fault. self.new.owned.state ≡ self.old.owned.state) }
     {
-        let chief = Chief::make(alloc, numbers, servers, ops, ceiling)?;
+        let Ok(bodies) = Foreign::all(alloc, numbers) else {
+            return Err(OpenFault::NoMemory);
+        };
+        let chief = Chief::make(alloc, bodies, servers, ops, ceiling)?;
         let Ok(chief) = Box::new(alloc, chief) else {
             return Err(OpenFault::NoMemory);
         };
         match Box::new(alloc, HandleState::Chief(chief)) {
             Ok(state) => {
-                self.put(state);
+                self.keep(alloc, state);
                 Ok(())
             }
             Err(_) => Err(OpenFault::NoMemory),
@@ -119,7 +122,7 @@ impl Handle {
         chief.put(state);
         match Box::new(alloc, made?) {
             Ok(state) => {
-                self.put(state);
+                self.keep(alloc, state);
                 Ok(())
             }
             Err(_) => Err(ActFault::NoMemory),

@@ -40,7 +40,16 @@ impl Handle {
         }
     }
 
-    /// Puts a state in, in the place of what was there.
+    /// Lets go what was kept, and keeps the state.
+    pub fn keep(&mut self, alloc: Global, state: Box<HandleState>)
+        ensures full { self.new.full ≡ true }
+        ensures state { self.new.owned.state ≡ Some state.value }
+    {
+        let _ = self.take(alloc);
+        self.put(state);
+    }
+
+    /// Puts a state in. What was there is not let go: it was taken out before.
     pub fn put(&mut self, state: Box<HandleState>)
         ensures full { self.new.full ≡ true }
         ensures state { self.new.owned.state ≡ Some state.value }

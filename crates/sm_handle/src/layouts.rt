@@ -8,6 +8,7 @@ use crate::cut_fault::CutFault;
 use crate::handle::Handle;
 use crate::handle_state::HandleState;
 use crate::text_part::TextPart;
+use crate::written::write;
 use sm_ranges::layout::{Layout, LayoutFault};
 use sm_ranges::shard_id::ShardId;
 use std::alloc::Global;
@@ -22,7 +23,7 @@ impl Handle {
         let layout = layout_of(alloc, text, parts)?;
         match Box::new(alloc, HandleState::Layout(layout)) {
             Ok(state) => {
-                self.put(state);
+                self.keep(alloc, state);
                 Ok(())
             }
             Err(_) => Err(CutFault::Layout(LayoutFault::NoMemory)),
@@ -113,12 +114,7 @@ fn bound_in(state: &HandleState, k: ShardId, into: &mut [u8]) -> Result<usize, A
                 return Err(ActFault::UnknownShard);
             }
             let (low, _) = layout.range(k);
-            if low.len() > into.len() {
-                return Err(ActFault::TooShort);
-            }
-            let (room, _) = into.split_at_mut(low.len());
-            room.copy_from_slice(low);
-            Ok(low.len())
+            write(low, into)
         }
         _ => Err(ActFault::WrongHandle),
     }

@@ -11,19 +11,29 @@
 
 pub mod act_fault;
 pub mod acts;
+pub mod answer_parts;
 mod box_parts;
 mod calls;
 pub mod cut_fault;
 pub mod handle;
 pub mod handle_state;
 mod layouts;
+mod maps;
 mod notes;
 pub mod owned;
 mod plans;
+mod replies;
+pub mod reply_parts;
+pub mod served_as;
+mod serving;
 pub mod text_part;
+mod written;
 
 pub use act_fault::ActFault;
+pub use answer_parts::AnswerParts;
 pub use cut_fault::CutFault;
 pub use handle::Handle;
 pub use handle_state::HandleState;
+pub use reply_parts::ReplyParts;
+pub use served_as::ServedAs;
 pub use text_part::TextPart;

@@ -22,7 +22,7 @@ impl Handle {
         from.put(state);
         match Box::new(alloc, made?) {
             Ok(state) => {
-                self.put(state);
+                self.keep(alloc, state);
                 Ok(())
             }
             Err(_) => Err(ActFault::NoMemory),
@@ -71,6 +71,10 @@ fn split_of(state: &mut HandleState) -> Result<HandleState, ActFault>
             Ok(pass) => Ok(HandleState::Free(pass)),
             Err(_) => Err(ActFault::NoMemory),
         },
+        HandleState::TextPass(free) => match free.split() {
+            Ok(pass) => Ok(HandleState::TextPass(pass)),
+            Err(_) => Err(ActFault::NoMemory),
+        },
         _ => Err(ActFault::WrongHandle),
     }
 }
@@ -86,6 +90,15 @@ fn met(state: HandleState, other: HandleState) -> (HandleState, Option<HandleSta
         (HandleState::Free(mut free), HandleState::Free(told)) => {
             free.meet(told);
             (HandleState::Free(free), None)
+        }
+        (HandleState::TextPass(mut pass), HandleState::TextPass(told)) => {
+            pass.meet(told);
+            (HandleState::TextPass(pass), None)
+        }
+        (HandleState::TextPass(mut pass), HandleState::Answer(answer)) => {
+            let (_, note) = answer.parts();
+            pass.hear(note);
+            (HandleState::TextPass(pass), None)
         }
         (state, other) => (state, Some(other)),
     }

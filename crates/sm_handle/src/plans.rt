@@ -1,11 +1,14 @@
 //! Plans that handles keep.
 ghost use Rattle.std.specs.Prelude.{◌≡◌, IfErr, IfOk, OnOk, Some};
-ghost use Rattle.sm_handle.specs.Plans.{IsLeftOut, IsMove, IsPlanOf};
+ghost use Rattle.sm_handle.specs.declared.handle_state.HandleState.TheVariants.{Plan as Planned};
+ghost use Rattle.sm_handle.specs.Plans.{IsLeftOut, IsMove, IsPlanOf, planned_for};
 
 use crate::act_fault::ActFault;
 use crate::handle::Handle;
 use crate::handle_state::HandleState;
+use sm_body::service::Service;
 use sm_control::DrainFault;
+use sm_foreign::Chief;
 use sm_place::Move;
 use sm_ranges::server_id::ServerId;
 use sm_ranges::shard_id::ShardId;
@@ -31,7 +34,7 @@ impl Handle {
         chief.put(state);
         match Box::new(alloc, made?) {
             Ok(state) => {
-                self.put(state);
+                self.keep(alloc, state);
                 Ok(())
             }
             Err(_) => Err(ActFault::NoMemory),
@@ -72,9 +75,21 @@ fn plan_of(
 ) -> Result<HandleState, ActFault>
     ensures { IfOk result (λ plan. IsPlanOf (Some state.now) (Some plan) from) }
 {
-    let HandleState::Chief(chief) = state else {
-        return Err(ActFault::WrongHandle);
-    };
+    match state {
+        HandleState::Chief(chief) => plan_by(alloc, chief, from),
+        HandleState::TextChief(chief) => plan_by(alloc, chief, from),
+        _ => Err(ActFault::WrongHandle),
+    }
+}
+
+// Where the control would have shards go.
+fn plan_by<S: Service>(
+    alloc: Global,
+    chief: &Chief<S>,
+    from: Option<ServerId>,
+) -> Result<HandleState, ActFault>
+    ensures plan { IfOk result (λ plan. plan ≡ Planned (planned_for chief.now.desk.books from)) }
+{
     let plan = match from {
         Some(server) => match chief.plan_drain(alloc, server) {
             Ok(plan) => plan,

@@ -51,18 +51,6 @@ new_helper {Q} pass note new helper board server held none seen looks met = reco
   told = met_begins note.number note.seen helper.seen met;
 }
 
--- a helper of a pass that has looked is one of the pass as it was
-pub helper_before : {Q : Type 0} (before pass note helper : PassValue Q) → PassLooks before pass
-    → IsHelper pass note helper → IsHelper before note helper
-helper_before {Q} before pass note helper looks is = record {
-  board = is.board ∙ ap (λ (one : PassValue Q). one.board) looks.1;
-  server = is.server ∙ ap (λ (one : PassValue Q). one.server) looks.1;
-  held = is.held;
-  none = is.none;
-  seen = begins_begins before.seen pass.seen helper.seen (looks_begins before pass looks) is.seen;
-  told = is.told;
-}
-
 own_one : {Q : Type 0} (number shard : ℕ) (kind : Kind Q)
     → own number (entry_of number shard kind ∷ []) ≡ entry_of number shard kind ∷ []
 own_one number shard kind = rw (eq-eqb number number refl) refl

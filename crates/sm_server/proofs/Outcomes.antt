@@ -1,10 +1,9 @@
 -- What the steps of a server tell together.
-use Rattle.std.proofs.Common.{◌≡◌, ◌<◌, ◌≤◌, ℕ, ◌+◌, Bool, true, List, [], length, refl, sym, ap, ◌∙◌, subst, inl, inr}
+use Rattle.std.proofs.Common.{◌≡◌, ◌<◌, ◌≤◌, ℕ, ◌+◌, Bool, true, List, [], length, refl, sym, ap, ◌∙◌, subst, inr}
 use Rattle.std.proofs.Common.{arith}
 use Rattle.std.specs.Prelude.{Option, Some, None, nat_lt}
 use Rattle.std.proofs.lemmas.Bool.{cond_both}
 use Rattle.std.proofs.lemmas.Bool.Decides.{nat_tests}
-use Rattle.std.proofs.lemmas.List.{append-nil}
 use Rattle.sm_body.specs.Service.{Service}
 use Rattle.sm_envelope.specs.Envelope.{ShellView, shell_of, whole}
 use Rattle.sm_envelope.specs.declared.envelope.TheConstants.{MOST_HOPS}
@@ -29,60 +28,44 @@ use Rattle.sm_server.specs.declared.refusal.Refusal.TheVariants.{WrongShard, Too
 use Rattle.sm_server.specs.declared.refusal.Refusal.TheVariants.{KeptFull, NoMemory}
 use Rattle.sm_server.specs.Answers.{AnswerValue}
 use Rattle.sm_server.specs.Running.{HasRefused, IsHelper, Ran, WantsRoom, turned_away, turned_by}
-use Rattle.sm_server.specs.Serving.{IsHandedBack, IsPoint, IsUnserved, NotForwarding, RefusedFor, Sent, Served}
+use Rattle.sm_server.specs.Serving.{IsHandedBack, IsUnserved, NotForwarding, RefusedFor, Sent, Served}
 use Rattle.sm_server.specs.Serving.{is_of_shard, limit_of, requests_in}
 use Rattle.sm_server.specs.lemmas.Beginnings.{none_begins}
-use Rattle.sm_server.proofs.Helpers.{helper_before, none_grows}
+use Rattle.sm_server.proofs.Helpers.{none_grows}
 
 abbrev pub with_note : {Q : Type 0} → Sent Q → PassValue Q → Sent Q
 with_note envelope note = whole (shell_of envelope) envelope.request note
 
-begins_same : {Q : Type 0} (history : List (Entry Q)) → Begins history history
-begins_same history = ([], sym (append-nil history))
-
--- the envelope comes back as it was
-handed_same : {Q : Type 0} (envelope : Sent Q) → IsHandedBack envelope envelope
-handed_same envelope = record { request = refl; board = refl; told = begins_same envelope.note.seen; idle = inl refl }
-
-point_same : {Q : Type 0} (before after : PassValue Q) (envelope : Sent Q) → PassLooks before after
-    → IsPoint before after envelope envelope after
-point_same {Q} before after envelope looks = record {
-  board = ap (λ (pass : PassValue Q). pass.board) looks.1;
-  seen = looks_begins before after looks;
-  whose = inl (refl, refl);
-}
-
--- the admission of a server was refused at a point
-module _ {Q R : Type 0} (service : Service Q R) (before after : PassValue Q) (envelope back : Sent Q)
-    (point : PassValue Q) (server : ℕ)
+-- the admission of a server was refused, by what the note then has
+module _ {Q R : Type 0} (service : Service Q R) (before : PassValue Q) (envelope back : Sent Q) (server : ℕ)
     (own_server : before.server ≡ Some server) (shell : shell_of back ≡ shell_of envelope)
-    (handed : IsHandedBack envelope back) (is_point : IsPoint before after envelope back point) where
+    (handed : IsHandedBack envelope back) (seen : Begins before.seen back.note.seen) where
   hops_same : back.hops ≡ envelope.hops
   hops_same = ap (λ (one : ShellView). one.hops) shell
 
-  not_admitted : (refusal : AdmitRefusal) → RefusedBy before point envelope.shard envelope.mode refusal
+  not_admitted : (refusal : AdmitRefusal) → RefusedBy before back.note envelope.shard envelope.mode refusal
       → NotForwarding before.server refusal
-      → Served {R = R} service true before after envelope (Refused (NotAdmitted refusal) back)
+      → Served {R = R} service true before envelope (Refused (NotAdmitted refusal) back)
   not_admitted refusal refused stays =
-      (refl, handed, shell, record { point = point; is_point = is_point; refused = refused; stays = stays })
+      (refl, handed, shell, record { seen = seen; refused = refused; stays = stays })
 
   turned_to : (fault : AdmitFault) (state : Record) (to : Option ℕ)
-      → RefusedBy before point envelope.shard envelope.mode (admission.Refused fault state) → forward_to state server
-      ≡ to → Served {R = R} service true before after envelope (turned_by to fault state server back)
+      → RefusedBy before back.note envelope.shard envelope.mode (admission.Refused fault state)
+      → forward_to state server ≡ to
+      → Served {R = R} service true before envelope (turned_by to fault state server back)
   turned_to fault state None refused forwards =
       not_admitted (admission.Refused fault state) refused
       (subst (λ (some : Option ℕ). NotForwarding some (admission.Refused fault state)) (sym own_server) forwards)
   turned_to fault state (Some to) refused forwards =
-      let at_point : forward_to (record_of point envelope.shard) server ≡ Some to =
+      let at_point : forward_to (record_of back.note envelope.shard) server ≡ Some to =
       ap (λ (one : Record). forward_to one server) (sym refused.0) ∙ forwards in
       cond_both (nat_lt back.hops MOST_HOPS) _ _
-      (λ (outcome : Outcome (AnswerValue Q R) (Sent Q)). Served {R = R} service true before after envelope outcome)
+      (λ (outcome : Outcome (AnswerValue Q R) (Sent Q)). Served {R = R} service true before envelope outcome)
       (λ left. (
         refl,
         record { request = handed.request; board = handed.board; told = handed.told; idle = handed.idle },
         record {
-          point = point;
-          is_point = record { board = is_point.board; seen = is_point.seen; whose = is_point.whose };
+          seen = seen;
           server = server;
           is_own = own_server;
           forwards = at_point;
@@ -100,8 +83,7 @@ module _ {Q R : Type 0} (service : Service Q R) (before after : PassValue Q) (en
         handed,
         shell,
         record {
-          point = point;
-          is_point = is_point;
+          seen = seen;
           server = server;
           is_own = own_server;
           to = to;
@@ -110,23 +92,12 @@ module _ {Q R : Type 0} (service : Service Q R) (before after : PassValue Q) (en
         },
       ))
 
-  pub turned : (refusal : AdmitRefusal) → RefusedBy before point envelope.shard envelope.mode refusal
-      → Served {R = R} service true before after envelope (turned_away refusal server back)
+  pub turned : (refusal : AdmitRefusal) → RefusedBy before back.note envelope.shard envelope.mode refusal
+      → Served {R = R} service true before envelope (turned_away refusal server back)
   turned (admission.Raced read found) refused =
       not_admitted (admission.Raced read found) refused
       (subst (λ (some : Option ℕ). NotForwarding some (admission.Raced read found)) (sym own_server) tt)
   turned (admission.Refused fault state) refused = turned_to fault state (forward_to state server) refused refl
-
--- the record that the pass read refuses its server
-looked_away : {Q R : Type 0} (service : Service Q R) (before after : PassValue Q) (envelope : Sent Q) (server : ℕ)
-    (fault : AdmitFault) (state : Record) → PassLooks before after → before.server ≡ Some server
-    → state ≡ record_of after envelope.shard
-    → Some fault ≡ fault_for before.board.limits.ceiling state (Some server) envelope.mode → Served {R =
-    R} service true before after envelope (turned_by (forward_to state server) fault state server envelope)
-looked_away service before after envelope server fault state looks own_server read refused =
-    turned service before after envelope envelope after server own_server refl (handed_same envelope)
-    (point_same before after envelope looks) (admission.Refused fault state)
-    (read, ap (λ some. fault_for before.board.limits.ceiling state some envelope.mode) own_server ∙ sym refused)
 
 module _ {Q R : Type 0} (service : Service Q R) (before helper : PassValue Q) (envelope : Sent Q)
     (board : envelope.note.board ≡ before.board) (is : IsHelper before envelope.note helper) where
@@ -145,28 +116,24 @@ module _ {Q R : Type 0} (service : Service Q R) (before helper : PassValue Q) (e
       (free, (race.0, begins_begins before.seen helper.seen race.0 is.seen race.1, race.2, race.3, race.4, race.5))
 
   -- the helper was refused, and becomes the envelope's note
-  helper_away : (after point : PassValue Q) (server : ℕ) (refusal : AdmitRefusal) → before.server ≡ Some server
+  helper_away : (point : PassValue Q) (server : ℕ) (refusal : AdmitRefusal) → before.server ≡ Some server
       → PassLooks helper point → RefusedBy helper point envelope.shard envelope.mode refusal
-      → Served {R = R} service true before after envelope (turned_away refusal server (with_note envelope point))
-  helper_away after point server refusal own_server looks refused =
+      → Served {R = R} service true before envelope (turned_away refusal server (with_note envelope point))
+  helper_away point server refusal own_server looks refused =
       let point_board : point.board ≡ before.board = ap (λ (pass : PassValue Q). pass.board) looks.1 ∙ is.board in
       let more : Begins helper.seen point.seen = looks_begins helper point looks in
-      turned service before after envelope (with_note envelope point) point server own_server refl
+      turned service before envelope (with_note envelope point) server own_server refl
       (record {
         request = refl;
         board = point_board ∙ sym board;
         told = begins_begins envelope.note.seen helper.seen point.seen is.told more;
         idle = inr (ap requests_in (own_none point.number point.seen (none_grows helper point looks is.none)));
       })
-      (record {
-        board = point_board;
-        seen = begins_begins before.seen helper.seen point.seen is.seen more;
-        whose = inr refl;
-      })
+      (begins_begins before.seen helper.seen point.seen is.seen more)
       refusal (refused_before point envelope.mode refusal refused)
 
   -- the helper was admitted
-  module _ (after begun : PassValue Q) (admitted : PassAdmitted helper envelope.shard envelope.mode begun) where
+  module _ (begun : PassValue Q) (admitted : PassAdmitted helper envelope.shard envelope.mode begun) where
     begun_board : begun.board ≡ before.board
     begun_board = ap (λ (pass : PassValue Q). pass.board) admitted.2.1 ∙ is.board
 
@@ -201,7 +168,7 @@ module _ {Q R : Type 0} (service : Service Q R) (before helper : PassValue Q) (e
 
     refused_for : (refusal : Refusal) (back : Sent Q) → IsUnserved before envelope back
         → WantsRoom refusal (limit_of before envelope.shard) (length (kept back.note.seen envelope.shard))
-        → RefusedFor before after envelope back refusal
+        → RefusedFor before envelope back refusal
     refused_for KeptFull back is room = (is, room)
     refused_for NoMemory back is room = (is, room)
     refused_for WrongShard back is room = absurd room
@@ -216,7 +183,7 @@ module _ {Q R : Type 0} (service : Service Q R) (before helper : PassValue Q) (e
     here_for (NotAdmitted refusal) limit count room = absurd room
 
     helper_ran : (outcome : Outcome (AnswerValue Q R) (Sent Q)) → Ran service begun
-        (shell_of envelope) envelope.request outcome → Served service true before after envelope outcome
+        (shell_of envelope) envelope.request outcome → Served service true before envelope outcome
     helper_ran (Answered answer) ran = (
       refl,
       record {
@@ -246,43 +213,23 @@ module _ {Q R : Type 0} (service : Service Q R) (before helper : PassValue Q) (e
     )
 
 -- what is told of an envelope that is here
-pub is_told : {Q R : Type 0} (service : Service Q R) (tested here : Bool) (before after : PassValue Q)
+pub is_told : {Q R : Type 0} (service : Service Q R) (tested here : Bool) (before : PassValue Q)
     (envelope : Sent Q) (outcome : Outcome (AnswerValue Q R) (Sent Q)) → tested ≡ here → tested ≡ true
-    → Served service true before after envelope outcome → Served service here before after envelope outcome
-is_told service tested here before after envelope outcome is_here is told =
-    subst (λ (b : Bool). Served service b before after envelope outcome) (sym is ∙ is_here) told
+    → Served service true before envelope outcome → Served service here before envelope outcome
+is_told service tested here before envelope outcome is_here is told =
+    subst (λ (b : Bool). Served service b before envelope outcome) (sym is ∙ is_here) told
 
--- the record of the envelope's shard refuses the pass's server, which is here
-pub looked_away_here : {Q R : Type 0} (service : Service Q R) (tested here : Bool) (before after : PassValue Q)
-    (envelope : Sent Q) (own : Option ℕ) (server shard : ℕ) (mode : Mode) (board : BoardValue)
-    (found : Option AdmitFault) (fault : AdmitFault) (state : Record) (outcome : Outcome (AnswerValue Q R) (Sent Q))
-    → tested ≡ here → tested ≡ true → PassLooks before after → before.board ≡ board → own ≡ before.server
-    → own ≡ Some server → shard ≡ envelope.shard → mode ≡ envelope.mode → state ≡ record_of after shard
-    → found ≡ fault_for board.limits.ceiling state (Some server) mode → found ≡ Some fault → outcome ≡ turned_by
-    (forward_to state server) fault state server envelope → Served service here before after envelope outcome
-looked_away_here {Q} {R} service tested here before after envelope own server shard mode board found fault state outcome
-    is_here is_true looks of_board own_is server_is shard_is mode_is state_is found_is fault_is outcome_is =
-    let own_server : before.server ≡ Some server = sym own_is ∙ server_is in
-    let read : state ≡ record_of after envelope.shard = state_is ∙ ap (record_of after) shard_is in
-    let refused : Some fault ≡ fault_for before.board.limits.ceiling state (Some server) envelope.mode =
-    sym fault_is ∙ (found_is ∙ (λ i. fault_for (sym of_board i).limits.ceiling state (Some server) (mode_is i))) in
-    is_told service tested here before after envelope outcome is_here is_true
-    (subst (λ (one : Outcome (AnswerValue Q R) (Sent Q)). Served service true before after envelope one)
-    (sym outcome_is) (looked_away service before after envelope server fault state looks own_server read refused))
-
--- an envelope that was taken apart, and a helper of a pass that has looked, which met its note
-module _ {Q R : Type 0} (service : Service Q R) (before pass helper note : PassValue Q) (envelope : Sent Q)
+-- an envelope that was taken apart, and a helper of a pass, which met its note
+module _ {Q R : Type 0} (service : Service Q R) (pass helper note : PassValue Q) (envelope : Sent Q)
     (shell : ShellView) (request : Q) (shard server : ℕ) (mode : Mode) (board : BoardValue)
-    (looks : PassLooks before pass) (server_is : pass.server ≡ Some server) (of_pass : pass.board ≡ board)
-    (of_note : envelope.note.board ≡ board)
+    (server_is : pass.server ≡ Some server) (of_pass : pass.board ≡ board) (of_note : envelope.note.board ≡ board)
     (shell_is : shell ≡ shell_of envelope) (request_is : request ≡ envelope.request) (note_is : note ≡ envelope.note)
     (is : IsHelper pass note helper) (shard_is : shard ≡ shell.shard) (mode_is : mode ≡ shell.mode) where
-  same_board : envelope.note.board ≡ before.board
-  same_board = of_note ∙ (sym of_pass ∙ ap (λ (one : PassValue Q). one.board) looks.1)
+  same_board : envelope.note.board ≡ pass.board
+  same_board = of_note ∙ sym of_pass
 
-  is_own : IsHelper before envelope.note helper
-  is_own = helper_before before pass envelope.note helper looks
-      (subst (λ (told : PassValue Q). IsHelper pass told helper) note_is is)
+  is_own : IsHelper pass envelope.note helper
+  is_own = subst (λ (told : PassValue Q). IsHelper pass told helper) note_is is
 
   shard_of : shard ≡ envelope.shard
   shard_of = shard_is ∙ ap (λ (one : ShellView). one.shard) shell_is
@@ -290,25 +237,24 @@ module _ {Q R : Type 0} (service : Service Q R) (before pass helper note : PassV
   mode_of : mode ≡ envelope.mode
   mode_of = mode_is ∙ ap (λ (one : ShellView). one.mode) shell_is
 
-  pub went_in : (after begun : PassValue Q) (outcome : Outcome (AnswerValue Q R) (Sent Q))
+  pub went_in : (begun : PassValue Q) (outcome : Outcome (AnswerValue Q R) (Sent Q))
       → PassAdmitted helper shard mode begun → Ran service begun shell request outcome
-      → Served service true before after envelope outcome
-  went_in after begun outcome admitted ran =
-      helper_ran service before helper envelope same_board is_own after begun
+      → Served service true pass envelope outcome
+  went_in begun outcome admitted ran =
+      helper_ran service pass helper envelope same_board is_own begun
       (subst (λ (pair : ℕ × Mode). PassAdmitted helper pair.0 pair.1 begun) (λ i. (shard_of i, mode_of i)) admitted)
       outcome
       (subst (λ (pair : ShellView × Q). Ran service begun pair.0 pair.1 outcome) (λ i. (shell_is i, request_is i)) ran)
 
-  pub went_back : (after point told : PassValue Q) (refusal : AdmitRefusal) (back : Sent Q)
+  pub went_back : (point told : PassValue Q) (refusal : AdmitRefusal) (back : Sent Q)
       (outcome : Outcome (AnswerValue Q R) (Sent Q)) → PassLooks helper point
       → RefusedBy helper point shard mode refusal → told ≡ point → back ≡ whole shell request told
-      → outcome ≡ turned_away refusal server back → Served service true before after envelope outcome
-  went_back after point told refusal back outcome helper_looks refused told_is back_is outcome_is =
-      let own_server : before.server ≡ Some server = sym (ap (λ (one : PassValue Q). one.server) looks.1) ∙ server_is in
+      → outcome ≡ turned_away refusal server back → Served service true pass envelope outcome
+  went_back point told refusal back outcome looks refused told_is back_is outcome_is =
       let back_whole : back ≡ with_note envelope point =
       back_is ∙ (λ i. whole (shell_is i) (request_is i) (told_is i)) in
-      subst (λ (one : Outcome (AnswerValue Q R) (Sent Q)). Served service true before after envelope one)
+      subst (λ (one : Outcome (AnswerValue Q R) (Sent Q)). Served service true pass envelope one)
       (sym (outcome_is ∙ ap (turned_away refusal server) back_whole))
-      (helper_away service before helper envelope same_board is_own after point server refusal own_server helper_looks
+      (helper_away service pass helper envelope same_board is_own point server refusal server_is looks
       (subst (λ (pair : ℕ × Mode). RefusedBy helper point pair.0 pair.1 refusal)
       (λ i. (shard_of i, mode_of i)) refused))

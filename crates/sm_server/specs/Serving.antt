@@ -56,33 +56,23 @@ pub record IsHandedBack {Q : Type 0} (envelope back : Sent Q) : Type 0 where
   pub told : Begins envelope.note.seen back.note.seen
   pub idle : (back.note ≡ envelope.note) ⊎ (requests_in (own back.note.number back.note.seen) ≡ [])
 
--- the point by which an envelope comes back: what the pass has then seen, where the note is the old one, or what the
--- new note has
-pub record IsPoint {Q : Type 0} (before after : PassValue Q) (envelope back : Sent Q)
-    (point : PassValue Q) : Type 0 where
-  pub board : point.board ≡ before.board
-  pub seen : Begins before.seen point.seen
-  pub whose : ((point ≡ after) × (back.note ≡ envelope.note)) ⊎ (point ≡ back.note)
-
--- the shard's record at a point has the pass's server forward to this one, and the envelope has gone one hop more
-pub record IsForwarded {Q : Type 0} (before after : PassValue Q) (envelope : Sent Q) (to : ℕ)
-    (back : Sent Q) : Type 0 where
-  pub point : PassValue Q
-  pub is_point : IsPoint before after envelope back point
+-- the shard's record in all that the envelope's note has seen since has the pass's server forward to this one, and the
+-- envelope has gone one hop more
+pub record IsForwarded {Q : Type 0} (before : PassValue Q) (envelope : Sent Q) (to : ℕ) (back : Sent Q) : Type 0 where
+  pub seen : Begins before.seen back.note.seen
   pub server : ℕ
   pub is_own : before.server ≡ Some server
-  pub forwards : forward_to (record_of point envelope.shard) server ≡ Some to
+  pub forwards : forward_to (record_of back.note envelope.shard) server ≡ Some to
   pub hops : envelope.hops < MOST_HOPS
   pub shell : shell_of back ≡ shell_of (one_hop_more envelope server)
 
 -- the record would have the server forward the envelope, which went as many hops as it may
-pub record IsTooFar {Q : Type 0} (before after : PassValue Q) (envelope back : Sent Q) : Type 0 where
-  pub point : PassValue Q
-  pub is_point : IsPoint before after envelope back point
+pub record IsTooFar {Q : Type 0} (before : PassValue Q) (envelope back : Sent Q) : Type 0 where
+  pub seen : Begins before.seen back.note.seen
   pub server : ℕ
   pub is_own : before.server ≡ Some server
   pub to : ℕ
-  pub forwards : forward_to (record_of point envelope.shard) server ≡ Some to
+  pub forwards : forward_to (record_of back.note envelope.shard) server ≡ Some to
   pub hops : MOST_HOPS ≤ envelope.hops
 
 -- a server doesn't forward by the record that refused its admission; of an admission that was overtaken nothing is said
@@ -90,13 +80,12 @@ abbrev pub NotForwarding : Option ℕ → AdmitRefusal → Type 0
 NotForwarding (Some server) (admission.Refused fault state) = forward_to state server ≡ None
 NotForwarding server refusal = Unit {0}
 
--- the admission was refused by the record at a point, or overtaken
-pub record IsNotAdmitted {Q : Type 0} (before after : PassValue Q) (envelope back : Sent Q)
-    (refusal : AdmitRefusal) : Type 0 where
-  pub point : PassValue Q
-  pub is_point : IsPoint before after envelope back point
-  pub refused : RefusedBy before point envelope.shard envelope.mode refusal
-  pub stays : NotForwarding before.server refusal
+-- the admission was refused by the record in all that the envelope's note has seen since, or overtaken
+pub record IsNotAdmitted {Q : Type 0} (before : PassValue Q) (envelope back : Sent Q) (refusal : AdmitRefusal) : Type 0
+  where
+    pub seen : Begins before.seen back.note.seen
+    pub refused : RefusedBy before back.note envelope.shard envelope.mode refusal
+    pub stays : NotForwarding before.server refusal
 
 -- the server was admitted, and the admission ended with nothing; the new note did that and no more
 pub record IsUnserved {Q : Type 0} (before : PassValue Q) (envelope back : Sent Q) : Type 0 where
@@ -110,13 +99,13 @@ abbrev pub limit_of : {Q : Type 0} → PassValue Q → ℕ → ℕ
 limit_of pass shard = limit_at pass.board.limits shard
 
 -- why an envelope comes back
-abbrev pub RefusedFor : {Q : Type 0} → PassValue Q → PassValue Q → Sent Q → Sent Q → Refusal → Type 0
-RefusedFor before after envelope back WrongShard = back ≡ envelope
-RefusedFor before after envelope back TooManyHops = IsTooFar before after envelope back
-RefusedFor before after envelope back (NotAdmitted refusal) = IsNotAdmitted before after envelope back refusal
-RefusedFor before after envelope back KeptFull =
+abbrev pub RefusedFor : {Q : Type 0} → PassValue Q → Sent Q → Sent Q → Refusal → Type 0
+RefusedFor before envelope back WrongShard = back ≡ envelope
+RefusedFor before envelope back TooManyHops = IsTooFar before envelope back
+RefusedFor before envelope back (NotAdmitted refusal) = IsNotAdmitted before envelope back refusal
+RefusedFor before envelope back KeptFull =
     IsUnserved before envelope back × (limit_of before envelope.shard ≤ length (kept back.note.seen envelope.shard))
-RefusedFor before after envelope back NoMemory =
+RefusedFor before envelope back NoMemory =
     IsUnserved before envelope back × (length (kept back.note.seen envelope.shard) < limit_of before envelope.shard)
 
 -- it was refused for another reason than that its key is of another shard
@@ -124,12 +113,12 @@ abbrev pub is_of_shard : Refusal → Bool
 is_of_shard WrongShard = false
 is_of_shard _ = true
 
--- what a server tells of an envelope that is here or not, by what its pass had seen before and has after
-abbrev pub Served : {Q R : Type 0} → Service Q R → Bool → PassValue Q → PassValue Q → Sent Q
+-- what a server tells of an envelope that is here or not, by what its pass had seen before
+abbrev pub Served : {Q R : Type 0} → Service Q R → Bool → PassValue Q → Sent Q
     → Outcome (AnswerValue Q R) (Sent Q) → Type 0
-Served service here before after envelope (Answered answer) = (here ≡ true) × IsAnswered service before envelope answer
-Served service here before after envelope (Forward to back) =
-    (here ≡ true) × IsHandedBack envelope back × IsForwarded before after envelope to back
-Served service here before after envelope (Refused refusal back) =
+Served service here before envelope (Answered answer) = (here ≡ true) × IsAnswered service before envelope answer
+Served service here before envelope (Forward to back) =
+    (here ≡ true) × IsHandedBack envelope back × IsForwarded before envelope to back
+Served service here before envelope (Refused refusal back) =
     (here ≡ is_of_shard refusal) × IsHandedBack envelope back × (shell_of back ≡ shell_of envelope)
-    × RefusedFor before after envelope back refusal
+    × RefusedFor before envelope back refusal

@@ -2,7 +2,7 @@
 ghost use Rattle.std.specs.Prelude.{◌≡◌, ◌<◌, true, None, Some, IsSome};
 ghost use Rattle.sm_body.specs.Service.{meaning_of};
 ghost use Rattle.sm_ownership.specs.Rules.{forward_to};
-ghost use Rattle.sm_rule.specs.Passes.{PassLooks, PassValue};
+ghost use Rattle.sm_rule.specs.Passes.{PassLooks};
 ghost use Rattle.sm_server.specs.Running.{IsHelper, turned_away, turned_by};
 ghost use Rattle.sm_server.specs.Serving.{Served, is_here};
 
@@ -26,8 +26,8 @@ use sm_rule::pass::Pass;
 /// refused.
 ///
 /// An answer has executed the request once, in a history that extends what the pass and the envelope's note had seen.
-/// `Forward`, `TooManyHops` and `Admit` are by the shard's record at a point that extends what the pass had seen.
-/// `KeptFull` and `NoMemory` come with an admission that ended with nothing.
+/// `Forward`, `TooManyHops` and `Admit` are by the shard's record in such a history, which the envelope's note then
+/// has. `KeptFull` and `NoMemory` come with an admission that ended with nothing.
 pub fn serve<S: Service>(
     board: &Board<S>,
     layout: &Layout,
@@ -41,7 +41,7 @@ pub fn serve<S: Service>(
     ensures seen { PassLooks pass.old pass.new }
     ensures served { Served (meaning_of S.initial S.next S.answer S.key_of)
         (is_here (meaning_of S.initial S.next S.answer S.key_of) layout.now board.now.limits.count envelope)
-        pass.old pass.new envelope result }
+        pass.old envelope result }
 {
     // A pass that sees nothing more has looked, as what it has seen is legal.
     pass.soundness();
@@ -51,11 +51,7 @@ pub fn serve<S: Service>(
     let Some(server) = pass.server() else {
         unreachable!()
     };
-    let state = board.look(pass, envelope.shard());
-    match board.refusal(&state, Some(server), envelope.mode()) {
-        Some(fault) => turned_by(fault, state, server, envelope),
-        None => begin(board, pass, server, envelope),
-    }
+    begin(board, pass, server, envelope)
 }
 
 // Whether the envelope's shard is the board's, and that of the request's key.
@@ -131,8 +127,7 @@ fn begin<S: Service>(
     requires server { pass.old.server ≡ Some server }
     requires shard { envelope.shard < board.now.limits.count }
     ensures unchanged { pass.new ≡ pass.old }
-    ensures served { (before : PassValue S.Request) → PassLooks before pass.old
-        → Served (meaning_of S.initial S.next S.answer S.key_of) true before pass.new envelope result }
+    ensures served { Served (meaning_of S.initial S.next S.answer S.key_of) true pass.old envelope result }
 {
     let (request, note, shell) = envelope.parts();
     let mut helper = helper_of(board, pass, note);

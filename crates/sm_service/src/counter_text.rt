@@ -1,4 +1,4 @@
-ghost use Rattle.std.specs.Prelude.{◌≡◌, IfOk, OnOk, OnErr};
+ghost use Rattle.std.specs.Prelude.{◌≡◌, IfOk, OnOk, OnErr, length};
 ghost use Rattle.sm_service.specs.Service.{key_of_request, reply, after, sum_of};
 
 use crate::bytes::Bytes;
@@ -100,6 +100,13 @@ impl Machine for KeyMachine {
 }
 
 impl KeyMachine {
+    /// How many keys hold something.
+    pub fn len(&self) -> u128
+        ensures { result ≡ length self.now }
+    {
+        self.map.len()
+    }
+
     /// How many bytes of the map are dead, as `ArenaMap::dead` counts them. It has no clause of its own.
     pub fn dead(&self) -> u128 {
         self.map.dead()

@@ -25,34 +25,17 @@ from dataclasses import dataclass
 from types import TracebackType
 from typing import Callable, Generic, Iterable, TypeVar
 
-from ._library import LIBRARY, Handle, RecordParts, Part
+from ._kept import Kept as _Kept, check as _check
+from ._library import LIBRARY, Part, RecordParts
 from .errors import *
-from .errors import BadArgument, Busy, DurkenzoError, IsAdmitted, NotAdmitted, Raced, error_of
+from .errors import BadArgument, Busy, DurkenzoError, IsAdmitted, NotAdmitted, Raced
+from ._map import Map, Value
 from .record import Phase, Record
 
 T = TypeVar("T")
 R = TypeVar("R")
 
 MAX_GENERATION = (1 << 36) - 1
-
-
-def _check(code: int, parts: RecordParts | None = None) -> None:
-    if code:
-        raise error_of(code, Record.of(parts) if parts else None)
-
-
-class _Kept:
-    """What the library keeps for an object, which lets it go at the end."""
-
-    def __init__(self) -> None:
-        self._handle = Handle()
-
-    def close(self) -> None:
-        """Lets go what the library keeps for this. An admission ends. Further calls raise WrongHandle."""
-        LIBRARY.durkenzo_close(ctypes.byref(self._handle))
-
-    def __del__(self) -> None:
-        self.close()
 
 
 class Permit(Generic[T]):

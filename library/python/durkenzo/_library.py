@@ -5,6 +5,7 @@ import os
 import pathlib
 
 u8, u16, u32, u64 = ctypes.c_uint8, ctypes.c_uint16, ctypes.c_uint32, ctypes.c_uint64
+i64 = ctypes.c_int64
 NAME = "libdurkenzo.so"
 
 
@@ -26,6 +27,12 @@ class Part(ctypes.Structure):
     _fields_ = [("start", ctypes.c_size_t), ("end", ctypes.c_size_t)]
 
 
+class ReplyParts(ctypes.Structure):
+    """A reply of a map, or what a pair of it holds."""
+
+    _fields_ = [("count", i64), ("length", ctypes.c_size_t), ("kind", u8)]
+
+
 def found() -> str:
     """Returns where the library is."""
     here = pathlib.Path(__file__).resolve().parent
@@ -42,6 +49,7 @@ def loaded() -> ctypes.CDLL:
     """Returns the library with the types of its calls."""
     library, handle, record, number = ctypes.CDLL(found()), *map(ctypes.POINTER, (Handle, RecordParts, u64))
     size, shard, text = ctypes.c_size_t, ctypes.POINTER(u16), ctypes.c_char_p
+    length, parts = ctypes.POINTER(size), ctypes.POINTER(ReplyParts)
     calls = {
         "open": [handle, number, ctypes.c_size_t, u16, u16, u64],
         "pass": [handle, handle, u16],
@@ -57,7 +65,14 @@ def loaded() -> ctypes.CDLL:
         "left": [handle, size, shard],
         "layout": [handle, text, size, ctypes.POINTER(Part), size],
         "shard_of": [handle, text, size, shard],
-        "bound": [handle, u16, text, size, ctypes.POINTER(size)],
+        "bound": [handle, u16, text, size, length],
+        "map": [handle],
+        "map_length": [handle, number],
+        "ask": [handle, handle, u8, text, size, text, size, i64, parts],
+        "reply_text": [handle, text, size, length],
+        "pair": [handle, size, parts],
+        "pair_key": [handle, size, text, size, length],
+        "pair_text": [handle, size, text, size, length],
     }
     for name, types in calls.items():
         call = getattr(library, f"durkenzo_{name}")

@@ -43,13 +43,18 @@ __all__ = [
     "FirstNotEmpty",
     "NotRising",
     "BoundTooLong",
+    "KeyEmpty",
+    "KeyTooLong",
+    "WrongKind",
+    "CountOverflow",
+    "TextTooLong",
 ]
 
 
 class DurkenzoError(Exception):
     """A call was refused. `record` is what was read of the shard, where a record refused it."""
 
-    code = 0
+    code: int | None = 0
 
     def __init__(self, record: Record | None = None) -> None:
         super().__init__(self.__doc__ if record is None else f"{self.__doc__} {record}")
@@ -282,6 +287,36 @@ class BoundTooLong(DurkenzoError):
     """A bound has more than 255 bytes."""
 
     code = 53
+
+
+class KeyEmpty(DurkenzoError):
+    """A key has at least one byte."""
+
+    code = 57
+
+
+class KeyTooLong(DurkenzoError):
+    """A key has at most 255 bytes."""
+
+    code = 58
+
+
+class WrongKind(DurkenzoError):
+    """The key holds a count where the request is for a text, or a text where it is for a count."""
+
+    code = None
+
+
+class CountOverflow(DurkenzoError):
+    """The count would have more than 64 bits."""
+
+    code = None
+
+
+class TextTooLong(DurkenzoError):
+    """The text would have more than 65,535 bytes."""
+
+    code = None
 
 
 _READ = {13, 14, 15, 21, 22, 23, 24, 25, 26}

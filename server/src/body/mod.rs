@@ -1,9 +1,8 @@
 //! What a shard holds: an ordered map of keys to texts and counts, behind one trait.
-mod key;
-mod memory;
+mod proved;
 mod storage;
 
-pub use memory::MemoryBody;
+pub use proved::ProvedBody;
 pub use storage::{Memory, Storage};
 
 use std::ops::Bound;
@@ -61,6 +60,8 @@ pub enum Refusal {
     TooLong,
     /// The sum lies outside of 64 bits.
     Overflow,
+    /// Memory was refused.
+    NoMemory,
 }
 
 /// A key and what it holds.
@@ -91,7 +92,7 @@ pub trait ShardBody: Send {
     fn apply<'a>(&'a mut self, request: Request<'_>) -> Reply<'a>;
 
     /// How many keys hold something.
-    fn keys(&self) -> usize;
+    fn keys(&mut self) -> usize;
 }
 
 /// What the board keeps for a shard.

@@ -280,10 +280,10 @@ fn append_to_count(body: &mut dyn ShardBody, key: &[u8], more: &[u8]) -> Result<
 mod tests {
     use super::super::spec::{Spec, Word};
     use super::*;
-    use crate::body::MemoryBody;
+    use crate::body::ProvedBody;
     use crate::resp::{parse, Arguments};
 
-    fn told(body: &mut MemoryBody, line: &str) -> String {
+    fn told(body: &mut ProvedBody, line: &str) -> String {
         let input = format!("{line}\r\n");
         let (mut arguments, mut replies) = (Arguments::default(), Replies::default());
         parse(input.as_bytes(), &mut arguments).unwrap();
@@ -339,7 +339,7 @@ mod tests {
 
     #[test]
     fn numbers_are_texts_and_texts_numbers_as_in_redis() {
-        let mut body = MemoryBody::default();
+        let mut body = ProvedBody::new().unwrap();
         for (line, answer) in LINES {
             assert_eq!(told(&mut body, line), answer, "{line}");
         }
@@ -347,7 +347,7 @@ mod tests {
 
     #[test]
     fn what_is_too_long_changes_nothing() {
-        let mut body = MemoryBody::default();
+        let mut body = ProvedBody::new().unwrap();
         let (front, rest) = ("x".repeat(MAX_TEXT - 1_000), "y".repeat(1_000));
         assert_eq!(told(&mut body, &format!("SET a {front}")), "+OK");
         assert_eq!(told(&mut body, &format!("APPEND a {rest}")), ":65535");

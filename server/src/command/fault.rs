@@ -28,6 +28,8 @@ pub enum Fault {
     NoOpposite,
     /// A text would be too long.
     TooLong,
+    /// Memory was refused, and nothing has changed.
+    NoMemory,
     /// A key is too long, or empty.
     BadKey,
     /// The keys of one command, or of one transaction, are of several shards.
@@ -95,6 +97,7 @@ impl From<Refusal> for Fault {
             Refusal::WrongKind => Fault::NotInteger,
             Refusal::TooLong => Fault::TooLong,
             Refusal::Overflow => Fault::Overflow,
+            Refusal::NoMemory => Fault::NoMemory,
         }
     }
 }
@@ -126,6 +129,7 @@ impl fmt::Display for Fault {
                 return write!(f, "ERR unknown subcommand '{word}'. Try {name} HELP.")
             }
             Fault::NoMulti(name) => return write!(f, "ERR {name} without MULTI"),
+            Fault::NoMemory => return f.write_str("OOM memory was refused"),
             Fault::TooLong => return write!(f, "TOOLONG a value has at most {MAX_TEXT} bytes"),
             Fault::BadKey => return write!(f, "BADKEY a key has 1 to {MAX_KEY} bytes"),
             Fault::ReplyTooLarge => {

@@ -1,12 +1,13 @@
 //! A board of foreign bodies.
-use sm_foreign::Chief;
+use sm_foreign::{Chief, Foreign};
 use sm_ranges::ServerId;
 use std::test::Fail;
 
 #[test]
 fn makes_a_pass(rt: HostRuntime) -> Result<(), Fail> {
     let (alloc, one) = (rt.alloc(), ServerId::of(1));
-    let Ok(mut chief) = Chief::make(alloc, &[70, 80], 2, 1, 100) else {
+    let bodies = Foreign::all(alloc, &[70, 80])?;
+    let Ok(mut chief) = Chief::make(alloc, bodies, 2, 1, 100) else {
         return Err("no board".into());
     };
     let free = chief.pass(Some(one))?;

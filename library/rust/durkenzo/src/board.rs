@@ -22,6 +22,14 @@ pub(crate) struct Shared<T> {
 unsafe impl<T: Send> Sync for Shared<T> {}
 
 impl<T> Shared<T> {
+    /// What all that belongs to a board shares where the library has the bodies itself.
+    pub(crate) fn without_bodies(chief: Handle) -> Shared<T> {
+        Shared {
+            chief: Mutex::new(chief),
+            bodies: Box::default(),
+        }
+    }
+
     /// The control's handle. Nothing that holds it can panic in the midst of a change, so poison says nothing.
     pub(crate) fn chief(&self) -> MutexGuard<'_, Handle> {
         self.chief.lock().unwrap_or_else(PoisonError::into_inner)

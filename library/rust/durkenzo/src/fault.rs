@@ -125,6 +125,60 @@ pub enum LayoutFault {
     NoMemory,
 }
 
+/// Why a request to a map is refused, which then changes nothing.
+#[derive(Clone, Copy, Debug, PartialEq, Eq)]
+pub enum MapFault {
+    /// A key has at least one byte.
+    EmptyKey,
+    /// A key has at most 255 bytes.
+    KeyTooLong,
+    /// The key holds a count where the request is for a text, or a text where it is for a count.
+    WrongKind,
+    /// The count would have more than 64 bits.
+    Overflow,
+    /// The text would have more than 65,535 bytes.
+    TextTooLong,
+    /// Memory was refused.
+    NoMemory,
+}
+
+/// Why there is no envelope.
+#[derive(Clone, Copy, Debug, PartialEq, Eq)]
+pub enum SendFault {
+    /// A key has at least one byte.
+    EmptyKey,
+    /// A key has at most 255 bytes.
+    KeyTooLong,
+    /// Memory was refused.
+    NoMemory,
+}
+
+/// Why a server refused an envelope.
+#[derive(Clone, Copy, Debug, PartialEq, Eq)]
+pub enum ServeFault {
+    /// The envelope is of another board.
+    OtherBoard,
+    /// The request's key is of another shard.
+    WrongShard,
+    /// The envelope was forwarded as often as it may be.
+    TooManyHops,
+    /// The shard keeps as many requests as it may: make a checkpoint.
+    KeptFull,
+    /// The server isn't admitted to the shard, and forwards nothing.
+    Admit(AdmitFault),
+    /// Memory was refused.
+    NoMemory,
+}
+
+/// Why a shard made no checkpoint.
+#[derive(Clone, Copy, Debug, PartialEq, Eq)]
+pub enum CheckpointFault {
+    /// The server isn't admitted to the shard.
+    Admit(AdmitFault),
+    /// Memory was refused.
+    NoMemory,
+}
+
 /// Why there is no plan.
 #[derive(Clone, Copy, Debug, PartialEq, Eq)]
 pub enum PlanFault {
@@ -204,6 +258,49 @@ impl LayoutFault {
     }
 }
 
+impl MapFault {
+    pub(crate) fn of(code: u32) -> MapFault {
+        match code {
+            3 => MapFault::NoMemory,
+            57 => MapFault::EmptyKey,
+            58 => MapFault::KeyTooLong,
+            other => unreachable!("a map answered code {other}"),
+        }
+    }
+}
+
+impl SendFault {
+    pub(crate) fn of(code: u32) -> SendFault {
+        match code {
+            3 => SendFault::NoMemory,
+            57 => SendFault::EmptyKey,
+            58 => SendFault::KeyTooLong,
+            other => unreachable!("an envelope answered code {other}"),
+        }
+    }
+}
+
+impl ServeFault {
+    pub(crate) fn of(code: u32, read: Record) -> ServeFault {
+        match code {
+            3 => ServeFault::NoMemory,
+            61 => ServeFault::WrongShard,
+            62 => ServeFault::TooManyHops,
+            63 => ServeFault::KeptFull,
+            code => ServeFault::Admit(AdmitFault::of(code, read)),
+        }
+    }
+}
+
+impl CheckpointFault {
+    pub(crate) fn of(code: u32, read: Record) -> CheckpointFault {
+        match code {
+            3 => CheckpointFault::NoMemory,
+            code => CheckpointFault::Admit(AdmitFault::of(code, read)),
+        }
+    }
+}
+
 impl PlanFault {
     pub(crate) fn of(code: u32) -> PlanFault {
         match code {
@@ -227,6 +324,53 @@ impl fmt::Display for LayoutFault {
     }
 }
 
+impl fmt::Display for MapFault {
+    fn fmt(&self, f: &mut fmt::Formatter<'_>) -> fmt::Result {
+        f.write_str(match self {
+            MapFault::EmptyKey => "a key has at least one byte",
+            MapFault::KeyTooLong => "a key has at most 255 bytes",
+            MapFault::WrongKind => "the key holds a value of the other kind",
+            MapFault::Overflow => "the count would have more than 64 bits",
+            MapFault::TextTooLong => "the text would have more than 65,535 bytes",
+            MapFault::NoMemory => "out of memory",
+        })
+    }
+}
+
+impl fmt::Display for SendFault {
+    fn fmt(&self, f: &mut fmt::Formatter<'_>) -> fmt::Result {
+        f.write_str(match self {
+            SendFault::EmptyKey => "a key has at least one byte",
+            SendFault::KeyTooLong => "a key has at most 255 bytes",
+            SendFault::NoMemory => "out of memory",
+        })
+    }
+}
+
+impl fmt::Display for ServeFault {
+    fn fmt(&self, f: &mut fmt::Formatter<'_>) -> fmt::Result {
+        match self {
+            ServeFault::OtherBoard => f.write_str("the envelope is of another board"),
+            ServeFault::WrongShard => f.write_str("the request's key is of another shard"),
+            ServeFault::TooManyHops => f.write_str("the request was forwarded too often"),
+            ServeFault::KeptFull => {
+                f.write_str("the shard keeps as many requests as it may: make a checkpoint")
+            }
+            ServeFault::Admit(fault) => fault.fmt(f),
+            ServeFault::NoMemory => f.write_str("out of memory"),
+        }
+    }
+}
+
+impl fmt::Display for CheckpointFault {
+    fn fmt(&self, f: &mut fmt::Formatter<'_>) -> fmt::Result {
+        match self {
+            CheckpointFault::Admit(fault) => fault.fmt(f),
+            CheckpointFault::NoMemory => f.write_str("out of memory"),
+        }
+    }
+}
+
 impl fmt::Display for PlanFault {
     fn fmt(&self, f: &mut fmt::Formatter<'_>) -> fmt::Result {
         f.write_str(match self {
@@ -237,6 +381,10 @@ impl fmt::Display for PlanFault {
 }
 
 impl Error for LayoutFault {}
+impl Error for MapFault {}
+impl Error for SendFault {}
+impl Error for ServeFault {}
+impl Error for CheckpointFault {}
 impl Error for PlanFault {}
 
 impl BuildFault {

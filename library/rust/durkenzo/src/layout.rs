@@ -76,6 +76,11 @@ impl Layout {
         Some((low, shard.checked_add(1).and_then(|it| self.bound(it))))
     }
 
+    /// What the call makes of the layout's handle, which is locked meanwhile.
+    pub(crate) fn with<R>(&self, call: impl FnOnce(&mut Handle) -> R) -> R {
+        call(&mut self.handle.lock().unwrap_or_else(PoisonError::into_inner))
+    }
+
     fn bound(&self, shard: u16) -> Option<Vec<u8>> {
         let (mut bound, mut length) = (vec![0; 255], 0);
         let mut handle = self.handle.lock().unwrap_or_else(PoisonError::into_inner);

@@ -57,6 +57,14 @@
 //! permit.finish();
 //! println!("{body}");
 //! ```
+//! ```compile_fail,E0599
+//! # use durkenzo::{Board, Mode};
+//! # let board = Board::builder().servers(1).build(vec![0u64]).unwrap();
+//! # let other = Board::builder().servers(1).build(vec![0u64]).unwrap();
+//! # let (mut pass, mut other) = (board.pass(1).unwrap(), other.pass(1).unwrap());
+//! let permit = pass.admit(0, Mode::Direct).unwrap();
+//! other.finish(permit);
+//! ```
 //! Bodies that may not pass between threads keep the board in one:
 //! ```compile_fail,E0277
 //! # use durkenzo::Board;
@@ -66,25 +74,37 @@
 #![warn(missing_docs)]
 mod board;
 mod control;
+mod envelope;
 mod fault;
 mod layout;
+mod map;
 mod note;
 mod pass;
 mod plan;
 mod raw;
 mod record;
+mod reply;
+mod request;
 mod routes;
+mod service;
+mod service_pass;
 pub mod word;
 
 pub use board::{Board, Builder};
 pub use control::Control;
+pub use envelope::{Answer, Envelope};
 pub use fault::{
-    AdmitFault, BuildFault, ChangeFault, LayoutFault, NoteFault, PassFault, PlanFault,
-    PublishFault, RestartFault, UnknownShard,
+    AdmitFault, BuildFault, ChangeFault, CheckpointFault, LayoutFault, MapFault, NoteFault,
+    PassFault, PlanFault, PublishFault, RestartFault, SendFault, ServeFault, UnknownShard,
 };
 pub use layout::Layout;
+pub use map::Map;
 pub use note::Note;
 pub use pass::{Front, Mode, Pass, Permit};
 pub use plan::{Move, Plan};
 pub use record::{Record, Stand};
+pub use reply::{Reply, Value};
+pub use request::Request;
 pub use routes::{Route, Routes};
+pub use service::{Service, ServiceBuilder, Texts};
+pub use service_pass::{ServeRefused, Served, ServicePass};

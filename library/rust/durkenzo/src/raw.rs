@@ -47,6 +47,24 @@ pub(crate) struct Part {
     pub(crate) end: usize,
 }
 
+/// What was replied, or what a pair holds.
+#[repr(C)]
+#[derive(Clone, Copy, Default)]
+pub(crate) struct ReplyParts {
+    pub(crate) count: i64,
+    pub(crate) length: usize,
+    pub(crate) kind: u8,
+}
+
+/// An answer but for its reply.
+#[repr(C)]
+#[derive(Clone, Copy, Default)]
+pub(crate) struct AnswerParts {
+    pub(crate) number: u64,
+    pub(crate) place: u64,
+    pub(crate) server: u16,
+}
+
 extern "C" {
     pub(crate) fn durkenzo_open(
         chief: *mut Handle,
@@ -103,6 +121,78 @@ extern "C" {
         into: *mut u8,
         room: usize,
         length: *mut usize,
+    ) -> u32;
+    pub(crate) fn durkenzo_map(map: *mut Handle) -> u32;
+    pub(crate) fn durkenzo_map_length(map: *mut Handle, length: *mut u64) -> u32;
+    pub(crate) fn durkenzo_ask(
+        map: *mut Handle,
+        reply: *mut Handle,
+        kind: u8,
+        key: *const u8,
+        key_length: usize,
+        other: *const u8,
+        other_length: usize,
+        amount: i64,
+        parts: *mut ReplyParts,
+    ) -> u32;
+    pub(crate) fn durkenzo_reply_text(
+        reply: *mut Handle,
+        into: *mut u8,
+        room: usize,
+        length: *mut usize,
+    ) -> u32;
+    pub(crate) fn durkenzo_pair(reply: *mut Handle, at: usize, parts: *mut ReplyParts) -> u32;
+    pub(crate) fn durkenzo_pair_key(
+        reply: *mut Handle,
+        at: usize,
+        into: *mut u8,
+        room: usize,
+        length: *mut usize,
+    ) -> u32;
+    pub(crate) fn durkenzo_pair_text(
+        reply: *mut Handle,
+        at: usize,
+        into: *mut u8,
+        room: usize,
+        length: *mut usize,
+    ) -> u32;
+    pub(crate) fn durkenzo_open_service(
+        chief: *mut Handle,
+        shards: usize,
+        kept: usize,
+        servers: u16,
+        ops: u16,
+        ceiling: u64,
+    ) -> u32;
+    pub(crate) fn durkenzo_envelope(
+        pass: *mut Handle,
+        envelope: *mut Handle,
+        number: u64,
+        shard: u16,
+        kind: u8,
+        key: *const u8,
+        key_length: usize,
+        other: *const u8,
+        other_length: usize,
+        amount: i64,
+    ) -> u32;
+    pub(crate) fn durkenzo_serve(
+        pass: *mut Handle,
+        layout: *mut Handle,
+        envelope: *mut Handle,
+        to: *mut u16,
+        read: *mut RecordParts,
+    ) -> u32;
+    pub(crate) fn durkenzo_answer(
+        answer: *mut Handle,
+        parts: *mut AnswerParts,
+        reply: *mut ReplyParts,
+    ) -> u32;
+    pub(crate) fn durkenzo_checkpoint(
+        pass: *mut Handle,
+        shard: u16,
+        generation: *mut u64,
+        read: *mut RecordParts,
     ) -> u32;
     pub(crate) fn durkenzo_pack(parts: *const RecordParts, word: *mut u64) -> u32;
     pub(crate) fn durkenzo_accepts(word: u64, server: u16, from: u16, accepted: *mut bool) -> u32;

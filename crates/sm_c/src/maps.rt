@@ -1,0 +1,70 @@
+//! Maps of the sample service.
+ghost use Rattle.std.specs.Prelude.{◌≡◌, ◌≢◌, [], Some};
+ghost use Rattle.sm_handle.specs.declared.handle_state.HandleState.TheVariants.{Map};
+ghost use Rattle.sm_handle.specs.Maps.{Replied};
+ghost use Rattle.sm_c.specs.Requests.{AsksMap, CountsKeys};
+
+use crate::codes::{NO_MEMORY, code_of_act, code_of_request};
+use crate::requests::request_of;
+use sm_handle::{Handle, ReplyParts};
+use std::alloc::Global;
+
+/// Makes an empty map. The handle keeps it, in place of what it kept.
+#[unsafe(no_mangle)]
+pub extern "C" fn durkenzo_map(alloc: Global, map: &mut Handle) -> u32
+    ensures made { result ≡ 0 → map.new.owned.state ≡ Some (Map []) }
+    ensures kept { result ≢ 0 → map.new.owned.state ≡ map.old.owned.state }
+{
+    match map.map(alloc) {
+        Ok(()) => 0,
+        Err(_) => NO_MEMORY,
+    }
+}
+
+/// Writes how many keys of the map hold something; 2^64 - 1 where there are more.
+#[unsafe(no_mangle)]
+pub extern "C" fn durkenzo_map_length(alloc: Global, map: &mut Handle, length: &mut u64) -> u32
+    ensures found { result ≡ 0 → CountsKeys map.old.owned.state length.new }
+    ensures unwritten { result ≢ 0 → length.new ≡ length.old }
+    ensures unchanged { map.new.owned.state ≡ map.old.owned.state }
+{
+    match map.map_len(alloc) {
+        Ok(count) => {
+            *length = count.min(u128::from(u64::MAX)) as u64;
+            0
+        }
+        Err(fault) => code_of_act(fault),
+    }
+}
+
+/// Makes the request of this kind of the map. The reply's handle keeps the reply, in place of what
+/// it kept, and its parts are written.
+#[unsafe(no_mangle)]
+pub extern "C" fn durkenzo_ask(
+    alloc: Global,
+    map: &mut Handle,
+    reply: &mut Handle,
+    kind: u8,
+    key: &[u8],
+    other: &[u8],
+    amount: i64,
+    parts: &mut ReplyParts,
+) -> u32
+    ensures made { result ≡ 0
+        → AsksMap map.old.owned.state map.new.owned.state kind key.now other.now amount reply.new.owned.state }
+    ensures parts { result ≡ 0 → Replied reply.new.owned.state parts.new }
+    ensures kept { result ≢ 0 → map.new.owned.state ≡ map.old.owned.state }
+    ensures unwritten { result ≢ 0 → (reply.new.owned.state ≡ reply.old.owned.state) × (parts.new ≡ parts.old) }
+{
+    let request = match request_of(alloc, kind, key, other, amount) {
+        Ok(request) => request,
+        Err(fault) => return code_of_request(fault),
+    };
+    match map.ask(alloc, reply, &request) {
+        Ok(made) => {
+            *parts = made;
+            0
+        }
+        Err(fault) => code_of_act(fault),
+    }
+}

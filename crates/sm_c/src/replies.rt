@@ -1,0 +1,96 @@
+//! Replies of the sample service.
+ghost use Rattle.std.specs.Prelude.{◌≡◌, ◌≢◌, IsErr};
+ghost use Rattle.sm_handle.specs.Maps.{PairHeld, WritesHeldText, WritesKey, WritesText};
+
+use crate::codes::code_of_act;
+use sm_handle::{ActFault, Handle, ReplyParts};
+use std::alloc::Global;
+
+/// Writes the text that was replied, and its length.
+#[unsafe(no_mangle)]
+pub extern "C" fn durkenzo_reply_text(
+    alloc: Global,
+    reply: &mut Handle,
+    into: &mut [u8],
+    length: &mut usize,
+) -> u32
+    ensures written { result ≡ 0 → WritesText reply.old.owned.state into.new length.new }
+    ensures unwritten { result ≢ 0 → into.new ≡ into.old }
+    ensures no_length { result ≢ 0 → length.new ≡ length.old }
+    ensures unchanged { reply.new.owned.state ≡ reply.old.owned.state }
+{
+    let made = reply.text(alloc, into);
+    code_of_written(made, length)
+}
+
+/// Writes the parts of what the key of the pair at this place, from 0, held.
+#[unsafe(no_mangle)]
+pub extern "C" fn durkenzo_pair(
+    alloc: Global,
+    reply: &mut Handle,
+    at: usize,
+    parts: &mut ReplyParts,
+) -> u32
+    ensures found { result ≡ 0 → PairHeld reply.old.owned.state at parts.new }
+    ensures unwritten { result ≢ 0 → parts.new ≡ parts.old }
+    ensures unchanged { reply.new.owned.state ≡ reply.old.owned.state }
+{
+    match reply.pair(alloc, at) {
+        Ok(made) => {
+            *parts = made;
+            0
+        }
+        Err(fault) => code_of_act(fault),
+    }
+}
+
+/// Writes the key of the pair at this place, and its length, which is at most 255.
+#[unsafe(no_mangle)]
+pub extern "C" fn durkenzo_pair_key(
+    alloc: Global,
+    reply: &mut Handle,
+    at: usize,
+    into: &mut [u8],
+    length: &mut usize,
+) -> u32
+    ensures written { result ≡ 0 → WritesKey reply.old.owned.state at into.new length.new }
+    ensures unwritten { result ≢ 0 → into.new ≡ into.old }
+    ensures no_length { result ≢ 0 → length.new ≡ length.old }
+    ensures unchanged { reply.new.owned.state ≡ reply.old.owned.state }
+{
+    let made = reply.pair_key(alloc, at, into);
+    code_of_written(made, length)
+}
+
+/// Writes the text that the key of the pair at this place held, and its length.
+#[unsafe(no_mangle)]
+pub extern "C" fn durkenzo_pair_text(
+    alloc: Global,
+    reply: &mut Handle,
+    at: usize,
+    into: &mut [u8],
+    length: &mut usize,
+) -> u32
+    ensures written { result ≡ 0 → WritesHeldText reply.old.owned.state at into.new length.new }
+    ensures unwritten { result ≢ 0 → into.new ≡ into.old }
+    ensures no_length { result ≢ 0 → length.new ≡ length.old }
+    ensures unchanged { reply.new.owned.state ≡ reply.old.owned.state }
+{
+    let made = reply.pair_text(alloc, at, into);
+    code_of_written(made, length)
+}
+
+// The code of what was written, whose length this keeps.
+fn code_of_written(made: Result<usize, ActFault>, length: &mut usize) -> u32
+    ensures written { result ≡ 0 → made ≡ Ok length.new }
+    ensures refused { result ≢ 0 → IsErr made }
+    ensures no_length { result ≢ 0 → length.new ≡ length.old }
+{
+    match made {
+        Ok(written) => {
+            *length = written;
+            0
+        }
+        Err(fault) => code_of_act(fault),
+    }
+}

@@ -1,0 +1,61 @@
+//! Requests of the sample service by their parts.
+ghost use Rattle.std.specs.Prelude.{◌≡◌, IfOk};
+ghost use Rattle.sm_c.specs.Requests.{HasParts};
+
+use sm_ranges::key::{Key, KeyFault};
+use sm_service::{Bytes, Request};
+use std::alloc::Global;
+
+/// Why parts are no request.
+#[derive(Clone, Copy, Drop)]
+pub(crate) enum RequestFault {
+    /// There is no such kind, or a scan asks for fewer than 0 or for 2^32 pairs or more.
+    Argument,
+    /// The bytes are no key; or memory was refused.
+    Key(KeyFault),
+}
+
+/// The request of this kind with these parts, of which it copies those that it has.
+pub(crate) fn request_of(
+    alloc: Global,
+    kind: u8,
+    key: &[u8],
+    other: &[u8],
+    amount: i64,
+) -> Result<Request, RequestFault>
+    ensures { IfOk result (HasParts kind key.now other.now amount) }
+{
+    let key = key_of(alloc, key)?;
+    match kind {
+        1 => Ok(Request::Get(key)),
+        2 => Ok(Request::Put(key, text_of(alloc, other)?)),
+        3 => Ok(Request::Append(key, text_of(alloc, other)?)),
+        4 => Ok(Request::Inc(key, amount)),
+        5 => Ok(Request::Del(key)),
+        6 => {
+            let Ok(most) = u32::try_from(amount) else {
+                return Err(RequestFault::Argument);
+            };
+            Ok(Request::Scan(key, key_of(alloc, other)?, most))
+        }
+        _ => Err(RequestFault::Argument),
+    }
+}
+
+fn key_of(alloc: Global, bytes: &[u8]) -> Result<Key, RequestFault>
+    ensures { IfOk result (λ key. key ≡ bytes.now) }
+{
+    match Key::new(alloc, bytes) {
+        Ok(key) => Ok(key),
+        Err(fault) => Err(RequestFault::Key(fault)),
+    }
+}
+
+fn text_of(alloc: Global, bytes: &[u8]) -> Result<Bytes, RequestFault>
+    ensures { IfOk result (λ text. text ≡ bytes.now) }
+{
+    match Bytes::new(alloc, bytes) {
+        Ok(text) => Ok(text),
+        Err(_) => Err(RequestFault::Key(KeyFault::NoMemory)),
+    }
+}

@@ -1,0 +1,179 @@
+//! Boards of the sample service.
+ghost use Rattle.std.specs.Prelude.{◌≡◌, ◌≢◌};
+ghost use Rattle.sm_handle.specs.Maps.{Replied};
+ghost use Rattle.sm_handle.specs.Serving.{IsOfBoard, IsServiceOpened, MakesCheckpoint, Serves, TellsAnswer};
+ghost use Rattle.sm_handle.specs.declared.served_as.ServedAs.TheVariants.{Answered, Forward, Refused};
+ghost use Rattle.sm_server.specs.declared.refusal.Refusal.{Refusal as RefusalValue};
+ghost use Rattle.sm_c.specs.Requests.{ComesBack, LeavesShard, SendsRequest};
+
+use crate::codes::{
+    FORWARD, UNKNOWN_SHARD, code_of_act, code_of_open, code_of_refusal, code_of_request,
+};
+use crate::read::{read_of, read_of_refusal};
+use crate::record_parts::RecordParts;
+use crate::requests::request_of;
+use sm_handle::{AnswerParts, Handle, ReplyParts, ServedAs};
+use sm_ranges::shard_id::ShardId;
+use std::alloc::Global;
+
+/// Opens a board of the sample service with so many shards, each of which holds nothing yet and keeps at most `kept`
+/// requests until a checkpoint, of servers 1 to this one, at most `ops` of which restart at once; generations stay at
+/// or below the ceiling. The handle keeps its control, in place of what it kept.
+#[unsafe(no_mangle)]
+pub extern "C" fn durkenzo_open_service(
+    alloc: Global,
+    chief: &mut Handle,
+    shards: usize,
+    kept: usize,
+    servers: u16,
+    ops: u16,
+    ceiling: u64,
+) -> u32
+    ensures made { result ≡ 0 → IsServiceOpened chief.new.owned.state shards kept ops ceiling }
+    ensures kept { result ≢ 0 → chief.new.owned.state ≡ chief.old.owned.state }
+{
+    match chief.open_service(alloc, shards, kept, servers, ops, ceiling) {
+        Ok(()) => 0,
+        Err(fault) => code_of_open(fault),
+    }
+}
+
+/// Makes an envelope with this number for the shard that carries the request of this kind, with a note of all that the
+/// pass has seen. The envelope's handle keeps it, in place of what it kept.
+#[unsafe(no_mangle)]
+pub extern "C" fn durkenzo_envelope(
+    alloc: Global,
+    pass: &mut Handle,
+    envelope: &mut Handle,
+    number: u64,
+    shard: u16,
+    kind: u8,
+    key: &[u8],
+    other: &[u8],
+    amount: i64,
+) -> u32
+    ensures pass { pass.new.owned.state ≡ pass.old.owned.state }
+    ensures made { result ≡ 0
+        → SendsRequest pass.old.owned.state envelope.new.owned.state number shard kind key.now other.now amount }
+    ensures kept { result ≢ 0 → envelope.new.owned.state ≡ envelope.old.owned.state }
+{
+    let Some(k) = ShardId::new(shard) else {
+        return UNKNOWN_SHARD;
+    };
+    let request = match request_of(alloc, kind, key, other, amount) {
+        Ok(request) => request,
+        Err(fault) => return code_of_request(fault),
+    };
+    match envelope.envelope(alloc, pass, number, k, request) {
+        Ok(()) => 0,
+        Err(fault) => code_of_act(fault),
+    }
+}
+
+/// Has the pass's server serve the envelope, by the layout. Where it answers, the envelope's handle keeps the answer;
+/// where it forwards the envelope, `to` is the server that it goes to, with one hop more; and else it comes back. A
+/// refusal by a record, or a lost race, writes to `read`.
+#[unsafe(no_mangle)]
+pub extern "C" fn durkenzo_serve(
+    alloc: Global,
+    pass: &mut Handle,
+    layout: &mut Handle,
+    envelope: &mut Handle,
+    to: &mut u16,
+    read: &mut RecordParts,
+) -> u32
+    requires { IsOfBoard pass.old.owned.state envelope.old.owned.state }
+    ensures answered { result ≡ 0 → Serves pass.old.owned.state pass.new.owned.state layout.old.owned.state
+        envelope.old.owned.state envelope.new.owned.state Answered }
+    ensures forwarded { result ≡ FORWARD → Serves pass.old.owned.state pass.new.owned.state layout.old.owned.state
+        envelope.old.owned.state envelope.new.owned.state (Forward to.new) }
+    ensures refused { result ≢ 0 → result ≢ FORWARD → ComesBack pass.old.owned.state pass.new.owned.state
+        layout.old.owned.state envelope.old.owned.state envelope.new.owned.state }
+    ensures layout { layout.new.owned.state ≡ layout.old.owned.state }
+    ensures unwritten { result ≢ FORWARD → to.new ≡ to.old }
+{
+    match pass.serve(alloc, layout, envelope) {
+        Ok(served) => code_of_served(served, to, read),
+        Err(fault) => code_of_act(fault),
+    }
+}
+
+/// Writes the parts of the answer, and of its reply.
+#[unsafe(no_mangle)]
+pub extern "C" fn durkenzo_answer(
+    alloc: Global,
+    answer: &mut Handle,
+    parts: &mut AnswerParts,
+    reply: &mut ReplyParts,
+) -> u32
+    ensures found { result ≡ 0
+        → TellsAnswer answer.old.owned.state parts.new × Replied answer.old.owned.state reply.new }
+    ensures unwritten { result ≢ 0 → (parts.new ≡ parts.old) × (reply.new ≡ reply.old) }
+    ensures unchanged { answer.new.owned.state ≡ answer.old.owned.state }
+{
+    let made = match answer.answer(alloc) {
+        Ok(made) => made,
+        Err(fault) => return code_of_act(fault),
+    };
+    match answer.reply(alloc) {
+        Ok(told) => {
+            *parts = made;
+            *reply = told;
+            0
+        }
+        Err(fault) => code_of_act(fault),
+    }
+}
+
+/// Makes the shard's present state its base, under a direct admission of the pass, so that it keeps no request. Where
+/// it is made, `generation` is the shard's since then. A refusal by a record, or a lost race, writes to `read`.
+#[unsafe(no_mangle)]
+pub extern "C" fn durkenzo_checkpoint(
+    alloc: Global,
+    pass: &mut Handle,
+    shard: u16,
+    generation: &mut u64,
+    read: &mut RecordParts,
+) -> u32
+    ensures made { result ≡ 0 → MakesCheckpoint pass.old.owned.state pass.new.owned.state shard }
+    ensures refused { result ≢ 0 → LeavesShard pass.old.owned.state pass.new.owned.state shard }
+    ensures unwritten { result ≢ 0 → generation.new ≡ generation.old }
+{
+    let Some(k) = ShardId::new(shard) else {
+        return UNKNOWN_SHARD;
+    };
+    match pass.checkpoint(alloc, k) {
+        Ok(left) => {
+            *generation = left;
+            0
+        }
+        Err(fault) => {
+            if let Some(state) = read_of(&fault) {
+                *read = RecordParts::of(&state);
+            }
+            code_of_act(fault)
+        }
+    }
+}
+
+// The code of what became of an envelope, with the server that it goes to, or the record by which it was refused.
+fn code_of_served(served: ServedAs, to: &mut u16, read: &mut RecordParts) -> u32
+    ensures answered { result ≡ 0 → served ≡ Answered }
+    ensures forwarded { result ≡ FORWARD → served ≡ Forward to.new }
+    ensures refused { result ≢ 0 → result ≢ FORWARD → (refusal : RefusalValue) × (served ≡ Refused refusal) }
+    ensures unwritten { result ≢ FORWARD → to.new ≡ to.old }
+{
+    match served {
+        ServedAs::Answered => 0,
+        ServedAs::Forward(server) => {
+            *to = server.number();
+            FORWARD
+        }
+        ServedAs::Refused(refusal) => {
+            if let Some(state) = read_of_refusal(&refusal) {
+                *read = RecordParts::of(&state);
+            }
+            code_of_refusal(refusal)
+        }
+    }
+}

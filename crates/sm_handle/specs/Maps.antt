@@ -1,0 +1,70 @@
+-- Maps of the sample service, and their replies, that handles keep.
+use Rattle.std.specs.Prelude.{ℕ, ◌≡◌, List, length, slice_get, take, Option, Some, None}
+use Rattle.sm_map.specs.KeyMap.{KeyPair, KeyValue, Text as HeldText, Count as HeldCount}
+use Rattle.sm_service.specs.Service.{reply as reply_of, after as map_after}
+use Rattle.sm_service.specs.declared.reply.Reply.{Reply as ReplyValue}
+use Rattle.sm_service.specs.declared.reply.Reply.TheVariants.{Nothing, Done, Text, Count, Pairs}
+use Rattle.sm_service.specs.declared.reply.Reply.TheVariants.{WrongKind, Overflow, TooLong}
+use Rattle.sm_service.specs.declared.request.Request.{Request}
+use Rattle.sm_handle.specs.declared.handle_state.HandleState.{HandleState}
+use Rattle.sm_handle.specs.declared.handle_state.HandleState.TheVariants.{Answer, Map, Reply}
+use Rattle.sm_handle.specs.declared.reply_parts.ReplyParts.{ReplyParts}
+
+-- the map made this reply to the request, and is what the request leaves
+abbrev pub MakesReply : Option HandleState → Option HandleState → Request → Option HandleState → Type 0
+MakesReply (Some (Map before)) (Some (Map after)) request (Some (Reply made)) =
+    (made ≡ reply_of before request) × (after ≡ map_after before request)
+MakesReply before after request made = ⊥
+
+-- the handle keeps a map in which so many keys hold something
+abbrev pub HoldsKeys : Option HandleState → ℕ → Type 0
+HoldsKeys (Some (Map pairs)) count = count ≡ length pairs
+HoldsKeys state count = ⊥
+
+-- the parts are those of this reply
+abbrev pub AreReplyParts : ReplyParts → ReplyValue → Type 0
+AreReplyParts parts Nothing = parts.kind ≡ 0
+AreReplyParts parts Done = parts.kind ≡ 1
+AreReplyParts parts (Text text) = (parts.kind ≡ 2) × (parts.length ≡ length text)
+AreReplyParts parts (Count count) = (parts.kind ≡ 3) × (parts.count ≡ count)
+AreReplyParts parts (Pairs pairs) = (parts.kind ≡ 4) × (parts.length ≡ length pairs)
+AreReplyParts parts WrongKind = parts.kind ≡ 5
+AreReplyParts parts Overflow = parts.kind ≡ 6
+AreReplyParts parts TooLong = parts.kind ≡ 7
+
+-- the parts are those of what a key held
+abbrev pub AreValueParts : ReplyParts → KeyValue → Type 0
+AreValueParts parts (HeldText text) = (parts.kind ≡ 2) × (parts.length ≡ length text)
+AreValueParts parts (HeldCount count) = (parts.kind ≡ 3) × (parts.count ≡ count)
+
+-- the reply that the handle keeps
+abbrev pub reply_kept : Option HandleState → Option ReplyValue
+reply_kept (Some (Reply reply)) = Some reply
+reply_kept (Some (Answer answer)) = Some answer.reply
+reply_kept state = None
+
+-- the handle keeps a reply with these parts
+abbrev pub Replied : Option HandleState → ReplyParts → Type 0
+Replied state parts = (reply : ReplyValue) × (reply_kept state ≡ Some reply) × AreReplyParts parts reply
+
+-- the first so many of these bytes are the text that the handle keeps as its reply
+abbrev pub WritesText : Option HandleState → List ℕ → ℕ → Type 0
+WritesText state written count = reply_kept state ≡ Some (Text (take count written))
+
+-- the handle keeps pairs as its reply, and this is the one at this place
+abbrev pub IsPairAt : Option HandleState → ℕ → KeyPair → Type 0
+IsPairAt state at pair =
+    (pairs : List KeyPair) × (reply_kept state ≡ Some (Pairs pairs)) × (slice_get pairs at ≡ Some pair)
+
+-- the same, and these are the parts of what its key held
+abbrev pub PairHeld : Option HandleState → ℕ → ReplyParts → Type 0
+PairHeld state at parts = (pair : KeyPair) × IsPairAt state at pair × AreValueParts parts pair.value
+
+-- the same, and the first so many of these bytes are its key
+abbrev pub WritesKey : Option HandleState → ℕ → List ℕ → ℕ → Type 0
+WritesKey state at written count = (pair : KeyPair) × IsPairAt state at pair × (take count written ≡ pair.key)
+
+-- the same, and they are the text that its key held
+abbrev pub WritesHeldText : Option HandleState → ℕ → List ℕ → ℕ → Type 0
+WritesHeldText state at written count =
+    (pair : KeyPair) × IsPairAt state at pair × (pair.value ≡ HeldText (take count written))

@@ -1,0 +1,85 @@
+-- Boards of the sample service, their passes, and envelopes, that handles keep.
+use Rattle.std.specs.Prelude.{ℕ, ◌≡◌, [], List, map, replicate, Option, Some, None}
+use Rattle.sm_body.specs.Service.{Service, meaning_of}
+use Rattle.sm_envelope.specs.Envelope.{EnvelopeView}
+use Rattle.sm_map.specs.KeyMap.{KeyPair}
+use Rattle.sm_ownership.specs.declared.mode.Mode.TheVariants.{Direct}
+use Rattle.sm_rule.specs.Passes.{PassLooks}
+use Rattle.sm_rule.specs.Views.{Begins, IsMet}
+use Rattle.sm_server.specs.Answers.{AnswerValue}
+use Rattle.sm_server.specs.Basing.{CheckpointRefused, HasMadeCheckpoint}
+use Rattle.sm_server.specs.Serving.{Sent, Served as IsServed, is_here}
+use Rattle.sm_server.specs.declared.outcome.Outcome.{Outcome}
+use Rattle.sm_server.specs.declared.outcome.Outcome.TheVariants.{Answered as AnswersIt, Forward as ForwardsIt}
+use Rattle.sm_server.specs.declared.outcome.Outcome.TheVariants.{Refused as RefusesIt}
+use Rattle.sm_service.specs.Service.{after, key_of_request, reply}
+use Rattle.sm_service.specs.declared.reply.Reply.{Reply as ReplyValue}
+use Rattle.sm_service.specs.declared.request.Request.{Request}
+use Rattle.sm_handle.specs.declared.act_fault.ActFault.{ActFault}
+use Rattle.sm_handle.specs.declared.act_fault.ActFault.TheVariants.{Checkpoint}
+use Rattle.sm_handle.specs.declared.answer_parts.AnswerParts.{AnswerParts}
+use Rattle.sm_handle.specs.declared.handle_state.HandleState.{HandleState}
+use Rattle.sm_handle.specs.declared.handle_state.HandleState.TheVariants.{Answer, Envelope, Layout, TextChief, TextPass}
+use Rattle.sm_handle.specs.declared.served_as.ServedAs.{ServedAs}
+use Rattle.sm_handle.specs.declared.served_as.ServedAs.TheVariants.{Answered, Forward, Refused}
+
+-- the meaning of the sample service
+abbrev pub sample : Service Request ReplyValue
+sample = meaning_of [] after reply key_of_request
+
+-- the handle keeps the control of a board of so many empty bodies that keep so many requests each, under this cap of
+-- restarts and this ceiling
+abbrev pub IsServiceOpened : Option HandleState → ℕ → ℕ → ℕ → ℕ → Type 0
+IsServiceOpened (Some (TextChief chief)) count kept ops ceiling =
+    (chief.value.chair.board.limits.count ≡ count) × (chief.value.chair.board.limits.ceiling ≡ ceiling)
+    × (chief.value.chair.board.limits.bodies ≡ replicate count kept) × (chief.value.desk.ops ≡ ops)
+IsServiceOpened state count kept ops ceiling = ⊥
+
+-- the second handle keeps an envelope with this number for this shard that carries the request, which came directly,
+-- with a note of all that the first one's pass has seen
+abbrev pub Carries : Option HandleState → Option HandleState → ℕ → ℕ → Request → Type 0
+Carries (Some (TextPass pass)) (Some (Envelope envelope)) number shard request =
+    (envelope.number ≡ number) × (envelope.shard ≡ shard) × (envelope.mode ≡ Direct) × (envelope.hops ≡ 0)
+    × (envelope.request ≡ request) × (envelope.note.board ≡ pass.board) × Begins pass.seen envelope.note.seen
+Carries pass state number shard request = ⊥
+
+-- the handle keeps what became of an envelope: the answer in its place, or the envelope that goes on or comes back
+abbrev pub KeepsOutcome :
+    Option HandleState → Outcome (AnswerValue Request ReplyValue) (Sent Request) → ServedAs → Type 0
+KeepsOutcome (Some (Answer kept)) (AnswersIt answer) Answered = kept ≡ answer
+KeepsOutcome (Some (Envelope kept)) (ForwardsIt to back) (Forward server) = (kept ≡ back) × (server ≡ to)
+KeepsOutcome (Some (Envelope kept)) (RefusesIt fault back) (Refused refusal) = (kept ≡ back) × (refusal ≡ fault)
+KeepsOutcome state outcome served = ⊥
+
+-- the pass's server made this of the envelope, by the sample service's meaning and the layout, and the envelope's
+-- handle keeps what became of it
+abbrev pub Serves :
+    Option HandleState → Option HandleState → Option HandleState → Option HandleState → Option HandleState → ServedAs
+    → Type 0
+Serves (Some (TextPass before)) (Some (TextPass after)) (Some (Layout bounds)) (Some (Envelope envelope)) kept served =
+    (outcome : Outcome (AnswerValue Request ReplyValue) (Sent Request)) × PassLooks before after
+    × IsServed sample (is_here sample bounds before.board.limits.count envelope) before envelope outcome
+    × KeepsOutcome kept outcome served
+Serves before after layout envelope kept served = ⊥
+
+-- where the handles keep a pass and an envelope, these are of one board
+abbrev pub IsOfBoard : Option HandleState → Option HandleState → Type 0
+IsOfBoard (Some (TextPass pass)) (Some (Envelope envelope)) = envelope.note.board ≡ pass.board
+IsOfBoard pass envelope = Unit {0}
+
+-- the handle keeps an answer with these parts
+abbrev pub TellsAnswer : Option HandleState → AnswerParts → Type 0
+TellsAnswer (Some (Answer answer)) parts =
+    (parts.number ≡ answer.number) × (parts.place ≡ answer.place) × (parts.server ≡ answer.server)
+TellsAnswer state parts = ⊥
+
+-- the pass made the shard's state its base, and this is the shard's generation since then
+abbrev pub MakesCheckpoint : Option HandleState → Option HandleState → ℕ → Type 0
+MakesCheckpoint (Some (TextPass before)) (Some (TextPass after)) shard = HasMadeCheckpoint before shard after
+MakesCheckpoint before after shard = ⊥
+
+-- the pass made no checkpoint of the shard, by this fault; or nothing was done
+abbrev pub RefusesCheckpoint : Option HandleState → Option HandleState → ℕ → ActFault → Type 0
+RefusesCheckpoint (Some (TextPass before)) (Some (TextPass after)) shard (Checkpoint fault) =
+    CheckpointRefused before shard after fault
+RefusesCheckpoint before after shard fault = after ≡ before

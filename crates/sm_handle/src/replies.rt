@@ -1,0 +1,154 @@
+//! Replies of the sample service that handles keep.
+ghost use Rattle.std.specs.Prelude.{◌≡◌, IfErr, IfOk, Some};
+ghost use Rattle.sm_handle.specs.Maps.{IsPairAt, PairHeld, Replied, reply_kept, WritesHeldText, WritesKey, WritesText};
+
+use crate::act_fault::ActFault;
+use crate::handle::Handle;
+use crate::handle_state::HandleState;
+use crate::reply_parts::ReplyParts;
+use crate::written::write;
+use sm_service::{Pair, Reply, Val};
+use std::alloc::Global;
+
+impl Handle {
+    /// The parts of the reply that the handle keeps.
+    pub fn reply(&mut self, alloc: Global) -> Result<ReplyParts, ActFault>
+        ensures parts { IfOk result (Replied self.old.owned.state) }
+        ensures unchanged { self.new.owned.state ≡ self.old.owned.state }
+    {
+        let Some(state) = self.take(alloc) else {
+            return Err(ActFault::WrongHandle);
+        };
+        let made = parts_in(&state);
+        self.put(state);
+        made
+    }
+
+    /// Writes the text that was replied: its length; or says why not, and nothing is written.
+    pub fn text(&mut self, alloc: Global, into: &mut [u8]) -> Result<usize, ActFault>
+        ensures written { IfOk result (WritesText self.old.owned.state into.new) }
+        ensures unwritten { IfErr result (λ fault. into.new ≡ into.old) }
+        ensures unchanged { self.new.owned.state ≡ self.old.owned.state }
+    {
+        let Some(state) = self.take(alloc) else {
+            return Err(ActFault::WrongHandle);
+        };
+        let made = text_in(&state, into);
+        self.put(state);
+        made
+    }
+
+    /// The parts of what the key held that the pair at this place of the reply has.
+    pub fn pair(&mut self, alloc: Global, at: usize) -> Result<ReplyParts, ActFault>
+        ensures parts { IfOk result (PairHeld self.old.owned.state at) }
+        ensures unchanged { self.new.owned.state ≡ self.old.owned.state }
+    {
+        let Some(state) = self.take(alloc) else {
+            return Err(ActFault::WrongHandle);
+        };
+        let made = held_in(&state, at);
+        self.put(state);
+        made
+    }
+
+    /// Writes the key of the pair at this place of the reply: its length, at most 255; or says why not, and nothing is
+    /// written.
+    pub fn pair_key(&mut self, alloc: Global, at: usize, into: &mut [u8]) -> Result<usize, ActFault>
+        ensures written { IfOk result (WritesKey self.old.owned.state at into.new) }
+        ensures unwritten { IfErr result (λ fault. into.new ≡ into.old) }
+        ensures unchanged { self.new.owned.state ≡ self.old.owned.state }
+    {
+        let Some(state) = self.take(alloc) else {
+            return Err(ActFault::WrongHandle);
+        };
+        let made = key_in(&state, at, into);
+        self.put(state);
+        made
+    }
+
+    /// Writes the text that the key of the pair at this place of the reply held: its length; or says why not, and
+    /// nothing is written.
+    pub fn pair_text(
+        &mut self,
+        alloc: Global,
+        at: usize,
+        into: &mut [u8],
+    ) -> Result<usize, ActFault>
+        ensures written { IfOk result (WritesHeldText self.old.owned.state at into.new) }
+        ensures unwritten { IfErr result (λ fault. into.new ≡ into.old) }
+        ensures unchanged { self.new.owned.state ≡ self.old.owned.state }
+    {
+        let Some(state) = self.take(alloc) else {
+            return Err(ActFault::WrongHandle);
+        };
+        let made = held_text_in(&state, at, into);
+        self.put(state);
+        made
+    }
+}
+
+// The reply that the state is or has.
+fn reply_in(state: &HandleState) -> Result<&Reply, ActFault>
+    ensures { IfOk result (λ reply. reply_kept (Some state.now) ≡ Some reply.now) }
+{
+    match state {
+        HandleState::Reply(reply) => Ok(reply),
+        HandleState::Answer(answer) => Ok(answer.reply()),
+        _ => Err(ActFault::WrongHandle),
+    }
+}
+
+fn parts_in(state: &HandleState) -> Result<ReplyParts, ActFault>
+    ensures { IfOk result (Replied (Some state.now)) }
+{
+    Ok(ReplyParts::of(reply_in(state)?))
+}
+
+fn text_in(state: &HandleState, into: &mut [u8]) -> Result<usize, ActFault>
+    ensures written { IfOk result (WritesText (Some state.now) into.new) }
+    ensures unwritten { IfErr result (λ fault. into.new ≡ into.old) }
+{
+    match reply_in(state)? {
+        Reply::Text(text) => write(text.as_bytes(), into),
+        _ => Err(ActFault::WrongHandle),
+    }
+}
+
+// The pair at this place of the reply.
+fn pair_in(state: &HandleState, at: usize) -> Result<&Pair, ActFault>
+    ensures { IfOk result (λ pair. IsPairAt (Some state.now) at pair.now) }
+{
+    let Reply::Pairs(pairs) = reply_in(state)? else {
+        return Err(ActFault::WrongHandle);
+    };
+    match pairs.as_slice().get(at) {
+        Some(pair) => Ok(pair),
+        None => Err(ActFault::NoMore),
+    }
+}
+
+fn held_in(state: &HandleState, at: usize) -> Result<ReplyParts, ActFault>
+    ensures { IfOk result (PairHeld (Some state.now) at) }
+{
+    let pair = pair_in(state, at)?;
+    Ok(ReplyParts::of_value(pair.value()))
+}
+
+fn key_in(state: &HandleState, at: usize, into: &mut [u8]) -> Result<usize, ActFault>
+    ensures written { IfOk result (WritesKey (Some state.now) at into.new) }
+    ensures unwritten { IfErr result (λ fault. into.new ≡ into.old) }
+{
+    let pair = pair_in(state, at)?;
+    write(pair.key(), into)
+}
+
+fn held_text_in(state: &HandleState, at: usize, into: &mut [u8]) -> Result<usize, ActFault>
+    ensures written { IfOk result (WritesHeldText (Some state.now) at into.new) }
+    ensures unwritten { IfErr result (λ fault. into.new ≡ into.old) }
+{
+    let pair = pair_in(state, at)?;
+    match pair.value() {
+        Val::Text(text) => write(text, into),
+        Val::Count(_) => Err(ActFault::WrongHandle),
+    }
+}

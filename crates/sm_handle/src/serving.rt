@@ -1,0 +1,250 @@
+//! Boards of the sample service, and envelopes, that handles keep.
+ghost use Rattle.std.specs.Prelude.{◌≡◌, [], IfErr, IfOk, IsSome, OnOk, Some, replicate};
+ghost use Rattle.sm_handle.specs.declared.handle_state.HandleState.TheVariants.{Envelope as Sent};
+ghost use Rattle.sm_handle.specs.declared.handle_state.HandleState.TheVariants.{Layout as LayoutOf, TextPass};
+ghost use Rattle.sm_handle.specs.Serving.{Carries, IsOfBoard, IsServiceOpened, MakesCheckpoint};
+ghost use Rattle.sm_handle.specs.Serving.{RefusesCheckpoint, Serves, TellsAnswer};
+
+use crate::act_fault::ActFault;
+use crate::answer_parts::AnswerParts;
+use crate::handle::Handle;
+use crate::handle_state::HandleState;
+use crate::served_as::ServedAs;
+use sm_envelope::envelope::Envelope;
+use sm_foreign::{Chief, FreePass, OpenFault};
+use sm_ranges::layout::Layout;
+use sm_ranges::shard_id::ShardId;
+use sm_rule::note::Note;
+use sm_server::Outcome;
+use sm_service::{CounterText, Request};
+use std::alloc::{AllocError, Global};
+
+impl Handle {
+    /// Keeps the control of a new board of the sample service with so many shards, each of which keeps at most so many
+    /// requests, of servers 1 to this one, at most `ops` of which restart at once, in place of what was kept; or says
+    /// why not, and the handle is as it was.
+    pub fn open_service(
+        &mut self,
+        alloc: Global,
+        count: usize,
+        kept: usize,
+        servers: u16,
+        ops: u16,
+        ceiling: u64,
+    ) -> Result<(), OpenFault>
+        ensures made { OnOk result (IsServiceOpened self.new.owned.state count kept ops ceiling) }
+        ensures refused { IfErr result (λ fault. self.new.owned.state ≡ self.old.owned.state) }
+    {
+        let Ok(bodies) = empty_bodies(alloc, count, kept) else {
+            return Err(OpenFault::NoMemory);
+        };
+        let chief = Chief::make(alloc, bodies, servers, ops, ceiling)?;
+        let Ok(chief) = Box::new(alloc, chief) else {
+            return Err(OpenFault::NoMemory);
+        };
+        match Box::new(alloc, HandleState::TextChief(chief)) {
+            Ok(state) => {
+                self.keep(alloc, state);
+                Ok(())
+            }
+            Err(_) => Err(OpenFault::NoMemory),
+        }
+    }
+
+    /// Keeps an envelope with this number for the shard that carries the request, with a note of all that the other
+    /// handle's pass has seen, in place of what was kept; or says why not, and this handle is as it was. The other one
+    /// is as it was.
+    pub fn envelope(
+        &mut self,
+        alloc: Global,
+        pass: &mut Handle,
+        number: u64,
+        k: ShardId,
+        request: Request,
+    ) -> Result<(), ActFault>
+        ensures pass { pass.new.owned.state ≡ pass.old.owned.state }
+        ensures made { OnOk result (Carries pass.old.owned.state self.new.owned.state number k request) }
+        ensures refused { IfErr result (λ fault. self.new.owned.state ≡ self.old.owned.state) }
+    {
+        let Some(mut state) = pass.take(alloc) else {
+            return Err(ActFault::WrongHandle);
+        };
+        let made = envelope_of(&mut state, number, k, request);
+        pass.put(state);
+        match Box::new(alloc, made?) {
+            Ok(state) => {
+                self.keep(alloc, state);
+                Ok(())
+            }
+            Err(_) => Err(ActFault::NoMemory),
+        }
+    }
+
+    /// Has the server of the pass that the handle keeps serve the other handle's envelope, by the layout that the third
+    /// one keeps: what became of the envelope, whose handle keeps the answer, or the envelope that goes on or comes
+    /// back; or why nothing was done, and each handle is as it was.
+    pub fn serve(
+        &mut self,
+        alloc: Global,
+        layout: &mut Handle,
+        envelope: &mut Handle,
+    ) -> Result<ServedAs, ActFault>
+        requires { IsOfBoard self.old.owned.state envelope.old.owned.state }
+        ensures served { IfOk result (Serves self.old.owned.state self.new.owned.state layout.old.owned.state
+            envelope.old.owned.state envelope.new.owned.state) }
+        ensures layout { layout.new.owned.state ≡ layout.old.owned.state }
+        ensures kept { IfErr result (λ fault. self.new.owned.state ≡ self.old.owned.state) }
+        ensures back { IfErr result (λ fault. envelope.new.owned.state ≡ envelope.old.owned.state) }
+    {
+        let Some(mut state) = self.take(alloc) else {
+            return Err(ActFault::WrongHandle);
+        };
+        let Some(shards) = layout.take(alloc) else {
+            self.put(state);
+            return Err(ActFault::WrongHandle);
+        };
+        let Some(mut sent) = envelope.take(alloc) else {
+            self.put(state);
+            layout.put(shards);
+            return Err(ActFault::WrongHandle);
+        };
+        let (next, served) = served_by(
+            &mut state,
+            &shards,
+            std::mem::replace(&mut *sent, HandleState::Empty),
+        );
+        *sent = next;
+        self.put(state);
+        layout.put(shards);
+        envelope.put(sent);
+        served
+    }
+
+    /// The answer that the handle keeps, but for its reply.
+    pub fn answer(&mut self, alloc: Global) -> Result<AnswerParts, ActFault>
+        ensures parts { IfOk result (TellsAnswer self.old.owned.state) }
+        ensures unchanged { self.new.owned.state ≡ self.old.owned.state }
+    {
+        let Some(state) = self.take(alloc) else {
+            return Err(ActFault::WrongHandle);
+        };
+        let made = answer_in(&state);
+        self.put(state);
+        made
+    }
+
+    /// Makes the shard's present state its base, so that it keeps no request: its generation since then; or says why
+    /// not.
+    pub fn checkpoint(&mut self, alloc: Global, k: ShardId) -> Result<u64, ActFault>
+        ensures made { OnOk result (MakesCheckpoint self.old.owned.state self.new.owned.state k) }
+        ensures refused { IfErr result (RefusesCheckpoint self.old.owned.state self.new.owned.state k) }
+    {
+        let Some(mut state) = self.take(alloc) else {
+            return Err(ActFault::WrongHandle);
+        };
+        let made = checkpoint_of(&mut state, k);
+        self.put(state);
+        made
+    }
+}
+
+// A body without a request for each shard.
+fn empty_bodies(alloc: Global, count: usize, kept: usize) -> Result<Vec<CounterText>, AllocError>
+    ensures { IfOk result (λ bodies. bodies.items
+        ≡ replicate count (record { base = []; before = 0; requests = []; limit = kept })) }
+{
+    let mut bodies = Vec::with_capacity(alloc, count)?;
+    for _shard in 0..count {
+        bodies.push(CounterText::new(alloc, kept))?;
+    }
+    Ok(bodies)
+}
+
+// An envelope with a note of all that the state's pass has seen.
+fn envelope_of(
+    state: &mut HandleState,
+    number: u64,
+    k: ShardId,
+    request: Request,
+) -> Result<HandleState, ActFault>
+    ensures made { IfOk result (λ made. Carries (Some state.old) (Some made) number k request) }
+    ensures unchanged { state.new ≡ state.old }
+{
+    let HandleState::TextPass(pass) = state else {
+        return Err(ActFault::WrongHandle);
+    };
+    let note = pass.note();
+    Ok(HandleState::Envelope(Envelope::new(number, k, request, note)))
+}
+
+// What the server of the state's pass makes of the envelope, and what became of that; or the state as it was, and why.
+fn served_by(
+    state: &mut HandleState,
+    layout: &HandleState,
+    sent: HandleState,
+) -> (HandleState, Result<ServedAs, ActFault>)
+    requires { IsOfBoard (Some state.old) (Some sent) }
+    ensures served { IfOk result.1
+        (Serves (Some state.old) (Some state.new) (Some layout.now) (Some sent) (Some result.0)) }
+    ensures kept { IfErr result.1 (λ fault. state.new ≡ state.old) }
+    ensures back { IfErr result.1 (λ fault. result.0 ≡ sent) }
+{
+    match (state, layout, sent) {
+        (HandleState::TextPass(pass), HandleState::Layout(layout), HandleState::Envelope(envelope))
+            if pass.server().is_some() => {
+            let (next, served) = serve_at(pass, layout, envelope);
+            (next, Ok(served))
+        }
+        (_, _, sent) => (sent, Err(ActFault::WrongHandle)),
+    }
+}
+
+// What the pass's server makes of the envelope.
+fn serve_at(
+    pass: &mut FreePass<CounterText>,
+    layout: &Layout,
+    envelope: Envelope<Request, Note<CounterText>>,
+) -> (HandleState, ServedAs)
+    requires board { envelope.note.board ≡ pass.old.board }
+    requires server { IsSome pass.old.server }
+    ensures { Serves (Some (TextPass pass.old)) (Some (TextPass pass.new)) (Some (LayoutOf layout.now))
+        (Some (Sent envelope)) (Some result.0) result.1 }
+{
+    match pass.serve(layout, envelope) {
+        Outcome::Answered(answer) => (HandleState::Answer(answer), ServedAs::Answered),
+        Outcome::Forward(to, back) => (HandleState::Envelope(back), ServedAs::Forward(to)),
+        Outcome::Refused(refusal, back) => (
+            HandleState::Envelope(back),
+            ServedAs::Refused(refusal),
+        ),
+    }
+}
+
+fn answer_in(state: &HandleState) -> Result<AnswerParts, ActFault>
+    ensures { IfOk result (TellsAnswer (Some state.now)) }
+{
+    match state {
+        HandleState::Answer(answer) => Ok(AnswerParts {
+            number: answer.number(),
+            place: answer.place(),
+            server: answer.server().number(),
+        }),
+        _ => Err(ActFault::WrongHandle),
+    }
+}
+
+fn checkpoint_of(state: &mut HandleState, k: ShardId) -> Result<u64, ActFault>
+    ensures made { OnOk result (MakesCheckpoint (Some state.old) (Some state.new) k) }
+    ensures refused { IfErr result (RefusesCheckpoint (Some state.old) (Some state.new) k) }
+{
+    let HandleState::TextPass(pass) = state else {
+        return Err(ActFault::WrongHandle);
+    };
+    if u32::from(k.number()) >= pass.count() {
+        return Err(ActFault::UnknownShard);
+    }
+    match pass.checkpoint(k) {
+        Ok(front) => Ok(front.generation),
+        Err(fault) => Err(ActFault::Checkpoint(fault)),
+    }
+}

@@ -1,0 +1,98 @@
+"""Texts and counts by key: the sample service, proved, as a body of yours."""
+from __future__ import annotations
+
+import ctypes
+from enum import IntEnum
+from typing import Union
+
+from ._kept import Kept, check
+from ._library import LIBRARY, Handle, ReplyParts
+from .errors import CountOverflow, TextTooLong, WrongKind
+
+Value = Union[bytes, int]
+
+
+class _Request(IntEnum):
+    GET, PUT, APPEND, ADD, REMOVE, SCAN = range(1, 7)
+
+
+class _Reply(IntEnum):
+    NOTHING, DONE, TEXT, COUNT, PAIRS, WRONG_KIND, OVERFLOW, TOO_LONG = range(8)
+
+
+_REFUSALS = {_Reply.WRONG_KIND: WrongKind, _Reply.OVERFLOW: CountOverflow, _Reply.TOO_LONG: TextTooLong}
+
+
+class Map(Kept):
+    """A map from keys of 1 to 255 bytes to texts of at most 65,535 bytes and counts of 64 bits, in the order of the
+    keys. A call that raises changes nothing. Each raises KeyEmpty, KeyTooLong or NoMemory."""
+
+    def __init__(self) -> None:
+        super().__init__()
+        self._reply = Handle()
+        check(LIBRARY.durkenzo_map(ctypes.byref(self._handle)))
+
+    def __len__(self) -> int:
+        """Returns how many keys hold something."""
+        length = ctypes.c_uint64()
+        check(LIBRARY.durkenzo_map_length(ctypes.byref(self._handle), ctypes.byref(length)))
+        return length.value
+
+    def get(self, key: bytes) -> Value | None:
+        """Returns the text or the count that the key holds, or None."""
+        parts = self._ask(_Request.GET, key)
+        return None if parts.kind == _Reply.NOTHING else self._value(parts)
+
+    def put(self, key: bytes, text: bytes) -> None:
+        """Has the key hold the text, in place of the text that it held. Raises WrongKind where the key holds a count,
+        and TextTooLong."""
+        self._ask(_Request.PUT, key, text)
+
+    def append(self, key: bytes, tail: bytes) -> None:
+        """Has the key hold its text followed by this one; a key that holds nothing counts as the empty text. Raises
+        WrongKind and TextTooLong."""
+        self._ask(_Request.APPEND, key, tail)
+
+    def add(self, key: bytes, amount: int) -> int:
+        """Adds to the key's count, and returns the sum; a key that holds nothing counts as 0. Raises WrongKind where
+        the key holds a text, and CountOverflow."""
+        return self._ask(_Request.ADD, key, amount=amount).count
+
+    def remove(self, key: bytes) -> bool:
+        """Has the key hold nothing. Returns whether it held something."""
+        return self._ask(_Request.REMOVE, key).kind == _Reply.DONE
+
+    def scan(self, low: bytes, high: bytes, most: int = 100) -> list[tuple[bytes, Value]]:
+        """Returns the first pairs with keys from `low` on and below `high`, `most` of them and at most 100."""
+        return [self._pair(at) for at in range(self._ask(_Request.SCAN, low, high, most).length)]
+
+    def close(self) -> None:
+        """Lets go what the library keeps for the map. Further calls raise WrongHandle."""
+        super().close()
+        LIBRARY.durkenzo_close(ctypes.byref(self._reply))
+
+    def _ask(self, kind: _Request, key: bytes, other: bytes = b"", amount: int = 0) -> ReplyParts:
+        if not -(1 << 63) <= amount < 1 << 63:
+            raise CountOverflow()
+        parts, handles = ReplyParts(), map(ctypes.byref, (self._handle, self._reply))
+        check(LIBRARY.durkenzo_ask(*handles, kind, key, len(key), other, len(other), amount, ctypes.byref(parts)))
+        if refusal := _REFUSALS.get(parts.kind):
+            raise refusal()
+        return parts
+
+    def _value(self, parts: ReplyParts) -> Value:
+        return parts.count if parts.kind == _Reply.COUNT else self._written(LIBRARY.durkenzo_reply_text, parts.length)
+
+    def _pair(self, at: int) -> tuple[bytes, Value]:
+        parts = ReplyParts()
+        check(LIBRARY.durkenzo_pair(ctypes.byref(self._reply), at, ctypes.byref(parts)))
+        key = self._written(LIBRARY.durkenzo_pair_key, 255, at)
+        if parts.kind == _Reply.COUNT:
+            return key, parts.count
+        return key, self._written(LIBRARY.durkenzo_pair_text, parts.length, at)
+
+    def _written(self, call: ctypes._CFuncPtr, room: int, *place: int) -> bytes:
+        """Returns what the call writes into so many bytes."""
+        into, length = ctypes.create_string_buffer(room or 1), ctypes.c_size_t()
+        check(call(ctypes.byref(self._reply), *place, into, room, ctypes.byref(length)))
+        return into.raw[: length.value]

@@ -1,0 +1,150 @@
+//! Texts and counts by key, as a body of yours: the sample service, proved.
+//!
+//! ```
+//! use durkenzo::{Map, Reply, Request, Value};
+//!
+//! let mut map = Map::new()?;
+//! map.put("name", "durkenzo")?;
+//! map.append("name", "!")?;
+//! assert_eq!(map.get("name")?, Some(Value::Text(b"durkenzo!".to_vec())));
+//! assert_eq!(map.add("visits", 3)?, 3);
+//! assert_eq!((map.len(), map.scan("a", "z", 10)?.len()), (2, 2));
+//! assert!(map.remove("visits")?);
+//! assert_eq!(map.ask(&Request::Get(b"visits"))?, Reply::Nothing);
+//! # Ok::<(), Box<dyn std::error::Error>>(())
+//! ```
+use crate::fault::MapFault;
+use crate::raw::{self, Handle, ReplyParts};
+use crate::reply::{Reply, Value};
+use crate::request::Request;
+use std::fmt;
+
+/// A map from keys of 1 to 255 bytes to texts of at most 65,535 bytes and counts of 64 bits, in the order of the keys.
+///
+/// A call that is refused changes nothing.
+pub struct Map {
+    handle: Handle,
+    reply: Handle,
+}
+
+impl Map {
+    /// An empty map; or `NoMemory`.
+    pub fn new() -> Result<Map, MapFault> {
+        let mut handle = Handle::empty();
+        // SAFETY: the handle is this call's alone.
+        match unsafe { raw::durkenzo_map(&mut handle) } {
+            0 => Ok(Map {
+                handle,
+                reply: Handle::empty(),
+            }),
+            code => Err(MapFault::of(code)),
+        }
+    }
+
+    /// How many keys hold something.
+    pub fn len(&mut self) -> u64 {
+        let mut length = 0;
+        // SAFETY: the handle is this value's alone.
+        let code = unsafe { raw::durkenzo_map_length(&mut self.handle, &mut length) };
+        assert_eq!(code, 0, "the handle of a map keeps it");
+        length
+    }
+
+    /// Whether no key holds anything.
+    pub fn is_empty(&mut self) -> bool {
+        self.len() == 0
+    }
+
+    /// The reply to the request; or `EmptyKey`, `KeyTooLong` or `NoMemory`.
+    pub fn ask(&mut self, request: &Request<'_>) -> Result<Reply, MapFault> {
+        let (kind, key, other, amount) = request.parts();
+        let mut parts = ReplyParts::default();
+        // SAFETY: the handles are this value's alone, and the slices last as long as the call.
+        let code = unsafe {
+            raw::durkenzo_ask(
+                &mut self.handle,
+                &mut self.reply,
+                kind,
+                key.as_ptr(),
+                key.len(),
+                other.as_ptr(),
+                other.len(),
+                amount,
+                &mut parts,
+            )
+        };
+        match code {
+            0 => Ok(Reply::of(&mut self.reply, &parts)),
+            code => Err(MapFault::of(code)),
+        }
+    }
+
+    /// What the key holds, if anything; or the faults of `ask`.
+    pub fn get(&mut self, key: impl AsRef<[u8]>) -> Result<Option<Value>, MapFault> {
+        match self.ask(&Request::Get(key.as_ref()))? {
+            Reply::Value(value) => Ok(Some(value)),
+            _ => Ok(None),
+        }
+    }
+
+    /// Has the key hold the text, in place of the text that it held; or the faults of `ask`, `WrongKind` where the key
+    /// holds a count, or `TextTooLong`.
+    pub fn put(&mut self, key: impl AsRef<[u8]>, text: impl AsRef<[u8]>) -> Result<(), MapFault> {
+        self.made(&Request::Put(key.as_ref(), text.as_ref()))
+            .map(drop)
+    }
+
+    /// Has the key hold its text followed by this one, where a key that holds nothing counts as the empty text; or the
+    /// faults of `put`.
+    pub fn append(
+        &mut self,
+        key: impl AsRef<[u8]>,
+        tail: impl AsRef<[u8]>,
+    ) -> Result<(), MapFault> {
+        self.made(&Request::Append(key.as_ref(), tail.as_ref()))
+            .map(drop)
+    }
+
+    /// Adds to the key's count, where a key that holds nothing counts as 0: the sum; or the faults of `ask`, `WrongKind`
+    /// where the key holds a text, or `Overflow`.
+    pub fn add(&mut self, key: impl AsRef<[u8]>, amount: i64) -> Result<i64, MapFault> {
+        match self.made(&Request::Add(key.as_ref(), amount))? {
+            Reply::Value(Value::Count(sum)) => Ok(sum),
+            other => unreachable!("an addition replied {other:?}"),
+        }
+    }
+
+    /// Has the key hold nothing: whether it held something; or the faults of `ask`.
+    pub fn remove(&mut self, key: impl AsRef<[u8]>) -> Result<bool, MapFault> {
+        Ok(self.ask(&Request::Remove(key.as_ref()))? == Reply::Done)
+    }
+
+    /// The first pairs with keys from `low` on and below `high`, `most` of them and at most 100; or the faults of `ask`.
+    pub fn scan(
+        &mut self,
+        low: impl AsRef<[u8]>,
+        high: impl AsRef<[u8]>,
+        most: u32,
+    ) -> Result<Vec<(Vec<u8>, Value)>, MapFault> {
+        match self.ask(&Request::Scan(low.as_ref(), high.as_ref(), most))? {
+            Reply::Pairs(pairs) => Ok(pairs),
+            other => unreachable!("a scan replied {other:?}"),
+        }
+    }
+
+    // The reply of a request that was made, or why it changed nothing.
+    fn made(&mut self, request: &Request<'_>) -> Result<Reply, MapFault> {
+        match self.ask(request)? {
+            Reply::WrongKind => Err(MapFault::WrongKind),
+            Reply::Overflow => Err(MapFault::Overflow),
+            Reply::TextTooLong => Err(MapFault::TextTooLong),
+            reply => Ok(reply),
+        }
+    }
+}
+
+impl fmt::Debug for Map {
+    fn fmt(&self, f: &mut fmt::Formatter<'_>) -> fmt::Result {
+        f.debug_struct("Map").finish_non_exhaustive()
+    }
+}

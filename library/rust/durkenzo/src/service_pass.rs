@@ -1,0 +1,171 @@
+use crate::board::Shared;
+use crate::envelope::{Answer, Envelope};
+use crate::fault::{CheckpointFault, NoteFault, SendFault, ServeFault, UnknownShard};
+use crate::layout::Layout;
+use crate::raw::{self, AnswerParts, Handle, RecordParts, ReplyParts};
+use crate::record::Record;
+use crate::reply::Reply;
+use crate::request::Request;
+use crate::service::Texts;
+use std::error::Error;
+use std::fmt;
+use std::sync::Arc;
+
+/// What a thread acts on a board of the sample service with, as one server for good.
+pub struct ServicePass {
+    handle: Handle,
+    shared: Arc<Shared<Texts>>,
+    layout: Arc<Layout>,
+}
+
+/// What became of an envelope that a server took.
+#[derive(Debug)]
+pub enum Served {
+    /// The server executed the request.
+    Answered(Answer),
+    /// The envelope goes on to this server, with one hop more.
+    Forward(u16, Envelope),
+}
+
+/// Why a server took no envelope, and the envelope.
+#[derive(Debug)]
+pub struct ServeRefused {
+    /// Why.
+    pub fault: ServeFault,
+    /// The envelope, with a note of all by which it was refused.
+    pub envelope: Envelope,
+}
+
+impl ServicePass {
+    pub(crate) fn new(
+        handle: Handle,
+        shared: Arc<Shared<Texts>>,
+        layout: Arc<Layout>,
+    ) -> ServicePass {
+        ServicePass {
+            handle,
+            shared,
+            layout,
+        }
+    }
+
+    /// The shard's record now.
+    pub fn look(&mut self, shard: u16) -> Result<Record, UnknownShard> {
+        let mut parts = RecordParts::default();
+        // SAFETY: the handle is this pass's, which is borrowed alone.
+        match unsafe { raw::durkenzo_look(&mut self.handle, shard, &mut parts) } {
+            0 => Ok(Record::of(&parts)),
+            _ => Err(UnknownShard),
+        }
+    }
+
+    /// An envelope with your number for the request's shard, with a note of all that the pass has seen; or `EmptyKey`,
+    /// `KeyTooLong` or `NoMemory`.
+    pub fn envelope(&mut self, number: u64, request: &Request<'_>) -> Result<Envelope, SendFault> {
+        let shard = self.layout.shard_of(request.key());
+        let (kind, key, other, amount) = request.parts();
+        let mut handle = Handle::empty();
+        // SAFETY: one handle is this pass's, which is borrowed alone, the other this call's, and the slices last as long
+        // as the call.
+        let code = unsafe {
+            raw::durkenzo_envelope(
+                &mut self.handle,
+                &mut handle,
+                number,
+                shard,
+                kind,
+                key.as_ptr(),
+                key.len(),
+                other.as_ptr(),
+                other.len(),
+                amount,
+            )
+        };
+        match code {
+            0 => Ok(Envelope::new(handle, self.shared.clone(), shard)),
+            code => Err(SendFault::of(code)),
+        }
+    }
+
+    /// Has the pass's server serve the envelope: it executes the request, or names the server that the envelope goes to;
+    /// or says why not, and gives the envelope back. An envelope of another board is refused.
+    pub fn serve(&mut self, mut envelope: Envelope) -> Result<Served, ServeRefused> {
+        if !Arc::ptr_eq(&self.shared, &envelope.shared) {
+            return Err(ServeRefused {
+                fault: ServeFault::OtherBoard,
+                envelope,
+            });
+        }
+        let (mut to, mut read) = (0, RecordParts::default());
+        let code = self.layout.with(|layout| {
+            // SAFETY: the layout is locked, the other handles are borrowed alone, and both are of one board.
+            unsafe {
+                raw::durkenzo_serve(
+                    &mut self.handle,
+                    layout,
+                    &mut envelope.handle,
+                    &mut to,
+                    &mut read,
+                )
+            }
+        });
+        match code {
+            0 => Ok(Served::Answered(answer_of(envelope))),
+            60 => Ok(Served::Forward(to, envelope)),
+            code => Err(ServeRefused {
+                fault: ServeFault::of(code, Record::of(&read)),
+                envelope,
+            }),
+        }
+    }
+
+    /// Tells the pass all that the answer has seen, so that what it asks next comes after the answered request. An answer
+    /// of another board is refused.
+    pub fn hear(&mut self, mut answer: Answer) -> Result<(), NoteFault> {
+        if !Arc::ptr_eq(&self.shared, &answer.shared) {
+            return Err(NoteFault::OtherBoard);
+        }
+        // SAFETY: both handles are borrowed alone, and of one board.
+        match unsafe { raw::durkenzo_meet(&mut self.handle, &mut answer.handle) } {
+            0 => Ok(()),
+            code => Err(NoteFault::of(code)),
+        }
+    }
+
+    /// Makes the shard's state its base, so that it keeps no request: its generation since then; or why not.
+    pub fn checkpoint(&mut self, shard: u16) -> Result<u64, CheckpointFault> {
+        let (mut generation, mut read) = (0, RecordParts::default());
+        // SAFETY: the handle is this pass's, which is borrowed alone.
+        let code = unsafe {
+            raw::durkenzo_checkpoint(&mut self.handle, shard, &mut generation, &mut read)
+        };
+        match code {
+            0 => Ok(generation),
+            code => Err(CheckpointFault::of(code, Record::of(&read))),
+        }
+    }
+}
+
+/// The answer that the envelope has become.
+fn answer_of(mut envelope: Envelope) -> Answer {
+    let (mut parts, mut reply) = (AnswerParts::default(), ReplyParts::default());
+    // SAFETY: the handle is borrowed alone.
+    let code = unsafe { raw::durkenzo_answer(&mut envelope.handle, &mut parts, &mut reply) };
+    assert_eq!(code, 0, "a served envelope keeps its answer");
+    let reply = Reply::of(&mut envelope.handle, &reply);
+    Answer::new(envelope, &parts, reply)
+}
+
+impl fmt::Debug for ServicePass {
+    fn fmt(&self, f: &mut fmt::Formatter<'_>) -> fmt::Result {
+        f.debug_struct("ServicePass").finish_non_exhaustive()
+    }
+}
+
+impl fmt::Display for ServeRefused {
+    fn fmt(&self, f: &mut fmt::Formatter<'_>) -> fmt::Result {
+        self.fault.fmt(f)
+    }
+}
+
+impl Error for ServeRefused {}

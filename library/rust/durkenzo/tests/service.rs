@@ -1,0 +1,223 @@
+//! A board of the sample service.
+use durkenzo::{
+    AdmitFault, BuildFault, CheckpointFault, Envelope, Layout, Reply, Request, SendFault,
+    ServeFault, Served, Service, ServicePass, Value,
+};
+
+fn service(bounds: &[&str], servers: u16) -> Service {
+    let layout = Layout::new(bounds).unwrap();
+    let service = Service::builder(layout).servers(servers).build().unwrap();
+    for shard in 0..bounds.len() as u16 {
+        service.control().assign(shard, 1).unwrap();
+    }
+    service
+}
+
+/// The reply to the request, which the server executes.
+fn executed(pass: &mut ServicePass, request: &Request<'_>) -> Reply {
+    let envelope = pass.envelope(0, request).unwrap();
+    match pass.serve(envelope) {
+        Ok(Served::Answered(answer)) => answer.reply().clone(),
+        other => panic!("not answered: {other:?}"),
+    }
+}
+
+fn forwarded(pass: &mut ServicePass, envelope: Envelope) -> (u16, Envelope) {
+    match pass.serve(envelope) {
+        Ok(Served::Forward(to, envelope)) => (to, envelope),
+        other => panic!("not forwarded: {other:?}"),
+    }
+}
+
+#[test]
+fn the_owner_executes_each_kind_of_request() {
+    let mut owner = service(&["", "n"], 1).pass(1).unwrap();
+    let replies = [
+        Request::Put(b"name", b"durk"),
+        Request::Append(b"name", b"enzo"),
+        Request::Get(b"name"),
+        Request::Add(b"visits", 7),
+        Request::Scan(b"n", b"z", 10),
+        Request::Remove(b"name"),
+        Request::Get(b"name"),
+        Request::Put(b"visits", b"seven"),
+    ]
+    .map(|request| executed(&mut owner, &request));
+    let text = Value::Text(b"durkenzo".to_vec());
+    let pairs = vec![
+        (b"name".to_vec(), text.clone()),
+        (b"visits".to_vec(), Value::Count(7)),
+    ];
+    assert_eq!(
+        replies,
+        [
+            Reply::Done,
+            Reply::Done,
+            Reply::Value(text),
+            Reply::Value(Value::Count(7)),
+            Reply::Pairs(pairs),
+            Reply::Done,
+            Reply::Nothing,
+            Reply::WrongKind,
+        ]
+    );
+}
+
+#[test]
+fn places_are_counted_by_shard() {
+    let service = service(&["", "n"], 1);
+    let mut owner = service.pass(1).unwrap();
+    let places = ["a", "z", "b", "y"].map(|key| {
+        let envelope = owner.envelope(9, &Request::Get(key.as_bytes())).unwrap();
+        match owner.serve(envelope) {
+            Ok(Served::Answered(answer)) => (answer.number(), answer.server(), answer.place()),
+            other => panic!("not answered: {other:?}"),
+        }
+    });
+    assert_eq!(places, [(9, 1, 0), (9, 1, 0), (9, 1, 1), (9, 1, 1)]);
+}
+
+#[test]
+fn a_migration_forwards_and_refuses_nobody() {
+    let service = service(&[""], 3);
+    let control = service.control();
+    let (mut old, mut new) = (service.pass(1).unwrap(), service.pass(2).unwrap());
+    let one = Request::Add(b"visits", 1);
+    control.prepare_add_shard(0, 2).unwrap();
+    assert_eq!(executed(&mut old, &one), Reply::Value(Value::Count(1)));
+    control.prepare_drop_shard(0).unwrap();
+    let sent = old.envelope(0, &one).unwrap();
+    let (to, envelope) = forwarded(&mut old, sent);
+    assert_eq!(to, 2);
+    assert!(matches!(new.serve(envelope), Ok(Served::Answered(_))));
+    let sent = new.envelope(0, &one).unwrap();
+    let refused = new.serve(sent).unwrap_err();
+    assert!(matches!(
+        refused.fault,
+        ServeFault::Admit(AdmitFault::NotYet(_))
+    ));
+    control.add_shard(0).unwrap();
+    let (to, envelope) = forwarded(&mut old, refused.envelope);
+    assert_eq!(to, 2);
+    assert!(matches!(new.serve(envelope), Ok(Served::Answered(_))));
+    control.drop_shard(0).unwrap();
+    assert_eq!(executed(&mut new, &one), Reply::Value(Value::Count(4)));
+}
+
+#[test]
+fn an_envelope_is_forwarded_four_times_at_most() {
+    let service = service(&[""], 3);
+    let control = service.control();
+    let mut passes = [1, 2].map(|server| service.pass(server).unwrap());
+    let mut envelope = passes[0].envelope(0, &Request::Get(b"key")).unwrap();
+    for hop in 0..4 {
+        let (from, to) = (hop % 2, (hop + 1) % 2);
+        control.prepare_add_shard(0, to as u16 + 1).unwrap();
+        control.prepare_drop_shard(0).unwrap();
+        envelope = forwarded(&mut passes[from], envelope).1;
+        control.add_shard(0).unwrap();
+        control.drop_shard(0).unwrap();
+    }
+    control.prepare_add_shard(0, 2).unwrap();
+    control.prepare_drop_shard(0).unwrap();
+    let refused = passes[0].serve(envelope).unwrap_err();
+    assert_eq!(refused.fault, ServeFault::TooManyHops);
+}
+
+#[test]
+fn a_full_shard_wants_a_checkpoint() {
+    let layout = Layout::new([""]).unwrap();
+    let service = Service::builder(layout).kept(2).build().unwrap();
+    let mut owner = service.pass(1).unwrap();
+    assert!(matches!(
+        owner.checkpoint(0),
+        Err(CheckpointFault::Admit(AdmitFault::Vacant(_)))
+    ));
+    service.control().assign(0, 1).unwrap();
+    executed(&mut owner, &Request::Put(b"a", b"1"));
+    executed(&mut owner, &Request::Put(b"b", b"2"));
+    let third = owner.envelope(3, &Request::Get(b"a")).unwrap();
+    let refused = owner.serve(third).unwrap_err();
+    assert_eq!(refused.fault, ServeFault::KeptFull);
+    let generation = owner.checkpoint(0).unwrap();
+    assert_eq!(owner.look(0).unwrap().generation, generation);
+    let Ok(Served::Answered(answer)) = owner.serve(refused.envelope) else {
+        panic!("not answered after a checkpoint");
+    };
+    assert_eq!((answer.number(), answer.place()), (3, 2));
+    assert_eq!(answer.reply(), &Reply::Value(Value::Text(b"1".to_vec())));
+}
+
+#[test]
+fn answers_tell_what_was_seen() {
+    let service = service(&[""], 2);
+    let (mut owner, mut client) = (service.pass(1).unwrap(), service.pass(2).unwrap());
+    let sent = client.envelope(1, &Request::Add(b"visits", 1)).unwrap();
+    let Ok(Served::Answered(answer)) = owner.serve(sent) else {
+        panic!("the owner answers");
+    };
+    client.hear(answer).unwrap();
+    assert!(client.look(0).unwrap().generation >= 3);
+}
+
+#[test]
+fn what_is_refused() {
+    let (one, other) = (service(&[""], 1), service(&[""], 1));
+    let (mut pass, mut stranger) = (one.pass(1).unwrap(), other.pass(1).unwrap());
+    assert_eq!(
+        pass.envelope(0, &Request::Get(b"")).unwrap_err(),
+        SendFault::EmptyKey
+    );
+    assert_eq!(
+        pass.envelope(0, &Request::Get(&[b'k'; 256])).unwrap_err(),
+        SendFault::KeyTooLong
+    );
+    let sent = pass.envelope(0, &Request::Get(b"key")).unwrap();
+    let refused = stranger.serve(sent).unwrap_err();
+    assert_eq!(refused.fault, ServeFault::OtherBoard);
+    let bounds: Vec<String> = (0..4096).map(|shard| format!("{shard:04}")).collect();
+    let mut bounds: Vec<&str> = bounds.iter().map(String::as_str).collect();
+    bounds[0] = "";
+    let most = Service::builder(Layout::new(&bounds).unwrap());
+    assert!(most.build().is_ok());
+    let none = Service::builder(Layout::new([""]).unwrap()).servers(0);
+    assert_eq!(none.build().unwrap_err(), BuildFault::BadServers);
+}
+
+#[test]
+fn eight_threads_and_a_migrating_shard() {
+    const ROUNDS: i64 = 20_000;
+    let service = service(&[""], 8);
+    let control = service.control();
+    let done: i64 = std::thread::scope(|scope| {
+        let threads: Vec<_> = (1..=8)
+            .map(|server| {
+                let service = &service;
+                scope.spawn(move || counted(service, server, ROUNDS))
+            })
+            .collect();
+        for round in 0..200 {
+            control.migrate(0, round % 8 + 1).ok();
+        }
+        threads.into_iter().map(|it| it.join().unwrap()).sum()
+    });
+    let owner = service.pass(1).unwrap().look(0).unwrap().owner().unwrap();
+    let mut owner = service.pass(owner).unwrap();
+    assert_eq!(
+        executed(&mut owner, &Request::Add(b"visits", 0)),
+        Reply::Value(Value::Count(done))
+    );
+}
+
+/// How many additions this server executed.
+fn counted(service: &Service, server: u16, rounds: i64) -> i64 {
+    let mut pass = service.pass(server).unwrap();
+    let mut done = 0;
+    for _ in 0..rounds {
+        let sent = pass.envelope(0, &Request::Add(b"visits", 1)).unwrap();
+        if let Ok(Served::Answered(_)) = pass.serve(sent) {
+            done += 1;
+        }
+    }
+    done
+}

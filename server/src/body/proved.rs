@@ -1,0 +1,287 @@
+use super::{Range, Refusal, Reply, Request, ShardBody, Value, MAX_KEY, MAX_PAIRS, MAX_TEXT};
+use durkenzo::{Map, MapFault, Reply as Told, Request as Asked, Value as Held};
+use std::ops::Bound;
+
+/// A shard's pairs in the library's map: what it replies to each of its requests is proved. Here stands which of them a
+/// command makes, under one permit.
+#[derive(Debug)]
+pub struct ProvedBody {
+    map: Map,
+    /// What was told last, which a reply borrows.
+    told: Told,
+}
+
+impl ProvedBody {
+    /// A body that holds nothing; or no memory for it.
+    pub fn new() -> Result<ProvedBody, MapFault> {
+        Ok(ProvedBody {
+            map: Map::new()?,
+            told: Told::Nothing,
+        })
+    }
+
+    /// Whether the map made the request, or the refusal with which it changed nothing; what it told is kept.
+    fn ask(&mut self, request: &Asked<'_>) -> Result<(), Refusal> {
+        self.told = self.map.ask(request).map_err(|fault| match fault {
+            MapFault::NoMemory => Refusal::NoMemory,
+            other => unreachable!("a key was judged before: {other}"),
+        })?;
+        match self.told {
+            Told::WrongKind => Err(Refusal::WrongKind),
+            Told::Overflow => Err(Refusal::Overflow),
+            Told::TextTooLong => Err(Refusal::TooLong),
+            _ => Ok(()),
+        }
+    }
+
+    /// Has the key hold the value, whatever it held.
+    fn put(&mut self, key: &[u8], value: Value<'_>) -> Result<(), Refusal> {
+        if matches!(value, Value::Text(text) if text.len() > MAX_TEXT) {
+            return Err(Refusal::TooLong);
+        }
+        if let Value::Text(text) = value {
+            match self.ask(&Asked::Put(key, text)) {
+                Err(Refusal::WrongKind) => {}
+                other => return other,
+            }
+        }
+        self.ask(&Asked::Get(key))?;
+        let before = std::mem::replace(&mut self.told, Told::Nothing);
+        self.ask(&Asked::Remove(key))?;
+        self.ask(&asked_for(key, value)).inspect_err(|_| {
+            // It holds again what it held, unless memory is refused for that too.
+            if let Told::Value(held) = &before {
+                let _ = self.map.ask(&asked_for(key, borrowed(held)));
+            }
+        })
+    }
+
+    /// How many bytes the key's text has.
+    fn length(&mut self, key: &[u8]) -> Result<usize, Refusal> {
+        self.ask(&Asked::Get(key))?;
+        match &self.told {
+            Told::Value(Held::Text(text)) => Ok(text.len()),
+            other => unreachable!("a text was appended to, and Get replied {other:?}"),
+        }
+    }
+
+    /// Has the pairs of the range be told.
+    fn scan(&mut self, range: Range<'_>) -> Result<(), Refusal> {
+        self.told = Told::Pairs(Vec::new());
+        let Some(low) = lowest(range.low) else {
+            return Ok(());
+        };
+        let high = range.high.unwrap_or(&LAST_KEY);
+        if high.is_empty() {
+            return Ok(());
+        }
+        let most = range.most.min(MAX_PAIRS);
+        self.ask(&Asked::Scan(&low, high, most as u32))?;
+        if range.high.is_none() && low.as_slice() <= &LAST_KEY[..] {
+            self.scan_last(most)?;
+        }
+        Ok(())
+    }
+
+    /// Has the greatest key of all be told after the others, where it holds something: no bound is above it.
+    fn scan_last(&mut self, most: usize) -> Result<(), Refusal> {
+        let before = std::mem::replace(&mut self.told, Told::Nothing);
+        self.ask(&Asked::Get(&LAST_KEY))?;
+        let last = std::mem::replace(&mut self.told, before);
+        if let (Told::Pairs(pairs), Told::Value(value)) = (&mut self.told, last) {
+            if pairs.len() < most {
+                pairs.push((LAST_KEY.to_vec(), value));
+            }
+        }
+        Ok(())
+    }
+
+    /// Makes the request, of which `told` has the reply.
+    fn make(&mut self, request: Request<'_>) -> Result<(), Refusal> {
+        match request {
+            Request::Get(key) => self.ask(&Asked::Get(key)),
+            Request::Put(key, value) => self.put(key, value),
+            Request::Append(key, more) => self.ask(&Asked::Append(key, more)),
+            Request::Add(key, number) => self.ask(&Asked::Add(key, number)),
+            Request::Delete(key) => self.ask(&Asked::Remove(key)),
+            Request::Scan(range) => self.scan(range),
+        }
+    }
+}
+
+impl ShardBody for ProvedBody {
+    fn apply<'a>(&'a mut self, request: Request<'_>) -> Reply<'a> {
+        if let Err(refusal) = self.make(request) {
+            return Reply::Refused(refusal);
+        }
+        if let Request::Append(key, _) = request {
+            return self.length(key).map_or_else(Reply::Refused, Reply::Length);
+        }
+        match (&self.told, request) {
+            (_, Request::Put(..)) => Reply::Done,
+            (Told::Value(Held::Count(sum)), Request::Add(..)) => Reply::Count(*sum),
+            (Told::Value(held), _) => Reply::Value(borrowed(held)),
+            (Told::Pairs(pairs), _) => Reply::Pairs(
+                pairs
+                    .iter()
+                    .map(|(key, held)| (key.as_slice(), borrowed(held)))
+                    .collect(),
+            ),
+            (Told::Done, _) => Reply::Done,
+            (_, _) => Reply::Nothing,
+        }
+    }
+
+    fn keys(&mut self) -> usize {
+        self.map.len() as usize
+    }
+}
+
+/// The greatest key that there may be.
+static LAST_KEY: [u8; MAX_KEY] = [u8::MAX; MAX_KEY];
+
+/// The least key that is within the bound, if there is one.
+fn lowest(bound: Bound<&[u8]>) -> Option<Vec<u8>> {
+    let mut key = match bound {
+        Bound::Unbounded => Vec::new(),
+        Bound::Included(low) => low.to_vec(),
+        Bound::Excluded(low) if low.len() < MAX_KEY => [low, &[0]].concat(),
+        Bound::Excluded(low) => {
+            let kept = low.iter().rposition(|it| *it < u8::MAX)?;
+            let mut key = low[..=kept].to_vec();
+            key[kept] += 1;
+            key
+        }
+    };
+    if key.is_empty() {
+        key.push(0);
+    }
+    Some(key)
+}
+
+/// The request that has a key that holds nothing hold the value.
+fn asked_for<'a>(key: &'a [u8], value: Value<'a>) -> Asked<'a> {
+    match value {
+        Value::Text(text) => Asked::Put(key, text),
+        Value::Count(count) => Asked::Add(key, count),
+    }
+}
+
+fn borrowed(held: &Held) -> Value<'_> {
+    match held {
+        Held::Text(text) => Value::Text(text),
+        Held::Count(count) => Value::Count(*count),
+    }
+}
+
+#[cfg(test)]
+mod tests {
+    use super::*;
+
+    fn body() -> ProvedBody {
+        ProvedBody::new().unwrap()
+    }
+
+    #[test]
+    fn texts_and_counts_are_two_kinds() {
+        let mut body = body();
+        assert_eq!(body.apply(Request::Get(b"a")), Reply::Nothing);
+        assert_eq!(body.apply(Request::Append(b"a", b"x")), Reply::Length(1));
+        assert_eq!(body.apply(Request::Append(b"a", b"yz")), Reply::Length(3));
+        let wrong = Reply::Refused(Refusal::WrongKind);
+        assert_eq!(body.apply(Request::Add(b"a", 1)), wrong);
+        assert_eq!(body.apply(Request::Add(b"b", -7)), Reply::Count(-7));
+        assert_eq!(body.apply(Request::Append(b"b", b"x")), wrong);
+        let overflow = Reply::Refused(Refusal::Overflow);
+        assert_eq!(body.apply(Request::Add(b"b", i64::MIN)), overflow);
+        assert_eq!(
+            body.apply(Request::Get(b"b")),
+            Reply::Value(Value::Count(-7))
+        );
+        assert_eq!(body.keys(), 2);
+        assert_eq!(body.apply(Request::Delete(b"b")), Reply::Done);
+        assert_eq!(body.apply(Request::Delete(b"b")), Reply::Nothing);
+        assert_eq!(body.keys(), 1);
+    }
+
+    #[test]
+    fn a_put_writes_over_either_kind() {
+        let mut body = body();
+        let values = [
+            Value::Text(b"one"),
+            Value::Count(2),
+            Value::Count(-3),
+            Value::Text(b""),
+            Value::Text(b"five"),
+        ];
+        for value in values {
+            assert_eq!(body.apply(Request::Put(b"key", value)), Reply::Done);
+            assert_eq!(body.apply(Request::Get(b"key")), Reply::Value(value));
+            assert_eq!(body.keys(), 1);
+        }
+    }
+
+    #[test]
+    fn texts_are_bounded() {
+        let (mut body, long) = (body(), vec![0; MAX_TEXT + 1]);
+        let refused = Reply::Refused(Refusal::TooLong);
+        body.apply(Request::Add(b"count", 1));
+        for key in [b"a".as_slice(), b"count"] {
+            assert_eq!(body.apply(Request::Put(key, Value::Text(&long))), refused);
+        }
+        assert_eq!(
+            body.apply(Request::Get(b"count")),
+            Reply::Value(Value::Count(1))
+        );
+        assert_eq!(body.apply(Request::Append(b"a", &long)), refused);
+        let most = Value::Text(&long[1..]);
+        assert_eq!(body.apply(Request::Put(b"a", most)), Reply::Done);
+        assert_eq!(body.apply(Request::Append(b"a", b"x")), refused);
+        assert_eq!(
+            body.apply(Request::Append(b"a", b"")),
+            Reply::Length(MAX_TEXT)
+        );
+    }
+
+    #[test]
+    fn scans_go_in_order_within_bounds() {
+        let mut body = body();
+        for key in [b"c", b"a", b"b", b"d"] {
+            body.apply(Request::Add(key, i64::from(key[0])));
+        }
+        let mut keys = |low, high, most| match body.apply(Request::Scan(Range { low, high, most }))
+        {
+            Reply::Pairs(pairs) => pairs.iter().map(|it| it.0[0] as char).collect::<String>(),
+            other => panic!("{other:?}"),
+        };
+        assert_eq!(keys(Bound::Unbounded, None, 9), "abcd");
+        assert_eq!(keys(Bound::Included(b"b"), Some(b"d"), 9), "bc");
+        assert_eq!(keys(Bound::Excluded(b"b"), None, 1), "c");
+        assert_eq!(keys(Bound::Excluded(b"b"), Some(b"b"), 9), "");
+        assert_eq!(keys(Bound::Included(b"d"), Some(b"a"), 9), "");
+        assert_eq!(keys(Bound::Unbounded, Some(b""), 9), "");
+    }
+
+    #[test]
+    fn the_least_and_the_greatest_keys_are_scanned() {
+        let mut body = body();
+        let least: &[u8] = &[0];
+        let below = [&LAST_KEY[..MAX_KEY - 1], &[254]].concat();
+        for key in [&LAST_KEY, least, &below] {
+            body.apply(Request::Add(key, 1));
+        }
+        let mut keys = |low, most| match body.apply(Request::Scan(Range {
+            low,
+            high: None,
+            most,
+        })) {
+            Reply::Pairs(pairs) => pairs.iter().map(|it| it.0.to_vec()).collect::<Vec<_>>(),
+            other => panic!("{other:?}"),
+        };
+        assert_eq!(keys(Bound::Unbounded, 9), [least, &below, &LAST_KEY]);
+        assert_eq!(keys(Bound::Unbounded, 2), [least, &below]);
+        assert_eq!(keys(Bound::Excluded(&below), 9), [LAST_KEY.to_vec()]);
+        assert_eq!(keys(Bound::Included(&LAST_KEY), 9), [LAST_KEY.to_vec()]);
+        assert_eq!(keys(Bound::Excluded(&LAST_KEY), 9), Vec::<Vec<u8>>::new());
+    }
+}
