@@ -1,7 +1,6 @@
 //! Maps of the sample service.
-ghost use Rattle.std.specs.Prelude.{◌≡◌, ◌≢◌, [], Some};
-ghost use Rattle.sm_handle.specs.declared.handle_state.HandleState.TheVariants.{Map};
-ghost use Rattle.sm_handle.specs.Maps.{Replied};
+ghost use Rattle.std.specs.Prelude.{◌≡◌, ◌≢◌};
+ghost use Rattle.sm_handle.specs.Maps.{IsEmptyMap, Replied};
 ghost use Rattle.sm_c.specs.Requests.{AsksMap, CountsKeys};
 
 use crate::codes::{NO_MEMORY, code_of_act, code_of_request};
@@ -12,7 +11,7 @@ use std::alloc::Global;
 /// Makes an empty map. The handle keeps it, in place of what it kept.
 #[unsafe(no_mangle)]
 pub extern "C" fn durkenzo_map(alloc: Global, map: &mut Handle) -> u32
-    ensures made { result ≡ 0 → map.new.owned.state ≡ Some (Map []) }
+    ensures made { result ≡ 0 → IsEmptyMap map.new.owned.state }
     ensures kept { result ≢ 0 → map.new.owned.state ≡ map.old.owned.state }
 {
     match map.map(alloc) {

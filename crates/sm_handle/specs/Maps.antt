@@ -1,5 +1,5 @@
 -- Maps of the sample service, and their replies, that handles keep.
-use Rattle.std.specs.Prelude.{ℕ, ◌≡◌, List, length, slice_get, take, Option, Some, None}
+use Rattle.std.specs.Prelude.{ℕ, ◌≡◌, List, [], length, slice_get, take, Option, Some, None}
 use Rattle.sm_map.specs.KeyMap.{KeyPair, KeyValue, Text as HeldText, Count as HeldCount}
 use Rattle.sm_service.specs.Service.{reply as reply_of, after as map_after}
 use Rattle.sm_service.specs.declared.reply.Reply.{Reply as ReplyValue}
@@ -10,15 +10,20 @@ use Rattle.sm_handle.specs.declared.handle_state.HandleState.{HandleState}
 use Rattle.sm_handle.specs.declared.handle_state.HandleState.TheVariants.{Answer, Map, Reply}
 use Rattle.sm_handle.specs.declared.reply_parts.ReplyParts.{ReplyParts}
 
+-- the handle keeps a map in which no key holds anything
+abbrev pub IsEmptyMap : Option HandleState → Type 0
+IsEmptyMap (Some (Map map)) = map.value ≡ []
+IsEmptyMap state = ⊥
+
 -- the map made this reply to the request, and is what the request leaves
 abbrev pub MakesReply : Option HandleState → Option HandleState → Request → Option HandleState → Type 0
 MakesReply (Some (Map before)) (Some (Map after)) request (Some (Reply made)) =
-    (made ≡ reply_of before request) × (after ≡ map_after before request)
+    (made ≡ reply_of before.value request) × (after.value ≡ map_after before.value request)
 MakesReply before after request made = ⊥
 
 -- the handle keeps a map in which so many keys hold something
 abbrev pub HoldsKeys : Option HandleState → ℕ → Type 0
-HoldsKeys (Some (Map pairs)) count = count ≡ length pairs
+HoldsKeys (Some (Map map)) count = count ≡ length map.value
 HoldsKeys state count = ⊥
 
 -- the parts are those of this reply

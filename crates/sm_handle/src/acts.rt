@@ -48,38 +48,31 @@ pub fn finish(state: HandleState) -> (HandleState, Result<u64, ActFault>)
     }
 }
 
-/// The state after a look at the shard, and its record; or why not, and the state as it was.
-pub fn look(state: HandleState, k: ShardId) -> (HandleState, Result<Record, ActFault>)
-    ensures seen { IfOk result.1 (LooksState state result.0 k) }
-    ensures refused { IfErr result.1 (λ fault. result.0 ≡ state) }
+/// The shard's record after a look by the state's pass; or why not, and the state is as it was.
+pub fn look(state: &mut HandleState, k: ShardId) -> Result<Record, ActFault>
+    ensures seen { IfOk result (LooksState state.old state.new k) }
+    ensures refused { IfErr result (λ fault. state.new ≡ state.old) }
 {
     match state {
-        HandleState::Free(mut free) => {
+        HandleState::Free(free) => {
             if u32::from(k.number()) >= free.count() {
-                return (HandleState::Free(free), Err(ActFault::UnknownShard));
+                return Err(ActFault::UnknownShard);
             }
-            let record = free.look(k);
-            (HandleState::Free(free), Ok(record))
+            Ok(free.look(k))
         }
-        HandleState::TextPass(mut free) => {
+        HandleState::TextPass(free) => {
             if u32::from(k.number()) >= free.count() {
-                return (HandleState::TextPass(free), Err(ActFault::UnknownShard));
+                return Err(ActFault::UnknownShard);
             }
-            let record = free.look(k);
-            (HandleState::TextPass(free), Ok(record))
+            Ok(free.look(k))
         }
         HandleState::Held(lasting) => {
-            let mut held = lasting.into_held();
-            if u32::from(k.number()) >= held.count() {
-                return (
-                    HandleState::Held(LastingPass { held }),
-                    Err(ActFault::UnknownShard),
-                );
+            if u32::from(k.number()) >= lasting.held.count() {
+                return Err(ActFault::UnknownShard);
             }
-            let record = held.look(k);
-            (HandleState::Held(LastingPass { held }), Ok(record))
+            Ok(lasting.held.look(k))
         }
-        other => (other, Err(ActFault::WrongHandle)),
+        _ => Err(ActFault::WrongHandle),
     }
 }
 
@@ -100,25 +93,19 @@ pub fn pass(state: &HandleState, server: Option<ServerId>) -> Result<HandleState
     }
 }
 
-/// The state after a command to its control; or why not.
-pub fn command(state: HandleState, command: Command) -> (HandleState, Result<(), ActFault>)
-    ensures answer { CommandsState state result.0 command result.1 }
+/// Gives the command to the state's control: it is made, or refused by the first fault that applies.
+pub fn command(state: &mut HandleState, command: Command) -> Result<(), ActFault>
+    ensures answer { CommandsState state.old state.new command result }
 {
     match state {
-        HandleState::Chief(mut chief) => {
-            let made = match chief.command(command) {
-                Ok(()) => Ok(()),
-                Err(fault) => Err(ActFault::Command(fault)),
-            };
-            (HandleState::Chief(chief), made)
-        }
-        HandleState::TextChief(mut chief) => {
-            let made = match chief.command(command) {
-                Ok(()) => Ok(()),
-                Err(refusal) => Err(ActFault::Command(refusal)),
-            };
-            (HandleState::TextChief(chief), made)
-        }
-        other => (other, Err(ActFault::WrongHandle)),
+        HandleState::Chief(chief) => match chief.command(command) {
+            Ok(()) => Ok(()),
+            Err(fault) => Err(ActFault::Command(fault)),
+        },
+        HandleState::TextChief(chief) => match chief.command(command) {
+            Ok(()) => Ok(()),
+            Err(refusal) => Err(ActFault::Command(refusal)),
+        },
+        _ => Err(ActFault::WrongHandle),
     }
 }

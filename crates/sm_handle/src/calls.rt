@@ -81,8 +81,7 @@ impl Handle {
         let Some(mut state) = self.take(alloc) else {
             return Err(ActFault::WrongHandle);
         };
-        let (next, made) = acts::look(std::mem::replace(&mut *state, HandleState::Empty), k);
-        *state = next;
+        let made = acts::look(&mut state, k);
         self.put(state);
         made
     }
@@ -94,11 +93,7 @@ impl Handle {
         let Some(mut state) = self.take(alloc) else {
             return Err(ActFault::WrongHandle);
         };
-        let (next, made) = acts::command(
-            std::mem::replace(&mut *state, HandleState::Empty),
-            command,
-        );
-        *state = next;
+        let made = acts::command(&mut state, command);
         self.put(state);
         made
     }

@@ -30,7 +30,7 @@ pub enum HandleState {
     /// Where shards are to go.
     Plan(Plan),
     /// Texts and counts by key, those of a body that the caller owns.
-    Map(KeyMachine),
+    Map(Box<KeyMachine>),
     /// What a map replied.
     Reply(Reply),
 }

@@ -1,7 +1,7 @@
 //! Maps of the sample service that handles keep.
-ghost use Rattle.std.specs.Prelude.{◌≡◌, [], IfErr, IfOk, OnOk, Some};
-ghost use Rattle.sm_handle.specs.declared.handle_state.HandleState.TheVariants.{Map, Reply as Replies};
-ghost use Rattle.sm_handle.specs.Maps.{HoldsKeys, MakesReply, Replied};
+ghost use Rattle.std.specs.Prelude.{◌≡◌, IfErr, IfOk, OnOk, Some};
+ghost use Rattle.sm_handle.specs.declared.handle_state.HandleState.TheVariants.{Reply as Replies};
+ghost use Rattle.sm_handle.specs.Maps.{HoldsKeys, IsEmptyMap, MakesReply, Replied};
 
 use crate::act_fault::ActFault;
 use crate::handle::Handle;
@@ -15,10 +15,10 @@ impl Handle {
     /// Keeps an empty map, in place of what was kept. It is refused for want of memory alone, and the handle is as it
     /// was.
     pub fn map(&mut self, alloc: Global) -> Result<(), AllocError>
-        ensures made { OnOk result (self.new.owned.state ≡ Some (Map [])) }
+        ensures made { OnOk result (IsEmptyMap self.new.owned.state) }
         ensures refused { IfErr result (λ fault. self.new.owned.state ≡ self.old.owned.state) }
     {
-        let map = KeyMachine::new(alloc);
+        let map = Box::new(alloc, KeyMachine::new(alloc))?;
         let state = Box::new(alloc, HandleState::Map(map))?;
         self.keep(alloc, state);
         Ok(())
