@@ -1,34 +1,58 @@
 -- Every run of a fleet is one of the store's events, and so lawful.
-use Rattle.std.proofs.Common.{◌≡◌, ◌≢◌, ◌<◌, ℕ, zero, suc, List, [], ◌∷◌, ◌++◌, length, map, refl, sym, ap, subst, ◌∙◌}
-use Rattle.std.specs.Prelude.{Option, Some, None, IfSome, Result, Ok, Err, slice_set}
+use Rattle.std.proofs.Common.{◌≡◌, ◌≢◌, ◌<◌, ◌≤◌, ℕ, zero, suc, List, [], ◌∷◌, ◌++◌, length, map, refl, sym, ap, subst}
+use Rattle.std.proofs.Common.{◌∙◌}
+use Rattle.std.specs.Prelude.{Option, Some, None, IfSome, Result, slice_set}
 use Rattle.std.specs.List.{AllByRecursion}
 use Rattle.sm_store.specs.declared.base_part.BasePart.{BasePart}
+use Rattle.sm_store.specs.declared.item.Item.{Item}
 use Rattle.sm_store.specs.Store.{Transaction}
 use Rattle.sm_store.specs.Deeds.{Charter, MaySend}
-use Rattle.sm_store.specs.System.{Claim, Replies, Overtaken, Reads, Event, Sends, Claims, IsLawful, IsSo, May, MayClaim}
+use Rattle.sm_store.specs.System.{Ask, Claim, Replies, Overtaken, Reads, Event, Sends, Claims, IsLawful, May, MayClaim}
 use Rattle.sm_store.specs.System.{MightHappen, System, happens, system_after}
-use Rattle.sm_store.specs.lemmas.Growth.{found_grows}
-use Rattle.sm_store.specs.lemmas.Logs.{all_map, at_place, log_step}
-use Rattle.sm_shard.specs.declared.replica.MadeReply.{MadeReply}
+use Rattle.sm_store.specs.lemmas.Growth.{asked_grows, found_grows}
+use Rattle.sm_store.specs.lemmas.Logs.{all_map, asked_step, asks_within, at_place, log_step}
 use Rattle.sm_shard.specs.declared.replica.ReplayFault.{ReplayFault}
 use Rattle.sm_shard.specs.declared.shard_server.ShardServer.{ShardServer}
-use Rattle.sm_shard.specs.declared.shard_state.Decision.{Decision}
-use Rattle.sm_shard.specs.declared.shard_state.Decision.TheVariants.{Replied, Passed, Waits, Forwards, Refused}
 use Rattle.sm_shard.specs.declared.shard_state.ShardState.{ShardState}
-use Rattle.sm_shard.specs.declared.steps.ShardInput.{ShardInput}
-use Rattle.sm_shard.specs.declared.steps.ShardInput.TheVariants.{Read, Record as RecordRead, Request, Flush, Made, Lost}
-use Rattle.sm_shard.specs.declared.steps.ShardOutput.{ShardOutput}
-use Rattle.sm_shard.specs.declared.steps.ShardOutput.TheVariants.{Nothing, Sends as SendsNow, Decided, Answers, Decides}
-use Rattle.sm_shard.specs.Fleet.{Act, Fleet, MayAct, MightAct, Otherwise, Starts, Steps, fleet_acted, fleet_after}
-use Rattle.sm_shard.specs.Fleet.{sent_since}
-use Rattle.sm_shard.specs.ShardServers.{HasRead, IsStationed, IsTrueOf, StoreLog, claimed_all, claimed_by}
-use Rattle.sm_shard.specs.Steps.{IsSafe, claimed_on, claimed_to, step_claims, step_sends}
+use Rattle.sm_shard.specs.Fleet.{Act, Fleet, MayAct, MightAct, Otherwise, Running, Starts, Steps, fleet_acted}
+use Rattle.sm_shard.specs.Fleet.{fleet_after, sent_since}
+use Rattle.sm_shard.specs.ShardServers.{AreAsked, AreAskedOf, HasRead, IsAsked, IsAskedBy, IsStationed, IsTrueOf}
+use Rattle.sm_shard.specs.ShardServers.{StoreLog, StoreSystem}
+use Rattle.sm_shard.specs.Steps.{ArePast, IsSafe, since_after, step_claims, step_sends}
 
 all_set : {A : Type 0} (F : A → Type 0) (xs : List A) (which : ℕ) (new : A) → AllByRecursion F xs → F new
     → AllByRecursion F (slice_set xs which new)
 all_set F [] which new all one = tt
 all_set F (x ∷ xs) zero new all one = (one, all.1)
 all_set F (x ∷ xs) (suc which) new all one = (all.0, all_set F xs which new all.1 one)
+
+module _ {Q : Type 0} where
+  item_grows : (new : Ask Q) (asked : List (Ask Q)) (shard : ℕ) (item : Item Q) → IsAsked asked shard item
+      → IsAsked (new ∷ asked) shard item
+  item_grows new asked shard item was =
+      (was.0, asked_grows new asked shard item.client item.number was.0 was.1, was.2)
+
+  item_by_grows : (new : Ask Q) (asked : List (Ask Q)) (shard since : ℕ) (item : Item Q)
+      → IsAskedBy asked shard since item → IsAskedBy (new ∷ asked) shard since item
+  item_by_grows new asked shard since item was =
+      (was.0, asked_grows new asked shard item.client item.number was.0 was.1, was.2, was.3)
+
+  items_grow : {M R : Type 0} (new : Ask Q) (asked : List (Ask Q)) (since shard : ℕ) (ready : ShardState M Q R)
+      → AreAskedOf asked since shard ready → AreAskedOf (new ∷ asked) since shard ready
+  items_grow new asked since shard ready are = record {
+    asking = all_map (IsAsked asked shard) (IsAsked (new ∷ asked) shard) (item_grows new asked shard)
+        ready.asking.items are.asking;
+    carried = all_map (IsAskedBy asked shard since) (IsAskedBy (new ∷ asked) shard since)
+        (item_by_grows new asked shard since) ready.carried.items are.carried;
+  }
+
+  asked_more : {M R : Type 0} (more asked : List (Ask Q)) (since shard : ℕ) (found : Option (ShardState M Q R))
+      → IfSome found (λ ready. AreAskedOf asked since shard ready)
+      → IfSome found (λ ready. AreAskedOf (more ++ asked) since shard ready)
+  asked_more more asked since shard None are = are
+  asked_more [] asked since shard (Some ready) are = are
+  asked_more (new ∷ more) asked since shard (Some ready) are =
+      items_grow new (more ++ asked) since shard ready (asked_more more asked since shard (Some ready) are)
 
 module _ {M Q R : Type 0} (after : M → Q → M) (reply : M → Q → R) (start : M) where
   knows_grows : (more log : StoreLog Q) (me shard : ℕ) (ready : ShardState M Q R)
@@ -47,17 +71,21 @@ module _ {M Q R : Type 0} (after : M → Q → M) (reply : M → Q → R) (start
   known_grows more log me shard (Some ready) known = knows_grows more log me shard ready known
 
   -- a server of the store's shards, what it holds of which is so
-  pub record IsGoodServer (charter : Charter Q BasePart) (log : StoreLog Q) (server : ShardServer M Q R) : Type 0 where
-    pub placed : IsStationed server
-    pub count : charter.count ≡ server.count
-    pub known : IsTrueOf after reply start log server
+  pub record IsGoodServer (charter : Charter Q BasePart) (log : StoreLog Q) (asked : List (Ask Q))
+      (running : Running M Q R) : Type 0 where
+    pub placed : IsStationed running.server
+    pub count : charter.count ≡ running.server.count
+    pub known : IsTrueOf after reply start log running.server
+    pub in_time : AreAsked asked running.since running.server
 
-  good_grows : (charter : Charter Q BasePart) (more log : StoreLog Q) (server : ShardServer M Q R)
-      → IsGoodServer charter log server → IsGoodServer charter (more ++ log) server
-  good_grows charter more log server good = record {
+  good_grows : (charter : Charter Q BasePart) (more log : StoreLog Q) (extra asked : List (Ask Q))
+      (running : Running M Q R) → IsGoodServer charter log asked running
+      → IsGoodServer charter (more ++ log) (extra ++ asked) running
+  good_grows charter more log extra asked running good = record {
     placed = good.placed;
     count = good.count;
-    known = known_grows more log server.me server.shard server.ready good.known;
+    known = known_grows more log running.server.me running.server.shard running.server.ready good.known;
+    in_time = asked_more extra asked running.since running.server.shard running.server.ready good.in_time;
   }
 
 module _ {Q R : Type 0} where
@@ -97,58 +125,24 @@ module _ {Q R : Type 0} where
       ap (λ (system : System Q BasePart R). happens system (Claims claim)) (claimed_after events claims)
 
 module _ {M Q R : Type 0} (after : M → Q → M) (reply : M → Q → R) (start : M) where
-  -- it is so, and no read
-  abbrev IsTold : StoreLog Q → Claim Q R → Type 0
-  IsTold log (Replies shard client number answer) = IsSo after reply start log (Replies shard client number answer)
-  IsTold log (Overtaken shard client number) = IsSo after reply start log (Overtaken shard client number)
-  IsTold log (Reads ask answer) = ⊥
-
-  may_claim : (system : System Q BasePart R) (claim : Claim Q R) → IsTold system.log claim
-      → MayClaim after reply start system claim
-  may_claim system (Replies shard client number answer) told = told
-  may_claim system (Overtaken shard client number) told = told
-  may_claim system (Reads ask answer) told = absurd told
-
-  told_by : (log : StoreLog Q) (shard client number : ℕ) (decision : Decision R)
-      → AllByRecursion (IsSo after reply start log) (claimed_by shard client number decision)
-      → AllByRecursion (IsTold log) (claimed_by shard client number decision)
-  told_by log shard client number (Replied answer) so = so
-  told_by log shard client number Passed so = so
-  told_by log shard client number Waits so = tt
-  told_by log shard client number (Forwards to) so = tt
-  told_by log shard client number Refused so = tt
-
-  told_all : (log : StoreLog Q) (shard : ℕ) (answers : List (MadeReply R))
-      → AllByRecursion (IsSo after reply start log) (claimed_all shard answers)
-      → AllByRecursion (IsTold log) (claimed_all shard answers)
-  told_all log shard [] so = tt
-  told_all log shard (answer ∷ answers) so = (so.0, told_all log shard answers so.1)
-
-  told_on : (log : StoreLog Q) (shard : ℕ) (input : ShardInput M Q R) (decision : Decision R)
-      → AllByRecursion (IsSo after reply start log) (claimed_on shard input decision)
-      → AllByRecursion (IsTold log) (claimed_on shard input decision)
-  told_on log shard (Request item) decision so = told_by log shard item.client item.number decision so
-  told_on log shard (Read state stood head base items logged) decision so = tt
-  told_on log shard (RecordRead state stood) decision so = tt
-  told_on log shard Flush decision so = tt
-  told_on log shard (Made revision) decision so = tt
-  told_on log shard Lost decision so = tt
-
-  told_to : (log : StoreLog Q) (shard : ℕ) (input : ShardInput M Q R) (output : ShardOutput Q R)
-      → AllByRecursion (IsSo after reply start log) (claimed_to shard input output)
-      → AllByRecursion (IsTold log) (claimed_to shard input output)
-  told_to log shard input (Decided decision) so = told_on log shard input decision so
-  told_to log shard input (Answers answers) so = told_all log shard answers.items so
-  told_to log shard input Nothing so = tt
-  told_to log shard input SendsNow so = tt
-  told_to log shard input (Decides again) so = tt
-
-  -- a step claims no reads
-  told : (log : StoreLog Q) (shard : ℕ) (input : ShardInput M Q R) (result : Result (ShardOutput Q R) ReplayFault)
-      → AllByRecursion (IsSo after reply start log) (step_claims shard input result)
-      → AllByRecursion (IsTold log) (step_claims shard input result)
-  told log shard input (Ok output) so = told_to log shard input output so
-  told log shard input (Err fault) so = tt
+  -- what may be claimed may be, whatever else is sent and claimed
+  may_still : (system : System Q BasePart R) (txns : List (Transaction Q BasePart)) (claims : List (Claim Q R))
+      (claim : Claim Q R) → MayClaim after reply start system claim
+      → MayClaim after reply start (with_claims (with_sent system txns) claims) claim
+  may_still system txns claims (Replies shard client number answer) may = may
+  may_still system txns claims (Overtaken shard client number) may = may
+  may_still system txns claims (Reads shard client number answer) may = record {
+    ask = may.ask;
+    was_asked = may.was_asked;
+    held = may.held;
+    was_held = may.was_held;
+    sent_after = may.sent_after;
+    items = may.items;
+    revision = may.revision;
+    items_were = may.items_were;
+    compared = may.compared;
+    answer_is = may.answer_is;
+  }
 
 module _ {M Q R : Type 0} (after : M → Q → M) (reply : M → Q → R) (start : M) (charter : Charter Q BasePart) where
   sends_might : (events : List (Event Q BasePart R)) (txns : List (Transaction Q BasePart))
@@ -160,16 +154,18 @@ module _ {M Q R : Type 0} (after : M → Q → M) (reply : M → Q → R) (start
     sends_might events txns all.1 might,
   )
 
-  claims_might : (events : List (Event Q BasePart R)) (claims : List (Claim Q R))
-      → AllByRecursion (IsTold after reply start (system_after events).log) claims
+  claims_might : (system : System Q BasePart R) (txns : List (Transaction Q BasePart))
+      (events : List (Event Q BasePart R)) → system_after events ≡ with_sent system txns → (claims : List (Claim Q R))
+      → AllByRecursion (MayClaim after reply start system) claims
       → MightHappen after reply start charter events
       → MightHappen after reply start charter (map Claims claims ++ events)
-  claims_might events [] all might = might
-  claims_might events (claim ∷ claims) all might = (
-    may_claim after reply start (system_after (map Claims claims ++ events)) claim
-        (subst (λ (system : System Q BasePart R). IsTold after reply start system.log claim)
-        (sym (claimed_after events claims)) all.0),
-    claims_might events claims all.1 might,
+  claims_might system txns events is [] all might = might
+  claims_might system txns events is (claim ∷ claims) all might = (
+    subst (λ (now : System Q BasePart R). MayClaim after reply start now claim)
+        (sym (claimed_after events claims
+        ∙ ap (λ (now : System Q BasePart R). with_claims now claims) is))
+        (may_still after reply start system txns claims claim all.0),
+    claims_might system txns events is claims all.1 might,
   )
 
   -- the fleet's system is one after events that might happen, and what its servers hold is so
@@ -177,7 +173,7 @@ module _ {M Q R : Type 0} (after : M → Q → M) (reply : M → Q → R) (start
     pub events : List (Event Q BasePart R)
     pub might : MightHappen after reply start charter events
     pub is : fleet.system ≡ system_after events
-    pub good : AllByRecursion (IsGoodServer after reply start charter fleet.system.log) fleet.servers
+    pub good : AllByRecursion (IsGoodServer after reply start charter fleet.system.log fleet.system.asked) fleet.servers
 
   run_step : (fleet : Fleet M Q R) (act : Act M Q R) → IsRun fleet → MayAct after reply start charter fleet act
       → IsRun (fleet_acted fleet act)
@@ -191,50 +187,56 @@ module _ {M Q R : Type 0} (after : M → Q → M) (reply : M → Q → R) (start
         count = may.2;
         known = subst (λ (o : Option (ShardState M Q R)). IfSome o (λ ready. HasRead after reply start fleet.system.log
             server.me server.shard ready)) (sym may.1) tt;
+        in_time = subst (λ (o : Option (ShardState M Q R)). IfSome o (λ ready. AreAskedOf fleet.system.asked 0
+            server.shard ready)) (sym may.1) tt;
       },
       run.good,
     );
   }
-  run_step fleet (Steps which input result new) run may =
-      let old = may.0 in
-      let log = fleet.system.log in
-      let step = may.2 in
-      let was : IsGoodServer after reply start charter log old =
-      subst (λ (o : Option (ShardServer M Q R)). IfSome o (IsGoodServer after reply start charter log)) may.1
-      (at_place (IsGoodServer after reply start charter log) fleet.servers which run.good) in
-      let safe : IsSafe after reply start charter log old.shard input result new =
-      step.call charter log was.count was.placed was.known step.input_is in
-      let so : AllByRecursion (IsSo after reply start log) (step_claims new.shard input result) =
-      subst (λ (k : ℕ). AllByRecursion (IsSo after reply start log) (step_claims k input result))
-      (sym step.shard) safe.so in
+  run_step fleet (Steps which old input result new) run may =
+      let system = fleet.system in
+      let log = system.log in
+      let step = may.1 in
+      let was : IsGoodServer after reply start charter log system.asked old =
+      subst (λ (o : Option (Running M Q R)). IfSome o (IsGoodServer after reply start charter log system.asked)) may.0
+      (at_place (IsGoodServer after reply start charter log system.asked) fleet.servers which run.good) in
+      let past : ArePast system =
+      subst (λ (now : System Q BasePart R). ArePast now) (sym run.is) (asks_within run.events) in
+      let safe : IsSafe after reply start charter system old.since old.server.shard input result new =
+      step.call charter system old.since was.count was.placed past was.known was.in_time step.input_is in
+      let claims_may : AllByRecursion (MayClaim after reply start system) (step_claims new.shard input result) =
+      subst (λ (k : ℕ). AllByRecursion (MayClaim after reply start system) (step_claims k input result))
+      (sym step.shard) safe.claims in
       let sends = step_sends result new in
       let claims = step_claims new.shard input result in
       let first : List (Event Q BasePart R) = map Sends sends ++ run.events in
-      let sent : with_sent fleet.system sends ≡ system_after first =
-      ap (λ (system : System Q BasePart R). with_sent system sends) run.is ∙ sym (sent_after run.events sends) in
+      let sent : with_sent system sends ≡ system_after first =
+      ap (λ (now : System Q BasePart R). with_sent now sends) run.is ∙ sym (sent_after run.events sends) in
       record {
         events = map Claims claims ++ first;
-        might = claims_might first claims
-            (subst (λ (system : System Q BasePart R). AllByRecursion (IsTold after reply start system.log) claims) sent
-            (told after reply start log new.shard input result so))
+        might = claims_might system sends first (sym sent) claims claims_may
             (sends_might run.events sends
-            (subst
-            (λ (system : System Q BasePart R). AllByRecursion (MaySend charter system.log) sends) run.is safe.may)
+            (subst (λ (now : System Q BasePart R). AllByRecursion (MaySend charter now.log) sends) run.is safe.may)
             run.might);
-        is = ap (λ (system : System Q BasePart R). with_claims system claims) sent ∙ sym (claimed_after first claims);
-        good = all_set (IsGoodServer after reply start charter log) fleet.servers which new run.good
+        is = ap (λ (now : System Q BasePart R). with_claims now claims) sent ∙ sym (claimed_after first claims);
+        good = all_set (IsGoodServer after reply start charter log system.asked) fleet.servers which
+            (record { server = new; since = since_after result old.since (length log) }) run.good
             (record {
               placed = (
                 subst (λ (k : ℕ). k < new.count) (sym step.shard)
-                    (subst (λ (n : ℕ). old.shard < n) (sym step.count) was.placed.0),
+                    (subst (λ (n : ℕ). old.server.shard < n) (sym step.count) was.placed.0),
                 subst (λ (k : ℕ). k ≢ 0) (sym step.me) was.placed.1,
               );
               count = was.count ∙ sym step.count;
               known = safe.known;
+              in_time = safe.asked;
             });
       }
   run_step fleet (Otherwise event) run may =
       let grown = log_step fleet.system event in
+      let asks = asked_step fleet.system event in
+      let old = IsGoodServer after reply start charter fleet.system.log fleet.system.asked in
+      let new = IsGoodServer after reply start charter (grown.0 ++ fleet.system.log) (asks.0 ++ fleet.system.asked) in
       record {
         events = event ∷ run.events;
         might = (
@@ -242,11 +244,12 @@ module _ {M Q R : Type 0} (after : M → Q → M) (reply : M → Q → R) (start
           run.might,
         );
         is = ap (λ (system : System Q BasePart R). happens system event) run.is;
-        good = subst (λ (log : StoreLog Q). AllByRecursion (IsGoodServer after reply start charter log) fleet.servers)
-            (sym grown.1)
-            (all_map (IsGoodServer after reply start charter fleet.system.log)
-            (IsGoodServer after reply start charter (grown.0 ++ fleet.system.log))
-            (good_grows after reply start charter grown.0 fleet.system.log) fleet.servers run.good);
+        good = subst (λ (log : StoreLog Q). AllByRecursion (IsGoodServer after reply start charter log
+            (happens fleet.system event).asked) fleet.servers) (sym grown.1)
+            (subst (λ (asked : List (Ask Q)). AllByRecursion (IsGoodServer after reply start charter
+            (grown.0 ++ fleet.system.log) asked) fleet.servers) (sym asks.1)
+            (all_map old new (good_grows after reply start charter grown.0 fleet.system.log asks.0 fleet.system.asked)
+            fleet.servers run.good));
       }
 
   runs : (acts : List (Act M Q R)) → MightAct after reply start charter acts → IsRun (fleet_after acts)

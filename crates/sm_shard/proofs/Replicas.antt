@@ -1,5 +1,6 @@
 -- The replica of one more request.
-use Rattle.std.proofs.Common.{◌≡◌, ◌≢◌, ℕ, ◌+◌, ◌<◌, true, false, List, [], ◌∷◌, ◌++◌, refl, sym, ap, subst, ◌∙◌, arith}
+use Rattle.std.proofs.Common.{◌≡◌, ◌≢◌, ℕ, ◌+◌, ◌<◌, true, false, List, [], ◌∷◌, ◌++◌, refl, sym, ap, subst, ◌∙◌}
+use Rattle.std.proofs.Common.{arith}
 use Rattle.std.proofs.Common.{⊎_elim, append_assoc}
 use Rattle.std.specs.Prelude.{Option, Some, None, ◌==◌}
 use Rattle.std.specs.List.{AllByRecursion}
@@ -14,7 +15,8 @@ use Rattle.sm_shard.specs.declared.replica.MadeReply.{MadeReply}
 use Rattle.sm_shard.specs.declared.replica.Replica.{Replica}
 use Rattle.sm_shard.specs.declared.replica.LastRequest.{LastRequest}
 use Rattle.sm_store.specs.Clients.{state_after}
-use Rattle.sm_shard.specs.Replicas.{replies_of, last_number, IsLast, IsReplica}
+use Rattle.sm_shard.specs.declared.replica.ReadReply.{ReadReply}
+use Rattle.sm_shard.specs.Replicas.{AreReadBy, IsLast, IsReadBy, IsReplica, last_number, replies_of}
 
 module _ {Q : Type 0} where
   own : (item : Item Q) → is_from item.client item.number item ≡ true
@@ -178,3 +180,13 @@ module _ {M Q R : Type 0} (after : M → Q → M) (reply : M → Q → R) (start
             (replies_of after reply state items)) (state-append after reply start before item)
             (answers_are (before ++ item ∷ []) items next.1)),
       )
+
+  -- one more request that only reads
+  pub reads_push : (machine : M) (items : List (Item Q)) (reads : List (ReadReply R)) (item : Item Q)
+      (read : ReadReply R) → AreReadBy reply machine items reads → IsReadBy reply machine item read
+      → AreReadBy reply machine (items ++ item ∷ []) (reads ++ read ∷ [])
+  reads_push machine [] [] item read are is = (is, tt)
+  reads_push machine [] (r ∷ reads) item read are is = absurd are
+  reads_push machine (x ∷ items) [] item read are is = absurd are
+  reads_push machine (x ∷ items) (r ∷ reads) item read are is =
+      (are.0, reads_push machine items reads item read are.1 is)

@@ -9,20 +9,25 @@ use Rattle.sm_shard.specs.declared.shard_server.ShardServer.{ShardServer}
 use Rattle.sm_shard.specs.declared.steps.ShardInput.{ShardInput}
 use Rattle.sm_shard.specs.declared.steps.ShardOutput.{ShardOutput}
 use Rattle.sm_shard.specs.ShardServers.{IsStationed}
-use Rattle.sm_shard.specs.Steps.{IsInput, IsStepOf, step_claims, step_sends}
+use Rattle.sm_shard.specs.Steps.{IsInput, IsStepOf, since_after, step_claims, step_sends}
+
+-- a server, and the length of the log when it last sent
+pub record Running (M Q R : Type 0) : Type 0 where
+  pub server : ShardServer M Q R
+  pub since : ℕ
 
 -- the system, and all servers that run in it
 pub record Fleet (M Q R : Type 0) : Type 0 where
   pub system : System Q BasePart R
-  pub servers : List (ShardServer M Q R)
+  pub servers : List (Running M Q R)
 
 -- what servers do, and the world around them
 pub data Act (M Q R : Type 0) : Type 0 where
   -- a server starts, or starts again and has forgotten everything
   Starts : (server : ShardServer M Q R) → Act M Q R
   -- one of the servers makes a step
-  Steps : (which : ℕ) (input : ShardInput M Q R) (result : Result (ShardOutput Q R) ReplayFault)
-      (new : ShardServer M Q R) → Act M Q R
+  Steps : (which : ℕ) (old : Running M Q R) (input : ShardInput M Q R)
+      (result : Result (ShardOutput Q R) ReplayFault) (new : ShardServer M Q R) → Act M Q R
   -- anything else: a control sends, a message reaches the store, someone is elected
   Otherwise : (event : Event Q BasePart R) → Act M Q R
 
@@ -32,8 +37,9 @@ sent_since since txn = record { txn = txn; since = since }
 
 -- the fleet after an act
 abbrev pub fleet_acted : {M Q R : Type 0} → Fleet M Q R → Act M Q R → Fleet M Q R
-fleet_acted fleet (Starts server) = record { system = fleet.system; servers = server ∷ fleet.servers }
-fleet_acted fleet (Steps which input result new) =
+fleet_acted fleet (Starts server) =
+    record { system = fleet.system; servers = record { server = server; since = 0 } ∷ fleet.servers }
+fleet_acted fleet (Steps which old input result new) =
     record {
       system = record {
         log = fleet.system.log;
@@ -42,28 +48,30 @@ fleet_acted fleet (Steps which input result new) =
         held = fleet.system.held;
         claims = step_claims new.shard input result ++ fleet.system.claims;
       };
-      servers = slice_set fleet.servers which new;
+      servers = slice_set fleet.servers which (record {
+        server = new;
+        since = since_after result old.since (length fleet.system.log);
+      });
     }
 fleet_acted fleet (Otherwise event) = record { system = happens fleet.system event; servers = fleet.servers }
 
 -- the step is one of the code, on an input that is so in the store
 pub record IsFleetStep {M Q R : Type 0} (after : M → Q → M) (reply : M → Q → R) (start : M) (fleet : Fleet M Q R)
-    (old : ShardServer M Q R) (input : ShardInput M Q R) (result : Result (ShardOutput Q R) ReplayFault)
+    (old : Running M Q R) (input : ShardInput M Q R) (result : Result (ShardOutput Q R) ReplayFault)
     (new : ShardServer M Q R) : Type 0 where
-  pub call : IsStepOf after reply start old input result new
-  pub input_is : IsInput after reply start fleet.system.log old input
-  pub me : new.me ≡ old.me
-  pub shard : new.shard ≡ old.shard
-  pub count : new.count ≡ old.count
+  pub call : IsStepOf after reply start old.server input result new
+  pub input_is : IsInput after reply start fleet.system old.since old.server input
+  pub me : new.me ≡ old.server.me
+  pub shard : new.shard ≡ old.server.shard
+  pub count : new.count ≡ old.server.count
 
 -- an act may happen: a server starts with nothing read, or makes a step as its contract says, on what is so
 abbrev pub MayAct : {M Q R : Type 0} → (M → Q → M) → (M → Q → R) → M → Charter Q BasePart → Fleet M Q R → Act M Q R
     → Type 0
 MayAct after reply start charter fleet (Starts server) =
     IsStationed server × (server.ready ≡ None) × (charter.count ≡ server.count)
-MayAct {M = M} {Q = Q} {R = R} after reply start charter fleet (Steps which input result new) =
-    (old : ShardServer M Q R) × (slice_get fleet.servers which ≡ Some old)
-    × IsFleetStep after reply start fleet old input result new
+MayAct after reply start charter fleet (Steps which old input result new) =
+    (slice_get fleet.servers which ≡ Some old) × IsFleetStep after reply start fleet old input result new
 MayAct after reply start charter fleet (Otherwise event) = May after reply start charter fleet.system event
 
 -- the fleet after these acts, the latest first

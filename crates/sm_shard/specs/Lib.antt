@@ -1,3 +1,4 @@
+pub mod Decisions
 pub mod Fleet
 pub mod Replicas
 pub mod ShardServers

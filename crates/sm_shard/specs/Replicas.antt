@@ -1,10 +1,11 @@
 -- What a server makes of a shard's requests: the machine after them, and the last request and reply of each client.
-use Rattle.std.specs.Prelude.{ℕ, Option, Some, None, ◌≡◌, List, [], ◌∷◌}
+use Rattle.std.specs.Prelude.{ℕ, Option, Some, None, IfSome, ◌≡◌, List, [], ◌∷◌}
 use Rattle.std.specs.BTreeMap.{get}
 use Rattle.std.specs.Ordering.{nat_cmp}
 use Rattle.sm_store.specs.declared.item.Item.{Item}
 use Rattle.sm_store.specs.Clients.{last_of, reply_in, state_after}
 use Rattle.sm_shard.specs.declared.replica.MadeReply.{MadeReply}
+use Rattle.sm_shard.specs.declared.replica.ReadReply.{ReadReply}
 use Rattle.sm_shard.specs.declared.replica.Replica.{Replica}
 use Rattle.sm_shard.specs.declared.replica.LastRequest.{LastRequest}
 
@@ -32,3 +33,17 @@ pub record IsReplica {M Q R : Type 0} (after : M → Q → M) (reply : M → Q �
     (replica : Replica M R) : Type 0 where
   pub machine : replica.machine ≡ state_after after start items
   pub lasts : (client : ℕ) → IsLast after reply start items client (get nat_cmp replica.lasts client)
+
+-- what is replied to a request that only reads is the machine's reply; none to one that changes something
+pub record IsReadBy {M Q R : Type 0} (reply : M → Q → R) (machine : M) (item : Item Q)
+    (read : ReadReply R) : Type 0 where
+  pub client : read.client ≡ item.client
+  pub number : read.number ≡ item.number
+  pub answer : IfSome read.reply (λ answer. answer ≡ reply machine item.request)
+
+-- these are the replies to those requests, one after the other
+abbrev pub AreReadBy : {M Q R : Type 0} → (M → Q → R) → M → List (Item Q) → List (ReadReply R) → Type 0
+AreReadBy reply machine [] [] = Unit {0}
+AreReadBy reply machine (item ∷ items) (read ∷ reads) =
+    IsReadBy reply machine item read × AreReadBy reply machine items reads
+AreReadBy reply machine _ _ = ⊥

@@ -2,27 +2,31 @@
 //! its own.
 //!
 //! ```rust
-//! let started = ShardServer::new(one, shard, 8);
+//! let started = ShardServer::new(one, shard, 8, limits);
 //! let mut server: ShardServer<Sum, u64, u64> = started.expect(&rt, "one of 8 shards");
 //! let base = empty(rt.alloc());
 //! let read = server.on_read(rt.alloc(), state, 3, head, base, &[], 0);
 //! assert!(rt; read.is_ok());
 //! assert!(rt; matches!(server.on_request(item), Ok(Decision::Waits)));
-//! assert!(rt; server.flush());
-//! let replies = server.on_made(rt.alloc(), 4).ok().expect(&rt, "replies");
-//! assert!(rt; replies[0].reply == 5);
+//! assert!(rt; matches!(server.on_question(question), Ok(Decision::Waits)));
+//! assert!(rt; matches!(server.flush(rt.alloc()), Ok(true)));
+//! let told = server.on_made(rt.alloc(), 4).ok().expect(&rt, "answers");
+//! assert!(rt; told.made[0].reply == 5);
+//! assert!(rt; told.read[0].reply == Some(0));
 //! ```
 #![tactic(auto)]
 
 pub mod laws;
 pub mod replica;
+pub mod shard_limits;
 pub mod shard_server;
 pub mod shard_state;
 pub mod steps;
 pub mod store_machine;
 
-pub use replica::{LastRequest, MadeReply, ReplayFault, Replica};
-pub use shard_server::{BatchSending, ShardServer, Undecided};
+pub use replica::{LastRequest, MadeReply, ReadReply, ReplayFault, Replica};
+pub use shard_limits::ShardLimits;
+pub use shard_server::{BatchSending, ShardServer, StoreAnswers, Undecided};
 pub use shard_state::{Decision, ShardState};
 pub use steps::{ShardInput, ShardOutput, step};
 pub use store_machine::StoreMachine;

@@ -3,7 +3,7 @@ ghost use Rattle.std.specs.BTreeMap.{get};
 ghost use Rattle.std.specs.Ordering.{nat_cmp};
 ghost use Rattle.sm_store.specs.declared.item.Item.{Item as ItemValue};
 ghost use Rattle.sm_store.specs.Clients.{last_of, AreNext, state_after};
-ghost use Rattle.sm_shard.specs.Replicas.{IsReplica, last_number, replies_of};
+ghost use Rattle.sm_shard.specs.Replicas.{AreReadBy, IsReplica, last_number, replies_of};
 
 use crate::store_machine::StoreMachine;
 use sm_store::item::Item;
@@ -44,6 +44,14 @@ pub struct MadeReply<R> {
     pub client: u64,
     pub number: u64,
     pub reply: R,
+}
+
+/// The reply to a client's request that only reads; none where the request changes something.
+#[derive(Clone, Copy, Debug, Drop)]
+pub struct ReadReply<R> {
+    pub client: u64,
+    pub number: u64,
+    pub reply: Option<R>,
 }
 
 impl<T: Drop> From<AllocFailed<T>> for ReplayFault {
@@ -153,4 +161,24 @@ pub fn replay<Q: Drop, R: Copy + Drop, M: StoreMachine<Q, R>>(
     let mut replica = empty(alloc);
     make_all(alloc, &mut replica, items)?;
     Ok(replica)
+}
+
+/// Answers requests that only read, by the machine as it is.
+pub fn read_all<Q: Drop, R: Copy + Drop, M: StoreMachine<Q, R>>(
+    alloc: Global,
+    machine: &M,
+    items: &[Item<Q>],
+) -> Result<Vec<ReadReply<R>>, AllocError>
+    ensures { IfOk result (λ reads. AreReadBy M.reply machine.now items.now reads.items) }
+{
+    let mut reads = Vec::new(alloc);
+    for item in items {
+        let reply = machine.peek(alloc, &item.request)?;
+        reads.push(ReadReply {
+            client: item.client,
+            number: item.number,
+            reply,
+        })?;
+    }
+    Ok(reads)
 }

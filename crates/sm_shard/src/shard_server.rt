@@ -1,17 +1,24 @@
-ghost use Rattle.std.specs.Prelude.{◌≡◌, ◌++◌, ◌+◌, List, ◌<◌, ◌↔◌, false, IsTrue, IsSome, IfOk, IfSome, ℕ};
+ghost use Rattle.std.specs.Prelude.{◌≡◌, ◌++◌, ◌+◌, List, ◌<◌, ◌≤◌, ◌↔◌, true, false, IsTrue, IsSome, IfOk, OnErr};
+ghost use Rattle.std.specs.Prelude.{IfSome};
+ghost use Rattle.std.specs.Prelude.{ℕ, length};
 ghost use Rattle.std.specs.List.{AllByRecursion};
 ghost use Rattle.sm_store.specs.declared.base_part.BasePart.{BasePart as PartValue};
 ghost use Rattle.sm_store.specs.declared.item.Item.{Item as ItemValue};
 ghost use Rattle.sm_store.specs.Clients.{state_after};
 ghost use Rattle.sm_store.specs.Store.{all_hold, head_key, made, record_key, stored_record};
 ghost use Rattle.sm_store.specs.Deeds.{Charter, MaySend, WasFound, shard_log};
-ghost use Rattle.sm_store.specs.System.{IsSo};
-ghost use Rattle.sm_shard.specs.Replicas.{IsReplica};
-ghost use Rattle.sm_shard.specs.ShardServers.{IsStationed, IsTrueOf, StoreLog, WasMade, claimed_all, claimed_by};
-ghost use Rattle.sm_shard.specs.ShardServers.{sending_transaction, sent_transaction, server_decision, server_sends};
+ghost use Rattle.sm_store.specs.System.{Ask, MayClaim};
+ghost use Rattle.sm_shard.specs.Decisions.{server_decision, server_read_decision, server_sends};
+ghost use Rattle.sm_shard.specs.Replicas.{AreReadBy, IsReplica, replies_of};
+ghost use Rattle.sm_shard.specs.ShardServers.{AreAsked, DidHold, IsAsked, IsStationed, IsTrueOf, StoreLog};
+ghost use Rattle.sm_shard.specs.ShardServers.{StoreSystem};
+ghost use Rattle.sm_shard.specs.ShardServers.{WereMade, claimed_all, claimed_by, claimed_reads};
+ghost use Rattle.sm_shard.specs.ShardServers.{sending_transaction, sent_transaction};
+ghost use Rattle.sm_shard.specs.Steps.{ArePast};
 
-use crate::replica::{MadeReply, ReplayFault, Replica, make_all};
-use crate::shard_state::{Decision, ShardState, commit, flush, take};
+use crate::replica::{MadeReply, ReadReply, ReplayFault, Replica, make_all, read_all};
+use crate::shard_limits::ShardLimits;
+use crate::shard_state::{Decision, ShardState, ask, commit, flush, take};
 use crate::store_machine::StoreMachine;
 use sm_ownership::record::Record;
 use sm_ranges::server_id::ServerId;
@@ -27,17 +34,28 @@ pub struct ShardServer<M, Q, R> {
     pub shard: ShardId,
     /// How many shards the store has.
     pub count: u64,
+    pub limits: ShardLimits,
     pub ready: Option<ShardState<M, Q, R>>,
 }
 
-/// Requests that are to be decided again.
+/// Requests that are to be decided again, and those that only read.
 #[derive(Drop)]
 pub struct Undecided<Q> {
     pub sent: Vec<Item<Q>>,
     pub waiting: Vec<Item<Q>>,
+    pub carried: Vec<Item<Q>>,
+    pub asking: Vec<Item<Q>>,
 }
 
-/// A transaction for the store: it compares both revisions, and adds the requests to the shard's log.
+/// What is to be told once a transaction was made, or has held.
+#[derive(Drop)]
+pub struct StoreAnswers<R> {
+    pub made: Vec<MadeReply<R>>,
+    pub read: Vec<ReadReply<R>>,
+}
+
+/// A transaction for the store: it compares both revisions, and adds the requests to the shard's log; where there are
+/// none it compares alone.
 #[derive(Drop)]
 pub struct BatchSending<'a, Q> {
     pub shard: ShardId,
@@ -51,11 +69,18 @@ pub struct BatchSending<'a, Q> {
 
 impl<Q: Drop, R: Copy + Drop, M: StoreMachine<Q, R>> ShardServer<M, Q, R> {
     /// A server that has just started knows nothing. None where the store hasn't so many shards.
-    pub fn new(me: ServerId, shard: ShardId, count: u64) -> Option<ShardServer<M, Q, R>>
+    pub fn new(
+        me: ServerId,
+        shard: ShardId,
+        count: u64,
+        limits: ShardLimits,
+    ) -> Option<ShardServer<M, Q, R>>
         ensures placed { IfSome result (λ server. IsStationed server) }
-        ensures values { IfSome result (λ server. (server.me ≡ me) × (server.shard ≡ shard) × (server.count ≡ count)) }
+        ensures values { IfSome result (λ server. (server.me ≡ me) × (server.shard ≡ shard) × (server.count ≡ count)
+            × (server.limits ≡ limits)) }
         ensures exact { IsSome result ↔ shard < count }
         ensures known { IfSome result (λ server. (log : StoreLog Q) → IsTrueOf M.after M.reply M.start log server) }
+        ensures asked { IfSome result (λ server. (asked : List (Ask Q)) (since : ℕ) → AreAsked asked since server) }
     {
         let _named = me.number();
         if u64::from(shard.number()) < count {
@@ -63,6 +88,7 @@ impl<Q: Drop, R: Copy + Drop, M: StoreMachine<Q, R>> ShardServer<M, Q, R> {
                 me,
                 shard,
                 count,
+                limits,
                 ready: None,
             })
         } else {
@@ -85,12 +111,14 @@ impl<Q: Drop, R: Copy + Drop, M: StoreMachine<Q, R>> ShardServer<M, Q, R> {
         ensures me { self.new.me ≡ self.old.me }
         ensures shard { self.new.shard ≡ self.old.shard }
         ensures count { self.new.count ≡ self.old.count }
+        ensures limits { self.new.limits ≡ self.old.limits }
         ensures known { (log : StoreLog Q) (first : List (ItemValue Q))
             → WasFound (stored_record self.old.shard) (record_key self.old.shard) log state stood
             → WasFound (shard_log self.old.shard) (head_key self.old.shard) log
             (record { head = head; items = first ++ items.now }) logged
             → IsReplica M.after M.reply M.start first base
             → IsTrueOf M.after M.reply M.start log self.new }
+        ensures asked { (asked : List (Ask Q)) (since : ℕ) → AreAsked asked since self.new }
     {
         self.ready = None;
         let mut replica = base;
@@ -103,6 +131,8 @@ impl<Q: Drop, R: Copy + Drop, M: StoreMachine<Q, R>> ShardServer<M, Q, R> {
             logged,
             sent: Vec::new(alloc),
             waiting: Vec::new(alloc),
+            carried: Vec::new(alloc),
+            asking: Vec::new(alloc),
         });
         Ok(())
     }
@@ -112,32 +142,66 @@ impl<Q: Drop, R: Copy + Drop, M: StoreMachine<Q, R>> ShardServer<M, Q, R> {
         ensures me { self.new.me ≡ self.old.me }
         ensures shard { self.new.shard ≡ self.old.shard }
         ensures count { self.new.count ≡ self.old.count }
+        ensures limits { self.new.limits ≡ self.old.limits }
         ensures known { (log : StoreLog Q) → IsTrueOf M.after M.reply M.start log self.old
             → IsTrueOf M.after M.reply M.start log self.new }
-        ensures decision { IfOk result (λ decision. decision ≡ server_decision self.old.ready self.old.me item) }
-        ensures told { IfOk result (λ decision. (log : StoreLog Q) → IsTrueOf M.after M.reply M.start log self.old
-            → AllByRecursion (IsSo M.after M.reply M.start log)
+        ensures asked { (asked : List (Ask Q)) (since : ℕ) → AreAsked asked since self.old
+            → AreAsked asked since self.new }
+        ensures decision { IfOk result (λ decision. decision
+            ≡ server_decision self.old.limits M.size self.old.ready self.old.me item) }
+        ensures told { IfOk result (λ decision. (system : StoreSystem Q R)
+            → IsTrueOf M.after M.reply M.start system.log self.old
+            → AllByRecursion (MayClaim M.after M.reply M.start system)
             (claimed_by self.old.shard item.client item.number decision)) }
     {
-        let me = self.me;
+        let (me, limits) = (self.me, self.limits);
         match &mut self.ready {
-            Some(ready) => take(ready, me, item),
+            Some(ready) => take(ready, limits, me, item),
             None => Ok(Decision::Refused),
         }
     }
 
-    /// Lets what waits be sent, where nothing is sent yet. Whether anything is to be sent now.
-    pub fn flush(&mut self) -> bool
+    /// A request that only reads came. It is answered by the next transaction, as one that came later.
+    pub fn on_question(&mut self, item: Item<Q>) -> Result<Decision<R>, AllocError>
         ensures me { self.new.me ≡ self.old.me }
         ensures shard { self.new.shard ≡ self.old.shard }
         ensures count { self.new.count ≡ self.old.count }
+        ensures limits { self.new.limits ≡ self.old.limits }
         ensures known { (log : StoreLog Q) → IsTrueOf M.after M.reply M.start log self.old
             → IsTrueOf M.after M.reply M.start log self.new }
-        ensures exact { result ≡ server_sends self.old.ready }
+        ensures asked { (asked : List (Ask Q)) (since : ℕ) → AreAsked asked since self.old
+            → IsAsked asked self.old.shard item → AreAsked asked since self.new }
+        ensures decision { IfOk result (λ decision. decision
+            ≡ server_read_decision self.old.limits self.old.ready self.old.me item) }
     {
+        let (me, limits) = (self.me, self.limits);
         match &mut self.ready {
-            Some(ready) => flush(ready),
-            None => false,
+            Some(ready) => ask(ready, limits, me, item),
+            None => Ok(Decision::Refused),
+        }
+    }
+
+    /// Lets what waits be sent, as far as the limits allow, where nothing is under way. Whether anything is to be sent
+    /// now.
+    pub fn flush(&mut self, alloc: Global) -> Result<bool, AllocError>
+        ensures me { self.new.me ≡ self.old.me }
+        ensures shard { self.new.shard ≡ self.old.shard }
+        ensures count { self.new.count ≡ self.old.count }
+        ensures limits { self.new.limits ≡ self.old.limits }
+        ensures known { (log : StoreLog Q) → IsTrueOf M.after M.reply M.start log self.old
+            → IsTrueOf M.after M.reply M.start log self.new }
+        ensures exact { IfOk result (λ sends. sends ≡ server_sends self.old.limits M.size self.old.ready) }
+        ensures sends { IfOk result (λ sends. IsTrue sends → (system : StoreSystem Q R) (since : ℕ) → ArePast system
+            → AreAsked system.asked since self.old → AreAsked system.asked (length system.log) self.new) }
+        ensures waits { IfOk result (λ sends. sends ≡ false → (asked : List (Ask Q)) (since : ℕ)
+            → AreAsked asked since self.old → AreAsked asked since self.new) }
+        ensures err { OnErr result ((asked : List (Ask Q)) (since : ℕ) → AreAsked asked since self.old
+            → AreAsked asked since self.new) }
+    {
+        let limits = self.limits;
+        match &mut self.ready {
+            Some(ready) => flush(alloc, ready, limits),
+            None => Ok(false),
         }
     }
 
@@ -178,61 +242,85 @@ impl<Q: Drop, R: Copy + Drop, M: StoreMachine<Q, R>> ShardServer<M, Q, R> {
         }
     }
 
-    /// The transaction was made, at this revision. The answers are to be told.
-    pub fn on_made(
-        &mut self,
-        alloc: Global,
-        revision: u64,
-    ) -> Result<Vec<MadeReply<R>>, ReplayFault>
+    /// The transaction was made, or where it only compares has held, at this revision. The answers are to be told.
+    pub fn on_made(&mut self, alloc: Global, revision: u64) -> Result<StoreAnswers<R>, ReplayFault>
         ensures me { self.new.me ≡ self.old.me }
         ensures shard { self.new.shard ≡ self.old.shard }
         ensures count { self.new.count ≡ self.old.count }
+        ensures limits { self.new.limits ≡ self.old.limits }
         ensures known { (log : StoreLog Q) → IsTrueOf M.after M.reply M.start log self.old
-            → IfSome self.old.ready (λ ready. WasMade log (sent_transaction self.old.me self.old.shard ready) revision)
+            → IfSome self.old.ready (λ ready. WereMade log self.old.me self.old.shard revision ready)
             → IsTrueOf M.after M.reply M.start log self.new }
-        ensures told { IfOk result (λ answers. (log : StoreLog Q) → IsTrueOf M.after M.reply M.start log self.old
-            → IfSome self.old.ready (λ ready. WasMade log (sent_transaction self.old.me self.old.shard ready) revision)
-            → AllByRecursion (IsSo M.after M.reply M.start log) (claimed_all self.old.shard answers.items)) }
+        ensures asked { (asked : List (Ask Q)) (since : ℕ) → AreAsked asked since self.old
+            → AreAsked asked since self.new }
+        ensures made { IfOk result (λ answers. IfSome self.old.ready (λ ready. answers.made.items
+            ≡ replies_of M.after M.reply ready.replica.machine ready.sent.items)) }
+        ensures answered { IfOk result (λ answers. IfSome self.old.ready (λ ready.
+            AreReadBy M.reply ready.replica.machine ready.carried.items answers.read.items)) }
+        ensures told { IfOk result (λ answers. (system : StoreSystem Q R)
+            → IsTrueOf M.after M.reply M.start system.log self.old
+            → IfSome self.old.ready (λ ready. WereMade system.log self.old.me self.old.shard revision ready)
+            → AllByRecursion (MayClaim M.after M.reply M.start system)
+            (claimed_all self.old.shard answers.made.items)) }
+        ensures read { IfOk result (λ answers. (system : StoreSystem Q R) (since : ℕ)
+            → IsTrueOf M.after M.reply M.start system.log self.old → AreAsked system.asked since self.old
+            → IfSome self.old.ready (λ ready. DidHold system.held since
+            (sent_transaction self.old.me self.old.shard ready))
+            → AllByRecursion (MayClaim M.after M.reply M.start system)
+            (claimed_reads self.old.shard answers.read.items)) }
     {
         let Some(mut ready) = self.ready.take() else {
-            return Ok(Vec::new(alloc));
+            return Ok(StoreAnswers {
+                made: Vec::new(alloc),
+                read: Vec::new(alloc),
+            });
         };
-        let answers = commit(alloc, &mut ready, revision)?;
+        let read = read_all(alloc, &ready.replica.machine, &ready.carried)?;
+        ready.carried.clear();
+        if ready.sent.is_empty() {
+            self.ready = Some(ready);
+            return Ok(StoreAnswers {
+                made: Vec::new(alloc),
+                read,
+            });
+        }
+        let made = commit(alloc, &mut ready, revision)?;
         self.ready = Some(ready);
-        Ok(answers)
+        Ok(StoreAnswers { made, read })
     }
 
     /// The shard's record was read, and the server's own log is still the last one that it knows of. Where nothing is
-    /// sent, it goes on by the new record, and what waits is to be decided again; else it forgets what it read.
+    /// under way, it goes on by the new record, and what waits is to be decided again; else it forgets what it read.
     pub fn on_record(&mut self, alloc: Global, state: Record, stood: u64) -> Undecided<Q>
         ensures me { self.new.me ≡ self.old.me }
         ensures shard { self.new.shard ≡ self.old.shard }
         ensures count { self.new.count ≡ self.old.count }
+        ensures limits { self.new.limits ≡ self.old.limits }
         ensures again { IfSome self.old.ready (λ ready. result.sent.items ++ result.waiting.items
             ≡ ready.sent.items ++ ready.waiting.items) }
+        ensures questions { IfSome self.old.ready (λ ready. result.carried.items ++ result.asking.items
+            ≡ ready.carried.items ++ ready.asking.items) }
         ensures known { (log : StoreLog Q) → IsTrueOf M.after M.reply M.start log self.old
             → WasFound (stored_record self.old.shard) (record_key self.old.shard) log state stood
             → IsTrueOf M.after M.reply M.start log self.new }
+        ensures asked { (asked : List (Ask Q)) (since : ℕ) → AreAsked asked since self.new }
     {
         let Some(mut ready) = self.ready.take() else {
-            return Undecided {
-                sent: Vec::new(alloc),
-                waiting: Vec::new(alloc),
-            };
+            return forgotten::<Q, R, M>(alloc, None);
         };
-        if !ready.sent.is_empty() {
-            return Undecided {
-                sent: ready.sent,
-                waiting: ready.waiting,
-            };
+        if !ready.sent.is_empty() || !ready.carried.is_empty() {
+            return forgotten(alloc, Some(ready));
         }
         let waiting = std::mem::replace(&mut ready.waiting, Vec::new(alloc));
+        let asking = std::mem::replace(&mut ready.asking, Vec::new(alloc));
         ready.state = state;
         ready.stood = stood;
         self.ready = Some(ready);
         Undecided {
             sent: Vec::new(alloc),
             waiting,
+            carried: Vec::new(alloc),
+            asking,
         }
     }
 
@@ -242,19 +330,39 @@ impl<Q: Drop, R: Copy + Drop, M: StoreMachine<Q, R>> ShardServer<M, Q, R> {
         ensures me { self.new.me ≡ self.old.me }
         ensures shard { self.new.shard ≡ self.old.shard }
         ensures count { self.new.count ≡ self.old.count }
+        ensures limits { self.new.limits ≡ self.old.limits }
         ensures again { IfSome self.old.ready (λ ready. result.sent.items ++ result.waiting.items
             ≡ ready.sent.items ++ ready.waiting.items) }
+        ensures questions { IfSome self.old.ready (λ ready. result.carried.items ++ result.asking.items
+            ≡ ready.carried.items ++ ready.asking.items) }
         ensures known { (log : StoreLog Q) → IsTrueOf M.after M.reply M.start log self.new }
+        ensures asked { (asked : List (Ask Q)) (since : ℕ) → AreAsked asked since self.new }
     {
-        match self.ready.take() {
-            Some(ready) => Undecided {
-                sent: ready.sent,
-                waiting: ready.waiting,
-            },
-            None => Undecided {
-                sent: Vec::new(alloc),
-                waiting: Vec::new(alloc),
-            },
-        }
+        let ready = self.ready.take();
+        forgotten(alloc, ready)
+    }
+}
+
+// What a server that forgets leaves to be decided again.
+fn forgotten<Q: Drop, R: Copy + Drop, M: StoreMachine<Q, R>>(
+    alloc: Global,
+    ready: Option<ShardState<M, Q, R>>,
+) -> Undecided<Q>
+    ensures { IfSome ready (λ ready. (result.sent ≡ ready.sent) × (result.waiting ≡ ready.waiting)
+        × (result.carried ≡ ready.carried) × (result.asking ≡ ready.asking)) }
+{
+    match ready {
+        Some(ready) => Undecided {
+            sent: ready.sent,
+            waiting: ready.waiting,
+            carried: ready.carried,
+            asking: ready.asking,
+        },
+        None => Undecided {
+            sent: Vec::new(alloc),
+            waiting: Vec::new(alloc),
+            carried: Vec::new(alloc),
+            asking: Vec::new(alloc),
+        },
     }
 }

@@ -1,8 +1,8 @@
 ghost use Rattle.std.specs.Prelude.{◌≡◌};
 ghost use Rattle.sm_shard.specs.Steps.{IsStepOf};
 
-use crate::replica::{MadeReply, ReplayFault, Replica};
-use crate::shard_server::{ShardServer, Undecided};
+use crate::replica::{ReplayFault, Replica};
+use crate::shard_server::{ShardServer, StoreAnswers, Undecided};
 use crate::shard_state::Decision;
 use crate::store_machine::StoreMachine;
 use sm_ownership::record::Record;
@@ -30,9 +30,11 @@ pub enum ShardInput<'a, M, Q, R> {
     },
     /// A request came, from a client or forwarded.
     Request(Item<Q>),
+    /// A request came that only reads, from a client or forwarded.
+    Question(Item<Q>),
     /// It is time to send what waits.
     Flush,
-    /// The transaction that was sent was made, at this revision.
+    /// The transaction that was sent was made, or where it only compares has held, at this revision.
     Made(u64),
     /// Its compares didn't hold, or what became of it isn't known.
     Lost,
@@ -47,7 +49,7 @@ pub enum ShardOutput<Q, R> {
     /// It has decided on the request.
     Decided(Decision<R>),
     /// It tells these answers.
-    Answers(Vec<MadeReply<R>>),
+    Answers(StoreAnswers<R>),
     /// These requests are to be decided again.
     Decides(Undecided<Q>),
 }
@@ -83,7 +85,11 @@ pub fn step<Q: Drop, R: Copy + Drop, M: StoreMachine<Q, R>>(
             let decision = server.on_request(item)?;
             Ok(ShardOutput::Decided(decision))
         }
-        ShardInput::Flush => if server.flush() {
+        ShardInput::Question(item) => {
+            let decision = server.on_question(item)?;
+            Ok(ShardOutput::Decided(decision))
+        }
+        ShardInput::Flush => if server.flush(alloc)? {
             Ok(ShardOutput::Sends)
         } else {
             Ok(ShardOutput::Nothing)

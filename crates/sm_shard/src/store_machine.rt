@@ -1,4 +1,4 @@
-ghost use Rattle.std.specs.Prelude.{◌≡◌, IfOk, IfSome, OnOk};
+ghost use Rattle.std.specs.Prelude.{◌≡◌, ℕ, IfOk, IfSome, OnOk};
 
 use std::alloc::{AllocError, Global};
 
@@ -13,6 +13,9 @@ pub trait StoreMachine<Q: Drop, R: Copy + Drop>: Drop {
     /// The reply of the machine to a request.
     ghost reply: { Self → Q → R };
 
+    /// The bytes that a request takes in a batch.
+    ghost size: { Q → ℕ };
+
     fn new(alloc: Global) -> Self
         ensures { result ≡ start };
 
@@ -24,4 +27,8 @@ pub trait StoreMachine<Q: Drop, R: Copy + Drop>: Drop {
     /// The reply to a request that changes nothing, or none where it is another.
     fn peek(&self, alloc: Global, request: &Q) -> Result<Option<R>, AllocError>
         ensures { IfOk result (λ found. IfSome found (λ made. made ≡ reply self.now request.now)) };
+
+    /// The bytes that the request takes in a batch.
+    fn size_of(request: &Q) -> u64
+        ensures { result ≡ size request.now };
 }

@@ -1,5 +1,5 @@
 -- Every run is lawful.
-use Rattle.std.proofs.Common.{◌≡◌, ◌≤◌, true, false, List, [], ◌∷◌, ◌++◌, length, refl, sym, ap, subst, ◌∙◌, arith}
+use Rattle.std.proofs.Common.{◌≡◌, ◌≤◌, ℕ, true, false, List, [], ◌∷◌, ◌++◌, length, refl, sym, ap, subst, ◌∙◌, arith}
 use Rattle.std.proofs.Common.{⊎_elim, inl, append_assoc, length-append}
 use Rattle.std.specs.Prelude.{Option, Some, None, IfSome, ◌==◌, slice_get}
 use Rattle.std.specs.List.{AllByRecursion}
@@ -8,12 +8,13 @@ use Rattle.sm_store.specs.declared.compare.Compare.{Compare}
 use Rattle.sm_store.specs.declared.item.Item.{Item}
 use Rattle.sm_store.specs.Clients.{state_after, times}
 use Rattle.sm_store.specs.Store.{Transaction, Write, all_hold, head_key, made, revision_of}
-use Rattle.sm_store.specs.Deeds.{AreRight, Charter, IsHonest, MaySend}
+use Rattle.sm_store.specs.Deeds.{AreRight, Charter, IsHonest, MaySend, at}
 use Rattle.sm_store.specs.System.{Ask, Claim, Replies, Overtaken, Reads, Event, Comes, Sends, Reaches, Claims, Carried}
-use Rattle.sm_store.specs.System.{SentTransaction, System, IsLawful, IsSo, May, MayClaim, MayRead, MightHappen}
+use Rattle.sm_store.specs.System.{SentTransaction, System, IsLawful, IsReadSince, IsSo, May, MayClaim, MayRead}
+use Rattle.sm_store.specs.System.{MightHappen}
 use Rattle.sm_store.specs.System.{StaysOvertaken, extended, happens, after_reaching, system_after}
-use Rattle.sm_store.specs.lemmas.Growth.{made_next, send_grows, so_grows}
-use Rattle.sm_store.specs.lemmas.Logs.{GoesOnFrom, all_map, at_place, log_step}
+use Rattle.sm_store.specs.lemmas.Growth.{made_next, send_grows, so_asked, so_grows}
+use Rattle.sm_store.specs.lemmas.Logs.{GoesOnFrom, all_among, all_map, at_place, log_step}
 use Rattle.sm_store.specs.lemmas.Heart.{stood_then}
 use Rattle.sm_store.proofs.Once.{once, overtaken_grows}
 use Rattle.sm_store.proofs.Right.{honest_is_right}
@@ -71,7 +72,7 @@ module _ {Q P R S : Type 0} (after : S → Q → S) (reply : S → Q → R) (sta
     pub honest : IsHonest charter system.log
     pub sent : AllByRecursion (IsSendable charter system.log) system.sent
     pub held : AllByRecursion (DidHold system.log) system.held
-    pub claims : AllByRecursion (IsSo after reply start system.log) system.claims
+    pub claims : AllByRecursion (IsSo after reply start system.asked system.log) system.claims
 
   grown : (system : System Q P R) (new more : List (Transaction Q P)) → new ≡ more ++ system.log → IsHonest charter new
       → IsSoundSystem system
@@ -93,9 +94,9 @@ module _ {Q P R S : Type 0} (after : S → Q → S) (reply : S → Q → R) (sta
         (λ one was. subst (λ (log : List (Transaction Q P)). DidHold log one) (sym is)
         (held_grows more system.log one was))
         system.held sound.held;
-    claims = all_map (IsSo after reply start system.log) (IsSo after reply start new)
-        (λ one so. subst (λ (log : List (Transaction Q P)). IsSo after reply start log one) (sym is)
-        (so_grows after reply start more system.log one so))
+    claims = all_map (IsSo after reply start system.asked system.log) (IsSo after reply start system.asked new)
+        (λ one so. subst (λ (log : List (Transaction Q P)). IsSo after reply start system.asked log one) (sym is)
+        (so_grows after reply start system.asked more system.log one so))
         system.claims sound.claims;
   }
 
@@ -125,43 +126,58 @@ module _ {Q P R S : Type 0} (after : S → Q → S) (reply : S → Q → R) (sta
       subst IsSoundSystem (sym (cond-false (all_hold system.log sent.txn.compares) made_one system no)) sound)
       (cases_Bool (all_hold system.log sent.txn.compares))
 
-  read_so : (system : System Q P R) (ask : Ask Q) (answer : R) → IsSoundSystem system
-      → MayRead after reply start system ask answer → IsSo after reply start system.log
-      (Reads ask answer)
-  read_so system ask answer sound may =
-      let did : DidHold system.log may.held = subst (λ (one : Option (Carried Q P)). IfSome one (DidHold system.log))
-      may.was_held (at_place (DidHold system.log) system.held may.which sound.held) in
+  read_so : (system : System Q P R) (shard client number : ℕ) (answer : R) → IsSoundSystem system
+      → MayRead after reply start system shard client number answer
+      → IsReadSince after reply start system.asked system.log shard client number answer
+  read_so system shard client number answer sound may =
+      let did : DidHold system.log may.held =
+      all_among (DidHold system.log) system.held may.held sound.held may.was_held in
       let sent_after = may.sent_after in
       let since = did.since in
-      let now : revision_of (head_key ask.shard) may.held.moment ≡ may.revision =
-      subst (λ (one : Option Compare). IfSome one (λ compare. revision_of compare.key may.held.moment
-      ≡ compare.revision)) may.compared
-      (at_place (λ (compare : Compare). revision_of compare.key may.held.moment ≡ compare.revision)
-      may.held.txn.compares may.compare
-      (compare_held may.held.moment may.held.txn.compares did.holds)) in
-      let items_are : made ask.shard may.held.moment ≡ may.items =
-      stood_then (made ask.shard) (head_key ask.shard) (made_view ask.shard) system.log may.items may.revision
+      let now : revision_of (head_key shard) may.held.moment ≡ may.revision =
+      all_among (λ (compare : Compare). revision_of compare.key may.held.moment ≡ compare.revision)
+      may.held.txn.compares (at (head_key shard) may.revision)
+      (compare_held may.held.moment may.held.txn.compares did.holds) may.compared in
+      let items_are : made shard may.held.moment ≡ may.items =
+      stood_then (made shard) (head_key shard) (made_view shard) system.log may.items may.revision
       (inl refl) may.items_were did.later may.held.moment did.is now in
       record {
+        ask = may.ask;
+        was_asked = may.was_asked;
         later = did.later;
         past = may.held.moment;
         is = did.is;
         since = omega arith;
-        answer_is = may.answer_is ∙ ap (λ (items : List (Item Q)). reply (state_after after start items) ask.request)
-            (sym items_are);
+        answer_is = may.answer_is ∙ ap (λ (items : List (Item Q)). reply (state_after after start items)
+            may.ask.request) (sym items_are);
       }
 
   claim_so : (system : System Q P R) (claim : Claim Q R) → IsSoundSystem system
       → MayClaim after reply start system claim
-      → IsSo after reply start system.log claim
+      → IsSo after reply start system.asked system.log claim
   claim_so system (Replies shard client number answer) sound may = may
   claim_so system (Overtaken shard client number) sound may = may
-  claim_so system (Reads ask answer) sound may = read_so system ask answer sound may
+  claim_so system (Reads shard client number answer) sound may =
+      read_so system shard client number answer sound may
 
   pub sound_step : (system : System Q P R) (event : Event Q P R) → IsSoundSystem system
       → May after reply start charter system event → IsSoundSystem (happens system event)
-  sound_step system (Comes shard request) sound may =
-      record { honest = sound.honest; sent = sound.sent; held = sound.held; claims = sound.claims }
+  sound_step system (Comes shard client number request) sound may =
+      let new : Ask Q = record {
+        shard = shard;
+        client = client;
+        number = number;
+        request = request;
+        since = length system.log;
+      } in
+      record {
+        honest = sound.honest;
+        sent = sound.sent;
+        held = sound.held;
+        claims = all_map (IsSo after reply start system.asked system.log)
+            (IsSo after reply start (new ∷ system.asked) system.log)
+            (so_asked after reply start new system.asked system.log) system.claims sound.claims;
+      }
   sound_step system (Sends txn) sound may =
       record {
         honest = sound.honest;
@@ -221,13 +237,13 @@ module _ {Q P R S : Type 0} (after : S → Q → S) (reply : S → Q → R) (sta
   did_earlier (event ∷ later) earlier might = did_earlier later earlier might.1
 
   stays_one : (before now : System Q P R) (more : List (Transaction Q P)) → now.log ≡ more ++ before.log
-      → AreRight charter now.log → (claim : Claim Q R) → IsSo after reply start before.log claim
+      → AreRight charter now.log → (claim : Claim Q R) → IsSo after reply start before.asked before.log claim
       → StaysOvertaken before now claim
   stays_one before now more is right (Replies shard client number answer) so = tt
   stays_one before now more is right (Overtaken shard client number) so =
       ap (λ (log : List (Transaction Q P)). times client number (made shard log)) is
       ∙ overtaken_grows charter shard client number more before.log (subst (AreRight charter) is right) so
-  stays_one before now more is right (Reads ask answer) so = tt
+  stays_one before now more is right (Reads shard client number answer) so = tt
 
   pub stays_overtaken : (later earlier : List (Event Q P R)) → MightHappen after reply start charter (later ++ earlier)
       → AllByRecursion
@@ -238,6 +254,6 @@ module _ {Q P R S : Type 0} (after : S → Q → S) (reply : S → Q → R) (sta
       let before = system_after earlier in
       let now = system_after (later ++ earlier) in
       let grows = log_grows later earlier in
-      all_map (IsSo after reply start before.log) (StaysOvertaken before now)
+      all_map (IsSo after reply start before.asked before.log) (StaysOvertaken before now)
       (stays_one before now grows.0 grows.1 (lawful (later ++ earlier) might).right)
       before.claims (sound earlier (did_earlier later earlier might)).claims

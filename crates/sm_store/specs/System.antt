@@ -1,7 +1,7 @@
 -- All processes and the store, over every order of events. Messages come late, twice, or never, and in any order: what
 -- was once sent to the store may reach it at any later moment, any number of times. Processes stop, forget and start at
 -- any moment: nothing here rests on what they remember, but only on what they send and claim.
-use Rattle.std.specs.Prelude.{ℕ, Option, Some, None, ◌≡◌, ◌≤◌, ◌<◌, List, [], ◌∷◌, ◌++◌, length, slice_get}
+use Rattle.std.specs.Prelude.{ℕ, Option, Some, None, ◌≡◌, ◌≤◌, ◌<◌, ◌⊎◌, List, [], ◌∷◌, ◌++◌, length, slice_get}
 use Rattle.std.specs.Prelude.{if◌then◌else◌}
 use Rattle.std.specs.List.{AllByRecursion}
 use Rattle.sm_store.specs.declared.item.Item.{Item}
@@ -10,9 +10,11 @@ use Rattle.sm_store.specs.Store.{Transaction, Write, all_hold, head_key, made}
 use Rattle.sm_store.specs.Deeds.{AreRight, Charter, MaySend, WasFound, at}
 use Rattle.sm_store.specs.Whole.{IsLogWhole}
 
--- a request that only reads, and the length of the log when it came
+-- a request that only reads: whose it is, its number among that client's, and the length of the log when it came
 pub record Ask (Q : Type 0) : Type 0 where
   pub shard : ℕ
+  pub client : ℕ
+  pub number : ℕ
   pub request : Q
   pub since : ℕ
 
@@ -22,8 +24,8 @@ pub data Claim (Q R : Type 0) : Type 0 where
   Replies : (shard client number : ℕ) (reply : R) → Claim Q R
   -- a later one of the client is made, so this one won't be
   Overtaken : (shard client number : ℕ) → Claim Q R
-  -- what is asked has this reply
-  Reads : (ask : Ask Q) (reply : R) → Claim Q R
+  -- the client's request of this number, which only reads, has this reply
+  Reads : (shard client number : ℕ) (reply : R) → Claim Q R
 
 -- a transaction that was sent, and the length of the log then
 pub record SentTransaction (Q P : Type 0) : Type 0 where
@@ -47,7 +49,7 @@ pub record System (Q P R : Type 0) : Type 0 where
 -- what happens, one after another
 pub data Event (Q P R : Type 0) : Type 0 where
   -- a request that only reads comes to a process
-  Comes : (shard : ℕ) (request : Q) → Event Q P R
+  Comes : (shard client number : ℕ) (request : Q) → Event Q P R
   -- a process sends a transaction
   Sends : (txn : Transaction Q P) → Event Q P R
   -- one that was sent, or a copy of it, reaches the store
@@ -75,60 +77,81 @@ after_reaching system (Some sent) =
     }
     else system
 
+-- it is one of these
+abbrev pub IsAmong : {A : Type 0} → A → List A → Type 0
+IsAmong one [] = ⊥
+IsAmong one (other ∷ others) = (other ≡ one) ⊎ IsAmong one others
+
+-- it is one of those that were asked, by this client of this shard, and has this number
+pub record WasAsked {Q : Type 0} (asked : List (Ask Q)) (shard client number : ℕ) (ask : Ask Q) : Type 0 where
+  pub among : IsAmong ask asked
+  pub shard_is : ask.shard ≡ shard
+  pub client_is : ask.client ≡ client
+  pub number_is : ask.number ≡ number
+
 -- the reply is that of a moment after the request came
-pub record IsReadSince {Q P R S : Type 0} (after : S → Q → S) (reply : S → Q → R) (start : S)
-    (log : List (Transaction Q P)) (ask : Ask Q) (answer : R) : Type 0 where
+pub record IsReadSince {Q P R S : Type 0} (after : S → Q → S) (reply : S → Q → R) (start : S) (asked : List (Ask Q))
+    (log : List (Transaction Q P)) (shard client number : ℕ) (answer : R) : Type 0 where
+  pub ask : Ask Q
+  pub was_asked : WasAsked asked shard client number ask
   pub later : List (Transaction Q P)
   pub past : List (Transaction Q P)
   pub is : log ≡ later ++ past
   pub since : ask.since ≤ length past
-  pub answer_is : answer ≡ reply (state_after after start (made ask.shard past)) ask.request
+  pub answer_is : answer ≡ reply (state_after after start (made shard past)) ask.request
 
 -- it is so: the reply is that of one thread's run over the requests that are made, in order; what won't be made is
 -- overtaken by a greater number of its client
-abbrev pub IsSo : {Q P R S : Type 0} → (S → Q → S) → (S → Q → R) → S → List (Transaction Q P) → Claim Q R → Type 0
-IsSo after reply start log (Replies shard client number answer) =
+abbrev pub IsSo : {Q P R S : Type 0} → (S → Q → S) → (S → Q → R) → S → List (Ask Q) → List (Transaction Q P)
+    → Claim Q R → Type 0
+IsSo after reply start asked log (Replies shard client number answer) =
     reply_in after reply start (made shard log) client number ≡ Some answer
-IsSo after reply start log (Overtaken shard client number) = number < last_of client (made shard log)
-IsSo after reply start log (Reads ask answer) = IsReadSince after reply start log ask answer
+IsSo after reply start asked log (Overtaken shard client number) = number < last_of client (made shard log)
+IsSo after reply start asked log (Reads shard client number answer) =
+    IsReadSince after reply start asked log shard client number answer
 
 -- one who has read the requests, and sent after the request came a transaction that compares their revision, which held
 pub record MayRead {Q P R S : Type 0} (after : S → Q → S) (reply : S → Q → R) (start : S) (system : System Q P R)
-    (ask : Ask Q) (answer : R) : Type 0 where
-  pub place : ℕ
-  pub was_asked : slice_get system.asked place ≡ Some ask
+    (shard client number : ℕ) (answer : R) : Type 0 where
+  pub ask : Ask Q
+  pub was_asked : WasAsked system.asked shard client number ask
   pub held : Carried Q P
-  pub which : ℕ
-  pub was_held : slice_get system.held which ≡ Some held
+  pub was_held : IsAmong held system.held
   pub sent_after : ask.since ≤ held.since
   pub items : List (Item Q)
   pub revision : ℕ
-  pub items_were : WasFound (made ask.shard) (head_key ask.shard) system.log items revision
-  pub compare : ℕ
-  pub compared : slice_get held.txn.compares compare ≡ Some (at (head_key ask.shard) revision)
+  pub items_were : WasFound (made shard) (head_key shard) system.log items revision
+  pub compared : IsAmong (at (head_key shard) revision) held.txn.compares
   pub answer_is : answer ≡ reply (state_after after start items) ask.request
 
 -- what a process may claim: what is so in the store that it has read, and a read by `MayRead`
 abbrev pub MayClaim : {Q P R S : Type 0} → (S → Q → S) → (S → Q → R) → S → System Q P R → Claim Q R → Type 0
 MayClaim after reply start system (Replies shard client number answer) =
-    IsSo after reply start system.log (Replies shard client number answer)
+    IsSo after reply start system.asked system.log (Replies shard client number answer)
 MayClaim after reply start system (Overtaken shard client number) =
-    IsSo after reply start system.log (Overtaken shard client number)
-MayClaim after reply start system (Reads ask answer) = MayRead after reply start system ask answer
+    IsSo after reply start system.asked system.log (Overtaken shard client number)
+MayClaim after reply start system (Reads shard client number answer) =
+    MayRead after reply start system shard client number answer
 
 -- what may happen: a process sends what it may, and claims what it knows
 abbrev pub May : {Q P R S : Type 0} → (S → Q → S) → (S → Q → R) → S → Charter Q P → System Q P R → Event Q P R → Type 0
-May after reply start charter system (Comes shard request) = Unit {0}
+May after reply start charter system (Comes shard client number request) = Unit {0}
 May after reply start charter system (Sends txn) = MaySend charter system.log txn
 May after reply start charter system (Reaches which) = Unit {0}
 May after reply start charter system (Claims claim) = MayClaim after reply start system claim
 
 -- the system after an event
 abbrev pub happens : {Q P R : Type 0} → System Q P R → Event Q P R → System Q P R
-happens system (Comes shard request) =
+happens system (Comes shard client number request) =
     record {
       log = system.log;
-      asked = record { shard = shard; request = request; since = length system.log } ∷ system.asked;
+      asked = record {
+        shard = shard;
+        client = client;
+        number = number;
+        request = request;
+        since = length system.log;
+      } ∷ system.asked;
       sent = system.sent;
       held = system.held;
       claims = system.claims;
@@ -172,7 +195,7 @@ pub record IsLawful {Q P R S : Type 0} (after : S → Q → S) (reply : S → Q 
   -- nothing is made twice
   pub once : (shard client number : ℕ) → times client number (made shard system.log) ≤ 1
   -- whatever was claimed is so, now as when it was claimed
-  pub claims : AllByRecursion (IsSo after reply start system.log) system.claims
+  pub claims : AllByRecursion (IsSo after reply start system.asked system.log) system.claims
 
 -- what was overtaken is not made from then on
 abbrev pub StaysOvertaken : {Q P R : Type 0} → System Q P R → System Q P R → Claim Q R → Type 0

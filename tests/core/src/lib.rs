@@ -2,6 +2,8 @@
 #![tactic(auto)]
 
 #[cfg(test)]
+mod codec;
+#[cfg(test)]
 mod histories;
 #[cfg(test)]
 mod lead;

@@ -16,6 +16,8 @@ impl StoreMachine<u64, u64> for Sum {
 
     ghost reply = { λ sum amount. (sum.total + amount) % 2 ^ 64 };
 
+    ghost size = { λ amount. 8 };
+
     fn new(_: Global) -> Sum {
         Sum { total: 0 }
     }
@@ -31,5 +33,9 @@ impl StoreMachine<u64, u64> for Sum {
         } else {
             None
         })
+    }
+
+    fn size_of(_: &u64) -> u64 {
+        8
     }
 }

@@ -1,6 +1,6 @@
 -- What the store's growth leaves: what was read, what may be sent, and what was claimed.
 use Rattle.std.proofs.Common.{◌≡◌, ℕ, Bool, true, false, List, [], ◌∷◌, ◌++◌, refl, sym, ap, subst, ◌∙◌, arith}
-use Rattle.std.proofs.Common.{⊎_elim, append_assoc, append-nil}
+use Rattle.std.proofs.Common.{⊎_elim, inr, append_assoc, append-nil}
 use Rattle.std.specs.Prelude.{◌==◌, max, if◌then◌else◌}
 use Rattle.std.proofs.lemmas.Bool.{eqb-true, cases_Bool}
 use Rattle.sm_store.specs.declared.item.Item.{Item}
@@ -12,7 +12,7 @@ use Rattle.sm_store.specs.Store.{Transaction, head_key, made, made_by, touches}
 use Rattle.sm_store.specs.Deeds.{AreRight, Charter, Deed, Electing, Expiring, Changing, Executing, Basing, Naming}
 use Rattle.sm_store.specs.Deeds.{Clearing, Following, Checking, Foreign, HasRequests, IsRight, MayClear, MayDo, MaySend}
 use Rattle.sm_store.specs.Deeds.{WasFound, transaction_of}
-use Rattle.sm_store.specs.System.{Claim, Replies, Overtaken, Reads, IsSo}
+use Rattle.sm_store.specs.System.{Ask, Claim, Replies, Overtaken, Reads, IsSo, WasAsked}
 use Rattle.sm_store.specs.lemmas.Numbers.{last-append, next-append, reply-append}
 
 next_none : {Q : Type 0} (before : List (Item Q)) (b : Bool) (items : List (Item Q)) → items ≡ []
@@ -142,24 +142,51 @@ module _ {Q P : Type 0} (charter : Charter Q P) where
       (subst (λ (t : Transaction Q P). AreNext (made shard earlier) (made_by shard t.writes)) (sym right.0.is)
       (added_next shard earlier right.0.deed right.0.right))
 
+-- what was asked was asked, whatever is asked later
+pub asked_grows : {Q : Type 0} (new : Ask Q) (asked : List (Ask Q)) (shard client number : ℕ) (ask : Ask Q)
+    → WasAsked asked shard client number ask → WasAsked (new ∷ asked) shard client number ask
+asked_grows new asked shard client number ask was = record {
+  among = inr was.among;
+  shard_is = was.shard_is;
+  client_is = was.client_is;
+  number_is = was.number_is;
+}
+
 module _ {Q P R S : Type 0} (after : S → Q → S) (reply : S → Q → R) (start : S) where
-  -- what is so stays so
-  pub so_grows : (more log : List (Transaction Q P)) (claim : Claim Q R) → IsSo after reply start log claim
-      → IsSo after reply start (more ++ log) claim
-  so_grows more log (Replies shard client number answer) so =
+  -- what is so stays so as the store goes on
+  pub so_grows : (asked : List (Ask Q)) (more log : List (Transaction Q P)) (claim : Claim Q R)
+      → IsSo after reply start asked log claim → IsSo after reply start asked (more ++ log) claim
+  so_grows asked more log (Replies shard client number answer) so =
       let grown = made_grows shard more log in
       ap (λ (items : List (Item Q)). reply_in after reply start items client number) grown.1
       ∙ reply-append after reply start (made shard log) grown.0 client number answer so
-  so_grows more log (Overtaken shard client number) so =
+  so_grows asked more log (Overtaken shard client number) so =
       let grown = made_grows shard more log in
       let longer : last_of client (made shard (more ++ log)) ≡ max (last_of client (made shard log))
       (last_of client grown.0) =
       ap (last_of client) grown.1 ∙ last-append client (made shard log) grown.0 in
       omega arith
-  so_grows more log (Reads ask answer) so = record {
+  so_grows asked more log (Reads shard client number answer) so = record {
+    ask = so.ask;
+    was_asked = so.was_asked;
     later = more ++ so.later;
     past = so.past;
     is = ap (λ (rest : List (Transaction Q P)). more ++ rest) so.is ∙ sym (append_assoc more so.later so.past);
+    since = so.since;
+    answer_is = so.answer_is;
+  }
+
+  -- and as more is asked
+  pub so_asked : (new : Ask Q) (asked : List (Ask Q)) (log : List (Transaction Q P)) (claim : Claim Q R)
+      → IsSo after reply start asked log claim → IsSo after reply start (new ∷ asked) log claim
+  so_asked new asked log (Replies shard client number answer) so = so
+  so_asked new asked log (Overtaken shard client number) so = so
+  so_asked new asked log (Reads shard client number answer) so = record {
+    ask = so.ask;
+    was_asked = asked_grows new asked shard client number so.ask so.was_asked;
+    later = so.later;
+    past = so.past;
+    is = so.is;
     since = so.since;
     answer_is = so.answer_is;
   }

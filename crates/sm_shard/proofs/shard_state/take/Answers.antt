@@ -1,6 +1,6 @@
 use Rattle.std.proofs.Common.{refl, sym, ◌∙◌, ap}
 use Rattle.sm_store.specs.Clients.{last_of}
-use Rattle.sm_shard.proofs.ShardServers.{ready_push}
+use Rattle.sm_shard.proofs.ShardServers.{ready_push, unnumbered}
 use Rattle.sm_shard.proofs.shard_state.take.Goals as goal
 
 pub returns-in-Some-clause-decided : goal.returns-in-Some-clause-decided
@@ -14,18 +14,21 @@ returns-clause-kept g c = λ before ready.
     (record {
       state = c.args.ready.now.state;
       stood = c.args.ready.now.stood;
-      replica =
-          c.args.ready.now.replica;
+      replica = c.args.ready.now.replica;
       head = c.args.ready.now.head;
       logged = c.args.ready.now.logged;
-      sent =
-          c.args.ready.now.sent;
+      sent = c.args.ready.now.sent;
       waiting = c.push.new.self;
+      carried = c.args.ready.now.carried;
+      asking = c.args.ready.now.asking;
     })
     refl refl refl c.in_ok-push.ensures.items
     (sym c.accepts.ensures ∙ c.if-not-accepts.false)
-    (ap (last_of c.args.item.client) (sym c.deref.ensures.value) ∙ c.has_client.ensures.none c.if-has_client.false)
-    (ap (last_of c.args.item.client) (sym c.deref-else-has_client.ensures.value)
-    ∙ c.has_client-else-has_client.ensures.none c.if-has_client-2.false)
+    (ap (last_of c.args.item.client) (sym c.deref.ensures.value)
+    ∙ unnumbered {R = g.row.R.Denot} c.args.item.number c.client_number.result c.in_default-repeated.ensures
+    c.client_number.ensures.none)
+    (ap (last_of c.args.item.client) (sym c.deref-2.ensures.value)
+    ∙ unnumbered {R = g.row.R.Denot} c.args.item.number c.client_number-2.result c.in_default-repeated-2.ensures
+    c.client_number-2.ensures.none)
     (c.in_default.ensures.next before)
     ready

@@ -1,71 +1,78 @@
-use Rattle.std.proofs.Common.{rules, Ok, ◌<◌, ◌≢◌, sym, subst}
+use Rattle.std.proofs.Common.{rules, Ok, ◌<◌, ◌≢◌, length, sym, subst}
 use Rattle.std.specs.List.{AllByRecursion}
-use Rattle.sm_store.specs.System.{IsSo}
+use Rattle.sm_store.specs.System.{MayClaim}
 use Rattle.sm_shard.specs.declared.steps.ShardInput.{ShardInput}
 use Rattle.sm_shard.specs.declared.steps.ShardOutput.{ShardOutput}
-use Rattle.sm_shard.specs.declared.steps.ShardOutput.TheVariants.{Nothing, Decided, Answers, Sends}
+use Rattle.sm_shard.specs.declared.steps.ShardOutput.TheVariants.{Nothing, Answers, Sends}
 use Rattle.sm_shard.specs.Steps.{IsInput, step_claims}
-use Rattle.sm_shard.proofs.ShardServers.{transactions_may}
+use Rattle.sm_shard.specs.declared.shard_state.ShardState.{ShardState}
+use Rattle.sm_shard.specs.ShardServers.{DidHold, WereMade, claimed_all, claimed_reads, sent_transaction}
+use Rattle.sm_shard.proofs.ShardServers.{all-append, both_of, transactions_may}
 use Rattle.sm_shard.proofs.steps.step.Goals as goal
 
-pub returns-in_ok-decision-in-Request-clause-call : goal.returns-in_ok-decision-in-Request-clause-call
-returns-in_ok-decision-in-Request-clause-call g c = λ charter log count placed known input. record {
-  known = c.in_ok-decision-in-Request.ensures.known log known;
-  may = tt;
-  so = subst (λ (i : ShardInput g.row.M.Denot g.row.Q.Denot g.row.R.Denot). AllByRecursion
-      (IsSo g.M.StoreMachine.after g.M.StoreMachine.reply g.M.StoreMachine.start log)
-      (step_claims c.args.server.now.shard i (Ok (Decided c.in_ok-decision-in-Request.decision)))) (sym c.in-Request.is)
-      (c.in_ok-decision-in-Request.ensures.told log known);
-}
-
-pub returns-then-flush-clause-call : goal.returns-then-flush-clause-call
-returns-then-flush-clause-call g c = λ charter log count placed known input.
-    let now = c.flush.ensures.known log known in
+pub returns-then-branch-clause-call : goal.returns-then-branch-clause-call
+returns-then-branch-clause-call g c = λ charter system since count placed past known asked input.
+    let done = c.in_ok-flush-in-Flush.ensures in
+    let now = done.known system.log known in
     record {
       known = now;
-      may = transactions_may g.M.StoreMachine.after g.M.StoreMachine.reply g.M.StoreMachine.start charter log
+      asked = done.sends c.if-branch.true system since past asked;
+      may = transactions_may g.M.StoreMachine.after g.M.StoreMachine.reply g.M.StoreMachine.start charter system.log
           c.flush.new.self.me c.flush.new.self.shard c.flush.new.self.ready
-          (subst (λ k. k < charter.count) (sym c.flush.ensures.shard)
+          (subst (λ k. k < charter.count) (sym done.shard)
           (subst (λ n. c.args.server.now.shard < n) (sym count) placed.0))
-          (subst (λ k. k ≢ 0) (sym c.flush.ensures.me) placed.1) now;
-      so = let out : ShardOutput g.row.Q.Denot g.row.R.Denot = Sends in
+          (subst (λ k. k ≢ 0) (sym done.me) placed.1) now;
+      claims = let out : ShardOutput g.row.Q.Denot g.row.R.Denot = Sends in
           subst (λ (i : ShardInput g.row.M.Denot g.row.Q.Denot g.row.R.Denot). AllByRecursion
-          (IsSo g.M.StoreMachine.after g.M.StoreMachine.reply g.M.StoreMachine.start log)
+          (MayClaim g.M.StoreMachine.after g.M.StoreMachine.reply g.M.StoreMachine.start system)
           (step_claims c.args.server.now.shard i (Ok out))) (sym c.in-Flush.is) tt;
     }
 
 pub returns-in_ok-answers-in-Made-clause-call : goal.returns-in_ok-answers-in-Made-clause-call
-returns-in_ok-answers-in-Made-clause-call g c = λ charter log count placed known input.
+returns-in_ok-answers-in-Made-clause-call g c = λ charter system since count placed past known asked input.
     let made = subst (λ (i : ShardInput g.row.M.Denot g.row.Q.Denot g.row.R.Denot). IsInput g.M.StoreMachine.after
-    g.M.StoreMachine.reply g.M.StoreMachine.start log c.args.server.now i) c.in-Made.is input in
+    g.M.StoreMachine.reply g.M.StoreMachine.start system since c.args.server.now i) c.in-Made.is input in
+    let done = c.in_ok-answers-in-Made.ensures in
+    let shard = c.args.server.now.shard in
+    let answers = c.in_ok-answers-in-Made.answers in
+    let parts = both_of c.args.server.now.ready
+    (λ (ready : ShardState g.row.M.Denot g.row.Q.Denot g.row.R.Denot). DidHold system.held since
+    (sent_transaction c.args.server.now.me shard ready))
+    (λ (ready : ShardState g.row.M.Denot g.row.Q.Denot g.row.R.Denot). WereMade system.log c.args.server.now.me shard
+    c.in-Made.revision ready) made in
     record {
-      known = c.in_ok-answers-in-Made.ensures.known log known made;
+      known = done.known system.log known parts.1;
+      asked = done.asked system.asked since asked;
       may = tt;
-      so = subst (λ (i : ShardInput g.row.M.Denot g.row.Q.Denot g.row.R.Denot). AllByRecursion
-          (IsSo g.M.StoreMachine.after g.M.StoreMachine.reply g.M.StoreMachine.start log)
-          (step_claims c.args.server.now.shard i (Ok (Answers c.in_ok-answers-in-Made.answers)))) (sym c.in-Made.is)
-          (c.in_ok-answers-in-Made.ensures.told log known made);
+      claims = subst (λ (i : ShardInput g.row.M.Denot g.row.Q.Denot g.row.R.Denot). AllByRecursion
+          (MayClaim g.M.StoreMachine.after g.M.StoreMachine.reply g.M.StoreMachine.start system)
+          (step_claims shard i (Ok (Answers answers)))) (sym c.in-Made.is)
+          (all-append (MayClaim g.M.StoreMachine.after g.M.StoreMachine.reply g.M.StoreMachine.start system)
+          (claimed_all shard answers.made.items) (claimed_reads shard answers.read.items)
+          (done.told system known parts.1) (done.read system since known asked parts.0));
     }
 
 pub returns-in_ok-on_read-in-Read-clause-call : goal.returns-in_ok-on_read-in-Read-clause-call
-returns-in_ok-on_read-in-Read-clause-call g c = λ charter log count placed known input.
+returns-in_ok-on_read-in-Read-clause-call g c = λ charter system since count placed past known asked input.
     let read = subst (λ (i : ShardInput g.row.M.Denot g.row.Q.Denot g.row.R.Denot). IsInput g.M.StoreMachine.after
-    g.M.StoreMachine.reply g.M.StoreMachine.start log c.args.server.now i) c.in-Read.is input in
+    g.M.StoreMachine.reply g.M.StoreMachine.start system since c.args.server.now i) c.in-Read.is input in
     let out : ShardOutput g.row.Q.Denot g.row.R.Denot = Nothing in
     record {
-      known = c.in_ok-on_read-in-Read.ensures.known log read.1.first read.0 read.1.read read.1.replica;
+      known = c.in_ok-on_read-in-Read.ensures.known system.log read.1.first read.0 read.1.read read.1.replica;
+      asked = c.in_ok-on_read-in-Read.ensures.asked system.asked since;
       may = tt;
-      so = subst (λ (i : ShardInput g.row.M.Denot g.row.Q.Denot g.row.R.Denot). AllByRecursion
-          (IsSo g.M.StoreMachine.after g.M.StoreMachine.reply g.M.StoreMachine.start log)
+      claims = subst (λ (i : ShardInput g.row.M.Denot g.row.Q.Denot g.row.R.Denot). AllByRecursion
+          (MayClaim g.M.StoreMachine.after g.M.StoreMachine.reply g.M.StoreMachine.start system)
           (step_claims c.args.server.now.shard i (Ok out))) (sym c.in-Read.is) tt;
     }
 
 pub returns-in_err-on_read-in-Read-clause-call : goal.returns-in_err-on_read-in-Read-clause-call
-returns-in_err-on_read-in-Read-clause-call g c = λ charter log count placed known input.
+returns-in_err-on_read-in-Read-clause-call g c = λ charter system since count placed past known asked input.
     let read = subst (λ (i : ShardInput g.row.M.Denot g.row.Q.Denot g.row.R.Denot). IsInput g.M.StoreMachine.after
-    g.M.StoreMachine.reply g.M.StoreMachine.start log c.args.server.now i) c.in-Read.is input in
+    g.M.StoreMachine.reply g.M.StoreMachine.start system since c.args.server.now i) c.in-Read.is input in
     record {
-      known = c.in_err-on_read-in-Read.ensures.known log read.1.first read.0 read.1.read read.1.replica;
+      known = c.in_err-on_read-in-Read.ensures.known system.log read.1.first read.0 read.1.read read.1.replica;
+      asked = search rules;
       may = search rules;
-      so = search rules;
+      claims = search rules;
     }

@@ -1,4 +1,9 @@
-use Rattle.sm_shard.proofs.ShardServers.{known_of, knows_same}
+use Rattle.std.specs.Prelude.{IsTrue}
+use Rattle.std.proofs.Common.{ℕ, Bool, length}
+use Rattle.sm_shard.specs.declared.shard_state.ShardState.{ShardState}
+use Rattle.sm_shard.specs.ShardServers.{AreAsked, AreAskedOf, IsFlushed, StoreSystem}
+use Rattle.sm_shard.specs.Steps.{ArePast}
+use Rattle.sm_shard.proofs.ShardServers.{asked_flushed, known_of, knows_same, ok_map, some_of}
 use Rattle.sm_shard.proofs.shard_server.ShardServer.flush.Goals as goal
 
 pub returns-in-Some-clause-known : goal.returns-in-Some-clause-known
@@ -11,3 +16,24 @@ returns-in-Some-clause-known g c = λ log known.
     knows_same after reply start log me shard c.in-Some.ready c.flush.new.ready c.flush.ensures.state
     c.flush.ensures.stood c.flush.ensures.head c.flush.ensures.logged (c.flush.ensures.kept me)
     (known_of after reply start log me shard c.args.self.now.ready c.in-Some.ready c.in-Some.is known)
+
+pub returns-in-Some-clause-sends : goal.returns-in-Some-clause-sends
+returns-in-Some-clause-sends g c =
+    let after = g.M.StoreMachine.after in
+    let reply = g.M.StoreMachine.reply in
+    let start = g.M.StoreMachine.start in
+    let size = g.M.StoreMachine.size in
+    let shard = c.args.self.now.shard in
+    let limits = c.args.self.now.limits in
+    let ready = c.in-Some.ready in
+    let new = c.flush.new.ready in
+    ok_map (λ (sends : Bool). IsTrue sends → IsFlushed limits size ready new)
+    (λ (sends : Bool). IsTrue sends → (system : StoreSystem g.row.Q.Denot g.row.R.Denot) (since : ℕ)
+    → ArePast system → AreAsked system.asked since c.args.self.now
+    → AreAskedOf system.asked (length system.log) shard new)
+    c.flush.result
+    (λ sends flush yes system since past asked.
+    asked_flushed after reply start limits size system since shard ready new past (flush yes)
+    (some_of (λ (r : ShardState g.row.M.Denot g.row.Q.Denot g.row.R.Denot). AreAskedOf system.asked since shard r)
+    c.args.self.now.ready ready c.in-Some.is asked))
+    c.flush.ensures.sends

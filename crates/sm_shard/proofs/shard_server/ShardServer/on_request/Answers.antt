@@ -1,10 +1,10 @@
 use Rattle.std.proofs.Common.{List}
 use Rattle.std.specs.List.{AllByRecursion}
 use Rattle.sm_store.specs.declared.item.Item.{Item}
-use Rattle.sm_store.specs.System.{IsSo}
+use Rattle.sm_store.specs.System.{MayClaim}
 use Rattle.sm_shard.specs.declared.shard_state.Decision.{Decision}
 use Rattle.sm_shard.specs.declared.shard_state.ShardState.{ShardState}
-use Rattle.sm_shard.specs.ShardServers.{IsShardState, IsDecided, IsTrueOf, HasRead, StoreLog, claimed_by}
+use Rattle.sm_shard.specs.ShardServers.{IsShardState, IsDecided, IsTrueOf, HasRead, StoreSystem, claimed_by}
 use Rattle.sm_shard.proofs.ShardServers.{ok_map, some_of, decided_so}
 use Rattle.sm_shard.proofs.shard_server.ShardServer.on_request.Goals as goal
 
@@ -20,13 +20,13 @@ returns-in-Some-clause-told g c =
     (λ (decision : Decision g.row.R.Denot). (before : List (Item g.row.Q.Denot))
     → IsShardState after reply start me before ready → IsDecided after reply start ready.state me before
     c.args.item.client c.args.item.number decision)
-    (λ (decision : Decision g.row.R.Denot). (log : StoreLog g.row.Q.Denot)
-    → IsTrueOf after reply start log c.args.self.now → AllByRecursion (IsSo after reply start log)
+    (λ (decision : Decision g.row.R.Denot). (system : StoreSystem g.row.Q.Denot g.row.R.Denot)
+    → IsTrueOf after reply start system.log c.args.self.now → AllByRecursion (MayClaim after reply start system)
     (claimed_by shard c.args.item.client c.args.item.number decision))
     c.take.result
-    (λ decision decided log known.
-    let knows = some_of (λ (r : ShardState g.row.M.Denot g.row.Q.Denot g.row.R.Denot). HasRead after reply start log me
-    shard r) c.args.self.now.ready ready c.in-Some.is known in
-    decided_so after reply start shard me log ready.state (record { head = ready.head; items = knows.before })
+    (λ decision decided system known.
+    let knows = some_of (λ (r : ShardState g.row.M.Denot g.row.Q.Denot g.row.R.Denot). HasRead after reply start
+    system.log me shard r) c.args.self.now.ready ready c.in-Some.is known in
+    decided_so after reply start shard me system ready.state (record { head = ready.head; items = knows.before })
     ready.logged c.args.item.client c.args.item.number knows.logged decision (decided knows.before knows.is))
     c.take.ensures.decided

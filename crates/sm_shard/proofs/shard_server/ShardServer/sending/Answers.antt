@@ -1,7 +1,8 @@
-use Rattle.std.proofs.Common.{List, ◌<◌, refl, sym, subst}
+use Rattle.std.proofs.Common.{List, ◌<◌, sym, subst}
 use Rattle.sm_store.specs.declared.item.Item.{Item}
-use Rattle.sm_store.specs.Deeds.{Executing, MaySend, transaction_of}
-use Rattle.sm_shard.proofs.ShardServers.{known_of, may_send}
+use Rattle.sm_store.specs.Deeds.{MaySend}
+use Rattle.sm_shard.specs.ShardServers.{transaction_for}
+use Rattle.sm_shard.proofs.ShardServers.{known_of, sent_may}
 use Rattle.sm_shard.proofs.shard_server.ShardServer.sending.Goals as goal
 
 pub returns-in-Some-clause-may : goal.returns-in-Some-clause-may
@@ -15,11 +16,7 @@ returns-in-Some-clause-may g c = λ charter log count placed known.
     let within : shard < charter.count = subst (λ n. shard < n) (sym count) placed.0 in
     subst
     (λ (items : List (Item g.row.Q.Denot)).
-    MaySend charter log (transaction_of (Executing shard me items ready.head ready.stood ready.logged)))
+    MaySend charter log (transaction_for shard me items ready.head ready.stood ready.logged))
     (sym c.deref.ensures.value)
-    (record {
-      deed = Executing shard me ready.sent.items ready.head ready.stood ready.logged;
-      is = refl;
-      may = may_send after reply start charter log me shard ready within placed.1
-          (known_of after reply start log me shard c.args.self.now.ready ready c.in-Some.is known);
-    })
+    (sent_may after reply start charter log me shard ready within placed.1
+    (known_of after reply start log me shard c.args.self.now.ready ready c.in-Some.is known))

@@ -1,0 +1,5 @@
+pub mod Batches
+pub mod FieldLemmas
+pub mod Heads
+pub mod Loop
+pub mod Records

@@ -1,0 +1,93 @@
+-- What lies at the store's keys, as bytes: a byte for the version, which is 1, and then each field, of a number the
+-- highest byte first.
+use Rattle.std.specs.Prelude.{ℕ, ◌<◌, ◌≤◌, ◌^◌, List, [], ◌∷◌, ◌++◌, length, map}
+use Rattle.std.specs.Global.{Vec}
+use Rattle.std.specs.List.{flat_map, AllByRecursion}
+use Rattle.std.specs.Int.{w32, w64, to_be_bytes}
+use Rattle.sm_ownership.specs.declared.mode.Mode.{Mode}
+use Rattle.sm_ownership.specs.declared.mode.Mode.TheVariants.{Direct, Forwarded}
+use Rattle.sm_ranges.specs.ServerId.{IsServer}
+use Rattle.sm_store.specs.declared.head.Head.{Head}
+use Rattle.sm_store.specs.declared.item.Item.{Item}
+use Rattle.sm_word.specs.Word.{word_of}
+use Rattle.sm_codec.specs.declared.store_settings.StoreSettings.{StoreSettings}
+use Rattle.sm_codec.specs.declared.stored_batch.StoredBatch.{StoredBatch}
+use Rattle.sm_codec.specs.declared.stored_record.StoredRecord.{StoredRecord}
+
+-- the head of a shard's log
+abbrev pub head_bytes : Head → List ℕ
+head_bytes head = 1 ∷ (to_be_bytes w64 head.batches ++ (to_be_bytes w64 head.base ++ to_be_bytes w64 head.parts))
+
+-- each number of a head is one of 64 bits
+pub record FitsHead (head : Head) : Type 0 where
+  pub batches : head.batches < 2 ^ 64
+  pub base : head.base < 2 ^ 64
+  pub parts : head.parts < 2 ^ 64
+
+-- two numbers
+abbrev pub pair_bytes : ℕ → ℕ → List ℕ
+pair_bytes first second = 1 ∷ (to_be_bytes w64 first ++ to_be_bytes w64 second)
+
+-- a record, by its word
+abbrev pub record_bytes : StoredRecord → List ℕ
+record_bytes stored = pair_bytes (word_of stored.state) stored.process
+
+-- what all processes of a store go by
+abbrev pub settings_bytes : StoreSettings → List ℕ
+settings_bytes settings = pair_bytes settings.count settings.ceiling
+
+-- a number of bytes, and so many bytes
+abbrev pub string_bytes : List ℕ → List ℕ
+string_bytes bytes = to_be_bytes w32 (length bytes) ++ bytes
+
+-- how a request came: the server that forwarded it, or 0
+abbrev pub mode_number : Mode → ℕ
+mode_number Direct = 0
+mode_number (Forwarded from) = from
+
+-- a request of a batch, whose bytes these are
+abbrev pub item_bytes : Item (List ℕ) → List ℕ
+item_bytes item =
+    to_be_bytes w64 item.client
+    ++ (to_be_bytes w64 item.number ++ (to_be_bytes w32 (mode_number item.mode) ++ string_bytes item.request))
+
+-- a batch without where it lies in memory: the server that executed it, and its requests
+pub record Batch : Type 0 where
+  pub server : ℕ
+  pub items : List (Item (List ℕ))
+
+-- a request without where its bytes lie
+abbrev pub item_view : Item (Vec ℕ) → Item (List ℕ)
+item_view item =
+    record { client = item.client; number = item.number; mode = item.mode; request = item.request.items }
+
+-- such requests
+abbrev pub item_views : List (Item (Vec ℕ)) → List (Item (List ℕ))
+item_views items = map item_view items
+
+-- such a batch
+abbrev pub batch_view : StoredBatch → Batch
+batch_view stored = record { server = stored.server; items = item_views stored.items.items }
+
+-- a batch of requests
+abbrev pub batch_bytes : Batch → List ℕ
+batch_bytes batch =
+    1 ∷ (to_be_bytes w32 batch.server ++ (to_be_bytes w32 (length batch.items) ++ flat_map item_bytes batch.items))
+
+-- the server that a request came by is one
+abbrev pub FitsMode : Mode → Type 0
+FitsMode Direct = Unit {0}
+FitsMode (Forwarded from) = IsServer from
+
+-- a request that has bytes
+pub record FitsItem (item : Item (List ℕ)) : Type 0 where
+  pub client : item.client < 2 ^ 64
+  pub number : item.number < 2 ^ 64
+  pub mode : FitsMode item.mode
+  pub request : length item.request < 2 ^ 32
+
+-- a batch that has bytes
+pub record FitsBatch (batch : Batch) : Type 0 where
+  pub server : IsServer batch.server
+  pub count : length batch.items < 2 ^ 32
+  pub items : AllByRecursion FitsItem batch.items

@@ -1,0 +1,29 @@
+//! What lies at the keys of a shared store, as bytes with a version: what was written is read again, and whatever else
+//! lies there is a named fault.
+//!
+//! ```rust
+//! let head = Head {
+//!     batches: 3,
+//!     base: 2,
+//!     parts: 1,
+//! };
+//! let bytes = write_head(rt.alloc(), &head).expect(&rt, "memory");
+//! assert!(rt; read_head(&bytes) == Ok(head));
+//! assert!(rt; read_head(&bytes[..24]) == Err(ReadError::Fault(Fault::Short)));
+//! ```
+#![tactic(auto)]
+
+mod fault;
+mod fields;
+mod reading;
+mod store_settings;
+mod stored_batch;
+mod stored_record;
+mod writing;
+
+pub use fault::{Fault, ReadError};
+pub use reading::{read_batch, read_head, read_record, read_settings};
+pub use store_settings::StoreSettings;
+pub use stored_batch::StoredBatch;
+pub use stored_record::StoredRecord;
+pub use writing::{write_batch, write_head, write_record, write_settings};

@@ -1,0 +1,115 @@
+ghost use Rattle.std.specs.Prelude.{◌≡◌, ◌<◌, ◌^◌, ◌++◌, length, IfOk, OnOk};
+ghost use Rattle.std.specs.Int.{w32, w64, to_be_bytes};
+ghost use Rattle.std.specs.List.{AllByRecursion, flat_map};
+ghost use Rattle.sm_codec.specs.Spelling.{FitsBatch, FitsItem, batch_bytes, batch_view, head_bytes, item_bytes};
+ghost use Rattle.sm_codec.specs.Spelling.{item_view, item_views, mode_number, pair_bytes, record_bytes};
+ghost use Rattle.sm_codec.specs.Spelling.{settings_bytes, string_bytes};
+ghost use Rattle.sm_word.specs.Word.{IsWellFormed};
+
+use crate::store_settings::StoreSettings;
+use crate::stored_batch::StoredBatch;
+use crate::stored_record::StoredRecord;
+use sm_ownership::mode::Mode;
+use sm_store::head::Head;
+use sm_store::item::Item;
+use sm_word::word::pack;
+use std::alloc::{AllocError, Global};
+
+/// The bytes of a head.
+pub fn write_head(alloc: Global, head: &Head) -> Result<Vec<u8>, AllocError>
+    ensures { IfOk result (λ bytes. bytes.items ≡ head_bytes head.now) }
+{
+    let mut out = Vec::new(alloc);
+    out.push(1)?;
+    out.extend_from_slice(&head.batches.to_be_bytes())?;
+    out.extend_from_slice(&head.base.to_be_bytes())?;
+    out.extend_from_slice(&head.parts.to_be_bytes())?;
+    Ok(out)
+}
+
+fn write_pair(alloc: Global, first: u64, second: u64) -> Result<Vec<u8>, AllocError>
+    ensures { IfOk result (λ bytes. bytes.items ≡ pair_bytes first second) }
+{
+    let mut out = Vec::new(alloc);
+    out.push(1)?;
+    out.extend_from_slice(&first.to_be_bytes())?;
+    out.extend_from_slice(&second.to_be_bytes())?;
+    Ok(out)
+}
+
+/// The bytes of settings.
+pub fn write_settings(alloc: Global, settings: &StoreSettings) -> Result<Vec<u8>, AllocError>
+    ensures { IfOk result (λ bytes. bytes.items ≡ settings_bytes settings.now) }
+{
+    write_pair(alloc, settings.count, settings.ceiling)
+}
+
+/// The bytes of a well-formed record, and of the process whose change led to it.
+pub fn write_record(alloc: Global, stored: &StoredRecord) -> Result<Vec<u8>, AllocError>
+    requires { IsWellFormed stored.now.state }
+    ensures { IfOk result (λ bytes. bytes.items ≡ record_bytes stored.now) }
+{
+    write_pair(alloc, pack(stored.state), stored.process)
+}
+
+// The number that stands for how a request came.
+fn mode_code(mode: &Mode) -> u32
+    ensures { result ≡ mode_number mode.now }
+{
+    match mode {
+        Mode::Direct => 0,
+        Mode::Forwarded(from) => u32::from(from.number()),
+    }
+}
+
+fn put_front(out: &mut Vec<u8>, client: u64, number: u64, code: u32) -> Result<(), AllocError>
+    ensures { OnOk result (out.new.items ≡ out.old.items
+        ++ (to_be_bytes w64 client ++ (to_be_bytes w64 number ++ to_be_bytes w32 code))) }
+{
+    out.extend_from_slice(&client.to_be_bytes())?;
+    out.extend_from_slice(&number.to_be_bytes())?;
+    out.extend_from_slice(&code.to_be_bytes())?;
+    Ok(())
+}
+
+fn put_string(out: &mut Vec<u8>, bytes: &[u8]) -> Result<(), AllocError>
+    requires { length bytes.now < 2 ^ 32 }
+    ensures { OnOk result (out.new.items ≡ out.old.items ++ string_bytes bytes.now) }
+{
+    out.extend_from_slice(&(bytes.len() as u32).to_be_bytes())?;
+    out.extend_from_slice(bytes)?;
+    Ok(())
+}
+
+fn put_item(out: &mut Vec<u8>, item: &Item<Vec<u8>>) -> Result<(), AllocError>
+    requires { length item.now.request.items < 2 ^ 32 }
+    ensures { OnOk result (out.new.items ≡ out.old.items ++ item_bytes (item_view item.now)) }
+{
+    let code = mode_code(&item.mode);
+    put_front(out, item.client, item.number, code)?;
+    put_string(out, &item.request)?;
+    Ok(())
+}
+
+fn put_items(out: &mut Vec<u8>, items: &[Item<Vec<u8>>]) -> Result<(), AllocError>
+    requires { AllByRecursion FitsItem (item_views items.now) }
+    ensures { OnOk result (out.new.items ≡ out.old.items ++ flat_map item_bytes (item_views items.now)) }
+{
+    for item in items {
+        put_item(out, item)?;
+    }
+    Ok(())
+}
+
+/// The bytes of a batch that has fewer than 2 ^ 32 requests, each of fewer bytes than that.
+pub fn write_batch(alloc: Global, stored: &StoredBatch) -> Result<Vec<u8>, AllocError>
+    requires { FitsBatch (batch_view stored.now) }
+    ensures { IfOk result (λ bytes. bytes.items ≡ batch_bytes (batch_view stored.now)) }
+{
+    let mut out = Vec::new(alloc);
+    out.push(1)?;
+    out.extend_from_slice(&u32::from(stored.server.number()).to_be_bytes())?;
+    out.extend_from_slice(&(stored.items.len() as u32).to_be_bytes())?;
+    put_items(&mut out, &stored.items)?;
+    Ok(out)
+}

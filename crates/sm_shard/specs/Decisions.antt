@@ -1,0 +1,138 @@
+-- What a server decides on a request, and what it sends: exactly what, and when.
+use Rattle.std.specs.Prelude.{ℕ, Bool, false, not, is_none, nat_lt, nat_le, ◌==◌, ◌&&◌, ◌||◌, if◌then◌else◌, Option}
+use Rattle.std.specs.Prelude.{Some}
+use Rattle.std.specs.Prelude.{None, ◌+◌, ◌-◌, List, [], ◌∷◌, ◌++◌, length}
+use Rattle.std.specs.Option.{option_or}
+use Rattle.std.specs.BTreeMap.{get}
+use Rattle.std.specs.Ordering.{nat_cmp}
+use Rattle.sm_ownership.specs.Rules.{accepts, forward_to}
+use Rattle.sm_store.specs.declared.item.Item.{Item}
+use Rattle.sm_shard.specs.declared.shard_limits.ShardLimits.{ShardLimits}
+use Rattle.sm_shard.specs.declared.replica.LastRequest.{LastRequest}
+use Rattle.sm_shard.specs.declared.shard_state.Decision.{Decision}
+use Rattle.sm_shard.specs.declared.shard_state.Decision.TheVariants.{Replied, Passed, Waits, Forwards, Refused}
+use Rattle.sm_shard.specs.declared.shard_state.Decision.TheVariants.{TooLarge, Busy}
+use Rattle.sm_shard.specs.declared.shard_state.ShardState.{ShardState}
+
+-- what is decided of a request by its client's last one, where that decides it
+abbrev pub decided_by_last : {R : Type 0} → ℕ → Option (LastRequest R) → Option (Decision R)
+decided_by_last number None = if number == 0 then Some Refused else None
+decided_by_last number (Some last) =
+    if number == last.number then Some (Replied last.reply)
+    else if nat_lt number last.number then Some Passed
+    else None
+
+-- what is decided of one that its record doesn't accept
+abbrev pub decided_by_forward : {R : Type 0} → Option ℕ → Decision R
+decided_by_forward None = Refused
+decided_by_forward (Some to) = Forwards to
+
+-- a decision, or else another
+abbrev pub decided_or : {R : Type 0} → Option (Decision R) → Decision R → Decision R
+decided_or None other = other
+decided_or (Some decision) other = decision
+
+-- the number of the client's first request among these
+abbrev pub client_number : {Q : Type 0} → ℕ → List (Item Q) → Option ℕ
+client_number client [] = None
+client_number client (item ∷ items) = if item.client == client then Some item.number else client_number client items
+
+-- what is decided of a request whose client has one of this number here: it is that one, or is refused
+abbrev pub decided_by_number : {R : Type 0} → ℕ → Option ℕ → Option (Decision R)
+decided_by_number number None = None
+decided_by_number number (Some other) = if other == number then Some Waits else Some Refused
+
+-- what is decided of one that is new here, where so many wait
+abbrev pub decided_by_room : {R : Type 0} → ShardLimits → ℕ → ℕ → Decision R
+decided_by_room limits bytes waiting =
+    if nat_lt limits.batch_bytes bytes then TooLarge else if nat_le limits.waiting waiting then Busy else Waits
+
+-- the decision by the client's last request, if that decides
+abbrev pub by_last : {M Q R : Type 0} → ShardState M Q R → Item Q → Option (Decision R)
+by_last ready item = decided_by_last item.number (get nat_cmp ready.replica.lasts item.client)
+
+-- the decision by what was sent or waits of the client, if that decides
+abbrev pub by_waiting : {M Q R : Type 0} → ShardState M Q R → Item Q → Option (Decision R)
+by_waiting ready item =
+    option_or (decided_by_number item.number (client_number item.client ready.sent.items))
+    (decided_by_number item.number (client_number item.client ready.waiting.items))
+
+-- the decision on a request: by its client's last one; else where the record accepts it here, by what was sent or waits
+-- of its client, and by the room that is left; else it goes to whom the record forwards it, or is refused
+abbrev pub decision_of : {M Q R : Type 0} → ShardLimits → (Q → ℕ) → ShardState M Q R → ℕ → Item Q → Decision R
+decision_of limits size ready me item =
+    decided_or (by_last ready item)
+    (if accepts ready.state me item.mode
+    then decided_or (by_waiting ready item)
+    (decided_by_room limits (size item.request) (length ready.waiting.items))
+    else decided_by_forward (forward_to ready.state me))
+
+-- it is new, and there is room for it
+abbrev pub is_taken : {M Q R : Type 0} → ShardLimits → (Q → ℕ) → ShardState M Q R → ℕ → Item Q → Bool
+is_taken limits size ready me item =
+    is_none (by_last ready item)
+    && (accepts ready.state me item.mode
+    && (is_none (by_waiting ready item)
+    && not (nat_lt limits.batch_bytes (size item.request) || nat_le limits.waiting (length ready.waiting.items))))
+
+-- what waits after the decision
+abbrev pub waiting_after : {M Q R : Type 0} → ShardLimits → (Q → ℕ) → ShardState M Q R → ℕ → Item Q → List (Item Q)
+waiting_after limits size ready me item =
+    if is_taken limits size ready me item then ready.waiting.items ++ item ∷ [] else ready.waiting.items
+
+-- what is decided where the server has read, and where it hasn't
+abbrev pub server_decision : {M Q R : Type 0} → ShardLimits → (Q → ℕ) → Option (ShardState M Q R) → ℕ → Item Q
+    → Decision R
+server_decision limits size None me item = Refused
+server_decision limits size (Some ready) me item = decision_of limits size ready me item
+
+-- the decision on a request that only reads: it waits where the record accepts it here and there is room, goes to whom
+-- the record forwards it, or is refused
+abbrev pub read_decision_of : {M Q R : Type 0} → ShardLimits → ShardState M Q R → ℕ → Item Q → Decision R
+read_decision_of limits ready me item =
+    if accepts ready.state me item.mode
+    then (if nat_le limits.waiting (length ready.asking.items) then Busy else Waits)
+    else decided_by_forward (forward_to ready.state me)
+
+-- which reads wait after the decision
+abbrev pub asking_after : {M Q R : Type 0} → ShardLimits → ShardState M Q R → ℕ → Item Q → List (Item Q)
+asking_after limits ready me item =
+    if accepts ready.state me item.mode && not (nat_le limits.waiting (length ready.asking.items))
+    then ready.asking.items ++ item ∷ []
+    else ready.asking.items
+
+-- what is decided of one that only reads, where the server has read, and where it hasn't
+abbrev pub server_read_decision : {M Q R : Type 0} → ShardLimits → Option (ShardState M Q R) → ℕ → Item Q → Decision R
+server_read_decision limits None me item = Refused
+server_read_decision limits (Some ready) me item = read_decision_of limits ready me item
+
+-- one more request of so many bytes goes into a batch that has so many, and has so much room: the first always does
+abbrev pub goes_with : ShardLimits → ℕ → ℕ → ℕ → Bool
+goes_with limits count room bytes = count == 0 || (nat_lt count limits.batch_requests && nat_le bytes room)
+
+-- how many of the requests go into a batch that has so many, and has so much room
+abbrev pub batch_from : {Q : Type 0} → ShardLimits → (Q → ℕ) → ℕ → ℕ → List (Item Q) → ℕ
+batch_from limits size count room [] = 0
+batch_from limits size count room (item ∷ items) =
+    if goes_with limits count room (size item.request)
+    then batch_from limits size (count + 1) (room - size item.request) items + 1
+    else 0
+
+-- how many requests go next: the first, and as many after it as stay within the limits; none where the head can't count
+-- one more batch
+abbrev pub batch_length : {M Q R : Type 0} → ShardLimits → (Q → ℕ) → ShardState M Q R → ℕ
+batch_length limits size ready =
+    if ready.head.batches == 18446744073709551615 then 0
+    else batch_from limits size 0 limits.batch_bytes ready.waiting.items
+
+-- nothing is under way, and something is to be sent
+abbrev pub sends_now : {M Q R : Type 0} → ShardLimits → (Q → ℕ) → ShardState M Q R → Bool
+sends_now limits size ready =
+    length ready.sent.items == 0
+    && (length ready.carried.items == 0
+    && not (batch_length limits size ready == 0 && length ready.asking.items == 0))
+
+-- the server has something to send
+abbrev pub server_sends : {M Q R : Type 0} → ShardLimits → (Q → ℕ) → Option (ShardState M Q R) → Bool
+server_sends limits size None = false
+server_sends limits size (Some ready) = sends_now limits size ready

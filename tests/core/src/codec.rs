@@ -1,0 +1,76 @@
+use sm_codec::{
+    Fault, ReadError, StoreSettings, StoredBatch, StoredRecord, read_batch, read_head, read_record,
+    read_settings, write_batch, write_head, write_record, write_settings,
+};
+use sm_ownership::{Mode, Record};
+use sm_ranges::{ServerId, Stand};
+use sm_store::{Head, Item};
+use std::process::Abort;
+
+// The example of the crate's documentation.
+#[test]
+fn reads_a_head_again(rt: HostRuntime) {
+    let head = Head {
+        batches: 3,
+        base: 2,
+        parts: 1,
+    };
+    let bytes = write_head(rt.alloc(), &head).expect(&rt, "memory");
+    assert!(rt; read_head(&bytes) == Ok(head));
+    assert!(rt; read_head(&bytes[..24]) == Err(ReadError::Fault(Fault::Short)));
+}
+
+#[test]
+fn reads_a_batch_again(rt: HostRuntime) {
+    let mut items = Vec::new(rt.alloc());
+    let request = Vec::from_slice(rt.alloc(), b"add 5").expect(&rt, "memory");
+    let item = Item {
+        client: 7,
+        number: 1,
+        mode: Mode::Forwarded(ServerId::of(2)),
+        request,
+    };
+    assert!(rt; items.push(item).is_ok());
+    let batch = StoredBatch {
+        server: ServerId::of(1),
+        items,
+    };
+    let mut bytes = write_batch(rt.alloc(), &batch).expect(&rt, "memory");
+    assert!(rt; bytes.len() == 38);
+    let again = read_batch(rt.alloc(), &bytes).ok().expect(&rt, "a batch");
+    assert!(rt; again.server == ServerId::of(1));
+    assert!(rt; again.items[0].mode == Mode::Forwarded(ServerId::of(2)));
+    assert!(rt; again.items[0].request.as_slice() == b"add 5".as_slice());
+    bytes[4] = 0;
+    assert!(rt; read_batch(rt.alloc(), &bytes).err() == Some(ReadError::Fault(Fault::Server)));
+    bytes[0] = 2;
+    assert!(rt; read_batch(rt.alloc(), &bytes).err() == Some(ReadError::Fault(Fault::Version)));
+}
+
+#[test]
+fn names_a_word_of_no_record(rt: HostRuntime) {
+    let stored = StoredRecord {
+        state: Record {
+            stand: Stand::Serving(ServerId::of(1)),
+            admitted: false,
+            generation: 1,
+        },
+        process: 9,
+    };
+    let mut bytes = write_record(rt.alloc(), &stored).expect(&rt, "memory");
+    assert!(rt; read_record(&bytes) == Ok(stored));
+    bytes[1] = 255;
+    assert!(rt; read_record(&bytes) == Err(ReadError::Fault(Fault::Word)));
+}
+
+#[test]
+fn lets_no_bytes_stand(rt: HostRuntime) {
+    let settings = StoreSettings {
+        count: 8,
+        ceiling: 100,
+    };
+    let mut bytes = write_settings(rt.alloc(), &settings).expect(&rt, "memory");
+    assert!(rt; read_settings(&bytes) == Ok(settings));
+    assert!(rt; bytes.push(0).is_ok());
+    assert!(rt; read_settings(&bytes) == Err(ReadError::Fault(Fault::Trailing)));
+}
