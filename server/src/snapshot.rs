@@ -1,10 +1,7 @@
 //! How servers and shards stand, for whoever looks.
-use crate::body::Shard;
-use crate::cluster::Cluster;
-use durkenzo::{Pass, PassFault, Record, Stand};
+use durkenzo::{Record, Stand};
 use serde::Serialize;
 use std::fmt;
-use std::sync::Arc;
 
 /// How a shard stands.
 #[derive(Clone, Debug, Serialize)]
@@ -86,53 +83,4 @@ pub struct Snapshot {
     pub servers: Vec<ServerRow>,
     /// Each shard, by number.
     pub shards: Vec<ShardRow>,
-}
-
-/// Looks at a cluster.
-pub struct Observer {
-    cluster: Arc<Cluster>,
-    /// Any server sees all records.
-    pass: Pass<Shard>,
-}
-
-impl Observer {
-    /// One of this cluster.
-    pub fn new(cluster: Arc<Cluster>) -> Result<Observer, PassFault> {
-        let pass = cluster.board.pass(1)?;
-        Ok(Observer { cluster, pass })
-    }
-
-    /// How the shard stands, if there is one.
-    pub fn shard(&mut self, shard: u16) -> Option<ShardRow> {
-        let record = self.pass.look(shard).ok()?;
-        Some(ShardRow::new(shard, record, self.cluster.keys(shard)))
-    }
-
-    /// How all stands, each record at a moment of its own.
-    pub fn snapshot(&mut self) -> Snapshot {
-        let shards = 0..self.cluster.shards();
-        let shards: Vec<_> = shards.filter_map(|it| self.shard(it)).collect();
-        let servers = 1..=self.cluster.presence.servers();
-        let servers = servers.map(|it| self.server(it, &shards)).collect();
-        Snapshot { servers, shards }
-    }
-
-    fn server(&self, server: u16, shards: &[ShardRow]) -> ServerRow {
-        let index = usize::from(server) - 1;
-        let standing = self.cluster.presence.standing(server);
-        let inlets = self.cluster.inlets().iter();
-        ServerRow {
-            server,
-            standing: standing.map_or("unknown", |it| it.name()),
-            domain: self.cluster.configuration.domains.domain_of(server),
-            shards: shards.iter().filter(|it| it.owner == server).count(),
-            admissions: inlets.map(|it| it.stats().executed[index].get()).sum(),
-        }
-    }
-}
-
-impl fmt::Debug for Observer {
-    fn fmt(&self, f: &mut fmt::Formatter<'_>) -> fmt::Result {
-        f.debug_struct("Observer").finish_non_exhaustive()
-    }
 }

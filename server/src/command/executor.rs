@@ -3,62 +3,23 @@ use super::reader::Reader;
 use super::scan::Scanner;
 use super::session::Session;
 use super::spec::{Spec, Word};
+use super::step::Step;
+use super::stop::Stop;
 use super::talk;
 use super::unanswered::Unanswered;
 use super::Fault;
-use crate::admission::{Admission, NotAdmitted, Wait};
+use crate::admission::Admission;
 use crate::body::Shard;
 use crate::cluster::Cluster;
 use crate::keyspace::Keyspace;
 use crate::resp::{number, Arguments, Command, OwnedCommand, Replies, Unparsed};
+use crate::wait::{NotAdmitted, Wait};
 use std::sync::Arc;
 
 /// How many bytes are written, and not sent, before no further command is done.
 const MOST_UNSENT: usize = 1 << 20;
 /// How many commands are done under one permit, so that others come to the shard.
 const MOST_OF_A_PERMIT: u64 = 128;
-
-/// Why a connection's commands end here for now.
-#[derive(Debug)]
-pub enum Stop {
-    /// There is no whole command in fewer than so many bytes of what is left.
-    Incomplete(usize),
-    /// Much is to be sent first.
-    Full,
-    /// The connection is to end when all was sent.
-    End,
-    /// The next command waits.
-    Wait(Wait),
-    /// The control answers this command.
-    Control(OwnedCommand),
-}
-
-/// What becomes of a command.
-enum Step {
-    /// It is done with keys of this shard.
-    Data(DataWord, u16),
-    /// It is queued for EXEC, with keys of this shard.
-    Queue(Option<u16>),
-    /// It is done otherwise.
-    Other(&'static Spec),
-}
-
-impl Step {
-    fn of(session: &Session, command: Command<'_>, keyspace: &Keyspace) -> Result<Step, Fault> {
-        let spec = Spec::of(command)?;
-        if !session.is_known && !spec.is_open() {
-            return Err(Fault::NoAuth);
-        }
-        let shard = spec.shard(command, keyspace)?;
-        if session.transaction.is_some() && spec.is_queued() {
-            return Ok(Step::Queue(shard));
-        }
-        Ok(match (spec.word, shard) {
-            (Word::Data(word), Some(shard)) => Step::Data(word, shard),
-            _ => Step::Other(spec),
-        })
-    }
-}
 
 /// Does a thread's commands.
 #[derive(Debug)]

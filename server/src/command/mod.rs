@@ -9,12 +9,15 @@ mod reader;
 mod scan;
 mod session;
 mod spec;
+mod step;
+mod stop;
 mod talk;
 mod transaction;
 mod unanswered;
 
 pub use cursors::Cursors;
-pub use executor::{Executor, Stop};
+pub use executor::Executor;
 pub use fault::{name_of, Fault};
 pub use info::memory_used;
 pub use session::Session;
+pub use stop::Stop;

@@ -2,11 +2,12 @@ use super::cursors::{Cursors, Position};
 use super::glob;
 use super::unanswered::Unanswered;
 use super::Fault;
-use crate::admission::{Admission, NotAdmitted, Wait};
+use crate::admission::Admission;
 use crate::body::{Range, Reply, Request, Shard, Value, MAX_KEY, MAX_PAIRS};
 use crate::keyspace::Keyspace;
 use crate::resp::number::{self, Digits};
 use crate::resp::{Command, Replies};
+use crate::wait::{NotAdmitted, Wait};
 use std::ops::Bound;
 
 /// How many keys a SCAN looks at where nothing is said, as in Redis.

@@ -1,5 +1,5 @@
 use super::Fault;
-use crate::admission::{NotAdmitted, Wait};
+use crate::wait::{NotAdmitted, Wait};
 
 /// Why a command has no answer of its own.
 #[derive(Clone, Debug, PartialEq, Eq)]

@@ -1,7 +1,8 @@
 use super::metrics;
 use crate::cluster::Cluster;
+use crate::observer::Observer;
 use crate::run::Fault;
-use crate::snapshot::{Observer, Snapshot};
+use crate::snapshot::Snapshot;
 use hyper::header::{CACHE_CONTROL, CONTENT_TYPE};
 use hyper::server::conn::AddrIncoming;
 use hyper::service::{make_service_fn, service_fn};

@@ -1,6 +1,6 @@
-use crate::admission::Wait;
 use crate::command::{Executor, Session, Stop};
 use crate::resp::{OwnedCommand, Replies};
+use crate::wait::Wait;
 use mio::event::Event;
 use mio::net::TcpStream;
 use std::io::{self, ErrorKind, Read, Write};

@@ -1,10 +1,10 @@
 use super::connection::{Connection, Turn};
 use super::inlet::{Brought, Inlet, ReplyTo, WAKE};
-use crate::admission::Wait;
 use crate::cluster::Cluster;
 use crate::command::{Executor, Session};
 use crate::control::Asked;
 use crate::resp::OwnedCommand;
+use crate::wait::Wait;
 use mio::net::TcpStream;
 use mio::{Events, Interest, Poll, Token};
 use slab::Slab;

@@ -1,0 +1,17 @@
+use crate::resp::OwnedCommand;
+use crate::wait::Wait;
+
+/// Why a connection's commands end here for now.
+#[derive(Debug)]
+pub enum Stop {
+    /// There is no whole command in fewer than so many bytes of what is left.
+    Incomplete(usize),
+    /// Much is to be sent first.
+    Full,
+    /// The connection is to end when all was sent.
+    End,
+    /// The next command waits.
+    Wait(Wait),
+    /// The control answers this command.
+    Control(OwnedCommand),
+}
