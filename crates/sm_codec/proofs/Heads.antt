@@ -1,6 +1,6 @@
 -- Heads, and pairs of numbers: what is read is spelled so, and what is spelled so is read.
-use Rattle.std.proofs.Common.{◌≡◌, ℕ, ◌^◌, ◌<◌, List, [], ◌∷◌, ◌++◌, Result, Ok, Err, refl, sym, ap, subst, ◌∙◌, arith}
-use Rattle.std.proofs.Common.{append-nil, append_assoc}
+use Rattle.std.proofs.Common.{◌≡◌, ℕ, ◌^◌, ◌<◌, List, [], ◌∷◌, ◌++◌, Result, Ok, Err, sym, ap, subst, ◌∙◌}
+use Rattle.std.proofs.Common.{append-nil}
 use Rattle.std.specs.Prelude.{IfOk}
 use Rattle.std.specs.Int.{w64, to_be_bytes}
 use Rattle.sm_store.specs.declared.head.Head.{Head}
@@ -9,7 +9,7 @@ use Rattle.sm_codec.specs.declared.fault.ReadError.{ReadError}
 use Rattle.sm_codec.specs.declared.fault.ReadError.TheVariants as errors
 use Rattle.sm_codec.specs.Reading.{◌>>=◌, IsFault, Decodes, all_read, head_in, number_in, pair_in, version_in}
 use Rattle.sm_codec.specs.Spelling.{FitsHead, head_bytes, pair_bytes}
-use Rattle.sm_codec.proofs.FieldLemmas.{IsBytes, Takes, Takes-then, bind_ok, done, ended_takes, number_again}
+use Rattle.sm_codec.proofs.FieldLemmas.{IsBytes, Takes, Takes-then, bind_ok, ended_takes, number_again}
 use Rattle.sm_codec.proofs.FieldLemmas.{number_takes}
 use Rattle.sm_codec.proofs.FieldLemmas.{bind_to, version_again, version_takes, wide64}
 

@@ -3,7 +3,7 @@ ghost use Rattle.sm_codec.specs.declared.fault.ReadError.TheVariants.{Memory};
 
 use std::alloc::{AllocError, AllocFailed};
 
-/// What is wrong with the bytes at a key: the first fault from left to right.
+/// What is wrong with the bytes at a key: the first fault from left to right, where a word is judged last.
 #[derive(Clone, Copy, Debug, PartialEq, Eq, Drop)]
 pub enum Fault {
     /// A field passes the end.

@@ -1,4 +1,4 @@
-use Rattle.std.proofs.Common.{◌≡◌, ℕ, Option, Some, ap, sym, ◌∙◌, arith, Ok}
+use Rattle.std.proofs.Common.{ℕ, ap, sym, ◌∙◌, arith, Ok}
 use Rattle.sm_word.specs.Word.{word_of}
 use Rattle.sm_codec.specs.Reading.{pair_in}
 use Rattle.sm_codec.proofs.Heads.{fails_apart, pair_again}

@@ -1,5 +1,3 @@
-use Rattle.std.proofs.Common.{◌≡◌, ◌++◌, ap, subst, sym}
-use Rattle.std.specs.Int.{w32, w64, to_be_bytes}
 use Rattle.sm_codec.proofs.Batches.{item_joined}
 use Rattle.sm_codec.proofs.writing.put_item.Goals as goal
 
