@@ -22,23 +22,27 @@ fn item(client: u64, request: u64) -> Item<u64> {
     }
 }
 
+// The head of a shard of which nothing was made.
+const HEAD: Head = Head {
+    batches: 0,
+    base: 0,
+    parts: 0,
+};
+
+fn serving(owner: ServerId) -> Record {
+    Record {
+        stand: Stand::Serving(owner),
+        admitted: false,
+        generation: 1,
+    }
+}
+
 // A server of the first of 8 shards, which has read that it serves it, and that nothing was made.
 fn ready(rt: &impl Abort, alloc: Global) -> ShardServer<Sum, u64, u64> {
     let (one, shard) = (ServerId::of(1), ShardId::new(0).expect(rt, "a shard"));
-    let state = Record {
-        stand: Stand::Serving(one),
-        admitted: false,
-        generation: 1,
-    };
-    let head = Head {
-        batches: 0,
-        base: 0,
-        parts: 0,
-    };
     let started = ShardServer::new(one, shard, 8, LIMITS);
     let mut server: ShardServer<Sum, u64, u64> = started.expect(rt, "one of 8 shards");
-    let base = empty(alloc);
-    let read = server.on_read(alloc, state, 3, head, base, &[], 0);
+    let read = server.on_read(alloc, serving(one), 3, HEAD, empty(alloc), &[], 0);
     assert!(rt; read.is_ok());
     server
 }
@@ -46,9 +50,16 @@ fn ready(rt: &impl Abort, alloc: Global) -> ShardServer<Sum, u64, u64> {
 // The example of the crate's documentation.
 #[test]
 fn executes_a_batch(rt: HostRuntime) {
-    let mut server = ready(&rt, rt.alloc());
-    assert!(rt; matches!(server.on_request(item(7, 5)), Ok(Decision::Waits)));
-    assert!(rt; matches!(server.on_question(item(8, 0)), Ok(Decision::Waits)));
+    let (one, shard) = (ServerId::of(1), ShardId::new(0).expect(&rt, "a shard"));
+    let (limits, state, head) = (LIMITS, serving(one), HEAD);
+    let (item, question) = (item(7, 5), item(8, 0));
+    let started = ShardServer::new(one, shard, 8, limits);
+    let mut server: ShardServer<Sum, u64, u64> = started.expect(&rt, "one of 8 shards");
+    let base = empty(rt.alloc());
+    let read = server.on_read(rt.alloc(), state, 3, head, base, &[], 0);
+    assert!(rt; read.is_ok());
+    assert!(rt; matches!(server.on_request(item), Ok(Decision::Waits)));
+    assert!(rt; matches!(server.on_question(question), Ok(Decision::Waits)));
     assert!(rt; matches!(server.flush(rt.alloc()), Ok(true)));
     let told = server.on_made(rt.alloc(), 4).ok().expect(&rt, "answers");
     assert!(rt; told.made[0].reply == 5);
