@@ -11,40 +11,50 @@ use sm_ownership::record::Record;
 use sm_ranges::server_id::ServerId;
 use sm_ranges::shard_id::ShardId;
 
-/// The state after an admission to the shard, and the number of its body; or why not.
-pub fn admit(state: HandleState, k: ShardId, mode: Mode) -> (HandleState, Result<u64, ActFault>)
-    ensures admitted { IfOk result.1 (AdmitsState state result.0 k mode) }
-    ensures refused { IfErr result.1 (RefusesState state result.0 k mode) }
+/// Admits the state's pass to the shard: the number of its body; or why not.
+pub fn admit(state: &mut HandleState, k: ShardId, mode: Mode) -> Result<u64, ActFault>
+    ensures admitted { IfOk result (AdmitsState state.old state.new k mode) }
+    ensures refused { IfErr result (RefusesState state.old state.new k mode) }
 {
-    match state {
-        HandleState::Free(free) => {
-            if u32::from(k.number()) >= free.count() {
-                return (HandleState::Free(free), Err(ActFault::UnknownShard));
-            }
-            match free.admit(k, mode) {
-                Ok(mut held) => {
-                    let number = held.number();
-                    (HandleState::Held(LastingPass { held }), Ok(number))
-                }
-                Err((free, refusal)) => (HandleState::Free(free), Err(ActFault::Admit(refusal))),
-            }
+    let free = match std::mem::replace(&mut *state, HandleState::Empty) {
+        HandleState::Free(free) => free,
+        other => {
+            *state = other;
+            return Err(ActFault::WrongHandle);
         }
-        other => (other, Err(ActFault::WrongHandle)),
+    };
+    if u32::from(k.number()) >= free.count() {
+        *state = HandleState::Free(free);
+        return Err(ActFault::UnknownShard);
+    }
+    match free.admit(k, mode) {
+        Ok(mut held) => {
+            let number = held.number();
+            *state = HandleState::Held(LastingPass { held });
+            Ok(number)
+        }
+        Err((free, refusal)) => {
+            *state = HandleState::Free(free);
+            Err(ActFault::Admit(refusal))
+        }
     }
 }
 
-/// The state after the end of its admission, and the generation that this leaves; or why not, and the state as it
-/// was.
-pub fn finish(state: HandleState) -> (HandleState, Result<u64, ActFault>)
-    ensures ended { IfOk result.1 (EndsState state result.0) }
-    ensures refused { IfErr result.1 (λ fault. result.0 ≡ state) }
+/// Ends the admission of the state's pass: the generation that this leaves; or why not, and the state is as it was.
+pub fn finish(state: &mut HandleState) -> Result<u64, ActFault>
+    ensures ended { IfOk result (EndsState state.old state.new) }
+    ensures refused { IfErr result (λ fault. state.new ≡ state.old) }
 {
-    match state {
+    match std::mem::replace(&mut *state, HandleState::Empty) {
         HandleState::Held(lasting) => {
-            let (free, front) = lasting.into_held().finish();
-            (HandleState::Free(free), Ok(front.generation))
+            let (pass, front) = lasting.into_held().finish();
+            *state = HandleState::Free(pass);
+            Ok(front.generation)
         }
-        other => (other, Err(ActFault::WrongHandle)),
+        other => {
+            *state = other;
+            Err(ActFault::WrongHandle)
+        }
     }
 }
 

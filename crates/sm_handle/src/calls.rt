@@ -53,8 +53,7 @@ impl Handle {
         let Some(mut state) = self.take(alloc) else {
             return Err(ActFault::WrongHandle);
         };
-        let (next, made) = acts::admit(std::mem::replace(&mut *state, HandleState::Empty), k, mode);
-        *state = next;
+        let made = acts::admit(&mut state, k, mode);
         self.put(state);
         made
     }
@@ -67,8 +66,7 @@ impl Handle {
         let Some(mut state) = self.take(alloc) else {
             return Err(ActFault::WrongHandle);
         };
-        let (next, made) = acts::finish(std::mem::replace(&mut *state, HandleState::Empty));
-        *state = next;
+        let made = acts::finish(&mut state);
         self.put(state);
         made
     }
