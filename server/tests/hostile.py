@@ -12,7 +12,8 @@ from served import Client, Refused, main, packed, served
 
 SEED = 20_251_126
 SPOILT_BYTES = 1_000_000
-IDLE = 10_000
+# Fewer where the system gives a process fewer descriptors.
+IDLE = min(10_000, resource.getrlimit(resource.RLIMIT_NOFILE)[1] - 500)
 # What an idle connection with half a command may take of memory.
 MOST_IDLE_BYTES = 2_000
 MEBIBYTE = 1 << 20
@@ -158,8 +159,8 @@ def idle_connections_cost_little(program):
             subprocess.run(load, stdout=subprocess.DEVNULL, timeout=30, check=True)
             each = (server.memory() - memory) / IDLE
             assert each < MOST_IDLE_BYTES, f"{each:.0f} bytes each"
-            idle[5_000].sendall(b"abc\r\n$1\r\nx\r\n")
-            assert idle[5_000].recv(100) == b"+OK\r\n"
+            idle[IDLE // 2].sendall(b"abc\r\n$1\r\nx\r\n")
+            assert idle[IDLE // 2].recv(100) == b"+OK\r\n"
         finally:
             for one in idle:
                 one.close()
