@@ -1,6 +1,8 @@
 #!/usr/bin/env python3
 """Every command, beside redis-server and by redis-py: commands.py PROGRAM. It needs redis-server and redis-py."""
 import contextlib
+import pathlib
+import re
 import socket
 import subprocess
 import tempfile
@@ -8,6 +10,8 @@ import time
 
 import redis
 from served import Client, Refused, main, served
+
+SM = pathlib.Path(__file__).resolve().parents[2] / "sm"
 
 # Each is sent to both servers, whose answers have to be the same bytes.
 ALIKE = """
@@ -261,6 +265,35 @@ def redis_cli_speaks_with_it(program):
         assert "Sampled 2 keys" in said("--bigkeys")
 
 
+# Lines for the shell, and what each is answered.
+SHELL = """
+look 0                  Serving 1 0 idle 1
+migrate 0 3             OK
+look 0                  Serving 3 0 idle 5
+put greeting "two words" OK
+get greeting            two words
+inc n 4                 4
+inc n -5                -1
+scan g h 5              greeting|two words
+at 9 get n              REFUSED UnknownServer
+nonsense                ERR
+"""
+
+
+def the_shell_speaks_with_it(program):
+    pairs = [re.split(r" {2,}|(?<=\") ", it) for it in SHELL.strip().splitlines()]
+    wanted = [it for _, answer in pairs for it in answer.split("|")]
+    with served(program) as server:
+        command = [SM, "shell", "--connect", str(server.port)]
+        given = "".join(f"{line}\n" for line, _ in pairs) + "quit\n"
+        ran = subprocess.run(command, input=given, capture_output=True, text=True, timeout=20)
+        assert ran.returncode == 0, ran.stderr
+        found = ran.stdout.splitlines()
+        assert len(found) == len(wanted) and all(map(str.startswith, found, wanted)), found
+    ran = subprocess.run(command, input=given, capture_output=True, text=True, timeout=20)
+    assert ran.returncode == 1 and "does ./sm serve run there?" in ran.stderr, ran
+
+
 TESTS = [
     answers_are_those_of_redis,
     other_answers_are_named,
@@ -268,6 +301,7 @@ TESTS = [
     scans_give_each_key_once_in_order,
     passwords_are_asked_for,
     redis_cli_speaks_with_it,
+    the_shell_speaks_with_it,
 ]
 
 if __name__ == "__main__":
