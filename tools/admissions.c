@@ -1,6 +1,7 @@
-/* Tells helgrind what the library's admissions order: what a thread did before it ended an admission to a shard comes before what the next one
- * admitted there does. For a program with the library in it; tools/library-sanitizers loads it into that (LD_PRELOAD). That admissions to a shard
- * come one after another is what the library proves; what is looked for is a body that is reached outside of them. */
+/* Tells helgrind what the library's admissions order: what a thread did before it ended an admission to a shard comes
+ * before what the next one admitted there does. For a program with the library in it; tools/library-sanitizers loads it
+ * into that (LD_PRELOAD). That admissions to a shard come one after another is what the library proves; what is looked
+ * for is a body that is reached outside of them. */
 #include <stdint.h>
 #include <stdlib.h>
 #include <valgrind/helgrind.h>

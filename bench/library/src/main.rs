@@ -1,6 +1,6 @@
 //! Times what threads do with the counts of 4,096 shards by the library's board, by locks and by a concurrent map.
-//! `library ROUND` prints a line for each row and way: their names and the nanoseconds of each operation; the ways begin
-//! at another one in each round. `library memory WAY` prints the bytes that the way takes.
+//! `library ROUND` prints a line for each row and way: their names and the nanoseconds of each operation; the ways
+//! begin at another one in each round. `library memory WAY` prints the bytes that the way takes.
 mod board;
 mod locks;
 mod map;

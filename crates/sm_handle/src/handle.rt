@@ -49,8 +49,9 @@ impl Handle {
         self.put(state);
     }
 
-    /// Puts a state in. What was there is not let go: it was taken out before.
+    /// Keeps the state, where nothing is kept: else that would never be let go.
     pub fn put(&mut self, state: Box<HandleState>)
+        requires { self.old.owned.state ≡ None }
         ensures full { self.new.full ≡ true }
         ensures state { self.new.owned.state ≡ Some state.value }
     {

@@ -13,7 +13,7 @@ pub const WORDS: [(&str, &str); 25] = [
     ("PAUSE k", "nobody executes on shard k, and who asks for it waits"),
     ("RESUME k", "the owner of the paused shard k executes again"),
     ("REASSIGN k b", "the paused shard k gets the owner b"),
-    ("MIGRATE k b", "moves shard k to server b by a whole migration, which no client notices"),
+    ("MIGRATE k b", "moves shard k to server b by a whole migration, under load"),
     ("DRAIN a", "migrates all shards of server a to other servers, as planned by the library"),
     ("PLACE", "gives each vacant shard an owner, as planned by the library"),
     ("ASK a", "asks for a restart of server a"),

@@ -5,8 +5,8 @@ use crate::service::Texts;
 use std::fmt;
 use std::sync::Arc;
 
-/// A request to the sample service on its way, with what its sender had seen. The library keeps how it came and how often
-/// it was forwarded, so a host that forwards it hands on just this.
+/// A request to the sample service on its way, with what its sender had seen. The library keeps how it came and how
+/// often it was forwarded, so a host that forwards it hands on just this.
 pub struct Envelope {
     pub(crate) handle: Handle,
     pub(crate) shared: Arc<Shared<Texts>>,

@@ -105,8 +105,8 @@ impl Map {
             .map(drop)
     }
 
-    /// Adds to the key's count, where a key that holds nothing counts as 0: the sum; or the faults of `ask`, `WrongKind`
-    /// where the key holds a text, or `Overflow`.
+    /// Adds to the key's count, where a key that holds nothing counts as 0: the sum; or the faults of `ask`,
+    /// `WrongKind` where the key holds a text, or `Overflow`.
     pub fn add(&mut self, key: impl AsRef<[u8]>, amount: i64) -> Result<i64, MapFault> {
         match self.made(&Request::Add(key.as_ref(), amount))? {
             Reply::Value(Value::Count(sum)) => Ok(sum),
@@ -119,7 +119,8 @@ impl Map {
         Ok(self.ask(&Request::Remove(key.as_ref()))? == Reply::Done)
     }
 
-    /// The first pairs with keys from `low` on and below `high`, `most` of them and at most 100; or the faults of `ask`.
+    /// The first pairs with keys from `low` on and below `high`, `most` of them and at most 100; or the faults of
+    /// `ask`.
     pub fn scan(
         &mut self,
         low: impl AsRef<[u8]>,

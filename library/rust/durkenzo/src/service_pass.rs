@@ -65,8 +65,8 @@ impl ServicePass {
         let shard = self.layout.shard_of(request.key());
         let (kind, key, other, amount) = request.parts();
         let mut handle = Handle::empty();
-        // SAFETY: one handle is this pass's, which is borrowed alone, the other this call's, and the slices last as long
-        // as the call.
+        // SAFETY: one handle is this pass's, which is borrowed alone, the other this call's, and the slices last as
+        // long as the call.
         let code = unsafe {
             raw::durkenzo_envelope(
                 &mut self.handle,
@@ -87,8 +87,8 @@ impl ServicePass {
         }
     }
 
-    /// Has the pass's server serve the envelope: it executes the request, or names the server that the envelope goes to;
-    /// or says why not, and gives the envelope back. An envelope of another board is refused.
+    /// Has the pass's server serve the envelope: it executes the request, or names the server that the envelope goes
+    /// to; or says why not, and gives the envelope back. An envelope of another board is refused.
     pub fn serve(&mut self, mut envelope: Envelope) -> Result<Served, ServeRefused> {
         if !Arc::ptr_eq(&self.shared, &envelope.shared) {
             return Err(ServeRefused {
@@ -119,8 +119,8 @@ impl ServicePass {
         }
     }
 
-    /// Tells the pass all that the answer has seen, so that what it asks next comes after the answered request. An answer
-    /// of another board is refused.
+    /// Tells the pass all that the answer has seen, so that what it asks next comes after the answered request. An
+    /// answer of another board is refused.
     pub fn hear(&mut self, mut answer: Answer) -> Result<(), NoteFault> {
         if !Arc::ptr_eq(&self.shared, &answer.shared) {
             return Err(NoteFault::OtherBoard);
