@@ -135,7 +135,8 @@ pub extern "C" fn durkenzo_checkpoint(
     generation: &mut u64,
     read: &mut RecordParts,
 ) -> u32
-    ensures made { result ≡ 0 → MakesCheckpoint pass.old.owned.state pass.new.owned.state shard }
+    ensures made { result ≡ 0 → MakesCheckpoint pass.old.owned.state pass.new.owned.state shard
+        generation.new }
     ensures refused { result ≢ 0 → LeavesShard pass.old.owned.state pass.new.owned.state shard }
     ensures unwritten { result ≢ 0 → generation.new ≡ generation.old }
 {

@@ -4,7 +4,7 @@ use Rattle.sm_body.specs.Service.{Service, meaning_of}
 use Rattle.sm_envelope.specs.Envelope.{EnvelopeView}
 use Rattle.sm_map.specs.KeyMap.{KeyPair}
 use Rattle.sm_ownership.specs.declared.mode.Mode.TheVariants.{Direct}
-use Rattle.sm_rule.specs.Passes.{PassLooks}
+use Rattle.sm_rule.specs.Passes.{PassLooks, record_of}
 use Rattle.sm_rule.specs.Views.{Begins, IsMet}
 use Rattle.sm_server.specs.Answers.{AnswerValue}
 use Rattle.sm_server.specs.Basing.{CheckpointRefused, HasMadeCheckpoint}
@@ -74,9 +74,10 @@ TellsAnswer (Some (Answer answer)) parts =
 TellsAnswer state parts = ⊥
 
 -- the pass made the shard's state its base, and this is the shard's generation since then
-abbrev pub MakesCheckpoint : Option HandleState → Option HandleState → ℕ → Type 0
-MakesCheckpoint (Some (TextPass before)) (Some (TextPass after)) shard = HasMadeCheckpoint before shard after
-MakesCheckpoint before after shard = ⊥
+abbrev pub MakesCheckpoint : Option HandleState → Option HandleState → ℕ → ℕ → Type 0
+MakesCheckpoint (Some (TextPass before)) (Some (TextPass after)) shard generation =
+    HasMadeCheckpoint before shard after × (generation ≡ (record_of after shard).generation)
+MakesCheckpoint before after shard generation = ⊥
 
 -- the pass made no checkpoint of the shard, by this fault; or nothing was done
 abbrev pub RefusesCheckpoint : Option HandleState → Option HandleState → ℕ → ActFault → Type 0

@@ -136,7 +136,7 @@ impl Handle {
     /// Makes the shard's present state its base, so that it keeps no request: its generation since then; or says why
     /// not.
     pub fn checkpoint(&mut self, alloc: Global, k: ShardId) -> Result<u64, ActFault>
-        ensures made { OnOk result (MakesCheckpoint self.old.owned.state self.new.owned.state k) }
+        ensures made { IfOk result (MakesCheckpoint self.old.owned.state self.new.owned.state k) }
         ensures refused { IfErr result (RefusesCheckpoint self.old.owned.state self.new.owned.state k) }
     {
         let Some(mut state) = self.take(alloc) else {
@@ -234,7 +234,7 @@ fn answer_in(state: &HandleState) -> Result<AnswerParts, ActFault>
 }
 
 fn checkpoint_of(state: &mut HandleState, k: ShardId) -> Result<u64, ActFault>
-    ensures made { OnOk result (MakesCheckpoint (Some state.old) (Some state.new) k) }
+    ensures made { IfOk result (MakesCheckpoint (Some state.old) (Some state.new) k) }
     ensures refused { IfErr result (RefusesCheckpoint (Some state.old) (Some state.new) k) }
 {
     let HandleState::TextPass(pass) = state else {
