@@ -29,6 +29,33 @@ pub(crate) enum CallReply<A: Drop, E: Drop> {
 
 pub(crate) type ReplyOf<S, Q> = CallReply<Answer<S>, Envelope<Q, Note<S>>>;
 
+/// A reply as it crosses its channel. Contracts see the reply alone.
+///
+/// It names the service and no other type: a channel names what crosses it in many of its own types, and that of
+/// `ReplyOf` is made of more types than the borrow checker covers where the service is an instance of a generic type.
+#[derive(Drop)]
+struct CrossingReply<S: Service> {
+    reply: ReplyOf<S, S::Request>,
+}
+
+impl<S: Service> Model for CrossingReply<S> {
+    ghost use Rattle.sm_server.specs.Answers.{AnswerValue};
+    ghost use Rattle.sm_server.specs.Serving.{Sent};
+    ghost use Rattle.sm_cluster.specs.declared.reply.CallReply.{CallReply};
+
+    ghost Value = { CallReply (AnswerValue S.Request S.Reply) (Sent S.Request) };
+
+    ghost view = { λ crossing. crossing.reply };
+}
+
+impl<S: Service> CrossingReply<S> {
+    fn into_reply(self) -> ReplyOf<S, S::Request>
+        ensures { result ≡ self }
+    {
+        self.reply
+    }
+}
+
 /// What a pass of a reply's channel knows: the call, once it was sent. No value of it is made.
 pub(crate) struct Asked<Q> {
     request: PhantomData<Q>,
@@ -45,7 +72,7 @@ pub(crate) struct ReplyRule<S> {
     service: PhantomData<S>,
 }
 
-impl<S: Service> Protocol<ReplyOf<S, S::Request>, Asked<S::Request>> for ReplyRule<S> {
+impl<S: Service> Protocol<CrossingReply<S>, Asked<S::Request>> for ReplyRule<S> {
     ghost holds = { HoldsReplies (meaning_of S.initial S.next S.answer S.key_of) };
 
     ghost first = { None };
@@ -87,19 +114,19 @@ pub(crate) struct ReceivesReply<S> {
     service: PhantomData<S>,
 }
 
-impl<S: Service> Outcome<ReplyOf<S, S::Request>, Asked<S::Request>> for ReceivesReply<S> {
+impl<S: Service> Outcome<CrossingReply<S>, Asked<S::Request>> for ReceivesReply<S> {
     ghost then = { λ known reply after. Fits (meaning_of S.initial S.next S.answer S.key_of) known reply };
 }
 
-impl<S: Service> Lesson<ReplyOf<S, S::Request>, Asked<S::Request>> for ReceivesReply<S> {
+impl<S: Service> Lesson<CrossingReply<S>, Asked<S::Request>> for ReceivesReply<S> {
     ghost fact = { λ known replies. ⊤ };
 }
 
 /// The end on which the reply to one call is sent. Contracts see the call as it was first sent.
 #[derive(Drop)]
 pub(crate) struct ReplySender<S: Service> {
-    sender: RuledSender<ReplyOf<S, S::Request>, Asked<S::Request>, ReplyRule<S>>,
-    pass: Pass<ReplyOf<S, S::Request>, Asked<S::Request>>,
+    sender: RuledSender<CrossingReply<S>, Asked<S::Request>, ReplyRule<S>>,
+    pass: Pass<CrossingReply<S>, Asked<S::Request>>,
 }
 
 impl<S: Service> Model for ReplySender<S> {
@@ -113,8 +140,8 @@ impl<S: Service> Model for ReplySender<S> {
 /// The end on which the reply to one call is received.
 #[derive(Drop)]
 pub(crate) struct ReplyReceiver<S: Service> {
-    receiver: RuledReceiver<ReplyOf<S, S::Request>, Asked<S::Request>, ReplyRule<S>>,
-    pass: Pass<ReplyOf<S, S::Request>, Asked<S::Request>>,
+    receiver: RuledReceiver<CrossingReply<S>, Asked<S::Request>, ReplyRule<S>>,
+    pass: Pass<CrossingReply<S>, Asked<S::Request>>,
 }
 
 impl<S: Service> Model for ReplyReceiver<S> {
@@ -131,13 +158,23 @@ impl<S: Service> ReplySender<S> {
         requires { Fits (meaning_of S.initial S.next S.answer S.key_of) self reply }
     {
         let ReplySender { sender, mut pass } = self;
-        let _ = sender.send_as::<SendsReply, R>(rt, &mut pass, reply);
+        let _ = sender.send_as::<SendsReply, R>(rt, &mut pass, CrossingReply { reply });
     }
 }
 
 impl<S: Service> ReplyReceiver<S> {
     /// Waits for the reply, for which it looks some times before it sleeps, or for the sender to be gone.
     pub(crate) fn receive<R: Wait>(self, rt: &R) -> Result<ReplyOf<S, S::Request>, RecvError>
+        ensures { IfOk result (λ reply. Fits (meaning_of S.initial S.next S.answer S.key_of) self reply) }
+    {
+        match self.receive_crossing(rt) {
+            Ok(crossing) => Ok(crossing.into_reply()),
+            Err(fault) => Err(fault),
+        }
+    }
+
+    // `receive`, of the reply as it crosses.
+    fn receive_crossing<R: Wait>(self, rt: &R) -> Result<CrossingReply<S>, RecvError>
         ensures { IfOk result (λ reply. Fits (meaning_of S.initial S.next S.answer S.key_of) self reply) }
     {
         let ReplyReceiver { receiver, mut pass } = self;
@@ -163,7 +200,7 @@ fn channel_as<S: Service, J: Asking<S::Request>>(
     ensures receiver { IfOk result (λ ends. ends.1 ≡ Some (record { bounds = _layout.now; sent = _envelope.now })) }
 {
     let (sender, receiver, mut pass) = bounded_with::<
-        ReplyOf<S, S::Request>,
+        CrossingReply<S>,
         Asked<S::Request>,
         ReplyRule<S>,
         Global,

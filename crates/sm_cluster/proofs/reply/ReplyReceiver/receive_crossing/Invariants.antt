@@ -1,7 +1,7 @@
 use Rattle.std.proofs.Common.{◌≡◌}
 use Rattle.crossbeam_channel.specs.Claims.{IsSeatAt, view}
 use Rattle.crossbeam_channel.specs.Ends.{receives_on}
-use Rattle.sm_cluster.proofs.reply.ReplyReceiver.receive.Given as goal
+use Rattle.sm_cluster.proofs.reply.ReplyReceiver.receive_crossing.Given as goal
 
 -- the pass is of the channel, and knows the call still
 abbrev pub invariant-loop : goal.invariant-loop

@@ -1,6 +1,6 @@
 use Rattle.sm_body.specs.Service.{meaning_of}
 use Rattle.sm_cluster.proofs.Replying.{receives}
-use Rattle.sm_cluster.proofs.reply.ReplyReceiver.receive.Goals as goal
+use Rattle.sm_cluster.proofs.reply.ReplyReceiver.receive_crossing.Goals as goal
 
 pub try_recv_as-requires-clause-rule : goal.try_recv_as-requires-clause-rule
 try_recv_as-requires-clause-rule g c = (
