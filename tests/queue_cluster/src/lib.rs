@@ -2,8 +2,6 @@
 #![tactic(auto)]
 
 #[cfg(test)]
-mod body;
-#[cfg(test)]
 mod queue;
 #[cfg(test)]
 mod setup;

@@ -2,13 +2,12 @@
 ghost use Rattle.std.specs.Prelude.{◌≡◌, ◌<◌};
 ghost use Rattle.sm_cluster.specs.Clusters.{IsClientOf};
 
-use crate::body::QueueBody;
 use crate::setup::setup_of;
 use sm_body::{Bytes, Service};
 use sm_cluster::{CallFault, Client, Cluster, Open};
 use sm_desk::Command;
 use sm_ownership::{Change, Record};
-use sm_queue::{Job, Reply, Request};
+use sm_queue::{Job, JobQueue, Reply, Request};
 use sm_ranges::{ServerId, ShardId};
 use sm_server::Refusal;
 use std::alloc::Global;
@@ -40,8 +39,8 @@ fn is_given(reply: Reply, work: &[u8]) -> bool {
 
 // A cluster of one shard, which keeps at most two requests, with its only client.
 struct Running {
-    cluster: Cluster<QueueBody>,
-    client: Client<QueueBody>,
+    cluster: Cluster<JobQueue>,
+    client: Client<JobQueue>,
     ghost shards: { cluster.control.chair.board.limits.count ≡ 1 },
     ghost its: { IsClientOf cluster client },
 }
@@ -52,7 +51,7 @@ impl Running {
         rt: &R,
         alloc: Global,
     ) -> Result<Running, Fail> {
-        let bodies = vec![in alloc; QueueBody::new(alloc, 2)]?;
+        let bodies = vec![in alloc; JobQueue::new(alloc, 2)]?;
         let started = Cluster::start(rt, alloc, setup_of(alloc)?, bodies, 1, 1, Open);
         let (cluster, mut clients) = started.ok().expect(rt, "a cluster");
         let client = clients.pop().expect(rt, "a client");
@@ -99,7 +98,7 @@ impl Running {
         self,
         rt: &R,
         alloc: Global,
-    ) -> Vec<(Record, Option<QueueBody>)> {
+    ) -> Vec<(Record, Option<JobQueue>)> {
         let Running { cluster, client } = self;
         let clients = vec![in alloc; client].ok().expect(rt, "memory");
         let stopped = cluster.stop(rt, clients).ok();
