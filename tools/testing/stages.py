@@ -16,6 +16,7 @@ DOCS = (
     "doc-words",
     "edits",
     "headline",
+    "library-codes",
     "names",
 )
 PROVED = sources.CRATES / "sm_cli/out/sm_cli"
