@@ -5,6 +5,7 @@ use std::path::PathBuf;
 
 const NETWORK: &str = "Network";
 const SHARDS: &str = "Servers and shards";
+const DATA: &str = "Data";
 const THREADS: &str = "Threads and waiting";
 const LOG: &str = "Log";
 
@@ -112,6 +113,10 @@ pub struct Options {
     #[arg(long, help_heading = SHARDS)]
     pub vacant: bool,
 
+    /// Folder of the files of SM DUMP and SM LOAD
+    #[arg(long, value_name = "FOLDER", default_value = ".", help_heading = DATA)]
+    pub folder: PathBuf,
+
     /// Threads for clients, 1 to 64 [default: as processors, at most 4]
     #[arg(
         long,
@@ -130,7 +135,7 @@ pub struct Options {
     pub spins: u32,
 
     /// How long a command waits for a shard that is paused, before it is refused
-    #[arg(long, value_name = "MILLISECONDS", default_value_t = 5_000, help_heading = THREADS)]
+    #[arg(long, value_name = "MILLISECONDS", default_value_t = 1_000, help_heading = THREADS)]
     pub wait: u64,
 
     /// Pause between the steps of a migration, so that one can be watched

@@ -31,8 +31,7 @@ const MOST_USUAL_THREADS: usize = 4;
 /// Serves until a signal ends it.
 pub fn run(options: &Options) -> Result<(), Fault> {
     begin_log(options)?;
-    let storage = Memory;
-    let cluster = Arc::new(Cluster::new(configuration(options)?, &storage)?);
+    let cluster = Arc::new(Cluster::new(configuration(options)?, Box::new(Memory))?);
     let (control, asked) = channel();
     let polls = polls(options, &cluster)?;
     let mut controller = Controller::new(cluster.clone())?;
@@ -141,7 +140,7 @@ fn announce(options: &Options, cluster: &Cluster, address: SocketAddr) {
     let (servers, shards) = (cluster.configuration.servers, cluster.shards());
     let by = cluster.configuration.rule.name();
     tracing::info!(%address, servers, shards, by, "serving Redis clients");
-    tracing::warn!("data lies {}", cluster.storage);
+    tracing::warn!("data lies {}", cluster.storage.description());
     for unkept in &cluster.configuration.unkept {
         tracing::warn!("not kept of the settings: {unkept}");
     }

@@ -65,6 +65,26 @@ pub struct ServerRow {
     pub shards: usize,
     /// How often it was admitted to a shard.
     pub admissions: u64,
+    /// What its restart does now, if one is under way.
+    pub doing: Option<String>,
+}
+
+impl fmt::Display for ServerRow {
+    fn fmt(&self, f: &mut fmt::Formatter<'_>) -> fmt::Result {
+        let ServerRow {
+            server,
+            standing,
+            domain,
+            shards,
+            admissions,
+            doing,
+        } = self;
+        let doing = doing.as_deref().unwrap_or("-");
+        write!(
+            f,
+            "{server} {standing} {domain} {shards} {admissions} {doing}"
+        )
+    }
 }
 
 /// How all stands.

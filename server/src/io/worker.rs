@@ -199,15 +199,14 @@ impl Worker {
 
     /// Gives each queued connection a turn.
     fn run_queue(&mut self) {
+        if self.queue.is_empty() {
+            return self.inlet.stats().waiting.set(self.waiting.len() as u64);
+        }
         let mut queue = std::mem::take(&mut self.queue);
+        let began = Instant::now();
         self.is_racing = true;
         for place in queue.drain(..) {
-            let Some(connection) = self.connections.get_mut(place) else {
-                continue;
-            };
-            connection.is_queued = false;
-            let wait = self.cluster.configuration.wait;
-            match connection.turn(&mut self.executor, &mut self.buffer, wait) {
+            match self.turn(place, began) {
                 Turn::Rest => self.is_racing = false,
                 Turn::Again => {
                     self.is_racing = false;
@@ -223,6 +222,26 @@ impl Worker {
             self.queue = queue;
         }
         self.inlet.stats().waiting.set(self.waiting.len() as u64);
+    }
+
+    /// Gives the connection there a turn, in a round that began then, and counts what it came to.
+    fn turn(&mut self, place: usize, began: Instant) -> Turn {
+        let Some(connection) = self.connections.get_mut(place) else {
+            return Turn::Rest;
+        };
+        connection.is_queued = false;
+        let stats = self.inlet.stats();
+        let (done, since) = (stats.commands.get(), connection.waits_since());
+        let wait = self.cluster.configuration.wait;
+        let turn = connection.turn(&mut self.executor, &mut self.buffer, wait);
+        let done = stats.commands.get() - done;
+        if done > 0 {
+            stats.latency.note(since.unwrap_or(began).elapsed(), done);
+        }
+        if let Some(errors) = connection.take_errors() {
+            stats.note_errors(errors);
+        }
+        turn
     }
 
     fn ask(&mut self, place: usize, command: OwnedCommand) {
@@ -245,6 +264,6 @@ impl Worker {
     /// Whether nothing is under way but commands that wait for a shard that nobody executes.
     fn is_quiet(&self) -> bool {
         let mut connections = self.connections.iter().map(|(_, it)| it);
-        self.queue.is_empty() && connections.all(|it| it.is_quiet() || it.is_waiting())
+        self.queue.is_empty() && connections.all(|it| it.is_quiet() || it.waits_since().is_some())
     }
 }
