@@ -1,5 +1,5 @@
 //! How servers and shards stand, for whoever looks.
-use durkenzo::{Record, Stand};
+use durkenzo::Record;
 use serde::Serialize;
 use std::fmt;
 
@@ -25,22 +25,13 @@ pub struct ShardRow {
 impl ShardRow {
     /// That of a shard with this record.
     pub fn new(shard: u16, record: Record, keys: u64) -> ShardRow {
-        let (stand, owner, other) = match record.stand {
-            Stand::Vacant => ("Vacant", 0, 0),
-            Stand::Serving(owner) => ("Serving", owner, 0),
-            Stand::Prepared { owner, next } => ("Prepared", owner, next),
-            Stand::Forwarding { owner, next } => ("Forwarding", owner, next),
-            Stand::Taken { owner, previous } => ("Taken", owner, previous),
-            Stand::Paused(owner) => ("Paused", owner, 0),
-        };
-        let (is_admitted, generation) = (record.admitted, record.generation);
         ShardRow {
             shard,
-            stand,
-            owner,
-            other,
-            is_admitted,
-            generation,
+            stand: record.stand.name(),
+            owner: record.owner().unwrap_or(0),
+            other: record.other().unwrap_or(0),
+            is_admitted: record.admitted,
+            generation: record.generation,
             keys,
         }
     }
