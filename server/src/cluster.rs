@@ -95,6 +95,8 @@ pub struct Cluster {
     inlets: OnceLock<Box<[Arc<Inlet>]>>,
     changes: AtomicU64,
     stops: AtomicBool,
+    /// Whether a thread polls for events without sleeping.
+    polls: AtomicBool,
 }
 
 impl Cluster {
@@ -123,6 +125,7 @@ impl Cluster {
             inlets: OnceLock::new(),
             changes: AtomicU64::new(0),
             stops: AtomicBool::new(false),
+            polls: AtomicBool::new(false),
             configuration,
         })
     }
@@ -210,6 +213,17 @@ impl Cluster {
     /// How many changes there were that waiting commands may go on by.
     pub fn changes(&self) -> u64 {
         self.changes.load(Ordering::Acquire)
+    }
+
+    /// Whether the thread may poll for events without sleeping, which one does at a time: further ones would take
+    /// processors from clients.
+    pub fn begin_to_poll(&self) -> bool {
+        !self.polls.swap(true, Ordering::AcqRel)
+    }
+
+    /// Notes that the thread doesn't any more.
+    pub fn end_to_poll(&self) {
+        self.polls.store(false, Ordering::Release);
     }
 
     /// Has all threads come to their end.

@@ -117,7 +117,7 @@ pub struct Options {
     #[arg(long, value_name = "FOLDER", default_value = ".", help_heading = DATA)]
     pub folder: PathBuf,
 
-    /// Threads for clients, 1 to 64 [default: as processors, at most 4]
+    /// Threads for clients, 1 to 64 [default: one less than processors, at most 4]
     #[arg(
         long,
         value_name = "COUNT",
@@ -126,7 +126,8 @@ pub struct Options {
     )]
     pub threads: Option<u16>,
 
-    /// How long a thread polls for requests before it sleeps: it answers sooner, and uses its processor
+    /// How long a thread polls for requests before it sleeps, where they came soon lately: it answers sooner, and uses
+    /// its processor meanwhile
     #[arg(long, value_name = "MICROSECONDS", default_value_t = 0, help_heading = THREADS)]
     pub busy_poll: u64,
 

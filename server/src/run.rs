@@ -82,7 +82,8 @@ fn begin_log(options: &Options) -> Result<(), Fault> {
 /// Makes what each thread for clients polls, and has the cluster know what reaches them.
 fn polls(options: &Options, cluster: &Cluster) -> Result<Vec<Poll>, Fault> {
     let processors = thread::available_parallelism().map_or(1, usize::from);
-    let usual = processors.min(MOST_USUAL_THREADS);
+    // One is left to clients, who often run on the same machine.
+    let usual = processors.saturating_sub(1).clamp(1, MOST_USUAL_THREADS);
     let count = options.threads.map_or(usual, usize::from);
     let polls = (0..count)
         .map(|_| Poll::new())

@@ -1,3 +1,4 @@
+use super::busy_poll::BusyPoll;
 use super::connection::{Connection, Turn};
 use super::inlet::{Brought, Inlet, ReplyTo, WAKE};
 use crate::cluster::Cluster;
@@ -40,7 +41,7 @@ pub struct Worker {
     /// Whether all that is queued waits for shards that other threads have.
     is_racing: bool,
     changes: u64,
-    last_event: Instant,
+    busy_poll: BusyPoll,
     buffer: Box<[u8]>,
 }
 
@@ -53,6 +54,7 @@ impl Worker {
         executor: Executor,
         control: Sender<Asked>,
     ) -> Worker {
+        let busy_poll = BusyPoll::new(cluster.configuration.busy_poll);
         Worker {
             cluster,
             inlet,
@@ -64,7 +66,7 @@ impl Worker {
             waiting: Vec::new(),
             is_racing: false,
             changes: 0,
-            last_event: Instant::now(),
+            busy_poll,
             buffer: vec![0; ROOM].into(),
         }
     }
@@ -93,27 +95,37 @@ impl Worker {
 
     /// Waits for events, no longer than until something else is due.
     fn wait(&mut self, events: &mut Events) -> io::Result<()> {
-        let busy_poll = self.cluster.configuration.busy_poll;
-        let timeout = if !self.queue.is_empty() {
+        if !self.queue.is_empty() {
             if self.is_racing {
                 std::thread::yield_now();
             }
-            Some(Duration::ZERO)
-        } else if !self.waiting.is_empty() || self.cluster.is_stopping() {
-            Some(TICK)
-        } else if !busy_poll.is_zero() && self.last_event.elapsed() < busy_poll {
-            Some(Duration::ZERO)
-        } else {
-            None
-        };
-        match self.poll.poll(events, timeout) {
-            Err(error) if error.kind() != ErrorKind::Interrupted => return Err(error),
-            _ => {}
+            return self.look(events, Some(Duration::ZERO));
         }
-        if !busy_poll.is_zero() && !events.is_empty() {
-            self.last_event = Instant::now();
+        if !self.waiting.is_empty() || self.cluster.is_stopping() {
+            return self.look(events, Some(TICK));
         }
+        let since = Instant::now();
+        events.clear();
+        if self.busy_poll.goes_on(since) && self.cluster.begin_to_poll() {
+            while events.is_empty() && self.busy_poll.goes_on(since) {
+                self.look(events, Some(Duration::ZERO))?;
+            }
+            self.cluster.end_to_poll();
+            if !events.is_empty() {
+                return Ok(());
+            }
+        }
+        self.look(events, None)?;
+        self.busy_poll.note(since);
         Ok(())
+    }
+
+    /// Takes the events that are there, or that come in this time.
+    fn look(&mut self, events: &mut Events, timeout: Option<Duration>) -> io::Result<()> {
+        match self.poll.poll(events, timeout) {
+            Err(error) if error.kind() != ErrorKind::Interrupted => Err(error),
+            _ => Ok(()),
+        }
     }
 
     fn note(&mut self, event: &mio::event::Event) {
