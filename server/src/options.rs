@@ -86,7 +86,7 @@ pub struct Options {
 
     /// Number of ranges of keys, even from a to z, each a shard [default: none]
     ///
-    /// Neighbours are of one shard, which MGET, MSET and transactions want, and SCANRANGE asks few
+    /// Neighbours are of one shard, which transactions want, and SCANRANGE asks few
     /// shards. But keys that begin alike, as those of one program do, are all of one shard.
     #[arg(
         long,
