@@ -37,12 +37,14 @@ typedef struct durkenzo_handle {
 
 /* How far the migration of a shard has come. */
 enum durkenzo_phase {
+    /* By tools/library-codes, the phases of library/codes.txt: */
     DURKENZO_VACANT = 0,     /* nobody owns the shard yet */
     DURKENZO_SERVING = 1,    /* the owner executes requests */
     DURKENZO_PREPARED = 2,   /* the owner executes; `other` is the next owner */
     DURKENZO_FORWARDING = 3, /* `other`, the next owner, executes what the owner forwards */
     DURKENZO_TAKEN = 4,      /* the owner executes; `other`, the previous one, forwards */
     DURKENZO_PAUSED = 5      /* nobody executes */
+    /* End of them. */
 };
 
 /* A shard's record. Servers are 0 where there is none. */
@@ -56,54 +58,56 @@ typedef struct durkenzo_record {
 
 /* What a call answers. */
 enum durkenzo_code {
-    DURKENZO_OK = 0,
-    DURKENZO_WRONG_HANDLE = 1,  /* the handle keeps nothing that the call is for */
-    DURKENZO_BAD_ARGUMENT = 2,  /* a server or a kind is out of bounds */
-    DURKENZO_NO_MEMORY = 3,     /* memory was refused */
-    DURKENZO_BAD_WORD = 4,      /* no record has the word */
-    DURKENZO_BAD_CEILING = 5,   /* the ceiling isn't 3 to 2^36 - 1 */
-    DURKENZO_NO_SHARD = 6,      /* a board has at least one shard */
-    DURKENZO_TOO_MANY = 7,      /* a board has at most 4,096 shards */
-    DURKENZO_BAD_BOOKS = 8,     /* there are no servers, or memory for their books was refused */
-    DURKENZO_UNKNOWN_SHARD = 10,
-    DURKENZO_WRONG_PHASE = 11,  /* the change doesn't begin from the shard's stand */
-    DURKENZO_SAME_SERVER = 12,  /* the change names the owner as the new server */
-    DURKENZO_CHANGE_SPENT = 13, /* the generations are spent; `read` is written */
-    DURKENZO_BUSY = 14,         /* the shard is admitted; `read` is written */
-    DURKENZO_RACED = 15,        /* another thread was first; `read`, what it left, is written */
-    DURKENZO_NOBODY_OWNS = 21,  /* 21 to 26 refuse an admission; `read` is written */
-    DURKENZO_IS_PAUSED = 22,
-    DURKENZO_NOT_EXECUTOR = 23, /* another server executes the shard's requests */
-    DURKENZO_NOT_YET = 24,      /* the server executes only what the owner forwards */
-    DURKENZO_ADMITTED = 25,     /* the shard has an admission that hasn't ended */
-    DURKENZO_SPENT = 26,        /* the generations are spent */
-    DURKENZO_NOT_ADMITTED = 27, /* the word has no admission that could end */
-    DURKENZO_UNKNOWN_SERVER = 30,
-    DURKENZO_LEAVING = 31,      /* the server is leaving for a restart */
-    DURKENZO_NO_CAPACITY = 32,  /* the server has no room */
-    DURKENZO_DOMAIN_LIMIT = 33, /* the server's domain has its share of the shards */
-    DURKENZO_NOT_UP = 40,       /* 40 to 49 refuse a step of a restart */
-    DURKENZO_NOT_ASKED = 41,
-    DURKENZO_GLOBAL_CAP = 42,   /* too many servers would be leaving */
-    DURKENZO_SHARD_CAP = 43,
-    DURKENZO_GROUP_CAP = 44,
-    DURKENZO_DOMAIN_CAP = 45,
-    DURKENZO_NOT_APPROVED = 46,
-    DURKENZO_STILL_SERVING = 47, /* a shard that names the server isn't paused */
-    DURKENZO_ALREADY_UP = 48,
-    DURKENZO_ALREADY_FAILED = 49,
-    DURKENZO_NO_BOUND = 50,        /* 50 to 53 refuse the bounds of a layout; or TOO_MANY */
-    DURKENZO_FIRST_NOT_EMPTY = 51,
-    DURKENZO_NOT_RISING = 52,      /* a bound isn't above the one before it */
+    /* By tools/library-codes, the codes of library/codes.txt: */
+    DURKENZO_OK = 0,               /* the call was made */
+    DURKENZO_WRONG_HANDLE = 1,     /* the handle keeps nothing that the call is for */
+    DURKENZO_BAD_ARGUMENT = 2,     /* a server or a kind is out of bounds */
+    DURKENZO_NO_MEMORY = 3,        /* memory was refused */
+    DURKENZO_BAD_WORD = 4,         /* no record has the word */
+    DURKENZO_BAD_CEILING = 5,      /* the ceiling of generations is 3 to 68,719,476,735 */
+    DURKENZO_NO_SHARD = 6,         /* a board has at least one shard */
+    DURKENZO_TOO_MANY = 7,         /* a board or a layout has at most 4,096 shards */
+    DURKENZO_BAD_BOOKS = 8,        /* there are no servers, or memory for their books was refused */
+    DURKENZO_UNKNOWN_SHARD = 10,   /* there is no such shard */
+    DURKENZO_WRONG_PHASE = 11,     /* the change doesn't begin from the shard's stand */
+    DURKENZO_SAME_SERVER = 12,     /* the server owns the shard */
+    DURKENZO_CHANGE_SPENT = 13,    /* the shard's generations are spent; `read` is written */
+    DURKENZO_BUSY = 14,            /* the shard is admitted; `read` is written */
+    DURKENZO_RACED = 15,           /* another thread was first; `read` is written */
+    DURKENZO_NOBODY_OWNS = 21,     /* nobody owns the shard; `read` is written */
+    DURKENZO_IS_PAUSED = 22,       /* the shard is paused; `read` is written */
+    DURKENZO_NOT_EXECUTOR = 23,    /* another server executes the shard's requests; `read` is written */
+    DURKENZO_NOT_YET = 24,         /* the server executes only what the owner forwards; `read` is written */
+    DURKENZO_ADMITTED = 25,        /* the shard is admitted; `read` is written */
+    DURKENZO_SPENT = 26,           /* the shard's generations are spent; `read` is written */
+    DURKENZO_NOT_ADMITTED = 27,    /* the word has no admission that could end */
+    DURKENZO_UNKNOWN_SERVER = 30,  /* there is no such server */
+    DURKENZO_LEAVING = 31,         /* the server is leaving */
+    DURKENZO_NO_CAPACITY = 32,     /* the server has no room */
+    DURKENZO_DOMAIN_LIMIT = 33,    /* the server's domain has its share of the group */
+    DURKENZO_NOT_UP = 40,          /* the server isn't up */
+    DURKENZO_NOT_ASKED = 41,       /* the restart wasn't asked for */
+    DURKENZO_GLOBAL_CAP = 42,      /* too many servers would be leaving */
+    DURKENZO_SHARD_CAP = 43,       /* a shard may not be down */
+    DURKENZO_GROUP_CAP = 44,       /* too many shards of a group would be down */
+    DURKENZO_DOMAIN_CAP = 45,      /* too many servers of a domain would be down */
+    DURKENZO_NOT_APPROVED = 46,    /* the restart isn't approved */
+    DURKENZO_STILL_SERVING = 47,   /* a shard that names the server isn't paused */
+    DURKENZO_ALREADY_UP = 48,      /* the server is up already */
+    DURKENZO_ALREADY_FAILED = 49,  /* the server has failed already */
+    DURKENZO_NO_BOUND = 50,        /* a layout has at least one bound */
+    DURKENZO_FIRST_NOT_EMPTY = 51, /* the first bound is not empty */
+    DURKENZO_NOT_RISING = 52,      /* a bound is not above the one before it */
     DURKENZO_BOUND_TOO_LONG = 53,  /* a bound has more than 255 bytes */
     DURKENZO_TOO_SHORT = 55,       /* what would be written is longer than the room for it */
     DURKENZO_NO_MORE = 56,         /* the plan has no such line, or the reply no such pair */
     DURKENZO_KEY_EMPTY = 57,       /* a key has at least one byte */
     DURKENZO_KEY_TOO_LONG = 58,    /* a key has at most 255 bytes */
     DURKENZO_FORWARD = 60,         /* the envelope goes on to the server `to` */
-    DURKENZO_WRONG_SHARD = 61,     /* 61 to 63 refuse an envelope: its key is of another shard */
-    DURKENZO_TOO_MANY_HOPS = 62,   /* it was forwarded as often as it may be */
-    DURKENZO_KEPT_FULL = 63        /* the shard keeps as many requests as it may; make a checkpoint */
+    DURKENZO_WRONG_SHARD = 61,     /* the request's key is of another shard */
+    DURKENZO_TOO_MANY_HOPS = 62,   /* the request was forwarded too often */
+    DURKENZO_KEPT_FULL = 63        /* the shard keeps as many requests as it may: make a checkpoint */
+    /* End of them. */
 };
 
 /* Requests to the sample service. Keys have 1 to 255 bytes, texts at most 65,535. */

@@ -3,7 +3,7 @@ use crate::body::Shard;
 use crate::cluster::Cluster;
 use crate::stats::Stats;
 use crate::wait::{NotAdmitted, Wait};
-use durkenzo::{AdmitFault, Mode, Pass, PassFault, Record};
+use durkenzo::{AdmitFault, Mode, Pass, PassFault, Permit, Record};
 use std::fmt;
 use std::sync::Arc;
 
@@ -43,6 +43,8 @@ pub struct Admission {
     /// The server that executed each shard last, as far as this thread knows: an old one is refused, with the record.
     routes: Box<[u16]>,
     version: u64,
+    /// The place of the server as which the thread was admitted last.
+    executed_by: usize,
 }
 
 impl Admission {
@@ -52,6 +54,7 @@ impl Admission {
             passes: (0..cluster.presence.servers()).map(|_| None).collect(),
             routes: vec![1; cluster.shards().into()].into(),
             version: 0,
+            executed_by: 0,
             stats,
             cluster,
         };
@@ -70,11 +73,12 @@ impl Admission {
 
     fn renew(&mut self) -> Result<(), PassFault> {
         let version = self.cluster.presence.version();
+        let board = self.cluster.board();
         for (server, pass) in (1..).zip(&mut self.passes) {
             let is_reached = self.cluster.presence.is_reached(server);
             match pass {
                 Some(_) if !is_reached => *pass = None,
-                None if is_reached => *pass = Some(self.cluster.board.pass(server)?),
+                None if is_reached => *pass = Some(board.pass(server)?),
                 _ => {}
             }
         }
@@ -87,11 +91,29 @@ impl Admission {
         &self.stats
     }
 
+    /// Counts commands that were done under the last permit, so many of which were answered by an error.
+    pub fn note_done(&self, commands: u64, errors: u64) {
+        let server = &self.stats.servers[self.executed_by];
+        server.commands.add(commands);
+        if errors > 0 {
+            server.errors.add(errors);
+        }
+    }
+
     /// Has the closure work on the body of the shard, as the server that executes it.
     pub fn admit<R>(
         &mut self,
         shard: u16,
         work: impl FnOnce(&mut Shard) -> R,
+    ) -> Result<R, NotAdmitted> {
+        self.admit_permit(shard, |permit| work(permit))
+    }
+
+    /// The same, with the permit.
+    pub fn admit_permit<R>(
+        &mut self,
+        shard: u16,
+        work: impl FnOnce(&mut Permit<'_, Shard>) -> R,
     ) -> Result<R, NotAdmitted> {
         let server = self.routes[usize::from(shard)];
         self.admit_at(Target::direct(server, false), shard, work)
@@ -104,14 +126,14 @@ impl Admission {
         shard: u16,
         work: impl FnOnce(&mut Shard) -> R,
     ) -> Result<R, NotAdmitted> {
-        self.admit_at(Target::direct(server, true), shard, work)
+        self.admit_at(Target::direct(server, true), shard, |permit| work(permit))
     }
 
     fn admit_at<R>(
         &mut self,
         mut target: Target,
         shard: u16,
-        work: impl FnOnce(&mut Shard) -> R,
+        work: impl FnOnce(&mut Permit<'_, Shard>) -> R,
     ) -> Result<R, NotAdmitted> {
         for _ in 0..self.cluster.configuration.spins.saturating_add(MOST_TURNS) {
             let index = usize::from(target.server) - 1;
@@ -124,7 +146,8 @@ impl Admission {
                     let done = work(&mut permit);
                     self.cluster.note_keys(shard, permit.keys());
                     drop(permit);
-                    self.stats.executed[index].add(1);
+                    self.stats.servers[index].admissions.add(1);
+                    self.executed_by = index;
                     self.stats.forwarded.add(u64::from(target.hops));
                     return Ok(done);
                 }
@@ -151,7 +174,7 @@ impl Admission {
             AdmitFault::NotExecutor(read) | AdmitFault::NotYet(read) => {
                 self.along(shard, target, read, fault)
             }
-            AdmitFault::Paused(_) => Err(NotAdmitted::Wait(Wait::Paused(shard))),
+            AdmitFault::Paused(read) => Err(self.paused(shard, target, read)),
             AdmitFault::Vacant(_) => Err(NotAdmitted::Wait(Wait::Vacant(shard))),
             other => Err(NotAdmitted::Refused(other)),
         }
@@ -187,9 +210,23 @@ impl Admission {
         }
     }
 
-    /// Where to go in place of a server that isn't reached: to the owner, if that is another one.
+    /// What a request waits for where nobody executes: whoever asks for the shard is told of an owner that is away.
+    fn paused(&self, shard: u16, target: Target, read: Record) -> NotAdmitted {
+        let owner = read.owner().filter(|_| !target.is_fixed);
+        let away = owner.filter(|it| !self.cluster.presence.is_reached(*it));
+        NotAdmitted::Wait(match away {
+            Some(owner) => Wait::Unreachable(shard, owner),
+            None => Wait::Paused(shard),
+        })
+    }
+
+    /// Where to go in place of a server that isn't reached: to the owner, if that is another one. The owner can only
+    /// forward to the one that executes.
     fn around(&mut self, shard: u16, target: Target) -> Result<Target, NotAdmitted> {
         let away = NotAdmitted::Wait(Wait::Unreachable(shard, target.server));
+        if target.hops > 0 {
+            return Err(away);
+        }
         let pass = self.passes.iter_mut().flatten().next().ok_or(away)?;
         let record = pass
             .look(shard)
@@ -199,6 +236,7 @@ impl Admission {
                 self.routes[usize::from(shard)] = owner;
                 Ok(Target::direct(owner, false))
             }
+            None if !target.is_fixed => Err(NotAdmitted::Wait(Wait::Vacant(shard))),
             _ => Err(away),
         }
     }

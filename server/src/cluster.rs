@@ -2,14 +2,18 @@
 use crate::body::{Shard, Storage};
 use crate::command::Cursors;
 use crate::domains::Domains;
+use crate::dump::{restore, DumpFault, ShardHead};
 use crate::io::Inlet;
 use crate::keyspace::Rule;
 use crate::presence::Presence;
+use crate::progress::Progress;
 use crate::settings::MAX_CEILING;
-use durkenzo::{Board, BuildFault};
+use crate::stats::ChangesMade;
+use durkenzo::{Board, BuildFault, Builder};
 use std::fmt;
+use std::path::PathBuf;
 use std::sync::atomic::{AtomicBool, AtomicU64, Ordering};
-use std::sync::{Arc, OnceLock};
+use std::sync::{Arc, OnceLock, PoisonError, RwLock};
 use std::time::{Duration, Instant};
 
 /// How a server is to run.
@@ -37,6 +41,8 @@ pub struct Configuration {
     pub pace: Duration,
     /// How long clients may take at a stop to read what they were answered.
     pub grace: Duration,
+    /// The folder of dumps.
+    pub folder: PathBuf,
     /// What clients have to give first.
     pub password: Option<Box<[u8]>>,
     /// What of the settings isn't kept.
@@ -53,11 +59,12 @@ impl Configuration {
             ceiling: MAX_CEILING,
             domains: Domains::default(),
             most_clients: 20_000,
-            wait: Duration::from_secs(5),
+            wait: Duration::from_secs(1),
             spins: 64,
             busy_poll: Duration::ZERO,
             pace: Duration::ZERO,
             grace: Duration::from_secs(2),
+            folder: PathBuf::from("."),
             password: None,
             unkept: Vec::new(),
         }
@@ -66,49 +73,106 @@ impl Configuration {
 
 /// A cluster of servers in one process.
 pub struct Cluster {
-    /// Who may use which shard, decided by proved code.
-    pub board: Board<Shard>,
     /// How the server runs.
     pub configuration: Configuration,
     /// Which servers requests reach.
     pub presence: Presence,
+    /// How far servers' restarts have come.
+    pub progress: Progress,
+    /// How often each change of a shard was made.
+    pub changes_made: ChangesMade,
     /// Where SCAN's cursors stand.
     pub cursors: Cursors,
     /// Where data lies.
-    pub storage: &'static str,
+    pub storage: Box<dyn Storage>,
     /// When the server started.
     pub started: Instant,
+    board: RwLock<Board<Shard>>,
+    board_version: AtomicU64,
     keys: Box<[AtomicU64]>,
+    /// The generations of shards when their board was opened.
+    bases: Box<[AtomicU64]>,
     inlets: OnceLock<Box<[Arc<Inlet>]>>,
     changes: AtomicU64,
     stops: AtomicBool,
+    /// Whether a thread polls for events without sleeping.
+    polls: AtomicBool,
 }
 
 impl Cluster {
     /// A cluster whose data lies there; nobody owns a shard yet.
-    pub fn new(configuration: Configuration, storage: &dyn Storage) -> Result<Cluster, BuildFault> {
+    pub fn new(
+        configuration: Configuration,
+        storage: Box<dyn Storage>,
+    ) -> Result<Cluster, BuildFault> {
         let shards = configuration.rule.shards();
         let bodies = (0..shards).map(|it| storage.open(it));
         let mut bodies: Vec<Shard> = bodies.collect::<Result<_, _>>()?;
         let keys = bodies.iter_mut().map(|it| AtomicU64::new(it.keys() as u64));
         let keys = keys.collect();
-        let board = Board::builder()
-            .servers(configuration.servers)
-            .restarts(configuration.restarts)
-            .ceiling(configuration.ceiling)
-            .build(bodies)?;
+        let board = builder(&configuration).build(bodies)?;
         Ok(Cluster {
-            board,
+            board: RwLock::new(board),
+            board_version: AtomicU64::new(0),
             presence: Presence::new(configuration.servers),
+            progress: Progress::default(),
+            changes_made: ChangesMade::default(),
             cursors: Cursors::default(),
-            storage: storage.description(),
+            storage,
             started: Instant::now(),
             keys,
+            bases: (0..shards).map(|_| AtomicU64::new(0)).collect(),
             inlets: OnceLock::new(),
             changes: AtomicU64::new(0),
             stops: AtomicBool::new(false),
+            polls: AtomicBool::new(false),
             configuration,
         })
+    }
+
+    /// Who may use which shard, decided by proved code.
+    pub fn board(&self) -> Board<Shard> {
+        let board = self.board.read().unwrap_or_else(PoisonError::into_inner);
+        board.clone()
+    }
+
+    /// How often another board took the place of the one before it.
+    pub fn board_version(&self) -> u64 {
+        self.board_version.load(Ordering::Acquire)
+    }
+
+    /// A board on which shards stand as these heads say, and have these bodies; it isn't used yet.
+    pub fn open(&self, heads: &[ShardHead], mut bodies: Vec<Shard>) -> Result<Opened, DumpFault> {
+        let keys = bodies.iter_mut().map(|it| it.keys() as u64).collect();
+        let built = builder(&self.configuration).build(bodies);
+        let board = built.map_err(|_| DumpFault::NoMemory)?;
+        restore(&board.control(), heads)?;
+        let generations = heads.iter().map(|it| it.generation).collect();
+        Ok(Opened {
+            board,
+            keys,
+            generations,
+        })
+    }
+
+    /// Has this board take the place of the one before, of which no thread has a pass, and on which shards had these
+    /// generations. Each shard's generations rise on.
+    pub fn take(&self, opened: Opened, before: &[u64]) {
+        let mut board = self.board.write().unwrap_or_else(PoisonError::into_inner);
+        *board = opened.board;
+        for (place, keys) in self.keys.iter().zip(opened.keys) {
+            place.store(keys, Ordering::Relaxed);
+        }
+        let generations = opened.generations.iter().zip(before);
+        for (place, (dumped, before)) in self.bases.iter().zip(generations) {
+            place.store(*dumped.max(before), Ordering::Relaxed);
+        }
+        self.board_version.fetch_add(1, Ordering::AcqRel);
+    }
+
+    /// How many steps the shard's history had before its board was opened.
+    pub fn base(&self, shard: u16) -> u64 {
+        self.bases[usize::from(shard)].load(Ordering::Relaxed)
     }
 
     /// The number of shards.
@@ -151,6 +215,17 @@ impl Cluster {
         self.changes.load(Ordering::Acquire)
     }
 
+    /// Whether the thread may poll for events without sleeping, which one does at a time: further ones would take
+    /// processors from clients.
+    pub fn begin_to_poll(&self) -> bool {
+        !self.polls.swap(true, Ordering::AcqRel)
+    }
+
+    /// Notes that the thread doesn't any more.
+    pub fn end_to_poll(&self) {
+        self.polls.store(false, Ordering::Release);
+    }
+
     /// Has all threads come to their end.
     pub fn stop(&self) {
         self.stops.store(true, Ordering::Release);
@@ -167,6 +242,35 @@ impl Cluster {
             inlet.wake();
         }
     }
+}
+
+/// A board that isn't used yet.
+pub struct Opened {
+    board: Board<Shard>,
+    keys: Vec<u64>,
+    /// The shards' generations on the board that was dumped.
+    generations: Vec<u64>,
+}
+
+impl Opened {
+    /// How many keys hold something.
+    pub fn keys(&self) -> u64 {
+        self.keys.iter().sum()
+    }
+}
+
+impl fmt::Debug for Opened {
+    fn fmt(&self, f: &mut fmt::Formatter<'_>) -> fmt::Result {
+        f.debug_struct("Opened").finish_non_exhaustive()
+    }
+}
+
+/// A board of these sizes that is to be built.
+fn builder(configuration: &Configuration) -> Builder {
+    Board::builder()
+        .servers(configuration.servers)
+        .restarts(configuration.restarts)
+        .ceiling(configuration.ceiling)
 }
 
 impl fmt::Debug for Cluster {

@@ -72,7 +72,7 @@ impl Keyspace {
         match self {
             Keyspace::Hash { shards } => 0..=shards - 1,
             Keyspace::Ranges(layout) => {
-                let last = high.map_or(layout.count() as u16 - 1, |it| layout.shard_of(it));
+                let last = high.map_or(layout.count() as u16 - 1, |it| last_below(layout, it));
                 layout.shard_of(low)..=last
             }
         }
@@ -81,6 +81,15 @@ impl Keyspace {
     /// Whether each shard's keys lie below those of the next one.
     pub fn is_ordered(&self) -> bool {
         matches!(self, Keyspace::Ranges(_))
+    }
+}
+
+/// The last shard that may have keys below this one, which isn't empty.
+fn last_below(layout: &Layout, high: &[u8]) -> u16 {
+    let shard = layout.shard_of(high);
+    match layout.range(shard) {
+        Some((low, _)) if low == high => shard.saturating_sub(1),
+        _ => shard,
     }
 }
 
@@ -155,6 +164,7 @@ mod tests {
         let keyspace = Keyspace::new(&Rule::Bounds(bounds)).unwrap();
         assert_eq!(keyspace.shard_of(b"hat"), 1);
         assert_eq!(keyspace.shards_within(b"a", Some(b"h")), 0..=1);
+        assert_eq!(keyspace.shards_within(b"a", Some(b"g")), 0..=0);
         assert_eq!(keyspace.shards_within(b"h", None), 1..=2);
     }
 }

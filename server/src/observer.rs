@@ -2,7 +2,7 @@
 use crate::body::Shard;
 use crate::cluster::Cluster;
 use crate::snapshot::{ServerRow, ShardRow, Snapshot};
-use durkenzo::{Pass, PassFault};
+use durkenzo::{Pass, PassFault, Record, UnknownShard};
 use std::fmt;
 use std::sync::Arc;
 
@@ -11,18 +11,51 @@ pub struct Observer {
     cluster: Arc<Cluster>,
     /// Any server sees all records.
     pass: Pass<Shard>,
+    /// Of which board the pass is.
+    version: u64,
 }
 
 impl Observer {
     /// One of this cluster.
     pub fn new(cluster: Arc<Cluster>) -> Result<Observer, PassFault> {
-        let pass = cluster.board.pass(1)?;
-        Ok(Observer { cluster, pass })
+        let version = cluster.board_version();
+        let pass = cluster.board().pass(1)?;
+        Ok(Observer {
+            cluster,
+            pass,
+            version,
+        })
+    }
+
+    /// Looks at the board that took the place of the one before, if one did.
+    fn renew(&mut self) {
+        if self.version == self.cluster.board_version() {
+            return;
+        }
+        match Observer::new(self.cluster.clone()) {
+            Ok(renewed) => *self = renewed,
+            Err(error) => tracing::error!(%error, "who looks at shards sees the earlier ones"),
+        }
+    }
+
+    /// The record of the shard.
+    pub fn record(&mut self, shard: u16) -> Result<Record, UnknownShard> {
+        self.renew();
+        let mut record = self.pass.look(shard)?;
+        record.generation += self.cluster.base(shard);
+        Ok(record)
+    }
+
+    /// The generations of all shards.
+    pub fn generations(&mut self) -> Vec<u64> {
+        let shards = 0..self.cluster.shards();
+        let of = |it| self.record(it).map_or(0, |it| it.generation);
+        shards.map(of).collect()
     }
 
     /// How the shard stands, if there is one.
     pub fn shard(&mut self, shard: u16) -> Option<ShardRow> {
-        let record = self.pass.look(shard).ok()?;
+        let record = self.record(shard).ok()?;
         Some(ShardRow::new(shard, record, self.cluster.keys(shard)))
     }
 
@@ -39,12 +72,16 @@ impl Observer {
         let index = usize::from(server) - 1;
         let standing = self.cluster.presence.standing(server);
         let inlets = self.cluster.inlets().iter();
+        let doing = self.cluster.progress.of(server);
         ServerRow {
             server,
             standing: standing.map_or("unknown", |it| it.name()),
             domain: self.cluster.configuration.domains.domain_of(server),
             shards: shards.iter().filter(|it| it.owner == server).count(),
-            admissions: inlets.map(|it| it.stats().executed[index].get()).sum(),
+            admissions: inlets
+                .map(|it| it.stats().servers[index].admissions.get())
+                .sum(),
+            doing: doing.map(|it| it.to_string()),
         }
     }
 }

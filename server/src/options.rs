@@ -5,6 +5,7 @@ use std::path::PathBuf;
 
 const NETWORK: &str = "Network";
 const SHARDS: &str = "Servers and shards";
+const DATA: &str = "Data";
 const THREADS: &str = "Threads and waiting";
 const LOG: &str = "Log";
 
@@ -85,7 +86,7 @@ pub struct Options {
 
     /// Number of ranges of keys, even from a to z, each a shard [default: none]
     ///
-    /// Neighbours are of one shard, which MGET, MSET and transactions want, and SCANRANGE asks few
+    /// Neighbours are of one shard, which transactions want, and SCANRANGE asks few
     /// shards. But keys that begin alike, as those of one program do, are all of one shard.
     #[arg(
         long,
@@ -112,7 +113,11 @@ pub struct Options {
     #[arg(long, help_heading = SHARDS)]
     pub vacant: bool,
 
-    /// Threads for clients, 1 to 64 [default: as processors, at most 4]
+    /// Folder of the files of SM DUMP and SM LOAD
+    #[arg(long, value_name = "FOLDER", default_value = ".", help_heading = DATA)]
+    pub folder: PathBuf,
+
+    /// Threads for clients, 1 to 64 [default: one less than processors, at most 4]
     #[arg(
         long,
         value_name = "COUNT",
@@ -121,7 +126,8 @@ pub struct Options {
     )]
     pub threads: Option<u16>,
 
-    /// How long a thread polls for requests before it sleeps: it answers sooner, and uses its processor
+    /// How long a thread polls for requests before it sleeps, where they came soon lately: it answers sooner, and uses
+    /// its processor meanwhile
     #[arg(long, value_name = "MICROSECONDS", default_value_t = 0, help_heading = THREADS)]
     pub busy_poll: u64,
 
@@ -130,7 +136,7 @@ pub struct Options {
     pub spins: u32,
 
     /// How long a command waits for a shard that is paused, before it is refused
-    #[arg(long, value_name = "MILLISECONDS", default_value_t = 5_000, help_heading = THREADS)]
+    #[arg(long, value_name = "MILLISECONDS", default_value_t = 1_000, help_heading = THREADS)]
     pub wait: u64,
 
     /// Pause between the steps of a migration, so that one can be watched

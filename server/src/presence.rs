@@ -1,5 +1,5 @@
 //! Which servers requests reach.
-use std::sync::atomic::{AtomicU64, AtomicU8, Ordering};
+use std::sync::atomic::{AtomicBool, AtomicU64, AtomicU8, Ordering};
 
 /// How far a server's restart has come.
 #[derive(Clone, Copy, Debug, PartialEq, Eq)]
@@ -47,6 +47,8 @@ impl Standing {
 #[derive(Debug)]
 pub struct Presence {
     standings: Box<[AtomicU8]>,
+    /// Whether requests reach no server for now.
+    is_closed: AtomicBool,
     version: AtomicU64,
 }
 
@@ -56,8 +58,25 @@ impl Presence {
         let up = || AtomicU8::new(Standing::Up as u8);
         Presence {
             standings: (0..servers).map(|_| up()).collect(),
+            is_closed: AtomicBool::new(false),
             version: AtomicU64::new(0),
         }
+    }
+
+    /// Has requests reach no server; returns the version since then.
+    pub fn close(&self) -> u64 {
+        self.is_closed.store(true, Ordering::Release);
+        self.changed()
+    }
+
+    /// Has requests reach servers again; returns the version since then.
+    pub fn open(&self) -> u64 {
+        self.is_closed.store(false, Ordering::Release);
+        self.changed()
+    }
+
+    fn changed(&self) -> u64 {
+        self.version.fetch_add(1, Ordering::AcqRel) + 1
     }
 
     /// The number of servers.
@@ -75,13 +94,14 @@ impl Presence {
 
     /// Whether there is such a server, and requests reach it.
     pub fn is_reached(&self, server: u16) -> bool {
-        self.standing(server).is_some_and(Standing::is_reached)
+        let is_closed = self.is_closed.load(Ordering::Acquire);
+        !is_closed && self.standing(server).is_some_and(Standing::is_reached)
     }
 
     /// Sets the standing of a server that there is, and returns the version since then.
     pub fn set(&self, server: u16, standing: Standing) -> u64 {
         self.standings[usize::from(server) - 1].store(standing as u8, Ordering::Release);
-        self.version.fetch_add(1, Ordering::AcqRel) + 1
+        self.changed()
     }
 
     /// How many changes there were.

@@ -31,8 +31,7 @@ const MOST_USUAL_THREADS: usize = 4;
 /// Serves until a signal ends it.
 pub fn run(options: &Options) -> Result<(), Fault> {
     begin_log(options)?;
-    let storage = Memory;
-    let cluster = Arc::new(Cluster::new(configuration(options)?, &storage)?);
+    let cluster = Arc::new(Cluster::new(configuration(options)?, Box::new(Memory))?);
     let (control, asked) = channel();
     let polls = polls(options, &cluster)?;
     let mut controller = Controller::new(cluster.clone())?;
@@ -83,7 +82,8 @@ fn begin_log(options: &Options) -> Result<(), Fault> {
 /// Makes what each thread for clients polls, and has the cluster know what reaches them.
 fn polls(options: &Options, cluster: &Cluster) -> Result<Vec<Poll>, Fault> {
     let processors = thread::available_parallelism().map_or(1, usize::from);
-    let usual = processors.min(MOST_USUAL_THREADS);
+    // One is left to clients, who often run on the same machine.
+    let usual = processors.saturating_sub(1).clamp(1, MOST_USUAL_THREADS);
     let count = options.threads.map_or(usual, usize::from);
     let polls = (0..count)
         .map(|_| Poll::new())
@@ -141,7 +141,7 @@ fn announce(options: &Options, cluster: &Cluster, address: SocketAddr) {
     let (servers, shards) = (cluster.configuration.servers, cluster.shards());
     let by = cluster.configuration.rule.name();
     tracing::info!(%address, servers, shards, by, "serving Redis clients");
-    tracing::warn!("data lies {}", cluster.storage);
+    tracing::warn!("data lies {}", cluster.storage.description());
     for unkept in &cluster.configuration.unkept {
         tracing::warn!("not kept of the settings: {unkept}");
     }

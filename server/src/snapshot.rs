@@ -1,5 +1,5 @@
 //! How servers and shards stand, for whoever looks.
-use durkenzo::{Record, Stand};
+use durkenzo::Record;
 use serde::Serialize;
 use std::fmt;
 
@@ -25,22 +25,13 @@ pub struct ShardRow {
 impl ShardRow {
     /// That of a shard with this record.
     pub fn new(shard: u16, record: Record, keys: u64) -> ShardRow {
-        let (stand, owner, other) = match record.stand {
-            Stand::Vacant => ("Vacant", 0, 0),
-            Stand::Serving(owner) => ("Serving", owner, 0),
-            Stand::Prepared { owner, next } => ("Prepared", owner, next),
-            Stand::Forwarding { owner, next } => ("Forwarding", owner, next),
-            Stand::Taken { owner, previous } => ("Taken", owner, previous),
-            Stand::Paused(owner) => ("Paused", owner, 0),
-        };
-        let (is_admitted, generation) = (record.admitted, record.generation);
         ShardRow {
             shard,
-            stand,
-            owner,
-            other,
-            is_admitted,
-            generation,
+            stand: record.stand.name(),
+            owner: record.owner().unwrap_or(0),
+            other: record.other().unwrap_or(0),
+            is_admitted: record.admitted,
+            generation: record.generation,
             keys,
         }
     }
@@ -74,6 +65,26 @@ pub struct ServerRow {
     pub shards: usize,
     /// How often it was admitted to a shard.
     pub admissions: u64,
+    /// What its restart does now, if one is under way.
+    pub doing: Option<String>,
+}
+
+impl fmt::Display for ServerRow {
+    fn fmt(&self, f: &mut fmt::Formatter<'_>) -> fmt::Result {
+        let ServerRow {
+            server,
+            standing,
+            domain,
+            shards,
+            admissions,
+            doing,
+        } = self;
+        let doing = doing.as_deref().unwrap_or("-");
+        write!(
+            f,
+            "{server} {standing} {domain} {shards} {admissions} {doing}"
+        )
+    }
 }
 
 /// How all stands.

@@ -1,5 +1,8 @@
 //! What a thread counts, and others read.
+use std::collections::BTreeMap;
 use std::sync::atomic::{AtomicU64, Ordering};
+use std::sync::{Mutex, MutexGuard, PoisonError};
+use std::time::Duration;
 
 /// A number that one thread changes and others read.
 #[derive(Debug, Default)]
@@ -23,8 +26,74 @@ impl Counter {
     }
 }
 
+/// Bounds of times, in microseconds.
+pub const LATENCY_BOUNDS: [u64; 14] = [
+    10, 25, 50, 100, 250, 500, 1_000, 2_500, 5_000, 10_000, 25_000, 100_000, 1_000_000, 10_000_000,
+];
+
+/// How long commands took, by the bounds up to which they did, and last those that took longer than any.
+#[derive(Debug, Default)]
+pub struct Latency {
+    counts: [Counter; LATENCY_BOUNDS.len() + 1],
+    sum: Counter,
+}
+
+impl Latency {
+    /// Notes that so many commands took so long; for the thread alone that it belongs to.
+    pub fn note(&self, took: Duration, commands: u64) {
+        let micros = took.as_micros() as u64;
+        let place = LATENCY_BOUNDS.partition_point(|it| *it < micros);
+        self.counts[place].add(commands);
+        self.sum.add(micros.saturating_mul(commands));
+    }
+
+    /// How many took up to each bound, and how many longer.
+    pub fn counts(&self) -> impl Iterator<Item = u64> + '_ {
+        self.counts.iter().map(Counter::get)
+    }
+
+    /// The microseconds of all.
+    pub fn sum(&self) -> u64 {
+        self.sum.get()
+    }
+}
+
+/// What a thread did as a server.
+#[derive(Debug, Default)]
+pub struct AsServer {
+    /// Admissions to shards.
+    pub admissions: Counter,
+    /// Commands with keys.
+    pub commands: Counter,
+    /// Those of them that were answered by an error.
+    pub errors: Counter,
+}
+
+/// How often each change was made.
+#[derive(Debug, Default)]
+pub struct ChangesMade(Mutex<BTreeMap<&'static str, u64>>);
+
+impl ChangesMade {
+    /// Counts a change of this word.
+    pub fn add(&self, word: &'static str) {
+        *self.words().entry(word).or_default() += 1;
+    }
+
+    /// How often each change was made that was.
+    pub fn counts(&self) -> BTreeMap<&'static str, u64> {
+        self.words().clone()
+    }
+
+    fn words(&self) -> MutexGuard<'_, BTreeMap<&'static str, u64>> {
+        self.0.lock().unwrap_or_else(PoisonError::into_inner)
+    }
+}
+
+/// How often clients were answered by which error.
+pub type ErrorCounts = BTreeMap<Box<str>, u64>;
+
 /// What a thread did.
-#[derive(Debug)]
+#[derive(Debug, Default)]
 pub struct Stats {
     /// Commands that were done, refused ones among them.
     pub commands: Counter,
@@ -46,25 +115,49 @@ pub struct Stats {
     pub received: Counter,
     /// Bytes that went.
     pub sent: Counter,
-    /// Commands with keys by the server that executed them, from server 1.
-    pub executed: Box<[Counter]>,
+    /// How long commands took.
+    pub latency: Latency,
+    /// What was done as each server, from server 1.
+    pub servers: Box<[AsServer]>,
+    errors: Mutex<ErrorCounts>,
 }
 
 impl Stats {
     /// Those of a thread that did nothing yet.
     pub fn new(servers: u16) -> Stats {
         Stats {
-            commands: Counter::default(),
-            forwarded: Counter::default(),
-            raced: Counter::default(),
-            waited: Counter::default(),
-            refused: Counter::default(),
-            accepted: Counter::default(),
-            open: Counter::default(),
-            waiting: Counter::default(),
-            received: Counter::default(),
-            sent: Counter::default(),
-            executed: (0..servers).map(|_| Counter::default()).collect(),
+            servers: (0..servers).map(|_| AsServer::default()).collect(),
+            ..Stats::default()
         }
+    }
+
+    /// Adds these errors.
+    pub fn note_errors(&self, more: ErrorCounts) {
+        let mut errors = self.errors.lock().unwrap_or_else(PoisonError::into_inner);
+        for (name, count) in more {
+            *errors.entry(name).or_default() += count;
+        }
+    }
+
+    /// The errors with which clients were answered.
+    pub fn errors(&self) -> ErrorCounts {
+        let errors = self.errors.lock().unwrap_or_else(PoisonError::into_inner);
+        errors.clone()
+    }
+}
+
+#[cfg(test)]
+mod tests {
+    use super::*;
+
+    #[test]
+    fn times_are_counted_by_their_bounds() {
+        let latency = Latency::default();
+        for (micros, commands) in [(10, 1), (11, 2), (99, 4), (20_000_000, 8)] {
+            latency.note(Duration::from_micros(micros), commands);
+        }
+        let counts: Vec<_> = latency.counts().collect();
+        assert_eq!((&counts[..4], counts[14]), (&[1, 2, 0, 4][..], 8));
+        assert_eq!(latency.sum(), 10 + 22 + 396 + 160_000_000);
     }
 }

@@ -15,21 +15,51 @@ pub enum Wait {
     Unreachable(u16, u16),
 }
 
+impl Wait {
+    /// The name, as in scripts.
+    pub fn name(self) -> &'static str {
+        match self {
+            Wait::Busy(_) => "Busy",
+            Wait::Paused(_) => "Paused",
+            Wait::Vacant(_) => "Vacant",
+            Wait::Unreachable(..) => "Unreachable",
+        }
+    }
+
+    /// Why it can't be done now.
+    pub fn reason(self) -> String {
+        match self {
+            Wait::Busy(shard) => format!("shard {shard} was with others all the time"),
+            Wait::Paused(shard) => format!("shard {shard} is paused"),
+            Wait::Vacant(shard) => format!("nobody owns shard {shard}"),
+            Wait::Unreachable(shard, server) => {
+                format!("server {server}, which owns shard {shard}, is away")
+            }
+        }
+    }
+
+    /// What to do.
+    pub fn advice(self) -> String {
+        match self {
+            Wait::Busy(_) => "try again".to_owned(),
+            Wait::Paused(shard) => format!("SM RESUME {shard} has its owner execute again"),
+            Wait::Vacant(_) => "SM PLACE gives it an owner".to_owned(),
+            Wait::Unreachable(_, server) => {
+                format!("SM BACK {server} brings it back, SM DRAIN {server} moves its shards")
+            }
+        }
+    }
+}
+
 impl fmt::Display for Wait {
     fn fmt(&self, f: &mut fmt::Formatter<'_>) -> fmt::Result {
-        match self {
-            Wait::Busy(shard) => write!(f, "SHARDBUSY shard {shard} was with others all the time: try again"),
-            Wait::Paused(shard) => write!(
-                f,
-                "SHARDPAUSED shard {shard} is paused: SM RESUME {shard} has its owner execute again"
-            ),
-            Wait::Vacant(shard) => write!(f, "SHARDVACANT nobody owns shard {shard}: SM PLACE gives it an owner"),
-            Wait::Unreachable(shard, server) => write!(
-                f,
-                "SERVERDOWN server {server}, which executes shard {shard}, is away: SM BACK {server} brings it back, \
-                 SM DRAIN {server} moves its shards"
-            ),
-        }
+        let name = match self {
+            Wait::Busy(_) => "SHARDBUSY",
+            Wait::Paused(_) => "SHARDPAUSED",
+            Wait::Vacant(_) => "SHARDVACANT",
+            Wait::Unreachable(..) => "SERVERDOWN",
+        };
+        write!(f, "{name} {}: {}", self.reason(), self.advice())
     }
 }
 

@@ -52,6 +52,11 @@ MSET {a}1 x {a}2 7
 MGET {a}1 {a}2 {a}3
 EXISTS {a}1 {a}1 {a}3
 DEL {a}1 {a}2 {a}3
+MSET b 1 c 2 d 3 e 4 f 5
+MSET b 1 c
+MGET b c d e f nothing b
+EXISTS b c d e f nothing b
+DEL b c d e f nothing b
 TYPE a
 TYPE nothing
 PING
@@ -109,7 +114,7 @@ HELLO 4
 # What only one of them has; each is answered by what begins so.
 OWN = [
     ("SET a b EX 10", "NOEXPIRY"),
-    ("MGET a b c d e f", "CROSSSHARD"),
+    ("SM AT 1 MGET a b c d e f", "CROSSSHARD"),
     ("SM LOOK 0", "Serving"),
     ("SM LOOK 64", "REFUSED UnknownShard"),
     ("SM LOOK x", "REFUSED BadLine: it is written SM LOOK k"),

@@ -1,6 +1,7 @@
 #!/usr/bin/env python3
 """Migrations, restarts and pauses while clients call: moves.py PROGRAM."""
 import multiprocessing
+import select
 import subprocess
 import threading
 import time
@@ -97,6 +98,73 @@ def restarts_are_not_noticed(program):
 
     with served(program, "--servers", SERVERS, "--shards", SHARDS) as server:
         return loaded(server, lambda: restart(server))
+
+
+def restarts_at_once_are_not_noticed(program):
+    """Two servers at a time, as the caps allow, and every shard comes home."""
+
+    def restart(server):
+        with server.client() as one, server.client() as other:
+            for turn in range(3):
+                for client, number in ((one, 1), (other, 2 + turn)):
+                    client.send("SM", "RESTART", number)
+                answers = [client.read() for client in (one, other)]
+                assert all(it[0].endswith(b"with its 16 shards") for it in answers), answers
+            rows = servers_of(one)
+            assert all(it[1] == "up" and it[3] == str(SHARDS // SERVERS) for it in rows), rows
+            return "6 restarts"
+
+    options = ["--servers", SERVERS, "--shards", SHARDS, "--restarts", 2]
+    with served(program, *options) as server:
+        return loaded(server, lambda: restart(server))
+
+
+def servers_of(client):
+    return [it.decode().split(" ", 5) for it in client.ask("SM", "SERVERS")]
+
+
+def others_are_answered_while_a_server_restarts(program):
+    """SM SERVERS tells how far it is; a second restart waits for its turn, and another one of the same server is refused."""
+    options = ["--servers", 3, "--shards", 12, "--pace", 40]
+    with served(program, *options) as server, server.client() as control:
+        with server.client() as first, server.client() as second:
+            began = time.monotonic()
+            first.send("SM", "RESTART", 1)
+            while (told := servers_of(control))[0][1] != "approved":
+                assert time.monotonic() < began + 5, told
+            second.send("SM", "RESTART", 2)
+            control.send("SM", "RESTART", 1)
+            assert str(found := control.read()).startswith("REFUSED NotUp"), found
+            longest, seen = 0, {1: set(), 2: set()}
+            while not select.select([second.socket], [], [], 0)[0]:
+                began = time.monotonic()
+                rows = servers_of(control)
+                longest = max(longest, time.monotonic() - began)
+                for number in seen:
+                    seen[number].add(rows[number - 1][5].split(" ")[0])
+            assert longest < 0.3, f"another command waited for {longest:.2f} s"
+            assert {"draining", "returning"} <= seen[1] and {"waiting", "draining", "returning"} <= seen[2], seen
+            assert first.read() == [b"server 1 is back, with its 4 shards"]
+            assert second.read() == [b"server 2 is back, with its 4 shards"]
+        assert all(it[1] == "up" and it[3] == "4" and it[5] == "-" for it in servers_of(control))
+
+
+def a_restart_that_nobody_lets_go_is_refused(program):
+    """The cap's server is away for no restart that goes on, so waiting would mend nothing."""
+    with served(program, "--servers", 3) as server, server.client() as control:
+        assert control.ask("SM", "ASK", 1) == "OK" and control.ask("SM", "APPROVE", 1) == "OK"
+        control.send("SM", "RESTART", 2)
+        assert str(found := control.read()).startswith("REFUSED GlobalCap"), found
+        assert servers_of(control)[1][1] == "up"
+
+
+def plans_move_nothing(program):
+    with served(program, "--servers", 2, "--shards", 2, "--vacant") as server, server.client() as control:
+        assert control.ask("SM", "PLAN") == "plan 0>1 1>1 left"
+        assert control.ask("SM", "LOOK", 0).startswith("Vacant")
+        assert len(control.ask("SM", "PLACE")) == 2
+        assert control.ask("SM", "PLAN", 1) == "plan 0>2 1>2 left"
+        assert control.ask("SM", "LOOK", 0).startswith("Serving 1")
 
 
 def paused_shards_hold_back_who_asks_for_them(program):
@@ -206,6 +274,10 @@ TESTS = [
     migrations_are_not_noticed,
     slow_migrations_are_forwarded,
     restarts_are_not_noticed,
+    restarts_at_once_are_not_noticed,
+    others_are_answered_while_a_server_restarts,
+    a_restart_that_nobody_lets_go_is_refused,
+    plans_move_nothing,
     paused_shards_hold_back_who_asks_for_them,
     failed_servers_are_told,
     vacant_shards_are_placed,

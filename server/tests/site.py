@@ -12,7 +12,7 @@ import urllib.request
 
 from served import Refused, main, served
 
-SAMPLE = re.compile(r'^durkenzo_\w+(\{\w+="\w+"(,\w+="\w+")*\})? \d+$')
+SAMPLE = re.compile(r'^durkenzo_\w+(\{\w+="[\w.+]+"(,\w+="\w+")*\})? \d+(\.\d+)?$')
 
 
 def free_port():
@@ -47,12 +47,18 @@ def the_page_shows_how_all_stands(program):
 def metrics_are_in_the_format_of_prometheus(program):
     port = free_port()
     with served(program, "--http-port", port, "--threads", 2) as server, server.client() as client:
-        client.piped([("SET", "a", 1)] * 100)
+        client.piped([("SET", "a", 1)] * 100 + [("INCRBY", "a", "x"), ("SM", "ADD", 0)])
         lines = got(port, "/metrics").splitlines()
         samples = [it for it in lines if not it.startswith("#")]
         assert all(SAMPLE.match(it) for it in samples), [it for it in samples if not SAMPLE.match(it)]
         done = [int(it.split()[1]) for it in samples if it.startswith("durkenzo_commands_total")]
-        assert len(done) == 2 and sum(done) == 100, done
+        assert len(done) == 2 and sum(done) == 102, done
+        values = dict(it.rsplit(" ", 1) for it in samples)
+        assert values['durkenzo_errors_total{name="ERR"}'] == values['durkenzo_errors_total{name="WrongPhase"}'] == "1"
+        requests = [it.split()[1] for it in samples if it.startswith("durkenzo_requests_total") and it[-2:] != " 0"]
+        assert sorted(requests) == ["1", "100"], requests
+        assert values["durkenzo_command_seconds_count"] == values['durkenzo_command_seconds_bucket{le="+Inf"}'] == "102"
+        assert values['durkenzo_changes_total{change="assign"}'] == "64", values
         assert "# TYPE durkenzo_commands_total counter" in lines and "# TYPE durkenzo_keys gauge" in lines
 
 

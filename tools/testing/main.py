@@ -80,7 +80,7 @@ def stages_of(given, proofs, room):
         return [*found, ("the program without proof", stages.quick_program(room))]
     found += [("examples without proof", stages.unproved_program(room)), ("proofs", [Part(proofs.name, proofs.work)])]
     if not given.crates:
-        found += [("programs", [Part("programs", stages.programs)]), ("what is proved", stages.proved(print))]
+        found += [("program", [Part("program", stages.program)]), ("what is proved", stages.proved(print))]
     return found
 
 

@@ -10,9 +10,9 @@ from testing.library import PROVED
 from testing.part import Verdict, verdict
 
 FOLDER = sources.TOP / "server"
-SCRIPTS = ("commands", "moves", "hostile", "site")
+SCRIPTS = ("commands", "moves", "dumps", "hostile", "scripts", "site")
 REDIS = ("redis-server", "redis-cli", "redis-benchmark")
-HEADINGS = ("Network:", "Servers and shards:", "Threads and waiting:", "Log:")
+HEADINGS = ("Network:", "Servers and shards:", "Data:", "Threads and waiting:", "Log:")
 PASSED, FAILED, REASON = "passed: ", "FAILED: ", "    "
 
 

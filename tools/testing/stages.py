@@ -16,11 +16,11 @@ DOCS = (
     "doc-words",
     "edits",
     "headline",
+    "library-codes",
     "names",
 )
 PROVED = sources.CRATES / "sm_cli/out/sm_cli"
 BY_RATTLE = sources.CRATES / "sm_cli/out/sm_cli.by-rattle"
-SOAK = sources.CRATES / "bench_cluster/out/bench_cluster"
 
 
 def listed():
@@ -65,11 +65,19 @@ def built(name, path):
     return Part(f"{name}, built without proof", lambda _room: [tool("unproved", "--crate", name, path)])
 
 
+def soaked(room):
+    """Clusters by chance. Who directs them isn't proved; the sanitizer watches the cluster's memory."""
+    path = f"{room}/bench_cluster"
+    yield tool("unproved", "--crate", "bench_cluster", path)
+    yield tool("soak", "--seconds", 5, path)
+
+
 def without_proof(room, names, is_proved):
     """The stage before any proof: pages, tests, and the program as sources alone make it."""
     with_proof = lambda _room: [tool("run-tests", "--proved", *names)]
     proved = [Part("tests, proved", with_proof)] if is_proved else []
-    return [Part("tests", tests.work(names)), built("sm_cli", f"{room}/sm_cli"), *proved, *pages()]
+    programs = [built("sm_cli", f"{room}/sm_cli"), Part("a cluster by chance, unproved", soaked)]
+    return [Part("tests", tests.work(names)), *programs, *proved, *pages()]
 
 
 def unproved_program(room):
@@ -137,13 +145,12 @@ def faults(say):
     return parts
 
 
-def programs(_room):
+def program(_room):
     """What the proofs built. `rt ci` may have taken over a program that it built before, under --cached; it is as new as
     its sources all the same, which is how ./sm sees that it is proved."""
-    for path in (PROVED, SOAK):
-        yield verdict(f"{path.name} was proved and built", path.exists())
-        if path.exists():
-            path.touch()
+    yield verdict(f"{PROVED.name} was proved and built", PROVED.exists())
+    if PROVED.exists():
+        PROVED.touch()
 
 
 def proved(say):
@@ -165,5 +172,4 @@ def proved(say):
         *on_program(PROVED, "proved"),
         *on_program(BY_RATTLE, "by Rattle's compiler"),
         *when_built(PROVED, parts),
-        *when_built(SOAK, [Part("a cluster by chance", lambda _room: [tool("soak", "--seconds", 5, SOAK)])]),
     ]

@@ -1,4 +1,4 @@
-//! The counterpart of crates/bench_cluster in Rust: servers with inboxes, a lock for each shard's stand and one for its counts, and a
+//! The counterpart of bench_cluster (../crate) in Rust: servers with inboxes, a lock for each shard's stand and one for its counts, and a
 //! lock round the published routes. It prints what bench_cluster prints: what clients were told, the nanoseconds from the start until
 //! the servers were started, all shards were published, all clients had left, and all had ended; and the time of each migration.
 

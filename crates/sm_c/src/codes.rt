@@ -16,10 +16,12 @@ use sm_rule::{AdmitRefusal, MakeFault};
 use sm_server::{CheckpointFault, Refusal};
 use sm_tasks::RestartFault;
 
-/// The handle keeps nothing, or nothing that the call is for.
+// By tools/library-codes, the codes of library/codes.txt:
+
+/// The handle keeps nothing that the call is for.
 pub(crate) const WRONG_HANDLE: u32 = 1;
 
-/// A number of a server, a kind or a record is out of bounds.
+/// A server or a kind is out of bounds.
 pub(crate) const BAD_ARGUMENT: u32 = 2;
 
 /// Memory was refused.
@@ -28,20 +30,135 @@ pub(crate) const NO_MEMORY: u32 = 3;
 /// No record has the word.
 pub(crate) const BAD_WORD: u32 = 4;
 
-/// The ceiling is out of bounds.
+/// The ceiling of generations is 3 to 68,719,476,735.
 pub(crate) const BAD_CEILING: u32 = 5;
+
+/// A board has at least one shard.
+pub(crate) const NO_SHARD: u32 = 6;
+
+/// A board or a layout has at most 4,096 shards.
+pub(crate) const TOO_MANY: u32 = 7;
+
+/// There are no servers, or memory for their books was refused.
+pub(crate) const BAD_BOOKS: u32 = 8;
 
 /// There is no such shard.
 pub(crate) const UNKNOWN_SHARD: u32 = 10;
 
+/// The change doesn't begin from the shard's stand.
+pub(crate) const WRONG_PHASE: u32 = 11;
+
+/// The server owns the shard.
+pub(crate) const SAME_SERVER: u32 = 12;
+
+/// The shard's generations are spent.
+pub(crate) const CHANGE_SPENT: u32 = 13;
+
+/// The shard is admitted.
+pub(crate) const BUSY: u32 = 14;
+
 /// Another thread was first.
 pub(crate) const RACED: u32 = 15;
+
+/// Nobody owns the shard.
+pub(crate) const NOBODY_OWNS: u32 = 21;
+
+/// The shard is paused.
+pub(crate) const IS_PAUSED: u32 = 22;
+
+/// Another server executes the shard's requests.
+pub(crate) const NOT_EXECUTOR: u32 = 23;
+
+/// The server executes only what the owner forwards.
+pub(crate) const NOT_YET: u32 = 24;
+
+/// The shard is admitted.
+pub(crate) const ADMITTED: u32 = 25;
+
+/// The shard's generations are spent.
+pub(crate) const SPENT: u32 = 26;
 
 /// The word has no admission that could end.
 pub(crate) const NOT_ADMITTED: u32 = 27;
 
-/// The envelope goes on to another server.
+/// There is no such server.
+pub(crate) const UNKNOWN_SERVER: u32 = 30;
+
+/// The server is leaving.
+pub(crate) const LEAVING: u32 = 31;
+
+/// The server has no room.
+pub(crate) const NO_CAPACITY: u32 = 32;
+
+/// The server's domain has its share of the group.
+pub(crate) const DOMAIN_LIMIT: u32 = 33;
+
+/// The server isn't up.
+pub(crate) const NOT_UP: u32 = 40;
+
+/// The restart wasn't asked for.
+pub(crate) const NOT_ASKED: u32 = 41;
+
+/// Too many servers would be leaving.
+pub(crate) const GLOBAL_CAP: u32 = 42;
+
+/// A shard may not be down.
+pub(crate) const SHARD_CAP: u32 = 43;
+
+/// Too many shards of a group would be down.
+pub(crate) const GROUP_CAP: u32 = 44;
+
+/// Too many servers of a domain would be down.
+pub(crate) const DOMAIN_CAP: u32 = 45;
+
+/// The restart isn't approved.
+pub(crate) const NOT_APPROVED: u32 = 46;
+
+/// A shard that names the server isn't paused.
+pub(crate) const STILL_SERVING: u32 = 47;
+
+/// The server is up already.
+pub(crate) const ALREADY_UP: u32 = 48;
+
+/// The server has failed already.
+pub(crate) const ALREADY_FAILED: u32 = 49;
+
+/// A layout has at least one bound.
+pub(crate) const NO_BOUND: u32 = 50;
+
+/// The first bound is not empty.
+pub(crate) const FIRST_NOT_EMPTY: u32 = 51;
+
+/// A bound is not above the one before it.
+pub(crate) const NOT_RISING: u32 = 52;
+
+/// A bound has more than 255 bytes.
+pub(crate) const BOUND_TOO_LONG: u32 = 53;
+
+/// What would be written is longer than the room for it.
+pub(crate) const TOO_SHORT: u32 = 55;
+
+/// The plan has no such line, or the reply no such pair.
+pub(crate) const NO_MORE: u32 = 56;
+
+/// A key has at least one byte.
+pub(crate) const KEY_EMPTY: u32 = 57;
+
+/// A key has at most 255 bytes.
+pub(crate) const KEY_TOO_LONG: u32 = 58;
+
+/// The envelope goes on to the server `to`.
 pub(crate) const FORWARD: u32 = 60;
+
+/// The request's key is of another shard.
+pub(crate) const WRONG_SHARD: u32 = 61;
+
+/// The request was forwarded too often.
+pub(crate) const TOO_MANY_HOPS: u32 = 62;
+
+/// The shard keeps as many requests as it may: make a checkpoint.
+pub(crate) const KEPT_FULL: u32 = 63;
+// End of them.
 
 /// The code of what forbids a step of a word.
 pub(crate) fn code_of_word(fault: WordFault) -> u32
@@ -61,12 +178,12 @@ pub(crate) fn code_of_open(fault: OpenFault) -> u32
 {
     match fault {
         OpenFault::Board(fault) => match fault {
-            MakeFault::NoShard => 6,
-            MakeFault::TooMany => 7,
+            MakeFault::NoShard => NO_SHARD,
+            MakeFault::TooMany => TOO_MANY,
             MakeFault::BadCeiling => BAD_CEILING,
             MakeFault::NoMemory => NO_MEMORY,
         },
-        OpenFault::Books(_) => 8,
+        OpenFault::Books(_) => BAD_BOOKS,
         OpenFault::Servers | OpenFault::Restarts => BAD_ARGUMENT,
         OpenFault::NoMemory => NO_MEMORY,
     }
@@ -79,11 +196,11 @@ pub(crate) fn code_of_cut(fault: CutFault) -> u32
     match fault {
         CutFault::Outside => BAD_ARGUMENT,
         CutFault::Layout(fault) => match fault {
-            LayoutFault::Empty => 50,
-            LayoutFault::FirstNotEmpty => 51,
-            LayoutFault::NotRising { .. } => 52,
-            LayoutFault::KeyTooLong { .. } => 53,
-            LayoutFault::TooMany => 7,
+            LayoutFault::Empty => NO_BOUND,
+            LayoutFault::FirstNotEmpty => FIRST_NOT_EMPTY,
+            LayoutFault::NotRising { .. } => NOT_RISING,
+            LayoutFault::KeyTooLong { .. } => BOUND_TOO_LONG,
+            LayoutFault::TooMany => TOO_MANY,
             LayoutFault::NoMemory => NO_MEMORY,
         },
     }
@@ -96,8 +213,8 @@ pub(crate) fn code_of_request(fault: RequestFault) -> u32
     match fault {
         RequestFault::Argument => BAD_ARGUMENT,
         RequestFault::Key(fault) => match fault {
-            KeyFault::Empty => 57,
-            KeyFault::TooLong => 58,
+            KeyFault::Empty => KEY_EMPTY,
+            KeyFault::TooLong => KEY_TOO_LONG,
             KeyFault::NoMemory => NO_MEMORY,
         },
     }
@@ -111,10 +228,10 @@ pub(crate) fn code_of_act(fault: ActFault) -> u32
     match fault {
         ActFault::WrongHandle => WRONG_HANDLE,
         ActFault::UnknownShard => UNKNOWN_SHARD,
-        ActFault::UnknownServer => 30,
+        ActFault::UnknownServer => UNKNOWN_SERVER,
         ActFault::NoMemory => NO_MEMORY,
-        ActFault::TooShort => 55,
-        ActFault::NoMore => 56,
+        ActFault::TooShort => TOO_SHORT,
+        ActFault::NoMore => NO_MORE,
         ActFault::Admit(refusal) => code_of_admission(refusal),
         ActFault::Checkpoint(fault) => match fault {
             CheckpointFault::Admit(refusal) => code_of_admission(refusal),
@@ -133,9 +250,9 @@ pub(crate) fn code_of_refusal(refusal: Refusal) -> u32
     ensures stays { result ≢ FORWARD }
 {
     match refusal {
-        Refusal::WrongShard => 61,
-        Refusal::TooManyHops => 62,
-        Refusal::KeptFull => 63,
+        Refusal::WrongShard => WRONG_SHARD,
+        Refusal::TooManyHops => TOO_MANY_HOPS,
+        Refusal::KeptFull => KEPT_FULL,
         Refusal::NoMemory => NO_MEMORY,
         Refusal::Admit(refusal) => code_of_admission(refusal),
     }
@@ -157,10 +274,10 @@ fn code_of_change(fault: ChangeFault) -> u32
 {
     match fault {
         ChangeFault::UnknownShard => UNKNOWN_SHARD,
-        ChangeFault::WrongPhase => 11,
-        ChangeFault::SameServer => 12,
-        ChangeFault::Spent(_) => 13,
-        ChangeFault::Busy(_) => 14,
+        ChangeFault::WrongPhase => WRONG_PHASE,
+        ChangeFault::SameServer => SAME_SERVER,
+        ChangeFault::Spent(_) => CHANGE_SPENT,
+        ChangeFault::Busy(_) => BUSY,
     }
 }
 
@@ -169,12 +286,12 @@ fn code_of_admit(fault: AdmitFault) -> u32
     ensures stays { result ≢ FORWARD }
 {
     match fault {
-        AdmitFault::Vacant => 21,
-        AdmitFault::Paused => 22,
-        AdmitFault::NotExecutor => 23,
-        AdmitFault::NotYet => 24,
-        AdmitFault::Admitted => 25,
-        AdmitFault::Spent => 26,
+        AdmitFault::Vacant => NOBODY_OWNS,
+        AdmitFault::Paused => IS_PAUSED,
+        AdmitFault::NotExecutor => NOT_EXECUTOR,
+        AdmitFault::NotYet => NOT_YET,
+        AdmitFault::Admitted => ADMITTED,
+        AdmitFault::Spent => SPENT,
     }
 }
 
@@ -183,12 +300,12 @@ fn code_of_command(fault: CommandFault) -> u32
     ensures stays { result ≢ FORWARD }
 {
     match fault {
-        CommandFault::UnknownServer => 30,
+        CommandFault::UnknownServer => UNKNOWN_SERVER,
         CommandFault::Change(fault) => code_of_change(fault),
         CommandFault::Place(fault) => match fault {
-            PlaceFault::Leaving => 31,
-            PlaceFault::NoCapacity => 32,
-            PlaceFault::DomainLimit => 33,
+            PlaceFault::Leaving => LEAVING,
+            PlaceFault::NoCapacity => NO_CAPACITY,
+            PlaceFault::DomainLimit => DOMAIN_LIMIT,
         },
         CommandFault::Restart(fault) => code_of_restart(fault),
     }
@@ -199,15 +316,15 @@ fn code_of_restart(fault: RestartFault) -> u32
     ensures stays { result ≢ FORWARD }
 {
     match fault {
-        RestartFault::NotUp => 40,
-        RestartFault::NotAsked => 41,
-        RestartFault::GlobalCap => 42,
-        RestartFault::ShardCap(_) => 43,
-        RestartFault::GroupCap(_) => 44,
-        RestartFault::DomainCap(_) => 45,
-        RestartFault::NotApproved => 46,
-        RestartFault::StillServing(_) => 47,
-        RestartFault::AlreadyUp => 48,
-        RestartFault::AlreadyFailed => 49,
+        RestartFault::NotUp => NOT_UP,
+        RestartFault::NotAsked => NOT_ASKED,
+        RestartFault::GlobalCap => GLOBAL_CAP,
+        RestartFault::ShardCap(_) => SHARD_CAP,
+        RestartFault::GroupCap(_) => GROUP_CAP,
+        RestartFault::DomainCap(_) => DOMAIN_CAP,
+        RestartFault::NotApproved => NOT_APPROVED,
+        RestartFault::StillServing(_) => STILL_SERVING,
+        RestartFault::AlreadyUp => ALREADY_UP,
+        RestartFault::AlreadyFailed => ALREADY_FAILED,
     }
 }

@@ -3,9 +3,9 @@ use Rattle.std.proofs.Common.{◌≡◌, true, false, ℕ, zero, suc, ◌<◌, �
 use Rattle.std.proofs.Common.{get_or, set, take, drop, refl, sym, ap, ◌∙◌, arith, inl, inr, ◌⊎◌, append_assoc}
 use Rattle.std.specs.List.{between, insert, remove}
 use Rattle.std.proofs.lemmas.Bool.{cases_lt}
-use Rattle.std.proofs.lemmas.List.{length-map, length-take, length-drop, take-append-drop, take-take, get_or-map}
-use Rattle.std.proofs.lemmas.List.{get_or_default, take-map, take_all, set_split, set-get_or, set-append_left}
-use Rattle.std.proofs.lemmas.List.{set-append_right, map-append, map-set}
+use Rattle.std.proofs.lemmas.List.{length-map, length-take, length-drop, drop_all, take-append-drop, take-take}
+use Rattle.std.proofs.lemmas.List.{get_or-map, get_or_default, take-map, take_all, set_split, set-get_or}
+use Rattle.std.proofs.lemmas.List.{set-append_left, set-append_right, map-append, map-set}
 use Rattle.std.proofs.lemmas.List.Concat.{flat_map-append, length-flat_map, get_or-flat_map}
 use Rattle.std.proofs.lemmas.List.Edits.{length-insert, length-between, get_or-between, insert-append_left}
 use Rattle.std.proofs.lemmas.List.Edits.{insert-append_right, remove-append_left, remove-append_right}
@@ -16,7 +16,7 @@ use Rattle.sm_map.specs.KeyEntry.{pair_of, pairs_of}
 use Rattle.sm_map.specs.Block.{BlockValue}
 use Rattle.std.proofs.lemmas.Bool.Decides.{nat_tests}
 use Rattle.sm_map.specs.Places.{precedes}
-use Rattle.sm_map.specs.Blocks.{entries_in, lengths_in, number_of, HasEntry, IsStop, IsHalved}
+use Rattle.sm_map.specs.Blocks.{entries_in, lengths_in, number_of, HasEntry, IsStop, IsSplit}
 use Rattle.sm_map.specs.declared.key_entry.KeyEntry.{KeyEntry}
 use Rattle.sm_map.specs.declared.place.Place.{Place}
 
@@ -164,7 +164,7 @@ dropped (x ∷ xs) (suc b) d lt is = ap (λ (l : List KeyEntry). x.entries ++ l)
 -- an entry that is put into a half of a full block
 module _ (xs : List KeyEntry) (at : ℕ) (e : KeyEntry) (lower upper : BlockValue) (full : length xs ≡ 64) where
   pub lower_insert : at ≤ 32 → (cut : List KeyEntry) → cut ≡ take 32 xs → lower.entries ≡ insert cut at e
-      → upper.entries ≡ drop 32 xs → IsHalved (insert xs at e) lower upper
+      → upper.entries ≡ drop 32 xs → IsSplit (insert xs at e) lower upper
   lower_insert le cut is_cut is_lower is_upper =
       let front : length (take 32 xs) ≡ 32 = omega (arith, length-take 32 xs) in
       let low : lower.entries ≡ insert (take 32 xs) at e =
@@ -181,7 +181,7 @@ module _ (xs : List KeyEntry) (at : ℕ) (e : KeyEntry) (lower upper : BlockValu
       }
 
   pub upper_insert : 32 < at → at ≤ 64 → (cut : List KeyEntry) → cut ≡ drop 32 xs → lower.entries ≡ take 32 xs
-      → upper.entries ≡ insert cut (at - 32) e → IsHalved (insert xs at e) lower upper
+      → upper.entries ≡ insert cut (at - 32) e → IsSplit (insert xs at e) lower upper
   upper_insert more le cut is_cut is_lower is_upper =
       let front : length (take 32 xs) ≡ 32 = omega (arith, length-take 32 xs) in
       let high : upper.entries ≡ insert (drop 32 xs) (at - 32) e =
@@ -194,6 +194,18 @@ module _ (xs : List KeyEntry) (at : ℕ) (e : KeyEntry) (lower upper : BlockValu
             ∙ ap (λ (l : List KeyEntry). insert l at e) (take-append-drop 32 xs));
         low = (omega (arith, ap length is_lower), omega (arith, ap length is_lower));
         high = (omega (arith, ap length high, longer), omega (arith, ap length high, longer));
+      }
+
+  pub end_insert : at ≡ 64 → (cut : List KeyEntry) → cut ≡ [] → lower.entries ≡ xs → upper.entries ≡ insert cut 0 e
+      → IsSplit (insert xs at e) lower upper
+  end_insert end cut none is_lower is_upper =
+      let front : take at xs ≡ xs = take_all at xs (omega (arith, full, end)) in
+      let back : drop at xs ≡ [] = drop_all at xs (omega (arith, full, end)) in
+      let high : upper.entries ≡ e ∷ [] = is_upper ∙ ap (λ (l : List KeyEntry). insert l 0 e) none in
+      record {
+        joined = (λ i. is_lower i ++ high i) ∙ sym (λ i. front i ++ e ∷ back i);
+        low = (omega (arith, ap length is_lower, full), omega (arith, ap length is_lower, full));
+        high = (omega (arith, ap length high), omega (arith, ap length high));
       }
 
 -- ---- places

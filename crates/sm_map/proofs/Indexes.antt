@@ -10,7 +10,7 @@ use Rattle.std.proofs.lemmas.List.Edits.{insert_end, length-insert, length-remov
 use Rattle.std.proofs.lemmas.List.Elements.{All-set, All-take, All-drop, All-append, All-cons}
 use Rattle.std.proofs.lemmas.List.Sums.{sum_by-le}
 use Rattle.sm_map.specs.Block.{BlockValue}
-use Rattle.sm_map.specs.Blocks.{entries_in, lengths_in, number_of, HasEntry, IsGap, IsStop, IsSized, IsHalved}
+use Rattle.sm_map.specs.Blocks.{entries_in, lengths_in, number_of, HasEntry, IsGap, IsStop, IsSized, IsSplit}
 use Rattle.sm_map.specs.Index.{IndexValue, IsIndex, IsReady}
 use Rattle.sm_map.specs.declared.key_entry.KeyEntry.{KeyEntry}
 use Rattle.sm_map.specs.declared.place.Place.{Place}
@@ -144,7 +144,7 @@ module _ (blocks : List BlockValue) (len : ℕ) (kept : IsIndex blocks len) (pla
       }
 
     -- or into one of its halves
-    module _ (upper : BlockValue) (cut : IsHalved (insert old.entries place.offset e) new upper) where
+    module _ (upper : BlockValue) (cut : IsSplit (insert old.entries place.offset e) new upper) where
       pub half_entries : entries_in (insert (set blocks place.block new) (place.block + 1) upper)
           ≡ insert (entries_in blocks) (number_of (lengths_in blocks) place) e
       half_entries =

@@ -21,7 +21,7 @@ abbrev pub IsSized : BlockValue → Type 0
 IsSized block = (0 < length block.entries) × (length block.entries ≤ MOST_ENTRIES)
 
 -- both blocks are filled, and hold the entries one after the other
-pub record IsHalved (entries : List KeyEntry) (lower upper : BlockValue) : Type 0 where
+pub record IsSplit (entries : List KeyEntry) (lower upper : BlockValue) : Type 0 where
   pub joined : lower.entries ++ upper.entries ≡ entries
   pub low : IsSized lower
   pub high : IsSized upper

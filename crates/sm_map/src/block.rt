@@ -3,7 +3,7 @@ ghost use Rattle.std.specs.List.{HoldsAt, between, insert, remove};
 ghost use Rattle.sm_map.specs.KeyMap.{key_of, IsKeyMap};
 ghost use Rattle.sm_ranges.specs.Keyed.{IsKeyPlace, IsKeyGap};
 ghost use Rattle.sm_map.specs.KeyEntry.{pairs_of, HasKeys};
-ghost use Rattle.sm_map.specs.Blocks.{IsHalved};
+ghost use Rattle.sm_map.specs.Blocks.{IsSplit};
 
 use crate::key_entry::KeyEntry;
 use sm_arena::arena::Arena;
@@ -103,14 +103,20 @@ impl Block {
         let _ = self.entries.insert(at, entry);
     }
 
-    // Puts an entry into a full block, whose upper half goes to a block without entries.
-    pub(crate) fn insert_in_half(&mut self, at: usize, entry: KeyEntry, upper: Block) -> Block
+    // Puts an entry into a full block, whose upper half goes to a block without entries. An entry behind all others
+    // goes there alone, so that keys in rising order leave full blocks.
+    pub(crate) fn insert_split(&mut self, at: usize, entry: KeyEntry, upper: Block) -> Block
         requires place { at ≤ length self.old.entries }
         requires full { length self.old.entries ≡ MOST_ENTRIES }
         requires empty { upper.entries ≡ [] }
         requires room { MOST_ENTRIES ≤ upper.room }
-        ensures { IsHalved (insert self.old.entries at entry) self.new result }
+        ensures { IsSplit (insert self.old.entries at entry) self.new result }
     {
+        if at == MOST_ENTRIES {
+            let mut upper = upper;
+            upper.insert(0, entry);
+            return upper;
+        }
         let mut upper = self.cut(upper);
         if at <= HALF_ENTRIES {
             self.insert(at, entry);

@@ -231,7 +231,7 @@ impl Index {
         match room {
             Room::Inside => self.blocks[place.block].insert(place.offset, entry),
             Room::Beside(upper) => {
-                let upper = self.blocks[place.block].insert_in_half(place.offset, entry, upper);
+                let upper = self.blocks[place.block].insert_split(place.offset, entry, upper);
                 add(&mut self.blocks, place.block + 1, upper);
             }
             Room::Behind(last) => {

@@ -3,53 +3,6 @@ from __future__ import annotations
 
 from .record import Record
 
-__all__ = [
-    "DurkenzoError",
-    "WrongHandle",
-    "BadArgument",
-    "NoMemory",
-    "BadCeiling",
-    "NoShard",
-    "TooMany",
-    "BadBooks",
-    "UnknownShard",
-    "WrongPhase",
-    "SameServer",
-    "ChangeSpent",
-    "Busy",
-    "Raced",
-    "NobodyOwns",
-    "IsPaused",
-    "NotExecutor",
-    "NotYet",
-    "IsAdmitted",
-    "Spent",
-    "NotAdmitted",
-    "UnknownServer",
-    "Leaving",
-    "NoCapacity",
-    "DomainLimit",
-    "NotUp",
-    "NotAsked",
-    "GlobalCap",
-    "ShardCap",
-    "GroupCap",
-    "DomainCap",
-    "NotApproved",
-    "StillServing",
-    "AlreadyUp",
-    "AlreadyFailed",
-    "NoBound",
-    "FirstNotEmpty",
-    "NotRising",
-    "BoundTooLong",
-    "KeyEmpty",
-    "KeyTooLong",
-    "WrongKind",
-    "CountOverflow",
-    "TextTooLong",
-]
-
 
 class DurkenzoError(Exception):
     """A call was refused. `record` is what was read of the shard, where a record refused it."""
@@ -61,6 +14,7 @@ class DurkenzoError(Exception):
         self.record = record
 
 
+# By tools/library-codes, the codes of library/codes.txt:
 class WrongHandle(DurkenzoError):
     """The pass has a permit, or was closed."""
 
@@ -80,7 +34,7 @@ class NoMemory(DurkenzoError):
 
 
 class BadCeiling(DurkenzoError):
-    """The ceiling of generations is 3 to 2^36 - 1."""
+    """The ceiling of generations is 3 to 68,719,476,735."""
 
     code = 5
 
@@ -98,7 +52,7 @@ class TooMany(DurkenzoError):
 
 
 class BadBooks(DurkenzoError):
-    """There are no servers."""
+    """There are no servers, or memory for their books was refused."""
 
     code = 8
 
@@ -164,7 +118,7 @@ class NotYet(DurkenzoError):
 
 
 class IsAdmitted(DurkenzoError):
-    """The shard has an admission that hasn't ended."""
+    """The shard is admitted."""
 
     code = 25
 
@@ -188,7 +142,7 @@ class UnknownServer(DurkenzoError):
 
 
 class Leaving(DurkenzoError):
-    """The server is leaving for a restart."""
+    """The server is leaving."""
 
     code = 31
 
@@ -200,7 +154,7 @@ class NoCapacity(DurkenzoError):
 
 
 class DomainLimit(DurkenzoError):
-    """The server's domain has its share of the shards."""
+    """The server's domain has its share of the group."""
 
     code = 33
 
@@ -319,7 +273,57 @@ class TextTooLong(DurkenzoError):
     code = None
 
 
+# The codes with which a record is written.
 _READ = {13, 14, 15, 21, 22, 23, 24, 25, 26}
+
+__all__ = [
+    "DurkenzoError",
+    "WrongHandle",
+    "BadArgument",
+    "NoMemory",
+    "BadCeiling",
+    "NoShard",
+    "TooMany",
+    "BadBooks",
+    "UnknownShard",
+    "WrongPhase",
+    "SameServer",
+    "ChangeSpent",
+    "Busy",
+    "Raced",
+    "NobodyOwns",
+    "IsPaused",
+    "NotExecutor",
+    "NotYet",
+    "IsAdmitted",
+    "Spent",
+    "NotAdmitted",
+    "UnknownServer",
+    "Leaving",
+    "NoCapacity",
+    "DomainLimit",
+    "NotUp",
+    "NotAsked",
+    "GlobalCap",
+    "ShardCap",
+    "GroupCap",
+    "DomainCap",
+    "NotApproved",
+    "StillServing",
+    "AlreadyUp",
+    "AlreadyFailed",
+    "NoBound",
+    "FirstNotEmpty",
+    "NotRising",
+    "BoundTooLong",
+    "KeyEmpty",
+    "KeyTooLong",
+    "WrongKind",
+    "CountOverflow",
+    "TextTooLong",
+]
+# End of them.
+
 _BY_CODE = {it.code: it for it in DurkenzoError.__subclasses__()}
 
 

@@ -10,12 +10,14 @@ from ._library import RecordParts
 class Phase(enum.IntEnum):
     """How far the migration of a shard has come."""
 
+    # By tools/library-codes, the phases of library/codes.txt:
     VACANT = 0
     SERVING = 1
     PREPARED = 2
     FORWARDING = 3
     TAKEN = 4
     PAUSED = 5
+    # End of them.
 
 
 @dataclass(frozen=True)

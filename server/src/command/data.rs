@@ -33,28 +33,17 @@ pub fn execute(
 ) {
     let mark = replies.mark();
     let done = match word {
-        DataWord::Get => {
-            get(body, command.get(1), replies);
-            Ok(())
-        }
+        DataWord::Get => get(body, command.get(1), replies),
         DataWord::Set => set(body, command, replies),
         DataWord::Incr => add(body, command.get(1), Some(1), replies),
         DataWord::Decr => add(body, command.get(1), Some(-1), replies),
         DataWord::IncrBy => add(body, command.get(1), number::parse(command.get(2)), replies),
         DataWord::DecrBy => subtract(body, command, replies),
         DataWord::Append => append(body, command.get(1), command.get(2), replies),
-        DataWord::StrLen => {
-            replies.count(length(body, command.get(1)));
-            Ok(())
-        }
-        DataWord::Type => {
-            let is_held = is_held(body, command.get(1));
-            replies.simple(if is_held { "string" } else { "none" });
-            Ok(())
-        }
-        DataWord::Del => counted(command, replies, |key| {
-            body.apply(Request::Delete(key)) == Reply::Done
-        }),
+        DataWord::StrLen => length(body, command.get(1)).map(|it| replies.count(it)),
+        DataWord::Type => is_held(body, command.get(1))
+            .map(|it| replies.simple(if it { "string" } else { "none" })),
+        DataWord::Del => counted(command, replies, |key| delete(body, key)),
         DataWord::Exists => counted(command, replies, |key| is_held(body, key)),
         DataWord::MGet => get_all(body, command, replies),
         DataWord::MSet => set_all(body, command, replies),
@@ -77,11 +66,21 @@ fn write_value(value: Value<'_>, replies: &mut Replies) {
     }
 }
 
-fn get(body: &mut dyn ShardBody, key: &[u8], replies: &mut Replies) {
+/// What the key holds, if anything; or why that can't be told.
+fn held<'a>(body: &'a mut dyn ShardBody, key: &[u8]) -> Result<Option<Value<'a>>, Fault> {
     match body.apply(Request::Get(key)) {
-        Reply::Value(value) => write_value(value, replies),
-        _ => replies.null(),
+        Reply::Value(value) => Ok(Some(value)),
+        Reply::Refused(refusal) => Err(refusal.into()),
+        _ => Ok(None),
     }
+}
+
+fn get(body: &mut dyn ShardBody, key: &[u8], replies: &mut Replies) -> Result<(), Fault> {
+    match held(body, key)? {
+        Some(value) => write_value(value, replies),
+        None => replies.null(),
+    }
+    Ok(())
 }
 
 fn get_all(
@@ -92,7 +91,7 @@ fn get_all(
     let mark = replies.mark();
     replies.array(command.len() - 1);
     for key in command.from(1).iter() {
-        get(body, key, replies);
+        get(body, key, replies)?;
         if replies.is_too_large(mark) {
             return Err(Fault::ReplyTooLarge);
         }
@@ -100,26 +99,96 @@ fn get_all(
     Ok(())
 }
 
-fn is_held(body: &mut dyn ShardBody, key: &[u8]) -> bool {
-    body.apply(Request::Get(key)) != Reply::Nothing
+fn is_held(body: &mut dyn ShardBody, key: &[u8]) -> Result<bool, Fault> {
+    held(body, key).map(|it| it.is_some())
 }
 
-fn length(body: &mut dyn ShardBody, key: &[u8]) -> usize {
-    match body.apply(Request::Get(key)) {
-        Reply::Value(Value::Text(text)) => text.len(),
-        Reply::Value(Value::Count(count)) => Digits::new(count).as_bytes().len(),
-        _ => 0,
+fn length(body: &mut dyn ShardBody, key: &[u8]) -> Result<usize, Fault> {
+    Ok(match held(body, key)? {
+        Some(Value::Text(text)) => text.len(),
+        Some(Value::Count(count)) => Digits::new(count).as_bytes().len(),
+        None => 0,
+    })
+}
+
+/// Whether the key held something until now.
+fn delete(body: &mut dyn ShardBody, key: &[u8]) -> Result<bool, Fault> {
+    match body.apply(Request::Delete(key)) {
+        Reply::Refused(refusal) => Err(refusal.into()),
+        reply => Ok(reply == Reply::Done),
     }
 }
 
 fn counted(
     command: Command<'_>,
     replies: &mut Replies,
-    mut is_counted: impl FnMut(&[u8]) -> bool,
+    mut is_counted: impl FnMut(&[u8]) -> Result<bool, Fault>,
 ) -> Result<(), Fault> {
-    let keys = command.from(1);
-    replies.count(keys.iter().filter(|key| is_counted(key)).count());
+    let mut count = 0;
+    for key in command.from(1).iter() {
+        count += usize::from(is_counted(key)?);
+    }
+    replies.count(count);
     Ok(())
+}
+
+/// How far a command has come whose keys are of several shards, each of which is done by itself.
+#[derive(Clone, Copy, Debug, Default, PartialEq, Eq)]
+pub struct Part {
+    /// How many keys are done.
+    pub done: usize,
+    /// How many of them count.
+    count: usize,
+}
+
+/// The key that comes next of such a command, unless all are done.
+pub fn next_key<'a>(word: DataWord, command: Command<'a>, part: Part) -> Option<&'a [u8]> {
+    let index = 1 + part.done * if word == DataWord::MSet { 2 } else { 1 };
+    (index < command.len()).then(|| command.get(index))
+}
+
+/// Does the next key of such a command, whose values are known to be short enough.
+pub fn execute_next(
+    word: DataWord,
+    command: Command<'_>,
+    body: &mut dyn ShardBody,
+    part: &mut Part,
+    replies: &mut Replies,
+) -> Result<(), Fault> {
+    let at = part.done;
+    match word {
+        DataWord::MSet => put(body, command.get(2 * at + 1), command.get(2 * at + 2))?,
+        DataWord::Del => part.count += usize::from(delete(body, command.get(at + 1))?),
+        DataWord::Exists => part.count += usize::from(is_held(body, command.get(at + 1))?),
+        _ => get(body, command.get(at + 1), replies)?,
+    }
+    part.done += 1;
+    Ok(())
+}
+
+/// What is written before any key of such a command is done: refused where a value is too long.
+pub fn begin_keys(
+    word: DataWord,
+    command: Command<'_>,
+    replies: &mut Replies,
+) -> Result<(), Fault> {
+    match word {
+        DataWord::MSet => check_values(command),
+        DataWord::MGet => {
+            replies.array(command.len() - 1);
+            Ok(())
+        }
+        _ => Ok(()),
+    }
+}
+
+/// What is written once all are.
+pub fn end_keys(word: DataWord, part: Part, replies: &mut Replies) {
+    match word {
+        DataWord::MSet => replies.simple("OK"),
+        DataWord::MGet => {}
+        _ => replies.count(part.count),
+    }
 }
 
 /// Has the key hold the text.
@@ -175,12 +244,12 @@ fn set(body: &mut dyn ShardBody, command: Command<'_>, replies: &mut Replies) ->
     if text.len() > MAX_TEXT {
         return Err(Fault::TooLong);
     }
-    let is_set = match is_held(body, key) {
+    let is_set = match is_held(body, key)? {
         true => !options.is_new,
         false => !options.is_old,
     };
     match (options.gives_last, is_set) {
-        (true, _) => get(body, key, replies),
+        (true, _) => get(body, key, replies)?,
         (false, true) => replies.simple("OK"),
         (false, false) => replies.null(),
     }
@@ -190,16 +259,21 @@ fn set(body: &mut dyn ShardBody, command: Command<'_>, replies: &mut Replies) ->
     Ok(())
 }
 
-/// All values, or none where one is too long.
+/// Whether each value of MSET is short enough, so that all are set or none is.
+fn check_values(command: Command<'_>) -> Result<(), Fault> {
+    let mut values = command.iter().skip(2).step_by(2);
+    match values.any(|it| it.len() > MAX_TEXT) {
+        true => Err(Fault::TooLong),
+        false => Ok(()),
+    }
+}
+
 fn set_all(
     body: &mut dyn ShardBody,
     command: Command<'_>,
     replies: &mut Replies,
 ) -> Result<(), Fault> {
-    let mut values = command.iter().skip(2).step_by(2);
-    if values.any(|it| it.len() > MAX_TEXT) {
-        return Err(Fault::TooLong);
-    }
+    check_values(command)?;
     for index in (1..command.len()).step_by(2) {
         put(body, command.get(index), command.get(index + 1))?;
     }
@@ -236,11 +310,12 @@ fn add(
 
 /// Adds to a text that APPEND made a number.
 fn add_to_text(body: &mut dyn ShardBody, key: &[u8], number: i64) -> Result<i64, Fault> {
-    let held = match body.apply(Request::Get(key)) {
-        Reply::Value(Value::Text(text)) => number::parse(text),
-        _ => None,
+    let before = match held(body, key)? {
+        Some(Value::Text(text)) => number::parse(text),
+        Some(Value::Count(count)) => Some(count),
+        None => Some(0),
     };
-    let sum = held
+    let sum = before
         .ok_or(Fault::NotInteger)?
         .checked_add(number)
         .ok_or(Fault::Overflow)?;
@@ -268,10 +343,12 @@ fn append(
 
 /// Adds to the digits of a count, which may be a count again.
 fn append_to_count(body: &mut dyn ShardBody, key: &[u8], more: &[u8]) -> Result<usize, Fault> {
-    let Reply::Value(Value::Count(count)) = body.apply(Request::Get(key)) else {
-        return Err(Fault::NotInteger);
+    let mut text = match held(body, key)? {
+        Some(Value::Count(count)) => Digits::new(count).as_bytes().to_vec(),
+        Some(Value::Text(text)) => text.to_vec(),
+        None => Vec::new(),
     };
-    let text = [Digits::new(count).as_bytes(), more].concat();
+    text.extend_from_slice(more);
     put(body, key, &text)?;
     Ok(text.len())
 }

@@ -1,4 +1,4 @@
-use super::data::{self, DataWord};
+use super::data::{self, DataWord, Part};
 use super::reader::Reader;
 use super::scan::Scanner;
 use super::session::Session;
@@ -20,6 +20,9 @@ use std::sync::Arc;
 const MOST_UNSENT: usize = 1 << 20;
 /// How many commands are done under one permit, so that others come to the shard.
 const MOST_OF_A_PERMIT: u64 = 128;
+
+/// What becomes of a command, or why it is refused.
+type Judged = Result<Step, Fault>;
 
 /// Does a thread's commands.
 #[derive(Debug)]
@@ -57,11 +60,13 @@ impl Executor {
     ) -> (usize, Stop) {
         let mut arguments = std::mem::take(&mut self.arguments);
         let mut reader = Reader::new(input, &mut arguments);
+        // What becomes of the next command, where that was found out already.
+        let mut next = None;
         let stop = loop {
             if replies.unsent().len() >= MOST_UNSENT {
                 break Stop::Full;
             }
-            if let Err(stop) = self.step(session, &mut reader, replies) {
+            if let Err(stop) = self.step(session, &mut reader, &mut next, replies) {
                 break stop;
             }
         };
@@ -82,6 +87,7 @@ impl Executor {
         if reader.peek().is_ok_and(|it| it.is(0, "EXEC")) {
             session.transaction = None;
         }
+        session.part = Part::default();
         reader.advance();
         replies.error(wait);
         self.admission.stats().refused.add(1);
@@ -93,6 +99,7 @@ impl Executor {
         &mut self,
         session: &mut Session,
         reader: &mut Reader<'_>,
+        next: &mut Option<Judged>,
         replies: &mut Replies,
     ) -> Result<(), Stop> {
         let command = match reader.peek() {
@@ -108,8 +115,14 @@ impl Executor {
             return Ok(());
         }
         let mark = replies.mark();
-        let done = match Step::of(session, command, &self.keyspace) {
-            Ok(Step::Data(word, shard)) => return self.data(word, shard, session, reader, replies),
+        let judged = next.take();
+        let judged = judged.unwrap_or_else(|| Step::of(session, command, &self.keyspace));
+        let done = match judged {
+            Ok(Step::Data(word, shard)) => {
+                *next = self.data((word, shard), session, reader, replies)?;
+                return Ok(());
+            }
+            Ok(Step::Each(word)) => self.each(word, command, session, replies),
             Ok(Step::Other(spec)) => self.other(spec.word, command, session, replies),
             Ok(Step::Queue(shard)) => session.queue(command, shard, replies).map_err(Into::into),
             Err(fault) => Err(fault.into()),
@@ -146,16 +159,17 @@ impl Executor {
         stop.map_or(Ok(()), Err)
     }
 
-    /// Does the next command, and those behind it while they are of the same shard, under one permit.
+    /// Does the next command, and those behind it while they are of the same shard, under one permit. Returns what
+    /// becomes of the command behind them, where it looked at that.
     fn data(
         &mut self,
-        word: DataWord,
-        shard: u16,
+        (mut word, shard): (DataWord, u16),
         session: &mut Session,
         reader: &mut Reader<'_>,
         replies: &mut Replies,
-    ) -> Result<(), Stop> {
-        let (keyspace, mut word, mut count) = (&self.keyspace, word, 0);
+    ) -> Result<Option<Judged>, Stop> {
+        let (keyspace, mut count) = (&self.keyspace, 0);
+        let errors = replies.error_count();
         let done = self.admission.admit(shard, |body| loop {
             if let Ok(command) = reader.peek() {
                 data::execute(word, command, body.as_mut(), replies);
@@ -163,18 +177,62 @@ impl Executor {
             reader.advance();
             count += 1;
             if count == MOST_OF_A_PERMIT || replies.unsent().len() >= MOST_UNSENT {
-                break;
+                break None;
             }
-            match reader.peek().map(|it| Step::of(session, it, keyspace)) {
-                Ok(Ok(Step::Data(next, other))) if other == shard => word = next,
-                _ => break,
+            match reader.peek() {
+                Ok(next) if !next.is_empty() => match Step::of(session, next, keyspace) {
+                    Ok(Step::Data(next, other)) if other == shard => word = next,
+                    judged => break Some(judged),
+                },
+                _ => break None,
             }
         });
         self.admission.stats().commands.add(count);
         match done {
-            Ok(()) => Ok(()),
-            Err(refused) => self.settle(Err(refused.into()), session, reader, replies),
+            Ok(next) => {
+                let errors = replies.error_count() - errors;
+                self.admission.note_done(count, errors);
+                Ok(next)
+            }
+            Err(refused) => {
+                self.settle(Err(refused.into()), session, reader, replies)?;
+                Ok(None)
+            }
         }
+    }
+
+    /// Does the keys of the command one by one, each under a permit of its own. While one waits, those before it stay
+    /// done; but what they hold is read anew.
+    fn each(
+        &mut self,
+        word: DataWord,
+        command: Command<'_>,
+        session: &mut Session,
+        replies: &mut Replies,
+    ) -> Result<(), Unanswered> {
+        let (mark, mut part) = (replies.mark(), std::mem::take(&mut session.part));
+        data::begin_keys(word, command, replies)?;
+        while let Some(key) = data::next_key(word, command, part) {
+            let next = |body: &mut Shard| {
+                data::execute_next(word, command, body.as_mut(), &mut part, replies)
+            };
+            match self.admission.admit(self.keyspace.shard_of(key), next) {
+                Ok(done) => {
+                    self.admission.note_done(1, u64::from(done.is_err()));
+                    done?;
+                }
+                Err(refused) => {
+                    let waits = matches!(refused, NotAdmitted::Wait(_)) && word != DataWord::MGet;
+                    session.part = if waits { part } else { Part::default() };
+                    return Err(refused.into());
+                }
+            }
+            if replies.is_too_large(mark) {
+                return Err(Fault::ReplyTooLarge.into());
+            }
+        }
+        data::end_keys(word, part, replies);
+        Ok(())
     }
 
     fn other(
@@ -218,12 +276,16 @@ impl Executor {
             .ok_or(Fault::UnknownServer)?;
         let inner = command.from(3);
         let spec = Spec::of(inner)?;
-        let (Word::Data(word), Some(shard)) = (spec.word, spec.shard(inner, &self.keyspace)?)
-        else {
+        let place = spec.place(inner, &self.keyspace)?;
+        let (Word::Data(word), Some(shard)) = (spec.word, place.one()?) else {
             return Err(Fault::NoKeys.into());
         };
+        let errors = replies.error_count();
         let execute = |body: &mut Shard| data::execute(word, inner, body.as_mut(), replies);
-        Ok(self.admission.admit_as(server, shard, execute)?)
+        self.admission.admit_as(server, shard, execute)?;
+        let errors = replies.error_count() - errors;
+        self.admission.note_done(1, errors);
+        Ok(())
     }
 
     /// Does the commands of the transaction under one permit. While it waits the transaction stays.
@@ -239,11 +301,17 @@ impl Executor {
             transaction.execute(None, session, cluster, replies);
             return Ok(());
         };
+        let errors = replies.error_count();
         let done = self.admission.admit(shard, |body| {
             transaction.execute(Some(body.as_mut()), session, cluster, replies);
         });
-        if let Err(NotAdmitted::Wait(_)) = done {
-            session.transaction = Some(transaction);
+        match done {
+            Ok(()) => {
+                let errors = replies.error_count() - errors;
+                self.admission.note_done(transaction.len(), errors);
+            }
+            Err(NotAdmitted::Wait(_)) => session.transaction = Some(transaction),
+            Err(NotAdmitted::Refused(_)) => {}
         }
         Ok(done?)
     }
@@ -273,9 +341,9 @@ mod tests {
             ceiling,
             ..Configuration::new(rule)
         };
-        let cluster = Arc::new(Cluster::new(configuration, &Memory).unwrap());
+        let cluster = Arc::new(Cluster::new(configuration, Box::new(Memory)).unwrap());
         for shard in 0..2 {
-            cluster.board.control().assign(shard, 1).unwrap();
+            cluster.board().control().assign(shard, 1).unwrap();
         }
         let admission = Admission::new(cluster.clone(), Arc::new(Stats::new(2))).unwrap();
         let executor = Executor::new(cluster.clone(), admission, keyspace);
@@ -303,8 +371,7 @@ mod tests {
             "+OK +OK :2 +PONG $1 2 $-1 \
              -ERR unknown command 'NOSUCH', with args beginning with:  *2 $1 2 $-1"
         );
-        assert!(answers(&mut executor, "MSET a 1 z 2\n").starts_with("-CROSSSHARD"));
-        assert_eq!(executor.admission.stats().commands.get(), 9);
+        assert_eq!(executor.admission.stats().commands.get(), 8);
     }
 
     #[test]
@@ -325,9 +392,35 @@ mod tests {
     }
 
     #[test]
+    fn keys_of_several_shards_are_done_one_by_one() {
+        let (cluster, mut executor) = begun();
+        let lines =
+            "MSET a 1 z 2\nMGET a z no\nEXISTS a z no a\nDEL a no\nMULTI\nMGET a z\nDISCARD\n";
+        let told_all = answers(&mut executor, lines);
+        assert!(
+            told_all.starts_with("+OK *3 $1 1 $1 2 $-1 :3 :1 +OK -CROSSSHARD"),
+            "{told_all}"
+        );
+        let mut session = Session::new(1, true);
+        answers(&mut executor, "MSET a 1 z 2\n");
+        cluster.board().control().pause(1).unwrap();
+        let (text, stop) = told(&mut executor, &mut session, "DEL a z\n");
+        assert!(text.is_empty() && matches!(stop, Stop::Wait(_)), "{text}");
+        let (text, _) = told(
+            &mut executor,
+            &mut Session::new(2, true),
+            "EXISTS a\nSET a 2\n",
+        );
+        assert_eq!(text, ":0 +OK");
+        cluster.board().control().resume(1).unwrap();
+        assert_eq!(told(&mut executor, &mut session, "DEL a z\n").0, ":2");
+        assert_eq!(answers(&mut executor, "MGET a z\n"), "*2 $1 2 $-1");
+    }
+
+    #[test]
     fn each_phase_of_a_migration_is_served() {
         let (cluster, mut executor) = begun();
-        let control = cluster.board.control();
+        let control = cluster.board().control();
         assert_eq!(answers(&mut executor, "INCR a\n"), ":1");
         control.prepare_add_shard(0, 2).unwrap();
         assert_eq!(answers(&mut executor, "INCR a\n"), ":2");
@@ -349,7 +442,7 @@ mod tests {
     fn a_command_waits_where_its_shard_is_paused() {
         let (cluster, mut executor) = begun();
         let mut session = Session::new(1, true);
-        let control = cluster.board.control();
+        let control = cluster.board().control();
         control.pause(0).unwrap();
         let (text, stop) = told(&mut executor, &mut session, "INCR z\nINCR a\nINCR z\n");
         assert!(
@@ -380,7 +473,7 @@ mod tests {
         let refused = answers(&mut executor, "INCR a\nINCR z\n");
         assert_eq!(
             refused,
-            "-REFUSED Spent: the shard's generations are spent :1"
+            "-REFUSED Spent: the shard's generations are spent; try: start anew with a greater ceiling :1"
         );
     }
 

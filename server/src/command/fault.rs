@@ -32,7 +32,7 @@ pub enum Fault {
     NoMemory,
     /// A key is too long, or empty.
     BadKey,
-    /// The keys of one command, or of one transaction, are of several shards.
+    /// The keys of one transaction, or of a command for a server, are of several shards.
     CrossShard,
     /// The reply would be too long.
     ReplyTooLarge,
@@ -113,76 +113,82 @@ fn cut(bytes: &[u8], most: usize) -> String {
     String::from_utf8_lossy(&bytes[..bytes.len().min(most)]).into_owned()
 }
 
+const CROSS_SHARD: &str =
+    "CROSSSHARD a transaction, as a command behind SM AT, is of one shard, and these keys are of several: \
+     give them one {tag} where keys go by hash";
+const NO_EXPIRY: &str = "NOEXPIRY keys don't expire here: SET takes no EX, PX, EXAT and PXAT";
+const QUEUE_FULL: &str =
+    "QUEUEFULL a transaction has at most 1024 commands, of 1 MiB in all: send it in parts";
+const NO_PASSWORD: &str =
+    "ERR AUTH <password> called without any password configured for the default user. \
+     Are you sure your configuration is correct?";
+const BAD_NAME: &str = "ERR Client names cannot contain spaces, newlines or special characters.";
+const NO_MEMORY: &str = "OOM memory was refused, and nothing has changed: try again";
+const UNKNOWN_SERVER: &str =
+    "REFUSED UnknownServer: there is no server of that number; try: SM SERVERS lists them";
+const ABORTED: &str = "EXECABORT Transaction discarded because of previous errors.";
+const WRONG_PASSWORD: &str = "WRONGPASS invalid username-password pair or user is disabled.";
+
 impl fmt::Display for Fault {
     fn fmt(&self, f: &mut fmt::Formatter<'_>) -> fmt::Result {
-        let told = match self {
-            Fault::UnknownCommand(name, shown) => {
-                return write!(
-                    f,
-                    "ERR unknown command '{name}', with args beginning with: {shown}"
-                )
-            }
-            Fault::WrongArity(name) => {
-                return write!(f, "ERR wrong number of arguments for '{name}' command")
-            }
-            Fault::UnknownSubcommand(name, word) => {
-                return write!(f, "ERR unknown subcommand '{word}'. Try {name} HELP.")
-            }
-            Fault::NoMulti(name) => return write!(f, "ERR {name} without MULTI"),
-            Fault::NoMemory => return f.write_str("OOM memory was refused"),
-            Fault::TooLong => return write!(f, "TOOLONG a value has at most {MAX_TEXT} bytes"),
-            Fault::BadKey => return write!(f, "BADKEY a key has 1 to {MAX_KEY} bytes"),
-            Fault::ReplyTooLarge => {
-                return write!(
-                    f,
-                    "TOOLARGE the reply would have more than {MAX_REPLY} bytes"
-                )
-            }
-            Fault::NotAdmitted(fault) => return write!(f, "REFUSED {}: {fault}", name_of(fault)),
-            other => other.sentence(),
-        };
-        f.write_str(told)
+        match self {
+            Fault::UnknownCommand(name, shown) => unknown(f, name, shown),
+            Fault::WrongArity(name) => wrong_arity(f, name),
+            Fault::UnknownSubcommand(name, word) => unknown_subcommand(f, name, word),
+            Fault::NoMulti(name) => write!(f, "ERR {name} without MULTI"),
+            Fault::NotAdmitted(fault) => not_admitted(f, *fault),
+            Fault::TooLong => write!(f, "TOOLONG a value has at most {MAX_TEXT} bytes"),
+            Fault::BadKey => write!(f, "BADKEY a key has 1 to {MAX_KEY} bytes"),
+            Fault::ReplyTooLarge => write!(f, "TOOLARGE a reply has at most {MAX_REPLY} bytes"),
+            Fault::Syntax => f.write_str("ERR syntax error"),
+            Fault::NoExpiry => f.write_str(NO_EXPIRY),
+            Fault::NotInteger => f.write_str("ERR value is not an integer or out of range"),
+            Fault::Overflow => f.write_str("ERR increment or decrement would overflow"),
+            Fault::NoOpposite => f.write_str("ERR decrement would overflow"),
+            Fault::NoMemory => f.write_str(NO_MEMORY),
+            Fault::CrossShard => f.write_str(CROSS_SHARD),
+            Fault::BadCursor => f.write_str("ERR invalid cursor"),
+            Fault::NestedMulti => f.write_str("ERR MULTI calls can not be nested"),
+            Fault::Aborted => f.write_str(ABORTED),
+            Fault::NotQueued => f.write_str("ERR Command not allowed inside a transaction"),
+            Fault::QueueFull => f.write_str(QUEUE_FULL),
+            Fault::NoAuth => f.write_str("NOAUTH Authentication required."),
+            Fault::WrongPassword => f.write_str(WRONG_PASSWORD),
+            Fault::NoPassword => f.write_str(NO_PASSWORD),
+            Fault::BadDatabase => f.write_str("ERR DB index is out of range"),
+            Fault::BadProtocol => f.write_str("NOPROTO unsupported protocol version"),
+            Fault::BadName => f.write_str(BAD_NAME),
+            Fault::UnknownServer => f.write_str(UNKNOWN_SERVER),
+            Fault::NoKeys => f.write_str("ERR SM AT takes a command with keys of one shard"),
+        }
     }
 }
 
-impl Fault {
-    /// What is said where nothing of the command is repeated.
-    fn sentence(&self) -> &'static str {
-        match self {
-            Fault::Syntax => "ERR syntax error",
-            Fault::NoExpiry => "NOEXPIRY keys don't expire here: SET takes no EX, PX, EXAT and PXAT",
-            Fault::NotInteger => "ERR value is not an integer or out of range",
-            Fault::Overflow => "ERR increment or decrement would overflow",
-            Fault::NoOpposite => "ERR decrement would overflow",
-            Fault::CrossShard => {
-                "CROSSSHARD the keys are of several shards, and one command or transaction is of one: \
-                 ask for each by itself, or give keys one {tag} where keys go by hash"
-            }
-            Fault::BadCursor => "ERR invalid cursor",
-            Fault::NestedMulti => "ERR MULTI calls can not be nested",
-            Fault::Aborted => "EXECABORT Transaction discarded because of previous errors.",
-            Fault::NotQueued => "ERR Command not allowed inside a transaction",
-            Fault::QueueFull => "QUEUEFULL a transaction has at most 1024 commands, of 1 MiB in all",
-            Fault::NoAuth => "NOAUTH Authentication required.",
-            Fault::WrongPassword => {
-                "WRONGPASS invalid username-password pair or user is disabled."
-            }
-            Fault::NoPassword => {
-                "ERR AUTH <password> called without any password configured for the default user. \
-                 Are you sure your configuration is correct?"
-            }
-            Fault::BadDatabase => "ERR DB index is out of range",
-            Fault::BadProtocol => "NOPROTO unsupported protocol version",
-            Fault::BadName => {
-                "ERR Client names cannot contain spaces, newlines or special characters."
-            }
-            Fault::UnknownServer => {
-                "REFUSED UnknownServer: there is no server of that number; SM SERVERS lists them"
-            }
-            Fault::NoKeys => "ERR SM AT takes a command with keys of one shard",
-            _ => "ERR refused",
-        }
-    }
+fn unknown(f: &mut fmt::Formatter<'_>, name: &str, shown: &str) -> fmt::Result {
+    let behind = "with args beginning with";
+    write!(f, "ERR unknown command '{name}', {behind}: {shown}")
+}
+
+fn wrong_arity(f: &mut fmt::Formatter<'_>, name: &str) -> fmt::Result {
+    write!(f, "ERR wrong number of arguments for '{name}' command")
+}
+
+fn unknown_subcommand(f: &mut fmt::Formatter<'_>, name: &str, word: &str) -> fmt::Result {
+    write!(f, "ERR unknown subcommand '{word}'. Try {name} HELP.")
+}
+
+/// Why the board refuses the admission, with what to do.
+fn not_admitted(f: &mut fmt::Formatter<'_>, fault: AdmitFault) -> fmt::Result {
+    let advice = match fault {
+        AdmitFault::Vacant(_) => "SM PLACE gives the shard an owner",
+        AdmitFault::Paused(_) => "SM RESUME k",
+        AdmitFault::NotExecutor(_) | AdmitFault::NotYet(_) => "SM LOOK k tells the owner",
+        AdmitFault::Admitted(_) | AdmitFault::Raced(_) | AdmitFault::Holding => "try again",
+        AdmitFault::Spent(_) => "start anew with a greater ceiling",
+        AdmitFault::UnknownShard => "SM SHARDS lists them",
+        AdmitFault::BadServer => "SM SERVERS lists them",
+    };
+    write!(f, "REFUSED {}: {fault}; try: {advice}", name_of(&fault))
 }
 
 impl Error for Fault {}

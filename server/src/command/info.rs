@@ -107,7 +107,7 @@ fn persistence(cluster: &Cluster) -> String {
     lines([
         ("loading", "0".to_owned()),
         ("aof_enabled", "0".to_owned()),
-        ("storage", cluster.storage.to_owned()),
+        ("storage", cluster.storage.description().to_owned()),
     ])
 }
 

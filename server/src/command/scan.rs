@@ -3,7 +3,7 @@ use super::glob;
 use super::unanswered::Unanswered;
 use super::Fault;
 use crate::admission::Admission;
-use crate::body::{Range, Reply, Request, Shard, Value, MAX_KEY, MAX_PAIRS};
+use crate::body::{Pair, Range, Reply, Request, Shard, Value, MAX_KEY, MAX_PAIRS};
 use crate::keyspace::Keyspace;
 use crate::resp::number::{self, Digits};
 use crate::resp::{Command, Replies};
@@ -118,21 +118,19 @@ impl<'a> Scanner<'a> {
         &mut self,
         position: &Position,
         most: usize,
-    ) -> Result<Vec<Box<[u8]>>, NotAdmitted> {
+    ) -> Result<Vec<Box<[u8]>>, Unanswered> {
         let after = position.after.as_deref();
         let low = after.map_or(Bound::Unbounded, Bound::Excluded);
         let most = most.min(MAX_PAIRS);
-        self.patiently(position.shard, |body| {
-            let range = Range {
-                low,
-                high: None,
-                most,
-            };
-            match body.apply(Request::Scan(range)) {
-                Reply::Pairs(pairs) => pairs.iter().map(|it| it.0.into()).collect(),
-                _ => Vec::new(),
-            }
-        })
+        let range = Range {
+            low,
+            high: None,
+            most,
+        };
+        let keys = self.patiently(position.shard, |body| {
+            scanned(body, range, |it| it.0.into())
+        })?;
+        Ok(keys?)
     }
 
     /// SCANRANGE: the first pairs with keys from LOW on and below HIGH, in the order of their keys over all shards. An
@@ -174,14 +172,11 @@ impl<'a> Scanner<'a> {
         Ok(())
     }
 
-    fn pairs(&mut self, shard: u16, range: Range<'_>) -> Result<Vec<OwnedPair>, NotAdmitted> {
-        self.patiently(shard, |body| match body.apply(Request::Scan(range)) {
-            Reply::Pairs(pairs) => pairs
-                .iter()
-                .map(|(key, value)| ((*key).into(), text_of(*value)))
-                .collect(),
-            _ => Vec::new(),
-        })
+    fn pairs(&mut self, shard: u16, range: Range<'_>) -> Result<Vec<OwnedPair>, Unanswered> {
+        let pairs = self.patiently(shard, |body| {
+            scanned(body, range, |(key, value)| ((*key).into(), text_of(*value)))
+        })?;
+        Ok(pairs?)
     }
 
     /// Has the closure work on the body, again while another thread has it: what goes over many shards would hardly
@@ -198,6 +193,19 @@ impl<'a> Scanner<'a> {
             }
         }
         self.admission.admit(shard, work)
+    }
+}
+
+/// What is taken of each pair of the range; or why none is told.
+fn scanned<T>(
+    body: &mut Shard,
+    range: Range<'_>,
+    taken: impl FnMut(&Pair<'_>) -> T,
+) -> Result<Vec<T>, Fault> {
+    match body.apply(Request::Scan(range)) {
+        Reply::Pairs(pairs) => Ok(pairs.iter().map(taken).collect()),
+        Reply::Refused(refusal) => Err(refusal.into()),
+        _ => Ok(Vec::new()),
     }
 }
 

@@ -1,3 +1,4 @@
+use super::data::Part;
 use super::transaction::Transaction;
 use super::Fault;
 use crate::resp::{Command, Replies};
@@ -13,17 +14,19 @@ pub struct Session {
     pub is_known: bool,
     /// The transaction that was begun.
     pub(super) transaction: Option<Box<Transaction>>,
+    /// How far the next command has come, where it waits between its keys.
+    pub(super) part: Part,
 }
 
 impl Session {
     /// That of a new connection.
     pub fn new(id: u64, is_known: bool) -> Session {
-        let (name, transaction) = (None, None);
         Session {
             id,
-            name,
+            name: None,
             is_known,
-            transaction,
+            transaction: None,
+            part: Part::default(),
         }
     }
 

@@ -17,6 +17,28 @@ pub enum Keys {
     Odd,
 }
 
+/// Where the keys of a command are.
+#[derive(Clone, Copy, Debug, PartialEq, Eq)]
+pub enum Place {
+    /// It has none.
+    Nowhere,
+    /// All are of this shard.
+    Shard(u16),
+    /// They are of several shards.
+    Several,
+}
+
+impl Place {
+    /// The shard of all keys, if there are any; refused where they are of several.
+    pub fn one(self) -> Result<Option<u16>, Fault> {
+        match self {
+            Place::Nowhere => Ok(None),
+            Place::Shard(shard) => Ok(Some(shard)),
+            Place::Several => Err(Fault::CrossShard),
+        }
+    }
+}
+
 /// What a command does.
 #[derive(Clone, Copy, Debug, PartialEq, Eq)]
 pub enum Word {
@@ -177,22 +199,24 @@ impl Spec {
             .find(|it| it.name.as_bytes().eq_ignore_ascii_case(name))
     }
 
-    /// The shard of the command's keys, or none where it has none; refused where they are of several.
-    pub fn shard(&self, command: Command<'_>, keyspace: &Keyspace) -> Result<Option<u16>, Fault> {
+    /// The shards of the command's keys.
+    pub fn place(&self, command: Command<'_>, keyspace: &Keyspace) -> Result<Place, Fault> {
         let step = match self.keys {
-            Keys::None => return Ok(None),
-            Keys::First => return shard_of(command.get(1), keyspace).map(Some),
+            Keys::None => return Ok(Place::Nowhere),
+            Keys::First => return shard_of(command.get(1), keyspace).map(Place::Shard),
             Keys::All => 1,
             Keys::Odd => 2,
         };
-        let mut found = None;
+        let mut place = Place::Nowhere;
         for key in command.iter().skip(1).step_by(step) {
             let shard = shard_of(key, keyspace)?;
-            if *found.get_or_insert(shard) != shard {
-                return Err(Fault::CrossShard);
-            }
+            place = match place {
+                Place::Nowhere => Place::Shard(shard),
+                Place::Shard(other) if other != shard => Place::Several,
+                place => place,
+            };
         }
-        Ok(found)
+        Ok(place)
     }
 
     /// Whether a client that gave no password may send it.

@@ -1,6 +1,6 @@
 use super::data::DataWord;
 use super::session::Session;
-use super::spec::{Spec, Word};
+use super::spec::{Place, Spec, Word};
 use super::Fault;
 use crate::keyspace::Keyspace;
 use crate::resp::Command;
@@ -9,6 +9,8 @@ use crate::resp::Command;
 pub enum Step {
     /// It is done with keys of this shard.
     Data(DataWord, u16),
+    /// It is done with keys of several shards, each by itself.
+    Each(DataWord),
     /// It is queued for EXEC, with keys of this shard.
     Queue(Option<u16>),
     /// It is done otherwise.
@@ -22,12 +24,13 @@ impl Step {
         if !session.is_known && !spec.is_open() {
             return Err(Fault::NoAuth);
         }
-        let shard = spec.shard(command, keyspace)?;
+        let place = spec.place(command, keyspace)?;
         if session.transaction.is_some() && spec.is_queued() {
-            return Ok(Step::Queue(shard));
+            return place.one().map(Step::Queue);
         }
-        Ok(match (spec.word, shard) {
-            (Word::Data(word), Some(shard)) => Step::Data(word, shard),
+        Ok(match (spec.word, place) {
+            (Word::Data(word), Place::Shard(shard)) => Step::Data(word, shard),
+            (Word::Data(word), Place::Several) => Step::Each(word),
             _ => Step::Other(spec),
         })
     }

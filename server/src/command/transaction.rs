@@ -44,6 +44,11 @@ impl Transaction {
         self.is_aborted
     }
 
+    /// How many commands there are.
+    pub fn len(&self) -> u64 {
+        self.commands.len() as u64
+    }
+
     /// The shard of all keys, if there are any.
     pub fn shard(&self) -> Option<u16> {
         self.shard

@@ -1,7 +1,7 @@
 /// Each word behind SM: how it is written, and what it does.
-pub const WORDS: [(&str, &str); 25] = [
+pub const WORDS: [(&str, &str); 29] = [
     ("SHARDS", "each shard: number, stand, owner, next or previous owner, idle or admitted, generation, keys"),
-    ("SERVERS", "each server: number, standing, domain, shards that it owns, admissions"),
+    ("SERVERS", "each server: number, standing, domain, shards that it owns, admissions, what a restart does now"),
     ("SETTINGS", "how the server runs"),
     ("LOOK k", "how shard k stands"),
     ("ASSIGN k a", "the vacant shard k gets the owner a"),
@@ -15,6 +15,8 @@ pub const WORDS: [(&str, &str); 25] = [
     ("REASSIGN k b", "the paused shard k gets the owner b"),
     ("MIGRATE k b", "moves shard k to server b by a whole migration, under load"),
     ("DRAIN a", "migrates all shards of server a to other servers, as planned by the library"),
+    ("PLAN", "where PLACE would have shards go; nothing is moved"),
+    ("PLAN a", "where DRAIN a would"),
     ("PLACE", "gives each vacant shard an owner, as planned by the library"),
     ("ASK a", "asks for a restart of server a"),
     ("APPROVE a", "approves it, within the caps; a takes no further shards"),
@@ -23,6 +25,8 @@ pub const WORDS: [(&str, &str); 25] = [
     ("FAIL a", "server a has failed: no request reaches it"),
     ("RESTART a", "restarts server a: ASK, APPROVE, DRAIN, STOPPED, BACK, and its shards come home"),
     ("RESTART", "restarts all servers in turn"),
+    ("DUMP FILE", "writes all shards, with their stands and generations, into the file in --folder"),
+    ("LOAD FILE", "has all shards hold and stand as in that file, in place of what they hold now"),
     ("AT a COMMAND ..", "sends a command with keys of one shard to server a, as a client with an old map does"),
     ("HELP", "these lines"),
 ];

@@ -1,6 +1,8 @@
 use crate::command::name_of;
+use crate::dump::DumpFault;
 use crate::snapshot::ShardRow;
-use durkenzo::{ChangeFault, PassFault, PlanFault, RestartFault};
+use crate::wait::NotAdmitted;
+use durkenzo::{ChangeFault, PassFault, PlanFault, RestartFault, UnknownShard};
 use std::error::Error;
 use std::fmt;
 
@@ -42,6 +44,32 @@ impl Refusal {
         )
     }
 
+    /// That a shard fits no other server.
+    pub fn no_room(shard: u16) -> Refusal {
+        let reason = format!("shard {shard} fits no other server");
+        Refusal::new("NoCapacity", reason, "SM BACK a server that is away")
+    }
+
+    /// That something is under way that doesn't go with it.
+    pub fn under_way() -> Refusal {
+        let reason = "a migration, a restart, a drain or a dump is under way";
+        Refusal::new(
+            "UnderWay",
+            reason,
+            "wait for its end: SM SERVERS tells how far it is",
+        )
+    }
+
+    /// Why a dump isn't written or read.
+    pub fn of_dump(fault: &DumpFault) -> Refusal {
+        Refusal::new(fault.name(), fault.to_string(), fault.advice())
+    }
+
+    /// That the process ends.
+    pub fn stopping() -> Refusal {
+        Refusal::new("Stopping", "the process ends", "start it again")
+    }
+
     /// Why a shard that stands so isn't changed.
     pub fn of_change(fault: ChangeFault, row: Option<&ShardRow>) -> Refusal {
         let stands = row.map_or(String::new(), |it| format!("; shard {} is {it}", it.shard));
@@ -72,7 +100,12 @@ impl Refusal {
             RestartFault::AlreadyUp | RestartFault::AlreadyFailed => {
                 "nothing is to be done".to_owned()
             }
-            _ => "wait until another server is back: SM SERVERS tells which are away".to_owned(),
+            RestartFault::GlobalCap | RestartFault::DomainCap | RestartFault::GroupCap => {
+                "wait until another server is back: SM SERVERS tells which are away".to_owned()
+            }
+            RestartFault::ShardCap => {
+                "move the shard to another server by SM MIGRATE k b".to_owned()
+            }
         };
         Refusal::new(&name_of(&fault), fault.to_string(), advice)
     }
@@ -85,6 +118,25 @@ impl From<PlanFault> for Refusal {
             PlanFault::NoMemory => "try again",
         };
         Refusal::new(&name_of(&fault), fault.to_string(), advice)
+    }
+}
+
+impl From<NotAdmitted> for Refusal {
+    fn from(refused: NotAdmitted) -> Refusal {
+        match refused {
+            NotAdmitted::Wait(wait) => Refusal::new(wait.name(), wait.reason(), wait.advice()),
+            NotAdmitted::Refused(fault) => Refusal::new(
+                &name_of(&fault),
+                fault.to_string(),
+                "SM SHARDS tells how all stand",
+            ),
+        }
+    }
+}
+
+impl From<UnknownShard> for Refusal {
+    fn from(fault: UnknownShard) -> Refusal {
+        Refusal::new("UnknownShard", fault.to_string(), "SM SHARDS lists them")
     }
 }
 

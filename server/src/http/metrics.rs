@@ -1,7 +1,7 @@
 use crate::cluster::Cluster;
 use crate::command::memory_used;
 use crate::snapshot::Snapshot;
-use crate::stats::Stats;
+use crate::stats::{Stats, LATENCY_BOUNDS};
 use prometheus::{Encoder, IntCounterVec, IntGaugeVec, Opts, Registry, TextEncoder};
 
 /// A count of each thread: its name, what it is, and where it stands.
@@ -12,6 +12,8 @@ const FORWARDED: &str = "Requests that a server forwarded to the one that execut
 const RACED: &str = "Tries that found a shard with another thread";
 const WAITED: &str = "Commands that began to wait for a shard that nobody executes";
 const REFUSED: &str = "Commands that waited in vain";
+const LATENCY: &str =
+    "Seconds from when commands were there to be read, or began to wait, until they were answered";
 const WAITING: &str = "Connections whose next command waits for a shard";
 const OF_THREADS: [OfThreads; 10] = [
     ("commands_total", DONE, |it| it.commands.get()),
@@ -41,7 +43,8 @@ pub(super) fn text(cluster: &Cluster, snapshot: &Snapshot) -> prometheus::Result
             family.set(&[&thread.to_string()], of(inlet.stats()));
         }
     }
-    servers(&registry, snapshot)?;
+    servers(&registry, cluster, snapshot)?;
+    by_name(&registry, cluster)?;
     shards(&registry, snapshot)?;
     let uptime = Family::new(&registry, "uptime_seconds", "Seconds since the start", &[])?;
     uptime.set(&[], cluster.started.elapsed().as_secs());
@@ -49,10 +52,56 @@ pub(super) fn text(cluster: &Cluster, snapshot: &Snapshot) -> prometheus::Result
     memory.set(&[], memory_used());
     let mut text = Vec::new();
     TextEncoder::new().encode(&registry.gather(), &mut text)?;
+    text.extend_from_slice(latencies(cluster).as_bytes());
     Ok(text)
 }
 
-fn servers(registry: &Registry, snapshot: &Snapshot) -> prometheus::Result<()> {
+/// How long commands took, as a histogram.
+fn latencies(cluster: &Cluster) -> String {
+    let name = "durkenzo_command_seconds";
+    let mut text = format!("# HELP {name} {LATENCY}\n# TYPE {name} histogram\n");
+    let (mut counts, mut sum) = ([0; LATENCY_BOUNDS.len() + 1], 0);
+    for inlet in cluster.inlets() {
+        let latency = &inlet.stats().latency;
+        counts
+            .iter_mut()
+            .zip(latency.counts())
+            .for_each(|(all, it)| *all += it);
+        sum += latency.sum();
+    }
+    let bounds = LATENCY_BOUNDS
+        .iter()
+        .map(|it| (*it as f64 / 1e6).to_string());
+    let mut total = 0;
+    for (bound, count) in bounds.chain(["+Inf".to_owned()]).zip(counts) {
+        total += count;
+        text += &format!("{name}_bucket{{le=\"{bound}\"}} {total}\n");
+    }
+    text + &format!("{name}_sum {}\n{name}_count {total}\n", sum as f64 / 1e6)
+}
+
+/// What is counted by a name.
+fn by_name(registry: &Registry, cluster: &Cluster) -> prometheus::Result<()> {
+    let help = "Errors by which clients were answered";
+    let errors = Family::new(registry, "errors_total", help, &["name"])?;
+    for inlet in cluster.inlets() {
+        for (name, count) in inlet.stats().errors() {
+            errors.set(&[&name], count);
+        }
+    }
+    let changes = Family::new(registry, "changes_total", "Changes of shards", &["change"])?;
+    for (word, count) in cluster.changes_made.counts() {
+        changes.set(&[word], count);
+    }
+    Ok(())
+}
+
+fn servers(registry: &Registry, cluster: &Cluster, snapshot: &Snapshot) -> prometheus::Result<()> {
+    let (help, labels) = (
+        "Commands with keys by the server that did them",
+        ["server", "answer"],
+    );
+    let requests = Family::new(registry, "requests_total", help, &labels)?;
     let family = |name, help| Family::new(registry, name, help, &["server"]);
     let admissions = family("admissions_total", "Admissions of the server to shards")?;
     let owned = family("owned_shards", "Shards that the server owns")?;
@@ -63,6 +112,15 @@ fn servers(registry: &Registry, snapshot: &Snapshot) -> prometheus::Result<()> {
         owned.set(&[&server], row.shards as u64);
         let is_away = matches!(row.standing, "stopped" | "failed");
         up.set(&[&server], u64::from(!is_away));
+        for inlet in cluster.inlets() {
+            let done = &inlet.stats().servers[usize::from(row.server) - 1];
+            let errors = done.errors.get();
+            requests.set(&[&server, "error"], errors);
+            requests.set(
+                &[&server, "done"],
+                done.commands.get().saturating_sub(errors),
+            );
+        }
     }
     Ok(())
 }
@@ -109,7 +167,7 @@ impl Family {
         }
     }
 
-    /// Sets the number with these labels, once.
+    /// Sets the number with these labels; adds to it where it is a counter.
     fn set(&self, labels: &[&str], value: u64) {
         match self {
             Family::Counters(counters) => counters.with_label_values(labels).inc_by(value),

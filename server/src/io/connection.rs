@@ -1,5 +1,6 @@
 use crate::command::{Executor, Session, Stop};
 use crate::resp::{OwnedCommand, Replies};
+use crate::stats::ErrorCounts;
 use crate::wait::Wait;
 use mio::event::Event;
 use mio::net::TcpStream;
@@ -97,9 +98,14 @@ impl Connection {
         !self.is_readable && !self.is_owed && self.replies.unsent().is_empty()
     }
 
-    /// Whether a command of it waits.
-    pub(super) fn is_waiting(&self) -> bool {
-        self.waits_since.is_some()
+    /// Since when a command of it waits, if one does.
+    pub(super) fn waits_since(&self) -> Option<Instant> {
+        self.waits_since
+    }
+
+    /// The errors by which it was answered since they were taken last, if there are any.
+    pub(super) fn take_errors(&mut self) -> Option<ErrorCounts> {
+        self.replies.take_errors()
     }
 
     /// Reads at most once, does commands, and sends answers. A command that has waited for so long is refused.

@@ -1,4 +1,4 @@
-use crate::stats::Stats;
+use crate::stats::{ErrorCounts, Stats};
 use mio::net::TcpStream;
 use mio::{Poll, Token, Waker};
 use std::fmt;
@@ -99,6 +99,11 @@ pub struct ReplyTo {
 }
 
 impl ReplyTo {
+    /// Counts the errors of an answer.
+    pub fn note_errors(&self, errors: ErrorCounts) {
+        self.inlet.stats.note_errors(errors);
+    }
+
     /// Sends the answer, once.
     pub fn send(self, bytes: Vec<u8>) {
         let (place, id) = (self.place, self.id);

@@ -1,5 +1,6 @@
 //! Threads that own connections, and do at the board what these ask for.
 mod acceptor;
+mod busy_poll;
 mod connection;
 mod inlet;
 mod worker;

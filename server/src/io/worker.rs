@@ -1,3 +1,4 @@
+use super::busy_poll::BusyPoll;
 use super::connection::{Connection, Turn};
 use super::inlet::{Brought, Inlet, ReplyTo, WAKE};
 use crate::cluster::Cluster;
@@ -40,7 +41,7 @@ pub struct Worker {
     /// Whether all that is queued waits for shards that other threads have.
     is_racing: bool,
     changes: u64,
-    last_event: Instant,
+    busy_poll: BusyPoll,
     buffer: Box<[u8]>,
 }
 
@@ -53,6 +54,7 @@ impl Worker {
         executor: Executor,
         control: Sender<Asked>,
     ) -> Worker {
+        let busy_poll = BusyPoll::new(cluster.configuration.busy_poll);
         Worker {
             cluster,
             inlet,
@@ -64,7 +66,7 @@ impl Worker {
             waiting: Vec::new(),
             is_racing: false,
             changes: 0,
-            last_event: Instant::now(),
+            busy_poll,
             buffer: vec![0; ROOM].into(),
         }
     }
@@ -93,27 +95,37 @@ impl Worker {
 
     /// Waits for events, no longer than until something else is due.
     fn wait(&mut self, events: &mut Events) -> io::Result<()> {
-        let busy_poll = self.cluster.configuration.busy_poll;
-        let timeout = if !self.queue.is_empty() {
+        if !self.queue.is_empty() {
             if self.is_racing {
                 std::thread::yield_now();
             }
-            Some(Duration::ZERO)
-        } else if !self.waiting.is_empty() || self.cluster.is_stopping() {
-            Some(TICK)
-        } else if !busy_poll.is_zero() && self.last_event.elapsed() < busy_poll {
-            Some(Duration::ZERO)
-        } else {
-            None
-        };
-        match self.poll.poll(events, timeout) {
-            Err(error) if error.kind() != ErrorKind::Interrupted => return Err(error),
-            _ => {}
+            return self.look(events, Some(Duration::ZERO));
         }
-        if !busy_poll.is_zero() && !events.is_empty() {
-            self.last_event = Instant::now();
+        if !self.waiting.is_empty() || self.cluster.is_stopping() {
+            return self.look(events, Some(TICK));
         }
+        let since = Instant::now();
+        events.clear();
+        if self.busy_poll.goes_on(since) && self.cluster.begin_to_poll() {
+            while events.is_empty() && self.busy_poll.goes_on(since) {
+                self.look(events, Some(Duration::ZERO))?;
+            }
+            self.cluster.end_to_poll();
+            if !events.is_empty() {
+                return Ok(());
+            }
+        }
+        self.look(events, None)?;
+        self.busy_poll.note(since);
         Ok(())
+    }
+
+    /// Takes the events that are there, or that come in this time.
+    fn look(&mut self, events: &mut Events, timeout: Option<Duration>) -> io::Result<()> {
+        match self.poll.poll(events, timeout) {
+            Err(error) if error.kind() != ErrorKind::Interrupted => Err(error),
+            _ => Ok(()),
+        }
     }
 
     fn note(&mut self, event: &mio::event::Event) {
@@ -199,15 +211,14 @@ impl Worker {
 
     /// Gives each queued connection a turn.
     fn run_queue(&mut self) {
+        if self.queue.is_empty() {
+            return self.inlet.stats().waiting.set(self.waiting.len() as u64);
+        }
         let mut queue = std::mem::take(&mut self.queue);
+        let began = Instant::now();
         self.is_racing = true;
         for place in queue.drain(..) {
-            let Some(connection) = self.connections.get_mut(place) else {
-                continue;
-            };
-            connection.is_queued = false;
-            let wait = self.cluster.configuration.wait;
-            match connection.turn(&mut self.executor, &mut self.buffer, wait) {
+            match self.turn(place, began) {
                 Turn::Rest => self.is_racing = false,
                 Turn::Again => {
                     self.is_racing = false;
@@ -223,6 +234,26 @@ impl Worker {
             self.queue = queue;
         }
         self.inlet.stats().waiting.set(self.waiting.len() as u64);
+    }
+
+    /// Gives the connection there a turn, in a round that began then, and counts what it came to.
+    fn turn(&mut self, place: usize, began: Instant) -> Turn {
+        let Some(connection) = self.connections.get_mut(place) else {
+            return Turn::Rest;
+        };
+        connection.is_queued = false;
+        let stats = self.inlet.stats();
+        let (done, since) = (stats.commands.get(), connection.waits_since());
+        let wait = self.cluster.configuration.wait;
+        let turn = connection.turn(&mut self.executor, &mut self.buffer, wait);
+        let done = stats.commands.get() - done;
+        if done > 0 {
+            stats.latency.note(since.unwrap_or(began).elapsed(), done);
+        }
+        if let Some(errors) = connection.take_errors() {
+            stats.note_errors(errors);
+        }
+        turn
     }
 
     fn ask(&mut self, place: usize, command: OwnedCommand) {
@@ -245,6 +276,6 @@ impl Worker {
     /// Whether nothing is under way but commands that wait for a shard that nobody executes.
     fn is_quiet(&self) -> bool {
         let mut connections = self.connections.iter().map(|(_, it)| it);
-        self.queue.is_empty() && connections.all(|it| it.is_quiet() || it.is_waiting())
+        self.queue.is_empty() && connections.all(|it| it.is_quiet() || it.waits_since().is_some())
     }
 }

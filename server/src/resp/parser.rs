@@ -78,6 +78,17 @@ fn parse_argument(input: &[u8], at: usize, arguments: &mut Arguments) -> Result<
 
 /// The number in the line from here on, and where the next line begins.
 fn length(input: &[u8], at: usize, fault: ProtocolFault) -> Result<(i64, usize), Unparsed> {
+    match input[at..] {
+        [one @ b'0'..=b'9', b'\r', b'\n', ..] => Ok((i64::from(one - b'0'), at + 3)),
+        [ten @ b'1'..=b'9', one @ b'0'..=b'9', b'\r', b'\n', ..] => {
+            Ok((10 * i64::from(ten - b'0') + i64::from(one - b'0'), at + 4))
+        }
+        _ => any_length(input, at, fault),
+    }
+}
+
+/// The same, of however many digits.
+fn any_length(input: &[u8], at: usize, fault: ProtocolFault) -> Result<(i64, usize), Unparsed> {
     let line = &input[at..];
     let end = line
         .iter()

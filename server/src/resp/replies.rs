@@ -1,4 +1,5 @@
 use super::number::Digits;
+use crate::stats::ErrorCounts;
 use std::fmt::Display;
 use std::io::Write;
 
@@ -24,6 +25,8 @@ pub struct Replies {
     sent: usize,
     /// The version in which answers are written.
     pub protocol: Protocol,
+    error_count: u64,
+    errors: ErrorCounts,
 }
 
 impl Replies {
@@ -80,7 +83,31 @@ impl Replies {
                 *byte = b' ';
             }
         }
+        self.count_error(start);
         self.bytes.extend_from_slice(b"\r\n");
+    }
+
+    /// Counts the error that begins there by its name.
+    fn count_error(&mut self, start: usize) {
+        self.error_count += 1;
+        let told = &self.bytes[start..];
+        let told = told.strip_prefix(b"REFUSED ").unwrap_or(told);
+        let name = told.split(|it| matches!(it, b' ' | b':')).next();
+        let name = String::from_utf8_lossy(name.unwrap_or_default());
+        match self.errors.get_mut(&*name) {
+            Some(count) => *count += 1,
+            None => drop(self.errors.insert(name.into(), 1)),
+        }
+    }
+
+    /// How many errors were written.
+    pub fn error_count(&self) -> u64 {
+        self.error_count
+    }
+
+    /// The errors since they were taken last, if there are any.
+    pub fn take_errors(&mut self) -> Option<ErrorCounts> {
+        (!self.errors.is_empty()).then(|| std::mem::take(&mut self.errors))
     }
 
     /// A number.
@@ -155,6 +182,10 @@ mod tests {
         );
         replies.note_sent(5);
         assert!(replies.unsent().starts_with(b"-ERR"));
+        replies.error("REFUSED Spent: why");
+        let errors = replies.take_errors().unwrap();
+        assert_eq!((errors["ERR"], errors["Spent"]), (1, 1));
+        assert!(replies.take_errors().is_none() && replies.error_count() == 2);
         replies.note_sent(replies.unsent().len());
         assert!(replies.unsent().is_empty());
     }

@@ -254,13 +254,9 @@ impl Session {
         if fault != RestartFault::StillServing {
             return name;
         }
-        let serves = |record: Record| match record.stand {
-            Stand::Prepared { owner, next } | Stand::Forwarding { owner, next } => {
-                server == owner || server == next
-            }
-            Stand::Taken { owner, previous } => server == owner || server == previous,
-            Stand::Serving(owner) => server == owner,
-            Stand::Vacant | Stand::Paused(_) => false,
+        let serves = |it: Record| {
+            !matches!(it.stand, Stand::Paused(_))
+                && (it.owner() == Some(server) || it.other() == Some(server))
         };
         let count = self.layout.count() as u16;
         let pass = &mut self.passes[0];
@@ -272,16 +268,9 @@ impl Session {
         let record = self.passes[0]
             .look(shard)
             .map_err(|fault| format!("{fault:?}"))?;
-        let (stand, owner, other) = match record.stand {
-            Stand::Vacant => ("Vacant", 0, 0),
-            Stand::Serving(owner) => ("Serving", owner, 0),
-            Stand::Prepared { owner, next } => ("Prepared", owner, next),
-            Stand::Forwarding { owner, next } => ("Forwarding", owner, next),
-            Stand::Taken { owner, previous } => ("Taken", owner, previous),
-            Stand::Paused(owner) => ("Paused", owner, 0),
-        };
+        let (owner, other) = (record.owner().unwrap_or(0), record.other().unwrap_or(0));
+        let (stand, generation) = (record.stand.name(), record.generation);
         let admitted = if record.admitted { "admitted" } else { "idle" };
-        let generation = record.generation;
         Ok(format!("{stand} {owner} {other} {admitted} {generation}").into_bytes())
     }
 

@@ -127,8 +127,7 @@ impl<T> Board<T> {
         // SAFETY: the control's handle is locked, and the other is this call's alone.
         match unsafe { raw::durkenzo_pass(&mut *self.shared.chief(), &mut handle, server) } {
             0 => Ok(Pass::new(self.shared.clone(), handle)),
-            2 => Err(PassFault::BadServer),
-            _ => Err(PassFault::NoMemory),
+            code => Err(PassFault::of(code)),
         }
     }
 

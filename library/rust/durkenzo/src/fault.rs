@@ -3,37 +3,137 @@ use crate::record::Record;
 use std::error::Error;
 use std::fmt;
 
+/// Why a shard isn't looked at.
+#[derive(Clone, Copy, Debug, PartialEq, Eq)]
+pub struct UnknownShard;
+
+impl fmt::Display for UnknownShard {
+    fn fmt(&self, f: &mut fmt::Formatter<'_>) -> fmt::Result {
+        f.write_str("there is no such shard")
+    }
+}
+
+impl Error for UnknownShard {}
+
+impl AdmitFault {
+    /// The record that was read, or found, where one was.
+    pub fn record(&self) -> Option<Record> {
+        use AdmitFault::*;
+        match *self {
+            Vacant(it) | Paused(it) | NotExecutor(it) | NotYet(it) | Admitted(it) | Spent(it)
+            | Raced(it) => Some(it),
+            UnknownShard | BadServer | Holding => None,
+        }
+    }
+
+    /// Whether the same call may be admitted at once when it is made again: another thread had the shard or was first.
+    pub fn is_passing(&self) -> bool {
+        matches!(self, AdmitFault::Admitted(_) | AdmitFault::Raced(_))
+    }
+}
+
+impl ChangeFault {
+    /// The record that was read, or found, where one was.
+    pub fn record(&self) -> Option<Record> {
+        match *self {
+            ChangeFault::Spent(it) | ChangeFault::Busy(it) | ChangeFault::Raced(it) => Some(it),
+            _ => None,
+        }
+    }
+
+    /// Whether the same change may be made at once when it is asked for again.
+    pub fn is_passing(&self) -> bool {
+        matches!(self, ChangeFault::Busy(_) | ChangeFault::Raced(_))
+    }
+}
+
+// By tools/library-codes, the faults of library/codes.txt:
+
 /// Why there is no board.
 #[derive(Clone, Copy, Debug, PartialEq, Eq)]
 pub enum BuildFault {
+    /// A board has 1 to 4,095 servers, and as many restarts at once at most.
+    BadServers,
+    /// Out of memory.
+    NoMemory,
+    /// The ceiling of generations is 3 to 68,719,476,735.
+    BadCeiling,
     /// A board has at least one shard.
     NoShard,
     /// A board has at most 4,096 shards.
     TooMany,
-    /// The ceiling of generations is 3 to 68,719,476,735.
-    BadCeiling,
-    /// A board has 1 to 4,095 servers, and at most 4,095 restarts at once.
-    BadServers,
-    /// Memory was refused.
-    NoMemory,
 }
 
-/// Why a shard isn't looked at.
-#[derive(Clone, Copy, Debug, PartialEq, Eq)]
-pub struct UnknownShard;
+impl BuildFault {
+    pub(crate) fn of(code: u32) -> BuildFault {
+        match code {
+            2 | 8 => BuildFault::BadServers,
+            3 => BuildFault::NoMemory,
+            5 => BuildFault::BadCeiling,
+            6 => BuildFault::NoShard,
+            7 => BuildFault::TooMany,
+            other => unreachable!("no BuildFault has code {other}"),
+        }
+    }
+}
+
+impl fmt::Display for BuildFault {
+    fn fmt(&self, f: &mut fmt::Formatter<'_>) -> fmt::Result {
+        f.write_str(match self {
+            BuildFault::BadServers => {
+                "a board has 1 to 4,095 servers, and as many restarts at once at most"
+            }
+            BuildFault::NoMemory => "out of memory",
+            BuildFault::BadCeiling => "the ceiling of generations is 3 to 68,719,476,735",
+            BuildFault::NoShard => "a board has at least one shard",
+            BuildFault::TooMany => "a board has at most 4,096 shards",
+        })
+    }
+}
+
+impl Error for BuildFault {}
 
 /// Why there is no pass.
 #[derive(Clone, Copy, Debug, PartialEq, Eq)]
 pub enum PassFault {
     /// A server has a number from 1 to 4,095.
     BadServer,
-    /// Memory was refused.
+    /// Out of memory.
     NoMemory,
 }
+
+impl PassFault {
+    pub(crate) fn of(code: u32) -> PassFault {
+        match code {
+            2 => PassFault::BadServer,
+            3 => PassFault::NoMemory,
+            other => unreachable!("no PassFault has code {other}"),
+        }
+    }
+}
+
+impl fmt::Display for PassFault {
+    fn fmt(&self, f: &mut fmt::Formatter<'_>) -> fmt::Result {
+        f.write_str(match self {
+            PassFault::BadServer => "a server has a number from 1 to 4,095",
+            PassFault::NoMemory => "out of memory",
+        })
+    }
+}
+
+impl Error for PassFault {}
 
 /// Why a pass isn't admitted to a shard, with the record that was read.
 #[derive(Clone, Copy, Debug, PartialEq, Eq)]
 pub enum AdmitFault {
+    /// The pass holds a permit that was forgotten.
+    Holding,
+    /// A server has a number from 1 to 4,095.
+    BadServer,
+    /// There is no such shard.
+    UnknownShard,
+    /// Another thread was first.
+    Raced(Record),
     /// Nobody owns the shard.
     Vacant(Record),
     /// The shard is paused.
@@ -42,44 +142,110 @@ pub enum AdmitFault {
     NotExecutor(Record),
     /// The server executes only what the owner forwards.
     NotYet(Record),
-    /// The shard has an admission that hasn't ended.
+    /// The shard is admitted.
     Admitted(Record),
     /// The shard's generations are spent.
     Spent(Record),
-    /// Another thread was first; the record is the one that was found.
-    Raced(Record),
-    /// There is no such shard.
-    UnknownShard,
-    /// The server that forwarded has no number from 1 to 4,095.
-    BadServer,
-    /// A permit of this pass was forgotten, so the pass holds it still.
-    Holding,
 }
+
+impl AdmitFault {
+    pub(crate) fn of(code: u32, read: Record) -> AdmitFault {
+        match code {
+            1 => AdmitFault::Holding,
+            2 => AdmitFault::BadServer,
+            10 => AdmitFault::UnknownShard,
+            15 => AdmitFault::Raced(read),
+            21 => AdmitFault::Vacant(read),
+            22 => AdmitFault::Paused(read),
+            23 => AdmitFault::NotExecutor(read),
+            24 => AdmitFault::NotYet(read),
+            25 => AdmitFault::Admitted(read),
+            26 => AdmitFault::Spent(read),
+            other => unreachable!("no AdmitFault has code {other}"),
+        }
+    }
+}
+
+impl fmt::Display for AdmitFault {
+    fn fmt(&self, f: &mut fmt::Formatter<'_>) -> fmt::Result {
+        f.write_str(match self {
+            AdmitFault::Holding => "the pass holds a permit that was forgotten",
+            AdmitFault::BadServer => "a server has a number from 1 to 4,095",
+            AdmitFault::UnknownShard => "there is no such shard",
+            AdmitFault::Raced(_) => "another thread was first",
+            AdmitFault::Vacant(_) => "nobody owns the shard",
+            AdmitFault::Paused(_) => "the shard is paused",
+            AdmitFault::NotExecutor(_) => "another server executes the shard's requests",
+            AdmitFault::NotYet(_) => "the server executes only what the owner forwards",
+            AdmitFault::Admitted(_) => "the shard is admitted",
+            AdmitFault::Spent(_) => "the shard's generations are spent",
+        })
+    }
+}
+
+impl Error for AdmitFault {}
 
 /// Why a change of a shard isn't made, with the record that was read where one was.
 #[derive(Clone, Copy, Debug, PartialEq, Eq)]
 pub enum ChangeFault {
-    /// There is no such shard.
-    UnknownShard,
     /// There is no such server.
     UnknownServer,
+    /// There is no such shard.
+    UnknownShard,
     /// The change doesn't begin from the shard's stand.
     WrongPhase,
-    /// The change names the shard's owner as its new server.
+    /// The server owns the shard.
     SameServer,
     /// The shard's generations are spent.
     Spent(Record),
-    /// The shard is admitted now.
+    /// The shard is admitted.
     Busy(Record),
-    /// Another thread was first; the record is the one that was found.
+    /// Another thread was first.
     Raced(Record),
-    /// The server is leaving for a restart.
+    /// The server is leaving.
     Leaving,
     /// The server has no room.
     NoCapacity,
-    /// The server's domain has its share of the shard's group.
+    /// The server's domain has its share of the group.
     DomainLimit,
 }
+
+impl ChangeFault {
+    pub(crate) fn of(code: u32, read: Record) -> ChangeFault {
+        match code {
+            2 | 30 => ChangeFault::UnknownServer,
+            10 => ChangeFault::UnknownShard,
+            11 => ChangeFault::WrongPhase,
+            12 => ChangeFault::SameServer,
+            13 => ChangeFault::Spent(read),
+            14 => ChangeFault::Busy(read),
+            15 => ChangeFault::Raced(read),
+            31 => ChangeFault::Leaving,
+            32 => ChangeFault::NoCapacity,
+            33 => ChangeFault::DomainLimit,
+            other => unreachable!("no ChangeFault has code {other}"),
+        }
+    }
+}
+
+impl fmt::Display for ChangeFault {
+    fn fmt(&self, f: &mut fmt::Formatter<'_>) -> fmt::Result {
+        f.write_str(match self {
+            ChangeFault::UnknownServer => "there is no such server",
+            ChangeFault::UnknownShard => "there is no such shard",
+            ChangeFault::WrongPhase => "the change doesn't begin from the shard's stand",
+            ChangeFault::SameServer => "the server owns the shard",
+            ChangeFault::Spent(_) => "the shard's generations are spent",
+            ChangeFault::Busy(_) => "the shard is admitted",
+            ChangeFault::Raced(_) => "another thread was first",
+            ChangeFault::Leaving => "the server is leaving",
+            ChangeFault::NoCapacity => "the server has no room",
+            ChangeFault::DomainLimit => "the server's domain has its share of the group",
+        })
+    }
+}
+
+impl Error for ChangeFault {}
 
 /// Why a step of a server's restart isn't made.
 #[derive(Clone, Copy, Debug, PartialEq, Eq)]
@@ -108,95 +274,280 @@ pub enum RestartFault {
     AlreadyFailed,
 }
 
+impl RestartFault {
+    pub(crate) fn of(code: u32) -> RestartFault {
+        match code {
+            2 | 30 => RestartFault::UnknownServer,
+            40 => RestartFault::NotUp,
+            41 => RestartFault::NotAsked,
+            42 => RestartFault::GlobalCap,
+            43 => RestartFault::ShardCap,
+            44 => RestartFault::GroupCap,
+            45 => RestartFault::DomainCap,
+            46 => RestartFault::NotApproved,
+            47 => RestartFault::StillServing,
+            48 => RestartFault::AlreadyUp,
+            49 => RestartFault::AlreadyFailed,
+            other => unreachable!("no RestartFault has code {other}"),
+        }
+    }
+}
+
+impl fmt::Display for RestartFault {
+    fn fmt(&self, f: &mut fmt::Formatter<'_>) -> fmt::Result {
+        f.write_str(match self {
+            RestartFault::UnknownServer => "there is no such server",
+            RestartFault::NotUp => "the server isn't up",
+            RestartFault::NotAsked => "the restart wasn't asked for",
+            RestartFault::GlobalCap => "too many servers would be leaving",
+            RestartFault::ShardCap => "a shard may not be down",
+            RestartFault::GroupCap => "too many shards of a group would be down",
+            RestartFault::DomainCap => "too many servers of a domain would be down",
+            RestartFault::NotApproved => "the restart isn't approved",
+            RestartFault::StillServing => "a shard that names the server isn't paused",
+            RestartFault::AlreadyUp => "the server is up already",
+            RestartFault::AlreadyFailed => "the server has failed already",
+        })
+    }
+}
+
+impl Error for RestartFault {}
+
 /// Why bounds are no layout.
 #[derive(Clone, Copy, Debug, PartialEq, Eq)]
 pub enum LayoutFault {
+    /// Out of memory.
+    NoMemory,
+    /// A layout has at most 4,096 bounds.
+    TooMany,
     /// A layout has at least one bound.
     Empty,
-    /// The first bound has a byte or more.
+    /// The first bound is not empty.
     FirstNotEmpty,
-    /// A bound isn't above the one before it.
+    /// A bound is not above the one before it.
     NotRising,
     /// A bound has more than 255 bytes.
     BoundTooLong,
-    /// A layout has at most 4,096 bounds.
-    TooMany,
-    /// Memory was refused.
-    NoMemory,
 }
+
+impl LayoutFault {
+    pub(crate) fn of(code: u32) -> LayoutFault {
+        match code {
+            3 => LayoutFault::NoMemory,
+            7 => LayoutFault::TooMany,
+            50 => LayoutFault::Empty,
+            51 => LayoutFault::FirstNotEmpty,
+            52 => LayoutFault::NotRising,
+            53 => LayoutFault::BoundTooLong,
+            other => unreachable!("no LayoutFault has code {other}"),
+        }
+    }
+}
+
+impl fmt::Display for LayoutFault {
+    fn fmt(&self, f: &mut fmt::Formatter<'_>) -> fmt::Result {
+        f.write_str(match self {
+            LayoutFault::NoMemory => "out of memory",
+            LayoutFault::TooMany => "a layout has at most 4,096 bounds",
+            LayoutFault::Empty => "a layout has at least one bound",
+            LayoutFault::FirstNotEmpty => "the first bound is not empty",
+            LayoutFault::NotRising => "a bound is not above the one before it",
+            LayoutFault::BoundTooLong => "a bound has more than 255 bytes",
+        })
+    }
+}
+
+impl Error for LayoutFault {}
 
 /// Why a request to a map is refused, which then changes nothing.
 #[derive(Clone, Copy, Debug, PartialEq, Eq)]
 pub enum MapFault {
+    /// Out of memory.
+    NoMemory,
     /// A key has at least one byte.
     EmptyKey,
     /// A key has at most 255 bytes.
     KeyTooLong,
-    /// The key holds a count where the request is for a text, or a text where it is for a count.
+    /// The key holds a value of the other kind.
     WrongKind,
     /// The count would have more than 64 bits.
     Overflow,
     /// The text would have more than 65,535 bytes.
     TextTooLong,
-    /// Memory was refused.
-    NoMemory,
 }
+
+impl MapFault {
+    pub(crate) fn of(code: u32) -> MapFault {
+        match code {
+            3 => MapFault::NoMemory,
+            57 => MapFault::EmptyKey,
+            58 => MapFault::KeyTooLong,
+            other => unreachable!("no MapFault has code {other}"),
+        }
+    }
+}
+
+impl fmt::Display for MapFault {
+    fn fmt(&self, f: &mut fmt::Formatter<'_>) -> fmt::Result {
+        f.write_str(match self {
+            MapFault::NoMemory => "out of memory",
+            MapFault::EmptyKey => "a key has at least one byte",
+            MapFault::KeyTooLong => "a key has at most 255 bytes",
+            MapFault::WrongKind => "the key holds a value of the other kind",
+            MapFault::Overflow => "the count would have more than 64 bits",
+            MapFault::TextTooLong => "the text would have more than 65,535 bytes",
+        })
+    }
+}
+
+impl Error for MapFault {}
 
 /// Why there is no envelope.
 #[derive(Clone, Copy, Debug, PartialEq, Eq)]
 pub enum SendFault {
+    /// Out of memory.
+    NoMemory,
     /// A key has at least one byte.
     EmptyKey,
     /// A key has at most 255 bytes.
     KeyTooLong,
-    /// Memory was refused.
-    NoMemory,
 }
+
+impl SendFault {
+    pub(crate) fn of(code: u32) -> SendFault {
+        match code {
+            3 => SendFault::NoMemory,
+            57 => SendFault::EmptyKey,
+            58 => SendFault::KeyTooLong,
+            other => unreachable!("no SendFault has code {other}"),
+        }
+    }
+}
+
+impl fmt::Display for SendFault {
+    fn fmt(&self, f: &mut fmt::Formatter<'_>) -> fmt::Result {
+        f.write_str(match self {
+            SendFault::NoMemory => "out of memory",
+            SendFault::EmptyKey => "a key has at least one byte",
+            SendFault::KeyTooLong => "a key has at most 255 bytes",
+        })
+    }
+}
+
+impl Error for SendFault {}
 
 /// Why a server refused an envelope.
 #[derive(Clone, Copy, Debug, PartialEq, Eq)]
 pub enum ServeFault {
-    /// The envelope is of another board.
-    OtherBoard,
+    /// Out of memory.
+    NoMemory,
     /// The request's key is of another shard.
     WrongShard,
-    /// The envelope was forwarded as often as it may be.
+    /// The request was forwarded too often.
     TooManyHops,
     /// The shard keeps as many requests as it may: make a checkpoint.
     KeptFull,
-    /// The server isn't admitted to the shard, and forwards nothing.
+    /// The envelope is of another board.
+    OtherBoard,
+    /// The server isn't admitted to the shard.
     Admit(AdmitFault),
-    /// Memory was refused.
-    NoMemory,
 }
+
+impl ServeFault {
+    pub(crate) fn of(code: u32, read: Record) -> ServeFault {
+        match code {
+            3 => ServeFault::NoMemory,
+            61 => ServeFault::WrongShard,
+            62 => ServeFault::TooManyHops,
+            63 => ServeFault::KeptFull,
+            code => ServeFault::Admit(AdmitFault::of(code, read)),
+        }
+    }
+}
+
+impl fmt::Display for ServeFault {
+    fn fmt(&self, f: &mut fmt::Formatter<'_>) -> fmt::Result {
+        f.write_str(match self {
+            ServeFault::NoMemory => "out of memory",
+            ServeFault::WrongShard => "the request's key is of another shard",
+            ServeFault::TooManyHops => "the request was forwarded too often",
+            ServeFault::KeptFull => "the shard keeps as many requests as it may: make a checkpoint",
+            ServeFault::OtherBoard => "the envelope is of another board",
+            ServeFault::Admit(fault) => return fault.fmt(f),
+        })
+    }
+}
+
+impl Error for ServeFault {}
 
 /// Why a shard made no checkpoint.
 #[derive(Clone, Copy, Debug, PartialEq, Eq)]
 pub enum CheckpointFault {
+    /// Out of memory.
+    NoMemory,
     /// The server isn't admitted to the shard.
     Admit(AdmitFault),
-    /// Memory was refused.
-    NoMemory,
 }
+
+impl CheckpointFault {
+    pub(crate) fn of(code: u32, read: Record) -> CheckpointFault {
+        match code {
+            3 => CheckpointFault::NoMemory,
+            code => CheckpointFault::Admit(AdmitFault::of(code, read)),
+        }
+    }
+}
+
+impl fmt::Display for CheckpointFault {
+    fn fmt(&self, f: &mut fmt::Formatter<'_>) -> fmt::Result {
+        f.write_str(match self {
+            CheckpointFault::NoMemory => "out of memory",
+            CheckpointFault::Admit(fault) => return fault.fmt(f),
+        })
+    }
+}
+
+impl Error for CheckpointFault {}
 
 /// Why there is no plan.
 #[derive(Clone, Copy, Debug, PartialEq, Eq)]
 pub enum PlanFault {
     /// There is no such server.
     UnknownServer,
-    /// Memory was refused.
+    /// Out of memory.
     NoMemory,
 }
+
+impl PlanFault {
+    pub(crate) fn of(code: u32) -> PlanFault {
+        match code {
+            2 | 30 => PlanFault::UnknownServer,
+            3 => PlanFault::NoMemory,
+            other => unreachable!("no PlanFault has code {other}"),
+        }
+    }
+}
+
+impl fmt::Display for PlanFault {
+    fn fmt(&self, f: &mut fmt::Formatter<'_>) -> fmt::Result {
+        f.write_str(match self {
+            PlanFault::UnknownServer => "there is no such server",
+            PlanFault::NoMemory => "out of memory",
+        })
+    }
+}
+
+impl Error for PlanFault {}
 
 /// Why a note isn't made, or isn't told.
 #[derive(Clone, Copy, Debug, PartialEq, Eq)]
 pub enum NoteFault {
+    /// The pass holds a permit that was forgotten.
+    Holding,
+    /// Out of memory.
+    NoMemory,
     /// The note is of another board.
     OtherBoard,
-    /// A permit of this pass was forgotten, so the pass holds it still.
-    Holding,
-    /// Memory was refused.
-    NoMemory,
 }
 
 impl NoteFault {
@@ -204,7 +555,7 @@ impl NoteFault {
         match code {
             1 => NoteFault::Holding,
             3 => NoteFault::NoMemory,
-            other => unreachable!("a note answered code {other}"),
+            other => unreachable!("no NoteFault has code {other}"),
         }
     }
 }
@@ -212,9 +563,9 @@ impl NoteFault {
 impl fmt::Display for NoteFault {
     fn fmt(&self, f: &mut fmt::Formatter<'_>) -> fmt::Result {
         f.write_str(match self {
-            NoteFault::OtherBoard => "the note is of another board",
             NoteFault::Holding => "the pass holds a permit that was forgotten",
             NoteFault::NoMemory => "out of memory",
+            NoteFault::OtherBoard => "the note is of another board",
         })
     }
 }
@@ -243,329 +594,4 @@ impl fmt::Display for PublishFault {
 }
 
 impl Error for PublishFault {}
-
-impl LayoutFault {
-    pub(crate) fn of(code: u32) -> LayoutFault {
-        match code {
-            3 => LayoutFault::NoMemory,
-            7 => LayoutFault::TooMany,
-            50 => LayoutFault::Empty,
-            51 => LayoutFault::FirstNotEmpty,
-            52 => LayoutFault::NotRising,
-            53 => LayoutFault::BoundTooLong,
-            other => unreachable!("a layout answered code {other}"),
-        }
-    }
-}
-
-impl MapFault {
-    pub(crate) fn of(code: u32) -> MapFault {
-        match code {
-            3 => MapFault::NoMemory,
-            57 => MapFault::EmptyKey,
-            58 => MapFault::KeyTooLong,
-            other => unreachable!("a map answered code {other}"),
-        }
-    }
-}
-
-impl SendFault {
-    pub(crate) fn of(code: u32) -> SendFault {
-        match code {
-            3 => SendFault::NoMemory,
-            57 => SendFault::EmptyKey,
-            58 => SendFault::KeyTooLong,
-            other => unreachable!("an envelope answered code {other}"),
-        }
-    }
-}
-
-impl ServeFault {
-    pub(crate) fn of(code: u32, read: Record) -> ServeFault {
-        match code {
-            3 => ServeFault::NoMemory,
-            61 => ServeFault::WrongShard,
-            62 => ServeFault::TooManyHops,
-            63 => ServeFault::KeptFull,
-            code => ServeFault::Admit(AdmitFault::of(code, read)),
-        }
-    }
-}
-
-impl CheckpointFault {
-    pub(crate) fn of(code: u32, read: Record) -> CheckpointFault {
-        match code {
-            3 => CheckpointFault::NoMemory,
-            code => CheckpointFault::Admit(AdmitFault::of(code, read)),
-        }
-    }
-}
-
-impl PlanFault {
-    pub(crate) fn of(code: u32) -> PlanFault {
-        match code {
-            2 | 30 => PlanFault::UnknownServer,
-            3 => PlanFault::NoMemory,
-            other => unreachable!("a plan answered code {other}"),
-        }
-    }
-}
-
-impl fmt::Display for LayoutFault {
-    fn fmt(&self, f: &mut fmt::Formatter<'_>) -> fmt::Result {
-        f.write_str(match self {
-            LayoutFault::Empty => "a layout has at least one bound",
-            LayoutFault::FirstNotEmpty => "the first bound is not empty",
-            LayoutFault::NotRising => "a bound is not above the one before it",
-            LayoutFault::BoundTooLong => "a bound has more than 255 bytes",
-            LayoutFault::TooMany => "a layout has at most 4,096 bounds",
-            LayoutFault::NoMemory => "out of memory",
-        })
-    }
-}
-
-impl fmt::Display for MapFault {
-    fn fmt(&self, f: &mut fmt::Formatter<'_>) -> fmt::Result {
-        f.write_str(match self {
-            MapFault::EmptyKey => "a key has at least one byte",
-            MapFault::KeyTooLong => "a key has at most 255 bytes",
-            MapFault::WrongKind => "the key holds a value of the other kind",
-            MapFault::Overflow => "the count would have more than 64 bits",
-            MapFault::TextTooLong => "the text would have more than 65,535 bytes",
-            MapFault::NoMemory => "out of memory",
-        })
-    }
-}
-
-impl fmt::Display for SendFault {
-    fn fmt(&self, f: &mut fmt::Formatter<'_>) -> fmt::Result {
-        f.write_str(match self {
-            SendFault::EmptyKey => "a key has at least one byte",
-            SendFault::KeyTooLong => "a key has at most 255 bytes",
-            SendFault::NoMemory => "out of memory",
-        })
-    }
-}
-
-impl fmt::Display for ServeFault {
-    fn fmt(&self, f: &mut fmt::Formatter<'_>) -> fmt::Result {
-        match self {
-            ServeFault::OtherBoard => f.write_str("the envelope is of another board"),
-            ServeFault::WrongShard => f.write_str("the request's key is of another shard"),
-            ServeFault::TooManyHops => f.write_str("the request was forwarded too often"),
-            ServeFault::KeptFull => {
-                f.write_str("the shard keeps as many requests as it may: make a checkpoint")
-            }
-            ServeFault::Admit(fault) => fault.fmt(f),
-            ServeFault::NoMemory => f.write_str("out of memory"),
-        }
-    }
-}
-
-impl fmt::Display for CheckpointFault {
-    fn fmt(&self, f: &mut fmt::Formatter<'_>) -> fmt::Result {
-        match self {
-            CheckpointFault::Admit(fault) => fault.fmt(f),
-            CheckpointFault::NoMemory => f.write_str("out of memory"),
-        }
-    }
-}
-
-impl fmt::Display for PlanFault {
-    fn fmt(&self, f: &mut fmt::Formatter<'_>) -> fmt::Result {
-        f.write_str(match self {
-            PlanFault::UnknownServer => "there is no such server",
-            PlanFault::NoMemory => "out of memory",
-        })
-    }
-}
-
-impl Error for LayoutFault {}
-impl Error for MapFault {}
-impl Error for SendFault {}
-impl Error for ServeFault {}
-impl Error for CheckpointFault {}
-impl Error for PlanFault {}
-
-impl BuildFault {
-    pub(crate) fn of(code: u32) -> BuildFault {
-        match code {
-            3 => BuildFault::NoMemory,
-            5 => BuildFault::BadCeiling,
-            6 => BuildFault::NoShard,
-            7 => BuildFault::TooMany,
-            _ => BuildFault::BadServers,
-        }
-    }
-}
-
-impl AdmitFault {
-    pub(crate) fn of(code: u32, read: Record) -> AdmitFault {
-        match code {
-            1 => AdmitFault::Holding,
-            2 => AdmitFault::BadServer,
-            10 => AdmitFault::UnknownShard,
-            15 => AdmitFault::Raced(read),
-            21 => AdmitFault::Vacant(read),
-            22 => AdmitFault::Paused(read),
-            23 => AdmitFault::NotExecutor(read),
-            24 => AdmitFault::NotYet(read),
-            25 => AdmitFault::Admitted(read),
-            26 => AdmitFault::Spent(read),
-            other => unreachable!("an admission answered code {other}"),
-        }
-    }
-
-    /// The record that was read, or found, where one was.
-    pub fn record(&self) -> Option<Record> {
-        use AdmitFault::*;
-        match *self {
-            Vacant(it) | Paused(it) | NotExecutor(it) | NotYet(it) | Admitted(it) | Spent(it)
-            | Raced(it) => Some(it),
-            UnknownShard | BadServer | Holding => None,
-        }
-    }
-
-    /// Whether the same call may be admitted at once when it is made again: another thread had the shard or was first.
-    pub fn is_passing(&self) -> bool {
-        matches!(self, AdmitFault::Admitted(_) | AdmitFault::Raced(_))
-    }
-}
-
-impl ChangeFault {
-    pub(crate) fn of(code: u32, read: Record) -> ChangeFault {
-        match code {
-            2 | 30 => ChangeFault::UnknownServer,
-            10 => ChangeFault::UnknownShard,
-            11 => ChangeFault::WrongPhase,
-            12 => ChangeFault::SameServer,
-            13 => ChangeFault::Spent(read),
-            14 => ChangeFault::Busy(read),
-            15 => ChangeFault::Raced(read),
-            31 => ChangeFault::Leaving,
-            32 => ChangeFault::NoCapacity,
-            33 => ChangeFault::DomainLimit,
-            other => unreachable!("a change answered code {other}"),
-        }
-    }
-
-    /// The record that was read, or found, where one was.
-    pub fn record(&self) -> Option<Record> {
-        match *self {
-            ChangeFault::Spent(it) | ChangeFault::Busy(it) | ChangeFault::Raced(it) => Some(it),
-            _ => None,
-        }
-    }
-
-    /// Whether the same change may be made at once when it is asked for again.
-    pub fn is_passing(&self) -> bool {
-        matches!(self, ChangeFault::Busy(_) | ChangeFault::Raced(_))
-    }
-}
-
-impl RestartFault {
-    pub(crate) fn of(code: u32) -> RestartFault {
-        match code {
-            2 | 30 => RestartFault::UnknownServer,
-            40 => RestartFault::NotUp,
-            41 => RestartFault::NotAsked,
-            42 => RestartFault::GlobalCap,
-            43 => RestartFault::ShardCap,
-            44 => RestartFault::GroupCap,
-            45 => RestartFault::DomainCap,
-            46 => RestartFault::NotApproved,
-            47 => RestartFault::StillServing,
-            48 => RestartFault::AlreadyUp,
-            49 => RestartFault::AlreadyFailed,
-            other => unreachable!("a step of a restart answered code {other}"),
-        }
-    }
-}
-
-impl fmt::Display for BuildFault {
-    fn fmt(&self, f: &mut fmt::Formatter<'_>) -> fmt::Result {
-        f.write_str(match self {
-            BuildFault::NoShard => "a board has at least one shard",
-            BuildFault::TooMany => "a board has at most 4,096 shards",
-            BuildFault::BadCeiling => "the ceiling of generations is 3 to 68,719,476,735",
-            BuildFault::BadServers => {
-                "a board has 1 to 4,095 servers, and as many restarts at once at most"
-            }
-            BuildFault::NoMemory => "out of memory",
-        })
-    }
-}
-
-impl fmt::Display for UnknownShard {
-    fn fmt(&self, f: &mut fmt::Formatter<'_>) -> fmt::Result {
-        f.write_str("there is no such shard")
-    }
-}
-
-impl fmt::Display for PassFault {
-    fn fmt(&self, f: &mut fmt::Formatter<'_>) -> fmt::Result {
-        f.write_str(match self {
-            PassFault::BadServer => "a server has a number from 1 to 4,095",
-            PassFault::NoMemory => "out of memory",
-        })
-    }
-}
-
-impl fmt::Display for AdmitFault {
-    fn fmt(&self, f: &mut fmt::Formatter<'_>) -> fmt::Result {
-        f.write_str(match self {
-            AdmitFault::Vacant(_) => "nobody owns the shard",
-            AdmitFault::Paused(_) => "the shard is paused",
-            AdmitFault::NotExecutor(_) => "another server executes the shard's requests",
-            AdmitFault::NotYet(_) => "the server executes only what the owner forwards",
-            AdmitFault::Admitted(_) => "the shard is admitted",
-            AdmitFault::Spent(_) => "the shard's generations are spent",
-            AdmitFault::Raced(_) => "another thread was first",
-            AdmitFault::UnknownShard => "there is no such shard",
-            AdmitFault::BadServer => "a server has a number from 1 to 4,095",
-            AdmitFault::Holding => "the pass holds a permit that was forgotten",
-        })
-    }
-}
-
-impl fmt::Display for ChangeFault {
-    fn fmt(&self, f: &mut fmt::Formatter<'_>) -> fmt::Result {
-        f.write_str(match self {
-            ChangeFault::UnknownShard => "there is no such shard",
-            ChangeFault::UnknownServer => "there is no such server",
-            ChangeFault::WrongPhase => "the change doesn't begin from the shard's stand",
-            ChangeFault::SameServer => "the server owns the shard",
-            ChangeFault::Spent(_) => "the shard's generations are spent",
-            ChangeFault::Busy(_) => "the shard is admitted",
-            ChangeFault::Raced(_) => "another thread was first",
-            ChangeFault::Leaving => "the server is leaving",
-            ChangeFault::NoCapacity => "the server has no room",
-            ChangeFault::DomainLimit => "the server's domain has its share of the group",
-        })
-    }
-}
-
-impl fmt::Display for RestartFault {
-    fn fmt(&self, f: &mut fmt::Formatter<'_>) -> fmt::Result {
-        f.write_str(match self {
-            RestartFault::UnknownServer => "there is no such server",
-            RestartFault::NotUp => "the server isn't up",
-            RestartFault::NotAsked => "the restart wasn't asked for",
-            RestartFault::GlobalCap => "too many servers would be leaving",
-            RestartFault::ShardCap => "a shard may not be down",
-            RestartFault::GroupCap => "too many shards of a group would be down",
-            RestartFault::DomainCap => "too many servers of a domain would be down",
-            RestartFault::NotApproved => "the restart isn't approved",
-            RestartFault::StillServing => "a shard that names the server isn't paused",
-            RestartFault::AlreadyUp => "the server is up already",
-            RestartFault::AlreadyFailed => "the server has failed already",
-        })
-    }
-}
-
-impl Error for BuildFault {}
-impl Error for UnknownShard {}
-impl Error for PassFault {}
-impl Error for AdmitFault {}
-impl Error for ChangeFault {}
-impl Error for RestartFault {}
+// End of them.

@@ -1,5 +1,16 @@
 use crate::raw::RecordParts;
 
+// By tools/library-codes, the names in library/codes.txt:
+const NAMES: [&str; 6] = [
+    "Vacant",
+    "Serving",
+    "Prepared",
+    "Forwarding",
+    "Taken",
+    "Paused",
+];
+// End of them.
+
 /// Who owns a shard, and how far a migration of it has come.
 #[derive(Clone, Copy, Debug, PartialEq, Eq)]
 pub enum Stand {
@@ -30,6 +41,24 @@ pub enum Stand {
     },
     /// The server owns the shard, and nobody executes requests.
     Paused(u16),
+}
+
+impl Stand {
+    /// How scripts and their answers name this kind of stand.
+    pub fn name(&self) -> &'static str {
+        NAMES[usize::from(self.phase())]
+    }
+
+    fn phase(&self) -> u8 {
+        match self {
+            Stand::Vacant => 0,
+            Stand::Serving(_) => 1,
+            Stand::Prepared { .. } => 2,
+            Stand::Forwarding { .. } => 3,
+            Stand::Taken { .. } => 4,
+            Stand::Paused(_) => 5,
+        }
+    }
 }
 
 /// What the board holds for a shard.
@@ -65,19 +94,11 @@ impl Record {
     }
 
     pub(crate) fn parts(&self) -> RecordParts {
-        let (phase, owner, other) = match self.stand {
-            Stand::Vacant => (0, 0, 0),
-            Stand::Serving(owner) => (1, owner, 0),
-            Stand::Prepared { owner, next } => (2, owner, next),
-            Stand::Forwarding { owner, next } => (3, owner, next),
-            Stand::Taken { owner, previous } => (4, owner, previous),
-            Stand::Paused(owner) => (5, owner, 0),
-        };
         RecordParts {
             generation: self.generation,
-            owner,
-            other,
-            phase,
+            owner: self.owner().unwrap_or(0),
+            other: self.other().unwrap_or(0),
+            phase: self.stand.phase(),
             admitted: self.admitted,
         }
     }
@@ -90,6 +111,15 @@ impl Record {
             Stand::Prepared { owner, .. }
             | Stand::Forwarding { owner, .. }
             | Stand::Taken { owner, .. } => Some(owner),
+        }
+    }
+
+    /// The next or the previous owner, which a shard has during a migration.
+    pub fn other(&self) -> Option<u16> {
+        match self.stand {
+            Stand::Prepared { next, .. } | Stand::Forwarding { next, .. } => Some(next),
+            Stand::Taken { previous, .. } => Some(previous),
+            Stand::Vacant | Stand::Serving(_) | Stand::Paused(_) => None,
         }
     }
 

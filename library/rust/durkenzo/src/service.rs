@@ -126,8 +126,7 @@ impl Service {
                 self.shared.clone(),
                 self.layout.clone(),
             )),
-            2 => Err(PassFault::BadServer),
-            _ => Err(PassFault::NoMemory),
+            code => Err(PassFault::of(code)),
         }
     }
 

@@ -105,16 +105,18 @@ fn has_blocks(map: &ArenaMap, lengths: &[usize]) -> bool {
     map.blocks() == lengths.len()
 }
 
-// A map of the first so many keys.
-fn first_keys(rt: &impl Abort, alloc: Global, count: u32) -> ArenaMap {
-    filled(alloc, Order::Rising, count).ok().expect(rt, "a map")
+// A map of so many keys that came in this order.
+fn map_of(rt: &impl Abort, alloc: Global, order: Order, count: u32) -> ArenaMap {
+    filled(alloc, order, count).ok().expect(rt, "a map")
 }
 
-// The 65th key splits the one full block.
+// The 65th key splits the one full block: it stays in its half, or goes alone where it comes last.
 #[test]
 fn blocks_split(rt: HostRuntime) {
-    let map = first_keys(&rt, rt.alloc(), 65);
-    assert!(rt; has_blocks(&map, &[32, 33]));
+    let falling = map_of(&rt, rt.alloc(), Order::Falling, 65);
+    assert!(rt; has_blocks(&falling, &[33, 32]));
+    let rising = map_of(&rt, rt.alloc(), Order::Rising, 65);
+    assert!(rt; has_blocks(&rising, &[64, 1]));
 }
 
 // Whether the one block goes with its last pair.
@@ -127,35 +129,35 @@ fn goes_empty(map: &mut ArenaMap) -> bool {
 
 #[test]
 fn empty_blocks_go(rt: HostRuntime) {
-    let mut map = first_keys(&rt, rt.alloc(), 1);
+    let mut map = map_of(&rt, rt.alloc(), Order::Rising, 1);
     assert!(rt; goes_empty(&mut map));
 }
 
 // A copy's blocks are full, but for the last one.
 #[test]
 fn copies_fill_blocks(rt: HostRuntime) {
-    let map = first_keys(&rt, rt.alloc(), 130);
-    assert!(rt; has_blocks(&map, &[32, 32, 32, 34]));
+    let map = map_of(&rt, rt.alloc(), Order::Falling, 130);
+    assert!(rt; has_blocks(&map, &[34, 32, 32, 32]));
     let copy = map.copy().ok().expect(&rt, "a copy");
     assert!(rt; has_blocks(&copy, &[64, 64, 2]));
 }
 
 // The put splits the one full block.
 fn splits_in_two(rt: &impl Abort, map: &mut ArenaMap) {
-    let (first, last) = (0u32.to_be_bytes(), 99u32.to_be_bytes());
+    let (first, last) = (0u32.to_be_bytes(), (KEYS - 1).to_be_bytes());
     let steps = [
-        Step::Put(&last, Val::Text(b"text")),
-        Step::Append(&last, b"s"),
-        Step::Remove(&first),
+        Step::Put(&first, Val::Text(b"text")),
+        Step::Append(&first, b"s"),
+        Step::Remove(&last),
     ];
     make_all_in_two(rt, map, &steps);
-    assert!(*rt; has_blocks(map, &[31, 33]) && map.dead() == 8);
+    assert!(*rt; has_blocks(map, &[33, 31]) && map.dead() == 8);
 }
 
 // Passes with each allocation refused in turn (`tools/run-tests` does it).
 #[test]
 fn blocks_keep_what_memory_refuses(rt: HostRuntime) {
-    if let Ok(mut map) = filled(rt.alloc(), Order::Rising, 64) {
+    if let Ok(mut map) = filled(rt.alloc(), Order::Falling, 64) {
         splits_in_two(&rt, &mut map);
     }
 }

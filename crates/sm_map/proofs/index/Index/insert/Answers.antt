@@ -59,8 +59,8 @@ invariant_of-self-in-Beside c =
     (sym c.index_mut-in-Beside.ensures.value) (ready.1 c.index_mut-in-Beside.result.now) in
     subst (λ (l : List BlockValue). IsIndex l (c.self.inside.len + 1)) (sym c.add.ensures)
     (half_kept c.self.inside.blocks.items c.self.inside.len c.self.invariant c.args.place
-    c.index_mut-in-Beside.result.now c.insert_in_half-upper.new.self ready.0 c.index_mut-in-Beside.ensures.value
-    c.args.entry here.0 c.insert_in_half-upper.result c.insert_in_half-upper.ensures)
+    c.index_mut-in-Beside.result.now c.insert_split-upper.new.self ready.0 c.index_mut-in-Beside.ensures.value
+    c.args.entry here.0 c.insert_split-upper.result c.insert_split-upper.ensures)
 
 pub returns-in-Beside : goal.returns-in-Beside
 returns-in-Beside c =
@@ -75,8 +75,8 @@ returns-in-Beside c =
     ≡ insert (entries_in x.blocks) (number_of (lengths_in x.blocks) c.args.place) c.args.entry) c.self.view_is
     (ap entries_in c.add.ensures
     ∙ half_entries c.self.inside.blocks.items c.self.inside.len c.self.invariant c.args.place
-    c.index_mut-in-Beside.result.now c.insert_in_half-upper.new.self ready.0 c.index_mut-in-Beside.ensures.value
-    c.args.entry here.0 c.insert_in_half-upper.result c.insert_in_half-upper.ensures)
+    c.index_mut-in-Beside.result.now c.insert_split-upper.new.self ready.0 c.index_mut-in-Beside.ensures.value
+    c.args.entry here.0 c.insert_split-upper.result c.insert_split-upper.ensures)
 
 pub invariant_of-self-in-Behind : goal.invariant_of-self-in-Behind
 invariant_of-self-in-Behind c =

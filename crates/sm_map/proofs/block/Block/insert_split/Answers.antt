@@ -1,11 +1,11 @@
-use Rattle.std.proofs.Common.{List, length, ap, arith}
+use Rattle.std.proofs.Common.{List, length, ap, arith, refl}
 use Rattle.std.proofs.lemmas.List.{length-take, length-drop}
 use Rattle.sm_map.specs.declared.key_entry.KeyEntry.{KeyEntry}
-use Rattle.sm_map.proofs.Blocks.{lower_insert, upper_insert}
-use Rattle.sm_map.proofs.block.Block.insert_in_half.Goals as goal
+use Rattle.sm_map.proofs.Blocks.{lower_insert, upper_insert, end_insert}
+use Rattle.sm_map.proofs.block.Block.insert_split.Goals as goal
 
-pub insert-requires-clause-place : goal.insert-requires-clause-place
-insert-requires-clause-place c =
+pub insert-requires-then-at-le-HALF_ENTRIES-clause-place : goal.insert-requires-then-at-le-HALF_ENTRIES-clause-place
+insert-requires-then-at-le-HALF_ENTRIES-clause-place c =
     omega (
       arith,
       c.if-at-le-HALF_ENTRIES.true,
@@ -16,7 +16,7 @@ insert-requires-clause-place c =
 
 pub returns-then-at-le-HALF_ENTRIES : goal.returns-then-at-le-HALF_ENTRIES
 returns-then-at-le-HALF_ENTRIES c = lower_insert _ _ _ _ _ c.requires.full c.if-at-le-HALF_ENTRIES.true _
-    c.cut-upper.ensures.lower c.insert.ensures c.cut-upper.ensures.upper
+    c.cut-upper.ensures.lower c.insert-then-at-le-HALF_ENTRIES.ensures c.cut-upper.ensures.upper
 
 pub insert-requires-2-clause-place : goal.insert-requires-2-clause-place
 insert-requires-2-clause-place c =
@@ -34,3 +34,7 @@ returns c = upper_insert _ _ _ _ _ c.requires.full c.if-at-le-HALF_ENTRIES.false
   c.requires.place,
   c.requires.full,
 )) _ c.cut-upper.ensures.upper c.cut-upper.ensures.lower c.insert-2.ensures
+
+pub returns-then-at-eq-MOST_ENTRIES : goal.returns-then-at-eq-MOST_ENTRIES
+returns-then-at-eq-MOST_ENTRIES c = end_insert _ _ _ _ _ c.requires.full c.if-at-eq-MOST_ENTRIES.true _
+    c.requires.empty refl c.insert.ensures

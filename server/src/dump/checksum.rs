@@ -1,0 +1,36 @@
+/// A sum of all bytes in their order, by which files that were cut or changed by chance are told from whole ones: FNV-1a
+/// of 64 bits.
+#[derive(Clone, Copy, Debug)]
+pub(super) struct Checksum(u64);
+
+impl Checksum {
+    /// That of no bytes.
+    pub(super) fn new() -> Checksum {
+        Checksum(0xcbf2_9ce4_8422_2325)
+    }
+
+    /// Takes these bytes in.
+    pub(super) fn take(&mut self, bytes: &[u8]) {
+        self.0 = bytes.iter().fold(self.0, |sum, byte| {
+            (sum ^ u64::from(*byte)).wrapping_mul(0x0100_0000_01b3)
+        });
+    }
+
+    /// The sum.
+    pub(super) fn sum(self) -> u64 {
+        self.0
+    }
+}
+
+#[cfg(test)]
+mod tests {
+    use super::*;
+
+    #[test]
+    fn sums_are_those_of_fnv() {
+        let mut sum = Checksum::new();
+        sum.take(b"foo");
+        sum.take(b"bar");
+        assert_eq!(sum.sum(), 0x8594_4171_f739_67e8);
+    }
+}

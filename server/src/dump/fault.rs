@@ -1,0 +1,92 @@
+use durkenzo::ChangeFault;
+use std::error::Error;
+use std::fmt;
+use std::io;
+
+/// Why a file isn't written or read; what the server has stays.
+#[derive(Debug)]
+pub enum DumpFault {
+    /// The system refuses it.
+    File(io::Error),
+    /// The name has a folder, or none of the letters that names have.
+    BadName,
+    /// The file isn't a dump.
+    Foreign,
+    /// The file has another version.
+    Version,
+    /// The file ends too early, or has other bytes than were written.
+    Torn,
+    /// The file is of other servers or shards than this server has: how that one was begun.
+    Other(String),
+    /// This shard can't stand so.
+    Stand(u16, ChangeFault),
+    /// Memory was refused.
+    NoMemory,
+}
+
+impl DumpFault {
+    /// The name.
+    pub fn name(&self) -> &'static str {
+        match self {
+            DumpFault::File(_) => "BadFile",
+            DumpFault::BadName => "BadName",
+            DumpFault::Foreign => "ForeignFile",
+            DumpFault::Version => "BadVersion",
+            DumpFault::Torn => "TornFile",
+            DumpFault::Other(_) => "OtherShards",
+            DumpFault::Stand(..) => "BadStand",
+            DumpFault::NoMemory => "NoMemory",
+        }
+    }
+
+    /// What to do.
+    pub fn advice(&self) -> &'static str {
+        match self {
+            DumpFault::File(_) => "--folder names the folder of such files",
+            DumpFault::BadName => "name a file in the folder that --folder names",
+            DumpFault::Foreign | DumpFault::Version => {
+                "name a file that SM DUMP of this version wrote"
+            }
+            DumpFault::Torn => "name an earlier file",
+            DumpFault::Other(_) | DumpFault::Stand(..) => "begin a server so, and load it there",
+            DumpFault::NoMemory => "load it where there is more",
+        }
+    }
+}
+
+impl fmt::Display for DumpFault {
+    fn fmt(&self, f: &mut fmt::Formatter<'_>) -> fmt::Result {
+        match self {
+            DumpFault::File(error) => write!(f, "{error}"),
+            DumpFault::BadName => f.write_str(
+                "a file's name has letters, digits, -, _ and ., and begins with none of - and .",
+            ),
+            DumpFault::Foreign => f.write_str("it isn't a dump of this server"),
+            DumpFault::Version => f.write_str("it has another version"),
+            DumpFault::Torn => f.write_str("it is cut, or was changed"),
+            DumpFault::Other(how) => write!(f, "it is of a server with {how}"),
+            DumpFault::Stand(shard, fault) => {
+                write!(f, "shard {shard} can't stand so here: {fault}")
+            }
+            DumpFault::NoMemory => f.write_str("memory was refused"),
+        }
+    }
+}
+
+impl Error for DumpFault {
+    fn source(&self) -> Option<&(dyn Error + 'static)> {
+        match self {
+            DumpFault::File(error) => Some(error),
+            _ => None,
+        }
+    }
+}
+
+impl From<io::Error> for DumpFault {
+    fn from(error: io::Error) -> DumpFault {
+        match error.kind() {
+            io::ErrorKind::UnexpectedEof => DumpFault::Torn,
+            _ => DumpFault::File(error),
+        }
+    }
+}

@@ -1,0 +1,241 @@
+use super::checksum::Checksum;
+use super::writer::path_of;
+use super::{DumpFault, Head, ShardHead, MAGIC, VERSION};
+use crate::body::{Reply, Request, Shard, Storage, Value, MAX_KEY, MAX_TEXT};
+use std::fs::File;
+use std::io::{BufRead, BufReader, Read};
+use std::path::Path;
+
+/// The most bytes of a line that isn't the second.
+const MAX_LINE: u64 = 256;
+/// The most bytes of the second line: 4,096 bounds of 255 bytes, each as digits.
+const MAX_HEAD: u64 = 8 << 20;
+
+/// What a dump holds.
+pub struct Loaded {
+    /// How each shard stood.
+    pub heads: Vec<ShardHead>,
+    /// What each shard holds.
+    pub bodies: Vec<Shard>,
+}
+
+/// Reads the whole file of this name in the folder, for a server with this head, whose data lies there.
+pub fn read(
+    folder: &Path,
+    name: &str,
+    head: &Head,
+    storage: &dyn Storage,
+) -> Result<Loaded, DumpFault> {
+    let file = File::open(path_of(folder, name)?).map_err(DumpFault::File)?;
+    let mut dump = Dump {
+        file: BufReader::new(file),
+        sum: Checksum::new(),
+    };
+    head.takes(&dump.head()?)?;
+    let mut loaded = Loaded {
+        heads: Vec::new(),
+        bodies: Vec::new(),
+    };
+    for shard in 0..head.shards {
+        let line = dump.line(MAX_LINE)?;
+        let head = shard_of(&line).filter(|it| it.shard == shard);
+        let head = head.ok_or(DumpFault::Torn)?;
+        let mut body = storage.open(shard).map_err(|_| DumpFault::NoMemory)?;
+        for _ in 0..head.pairs {
+            dump.pair(&mut body)?;
+        }
+        loaded.heads.push(head);
+        loaded.bodies.push(body);
+    }
+    dump.end(&loaded)?;
+    Ok(loaded)
+}
+
+fn shard_of(line: &str) -> Option<ShardHead> {
+    let words: Vec<_> = line.split(' ').collect();
+    match words.split_first() {
+        Some((&"shard", words)) => ShardHead::of(words),
+        _ => None,
+    }
+}
+
+/// A file that is read from its front.
+struct Dump {
+    file: BufReader<File>,
+    sum: Checksum,
+}
+
+impl Dump {
+    /// The next line without its end, of at most so many bytes.
+    fn line(&mut self, most: u64) -> Result<String, DumpFault> {
+        let mut line = Vec::new();
+        (&mut self.file).take(most).read_until(b'\n', &mut line)?;
+        self.sum.take(&line);
+        match line.pop() {
+            Some(b'\n') => String::from_utf8(line).map_err(|_| DumpFault::Torn),
+            _ => Err(DumpFault::Torn),
+        }
+    }
+
+    fn head(&mut self) -> Result<Head, DumpFault> {
+        let first = self.line(MAX_LINE).map_err(|fault| match fault {
+            DumpFault::Torn => DumpFault::Foreign,
+            other => other,
+        })?;
+        match first.strip_prefix(MAGIC) {
+            None => return Err(DumpFault::Foreign),
+            Some(VERSION) => {}
+            Some(_) => return Err(DumpFault::Version),
+        }
+        serde_json::from_str(&self.line(MAX_HEAD)?).map_err(|_| DumpFault::Torn)
+    }
+
+    /// Takes so many bytes.
+    fn bytes(&mut self, count: usize) -> Result<Vec<u8>, DumpFault> {
+        let mut bytes = vec![0; count];
+        self.file.read_exact(&mut bytes)?;
+        self.sum.take(&bytes);
+        Ok(bytes)
+    }
+
+    /// Has the body hold the next pair.
+    fn pair(&mut self, body: &mut Shard) -> Result<(), DumpFault> {
+        let line = self.line(MAX_LINE)?;
+        let words: Vec<_> = line.split(' ').collect();
+        let [kind, length, rest] = words[..] else {
+            return Err(DumpFault::Torn);
+        };
+        let length = bounded(length, MAX_KEY).filter(|it| *it > 0);
+        let key = self.bytes(length.ok_or(DumpFault::Torn)?)?;
+        let text;
+        let value = match kind {
+            "count" => Value::Count(rest.parse().map_err(|_| DumpFault::Torn)?),
+            "text" => {
+                text = self.bytes(bounded(rest, MAX_TEXT).ok_or(DumpFault::Torn)?)?;
+                Value::Text(&text)
+            }
+            _ => return Err(DumpFault::Torn),
+        };
+        if self.bytes(1)? != b"\n" {
+            return Err(DumpFault::Torn);
+        }
+        match body.apply(Request::Put(&key, value)) {
+            Reply::Refused(_) => Err(DumpFault::NoMemory),
+            _ => Ok(()),
+        }
+    }
+
+    /// Whether the file ends here, as it says.
+    fn end(&mut self, loaded: &Loaded) -> Result<(), DumpFault> {
+        let (sum, shards) = (self.sum.sum(), loaded.heads.len());
+        let pairs: u64 = loaded.heads.iter().map(|it| it.pairs).sum();
+        let is_whole = self.line(MAX_LINE)? == format!("end {shards} {pairs} {sum:016x}");
+        match is_whole && self.file.fill_buf()?.is_empty() {
+            true => Ok(()),
+            false => Err(DumpFault::Torn),
+        }
+    }
+}
+
+fn bounded(word: &str, most: usize) -> Option<usize> {
+    word.parse().ok().filter(|it| *it <= most)
+}
+
+#[cfg(test)]
+mod tests {
+    use super::super::{shard_text, DumpFile};
+    use super::*;
+    use crate::body::Memory;
+    use crate::keyspace::Rule;
+    use durkenzo::{Record, Stand};
+    use std::fs;
+
+    fn head() -> Head {
+        Head::new(2, &Rule::Bounds(vec![Vec::new(), b"m".to_vec()]))
+    }
+
+    /// A folder of its own, with a dump of two shards, and the bytes of that.
+    fn dumped(name: &str) -> (std::path::PathBuf, Vec<u8>) {
+        let folder = std::env::temp_dir().join(format!("durkenzo-{name}-{}", std::process::id()));
+        fs::create_dir_all(&folder).unwrap();
+        let mut file = DumpFile::create(&folder, "dump", &head()).unwrap();
+        for shard in 0..2 {
+            let mut body = Memory.open(shard).unwrap();
+            for number in 0..250 {
+                let key = format!("key {number}\n");
+                let value = match number % 2 {
+                    0 => Value::Count(number - 100),
+                    _ => Value::Text(b"two\nlines"),
+                };
+                body.apply(Request::Put(key.as_bytes(), value));
+            }
+            let (text, pairs) = shard_text(body.as_mut()).unwrap();
+            let stand = Stand::Forwarding { owner: 1, next: 2 };
+            let record = Record {
+                stand,
+                admitted: true,
+                generation: 8,
+            };
+            let head = ShardHead::new(shard, record, 9, pairs);
+            file.add(&head, &text).unwrap();
+        }
+        assert_eq!(file.finish().unwrap(), 500);
+        let bytes = fs::read(folder.join("dump")).unwrap();
+        (folder, bytes)
+    }
+
+    #[test]
+    fn what_was_written_is_read() {
+        let (folder, _) = dumped("whole");
+        let mut loaded = read(&folder, "dump", &head(), &Memory).unwrap();
+        assert_eq!(
+            loaded.heads[1].stand,
+            Stand::Forwarding { owner: 1, next: 2 }
+        );
+        assert_eq!(
+            (loaded.heads[0].generation, loaded.bodies[0].keys()),
+            (9, 250)
+        );
+        let told = loaded.bodies[1].apply(Request::Get(b"key 4\n"));
+        assert_eq!(told, Reply::Value(Value::Count(-96)));
+        fs::remove_dir_all(folder).unwrap();
+    }
+
+    #[test]
+    fn each_cut_and_each_change_is_noticed() {
+        let (folder, bytes) = dumped("torn");
+        let name = |bytes: &[u8]| {
+            fs::write(folder.join("other"), bytes).unwrap();
+            let read = read(&folder, "other", &head(), &Memory);
+            read.map(|_| "Read").unwrap_or_else(|fault| fault.name())
+        };
+        assert_eq!(name(&bytes), "Read");
+        for end in (0..bytes.len()).step_by(7) {
+            assert!(
+                matches!(name(&bytes[..end]), "TornFile" | "ForeignFile"),
+                "{end}"
+            );
+        }
+        for at in (0..bytes.len()).step_by(11) {
+            let mut changed = bytes.clone();
+            changed[at] ^= 1;
+            assert_ne!(name(&changed), "Read", "{at}");
+        }
+        assert_eq!(name(b"durkenzo-dump 2\n"), "BadVersion");
+        assert_eq!(name(&[&bytes[..], b"\n"].concat()), "TornFile");
+        fs::remove_dir_all(folder).unwrap();
+    }
+
+    #[test]
+    fn other_shards_and_names_are_refused() {
+        let (folder, _) = dumped("other");
+        let other = Head::new(1, &Rule::Hash(2));
+        let name = |name, head| read(&folder, name, head, &Memory).err().unwrap().name();
+        assert_eq!(name("dump", &other), "OtherShards");
+        assert_eq!(name("none", &other), "BadFile");
+        for wrong in ["", ".", "..", "../dump", "a/b", "-x", "dump.part"] {
+            assert_eq!(name(wrong, &other), "BadName", "{wrong}");
+        }
+        fs::remove_dir_all(folder).unwrap();
+    }
+}

@@ -1,0 +1,122 @@
+use super::checksum::Checksum;
+use super::{DumpFault, Head, MAGIC, VERSION};
+use crate::body::{Range, Refusal, Reply, Request, ShardBody, Value, MAX_PAIRS};
+use std::fs::{self, File};
+use std::io::{BufWriter, Write};
+use std::ops::Bound;
+use std::path::{Path, PathBuf};
+use std::sync::atomic::{AtomicU64, Ordering};
+
+/// A dump that is written: under another name until it is whole, so that an earlier one of the name stays till then.
+#[derive(Debug)]
+pub struct DumpFile {
+    file: BufWriter<File>,
+    path: PathBuf,
+    part: PathBuf,
+    sum: Checksum,
+    shards: u16,
+    pairs: u64,
+    is_whole: bool,
+}
+
+/// How many dumps were begun.
+static BEGUN: AtomicU64 = AtomicU64::new(0);
+
+impl Drop for DumpFile {
+    fn drop(&mut self) {
+        if !self.is_whole {
+            // What is left of it is no dump; it may be gone.
+            let _ = fs::remove_file(&self.part);
+        }
+    }
+}
+
+impl DumpFile {
+    /// Begins the file of this name in the folder.
+    pub fn create(folder: &Path, name: &str, head: &Head) -> Result<DumpFile, DumpFault> {
+        let path = path_of(folder, name)?;
+        let number = BEGUN.fetch_add(1, Ordering::Relaxed);
+        let part = folder.join(format!("{name}.{number}.part"));
+        let mut dump = DumpFile {
+            file: BufWriter::new(File::create(&part)?),
+            path,
+            part,
+            sum: Checksum::new(),
+            shards: 0,
+            pairs: 0,
+            is_whole: false,
+        };
+        let head = serde_json::to_string(head).map_err(std::io::Error::from)?;
+        dump.write(format!("{MAGIC}{VERSION}\n{head}\n").as_bytes())?;
+        Ok(dump)
+    }
+
+    /// Adds the next shard, whose line and pairs these are.
+    pub fn add(&mut self, head: &super::ShardHead, pairs: &[u8]) -> Result<(), DumpFault> {
+        self.write(head.line().as_bytes())?;
+        self.write(pairs)?;
+        self.shards += 1;
+        self.pairs += head.pairs;
+        Ok(())
+    }
+
+    /// Ends the file, which lies on the disk then; returns how many pairs it has.
+    pub fn finish(mut self) -> Result<u64, DumpFault> {
+        let (shards, pairs, sum) = (self.shards, self.pairs, self.sum.sum());
+        writeln!(self.file, "end {shards} {pairs} {sum:016x}")?;
+        self.file.flush()?;
+        self.file.get_ref().sync_all()?;
+        fs::rename(&self.part, &self.path)?;
+        self.is_whole = true;
+        Ok(pairs)
+    }
+
+    fn write(&mut self, bytes: &[u8]) -> Result<(), DumpFault> {
+        self.sum.take(bytes);
+        Ok(self.file.write_all(bytes)?)
+    }
+}
+
+/// Where the file of this name lies.
+pub(super) fn path_of(folder: &Path, name: &str) -> Result<PathBuf, DumpFault> {
+    let is_of_names = |it: char| it.is_ascii_alphanumeric() || matches!(it, '-' | '_' | '.');
+    let is_name = name.chars().all(is_of_names) && !name.starts_with(['-', '.']);
+    match is_name && !name.is_empty() && !name.ends_with(".part") {
+        true => Ok(folder.join(name)),
+        false => Err(DumpFault::BadName),
+    }
+}
+
+/// The pairs of a shard as they are written, and how many there are; or why they aren't told.
+pub fn shard_text(body: &mut dyn ShardBody) -> Result<(Vec<u8>, u64), Refusal> {
+    let (mut text, mut count, mut last) = (Vec::new(), 0, None::<Vec<u8>>);
+    loop {
+        let range = Range {
+            low: last.as_deref().map_or(Bound::Unbounded, Bound::Excluded),
+            high: None,
+            most: MAX_PAIRS,
+        };
+        let pairs = match body.apply(Request::Scan(range)) {
+            Reply::Pairs(pairs) => pairs,
+            Reply::Refused(refusal) => return Err(refusal),
+            _ => Vec::new(),
+        };
+        let Some((key, _)) = pairs.last() else {
+            return Ok((text, count));
+        };
+        pairs.iter().for_each(|it| write_pair(*it, &mut text));
+        count += pairs.len() as u64;
+        last = Some(key.to_vec());
+    }
+}
+
+fn write_pair((key, value): (&[u8], Value<'_>), text: &mut Vec<u8>) {
+    let length = key.len();
+    let (head, tail) = match value {
+        Value::Text(told) => (format!("text {length} {}\n", told.len()), told),
+        Value::Count(count) => (format!("count {length} {count}\n"), &b""[..]),
+    };
+    for bytes in [head.as_bytes(), key, tail, b"\n"] {
+        text.extend_from_slice(bytes);
+    }
+}
