@@ -270,6 +270,24 @@ uint32_t durkenzo_pair_text(durkenzo_handle *reply, size_t at, uint8_t *into, si
 uint32_t durkenzo_open_service(durkenzo_handle *control, size_t shards, size_t kept, uint16_t servers, uint16_t ops,
                                uint64_t ceiling);
 
+/* Opens a board of the sample service as the line of settings says (docs/SETTINGS.md, without its line feed), but for
+ * its workers: `control` keeps its control, `layout` the layout, in place of what they kept, and `shards` is how many
+ * there are. Errors: NO_MEMORY, and from 70 on the line's first fault, in the order of that page: 70 is TooLong, 71
+ * BadJson, 82 BadDomains. */
+uint32_t durkenzo_open_settings(durkenzo_handle *control, durkenzo_handle *layout, const uint8_t *line, size_t length,
+                                size_t *shards);
+
+/* An envelope but for its request and its note. */
+typedef struct durkenzo_envelope_parts {
+    uint64_t number;
+    uint16_t shard;
+    uint16_t from; /* the server that forwarded it, 0 where it came directly */
+    uint8_t hops;  /* how often it was forwarded, 0 to 4 */
+} durkenzo_envelope_parts;
+
+/* Writes the parts of an envelope. Errors: WRONG_HANDLE. */
+uint32_t durkenzo_sent(durkenzo_handle *envelope, durkenzo_envelope_parts *parts);
+
 /* Makes an envelope with your number for the shard, that carries this request and a note of all that the pass has seen.
  * Its handle keeps it, in place of what it kept. Errors: UNKNOWN_SHARD, and those of durkenzo_ask. */
 uint32_t durkenzo_envelope(durkenzo_handle *pass, durkenzo_handle *envelope, uint64_t number, uint16_t shard,

@@ -4,7 +4,7 @@ import threading
 import unittest
 
 import durkenzo
-from durkenzo import Board, Layout, Map, Phase, Plan
+from durkenzo import Board, Layout, Map, Phase, Plan, Reply, ReplyKind, Request
 
 
 class Counter:
@@ -173,6 +173,56 @@ class Maps(unittest.TestCase):
         self.assertEqual((held.get(b"text"), held.get(b"count")), (b"a", (1 << 63) - 1))
         held.close()
         self.assertRaises(durkenzo.WrongHandle, held.get, b"text")
+
+
+SETTINGS = (
+    b'{"version":1,"bounds":["","n"],"servers":[{"id":1,"domain":0,"capacity":1},{"id":2,"domain":1,"capacity":2}],'
+    b'"groups":[{"limit":2,"down":1}],"shards":[{"group":0,"load":1,"cap":1},{"group":0,"load":1,"cap":1}],'
+    b'"ops":1,"kept":2,"ceiling":100,"workers":1}'
+)
+
+
+class Services(unittest.TestCase):
+    def test_requests_are_answered_or_go_on(self):
+        service = durkenzo.Service(Layout([b"", b"n"]), servers=2)
+        service.control.assign(0, 1)
+        service.control.assign(1, 1)
+        with service.new_pass(1) as one, service.new_pass(2) as two:
+            put = one.serve(one.envelope(7, Request.put(b"name", b"durk")))
+            self.assertEqual((put.number, put.server, put.place, put.reply), (7, 1, 0, Reply(ReplyKind.DONE)))
+            two.hear(put)
+            self.assertRaises(durkenzo.WrongHandle, two.hear, put)
+            service.control.prepare_add_shard(1, 2)
+            service.control.prepare_drop_shard(1)
+            gone = one.serve(two.envelope(8, Request.scan(b"n", b"z")))
+            self.assertEqual(
+                (gone.to, gone.envelope.hops, gone.envelope.forwarded_by, gone.envelope.shard), (2, 1, 1, 1)
+            )
+            found = two.serve(gone.envelope)
+            self.assertEqual(found.reply, Reply(ReplyKind.PAIRS, [(b"name", b"durk")]))
+            refused = two.envelope(9, Request.add(b"visits", 2))
+            with self.assertRaises(durkenzo.NotYet) as fault:
+                two.serve(refused)
+            self.assertEqual(fault.exception.record.phase, Phase.FORWARDING)
+            self.assertEqual((refused.hops, refused.forwarded_by), (0, 0))
+            self.assertRaises(durkenzo.KeyEmpty, one.envelope, 0, Request.get(b""))
+
+    def test_settings_open_a_board(self):
+        service = durkenzo.Service.by_settings(SETTINGS)
+        self.assertEqual((len(service.layout), service.layout.shard_of(b"z")), (2, 1))
+        service.control.assign(0, 1)
+        self.assertRaises(durkenzo.NoCapacity, service.control.assign, 1, 1)
+        service.control.assign(1, 2)
+        with service.new_pass(1) as one:
+            for count in (1, 2):
+                self.assertEqual(one.serve(one.envelope(0, Request.add(b"a", 1))).reply.value, count)
+            self.assertRaises(durkenzo.KeptFull, one.serve, one.envelope(0, Request.add(b"a", 1)))
+            one.checkpoint(0)
+            self.assertEqual(one.serve(one.envelope(0, Request.add(b"a", 1))).reply.value, 3)
+        for line, rule in ((b"", "BadJson"), (SETTINGS.replace(b"100", b"2"), "BadCeiling")):
+            with self.assertRaises(durkenzo.BadSettings) as fault:
+                durkenzo.Service.by_settings(line)
+            self.assertEqual(fault.exception.rule, rule)
 
 
 if __name__ == "__main__":

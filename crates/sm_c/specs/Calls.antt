@@ -10,6 +10,7 @@ use Rattle.sm_handle.specs.Plans.{IsMove, IsPlanOf}
 use Rattle.sm_word.specs.Word.{server_of}
 use Rattle.sm_handle.specs.declared.act_fault.ActFault.{ActFault}
 use Rattle.sm_handle.specs.declared.handle_state.HandleState.{HandleState}
+use Rattle.sm_c.specs.Reading.{TellsRecord, act_read}
 use Rattle.sm_c.specs.Words.{ArePartsOf, CameFrom, IsOfKind}
 use Rattle.sm_c.specs.declared.record_parts.RecordParts.{RecordParts}
 
@@ -27,11 +28,13 @@ abbrev pub AdmitsFrom : Option HandleState → Option HandleState → ℕ → �
 AdmitsFrom before after shard from number =
     (mode : Mode) × CameFrom from mode × AdmitsHandle before after shard mode number
 
--- nothing was done, or the pass has looked and isn't admitted
-abbrev pub RefusesFrom : Option HandleState → Option HandleState → ℕ → ℕ → Type 0
-RefusesFrom before after shard from =
-    (after ≡ before)
-    ⊎ ((mode : Mode) × (fault : ActFault) × CameFrom from mode × RefusesHandle before after shard mode fault)
+-- nothing was done, or the pass has looked and isn't admitted, and the parts are those of the record that was read
+abbrev pub RefusesFrom :
+    Option HandleState → Option HandleState → ℕ → ℕ → RecordParts → RecordParts → Type 0
+RefusesFrom before after shard from unread read =
+    ((after ≡ before) × (read ≡ unread))
+    ⊎ ((mode : Mode) × (fault : ActFault) × CameFrom from mode × RefusesHandle before after shard mode fault
+    × TellsRecord (act_read fault) unread read)
 
 -- the pass has seen more, in which these are the parts of the shard's record
 abbrev pub LooksAt : Option HandleState → Option HandleState → ℕ → RecordParts → Type 0
@@ -42,12 +45,14 @@ abbrev pub ChangesBoard : Option HandleState → Option HandleState → ℕ → 
 ChangesBoard before after shard kind server =
     (change : Change) × IsOfKind kind server change × CommandsHandle before after (ChangeOf shard change) (Ok tt)
 
--- nothing was done, or the control refused a change of this kind and server, and its desk is as it was
-abbrev pub RefusesChange : Option HandleState → Option HandleState → ℕ → ℕ → ℕ → Type 0
-RefusesChange before after shard kind server =
-    (after ≡ before)
+-- nothing was done, or the control refused a change of this kind and server, its desk is as it was, and the parts are
+-- those of the record that was read
+abbrev pub RefusesChange :
+    Option HandleState → Option HandleState → ℕ → ℕ → ℕ → RecordParts → RecordParts → Type 0
+RefusesChange before after shard kind server unread read =
+    ((after ≡ before) × (read ≡ unread))
     ⊎ ((change : Change) × (fault : ActFault) × IsOfKind kind server change
-    × CommandsHandle before after (ChangeOf shard change) (Err fault))
+    × CommandsHandle before after (ChangeOf shard change) (Err fault) × TellsRecord (act_read fault) unread read)
 
 -- the control made the step of this kind of the server's restart
 abbrev pub Restarts : Option HandleState → Option HandleState → ℕ → ℕ → Type 0

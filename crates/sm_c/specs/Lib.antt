@@ -1,3 +1,5 @@
 pub mod Calls
+pub mod Opening
+pub mod Reading
 pub mod Requests
 pub mod Words

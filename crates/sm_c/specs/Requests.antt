@@ -7,7 +7,12 @@ use Rattle.sm_handle.specs.declared.handle_state.HandleState.{HandleState}
 use Rattle.sm_handle.specs.declared.act_fault.ActFault.{ActFault}
 use Rattle.sm_handle.specs.declared.served_as.ServedAs.TheVariants.{Refused}
 use Rattle.sm_handle.specs.Maps.{HoldsKeys, MakesReply}
-use Rattle.sm_handle.specs.Serving.{Carries, RefusesCheckpoint, Serves}
+use Rattle.sm_handle.specs.Serving.{Carries, IsSentAs, RefusesCheckpoint, Serves}
+use Rattle.sm_handle.specs.declared.sent_as.SentAs.{SentAs}
+use Rattle.sm_c.specs.Words.{CameFrom}
+use Rattle.sm_c.specs.declared.sent_parts.SentParts.{SentParts}
+use Rattle.sm_c.specs.Reading.{TellsRecord, act_read, refusal_read}
+use Rattle.sm_c.specs.declared.record_parts.RecordParts.{RecordParts}
 
 -- the request has this kind and these parts
 abbrev pub HasParts : ℕ → List ℕ → List ℕ → ℤ → Request → Type 0
@@ -35,14 +40,27 @@ abbrev pub SendsRequest :
 SendsRequest pass envelope number shard kind key other amount =
     (request : Request) × HasParts kind key other amount request × Carries pass envelope number shard request
 
--- nothing was done, or the server refused the envelope
-abbrev pub ComesBack :
-    Option HandleState → Option HandleState → Option HandleState → Option HandleState → Option HandleState → Type 0
-ComesBack before after layout envelope kept =
-    ((after ≡ before) × (kept ≡ envelope))
-    ⊎ ((refusal : Refusal) × Serves before after layout envelope kept (Refused refusal))
+-- the parts are those of an envelope that was sent so
+abbrev pub AreSentParts : SentParts → SentAs → Type 0
+AreSentParts parts sent =
+    (parts.number ≡ sent.number) × (parts.shard ≡ sent.shard) × CameFrom parts.from sent.mode
+    × (parts.hops ≡ sent.hops)
 
--- nothing was done, or the pass made no checkpoint of the shard
-abbrev pub LeavesShard : Option HandleState → Option HandleState → ℕ → Type 0
-LeavesShard before after shard =
-    (after ≡ before) ⊎ ((fault : ActFault) × RefusesCheckpoint before after shard fault)
+-- the handle keeps an envelope with these parts
+abbrev pub TellsSent : Option HandleState → SentParts → Type 0
+TellsSent envelope parts = (sent : SentAs) × IsSentAs envelope sent × AreSentParts parts sent
+
+-- nothing was done, or the server refused the envelope, and the parts are those of the record that was read
+abbrev pub ComesBack :
+    Option HandleState → Option HandleState → Option HandleState → Option HandleState → Option HandleState
+    → RecordParts → RecordParts → Type 0
+ComesBack before after layout envelope kept unread read =
+    ((after ≡ before) × (kept ≡ envelope) × (read ≡ unread))
+    ⊎ ((refusal : Refusal) × Serves before after layout envelope kept (Refused refusal)
+    × TellsRecord (refusal_read refusal) unread read)
+
+-- nothing was done, or the pass made no checkpoint of the shard, and the parts are those of the record that was read
+abbrev pub LeavesShard : Option HandleState → Option HandleState → ℕ → RecordParts → RecordParts → Type 0
+LeavesShard before after shard unread read =
+    ((after ≡ before) × (read ≡ unread))
+    ⊎ ((fault : ActFault) × RefusesCheckpoint before after shard fault × TellsRecord (act_read fault) unread read)

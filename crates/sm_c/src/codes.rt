@@ -1,5 +1,5 @@
 //! The codes by which calls answer C.
-ghost use Rattle.std.specs.Prelude.{◌≢◌};
+ghost use Rattle.std.specs.Prelude.{◌≢◌, ◌<◌};
 
 use crate::requests::RequestFault;
 use crate::word_fault::WordFault;
@@ -174,7 +174,8 @@ pub(crate) fn code_of_word(fault: WordFault) -> u32
 
 /// The code of why there is no board.
 pub(crate) fn code_of_open(fault: OpenFault) -> u32
-    ensures { result ≢ 0 }
+    ensures refused { result ≢ 0 }
+    ensures low { result < 70 }
 {
     match fault {
         OpenFault::Board(fault) => match fault {

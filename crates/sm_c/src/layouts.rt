@@ -26,17 +26,12 @@ pub extern "C" fn durkenzo_layout(
 
 /// Writes the shard of the key, which may be any bytes.
 #[unsafe(no_mangle)]
-pub extern "C" fn durkenzo_shard_of(
-    alloc: Global,
-    layout: &mut Handle,
-    key: &[u8],
-    shard: &mut u16,
-) -> u32
+pub extern "C" fn durkenzo_shard_of(layout: &mut Handle, key: &[u8], shard: &mut u16) -> u32
     ensures found { result ≡ 0 → IsShardOf layout.old.owned.state key.now shard.new }
     ensures unwritten { result ≢ 0 → shard.new ≡ shard.old }
     ensures unchanged { layout.new.owned.state ≡ layout.old.owned.state }
 {
-    match layout.shard_of(alloc, key) {
+    match layout.shard_of(key) {
         Ok(found) => {
             *shard = found.number();
             0
@@ -48,7 +43,6 @@ pub extern "C" fn durkenzo_shard_of(
 /// Writes the bound at which the shard begins, and its length, which is at most 255.
 #[unsafe(no_mangle)]
 pub extern "C" fn durkenzo_bound(
-    alloc: Global,
     layout: &mut Handle,
     shard: u16,
     into: &mut [u8],
@@ -62,7 +56,7 @@ pub extern "C" fn durkenzo_bound(
     let Some(k) = ShardId::new(shard) else {
         return UNKNOWN_SHARD;
     };
-    match layout.bound(alloc, k, into) {
+    match layout.bound(k, into) {
         Ok(written) => {
             *length = written;
             0

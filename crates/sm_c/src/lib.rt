@@ -18,11 +18,13 @@ mod kinds;
 mod layouts;
 mod maps;
 mod notes;
+mod opening;
 mod plans;
 mod read;
 mod record_parts;
 mod replies;
 mod requests;
+mod sent_parts;
 mod services;
 mod word_fault;
 mod words;
@@ -31,7 +33,7 @@ use codes::{
     BAD_ARGUMENT, BAD_WORD, NOT_ADMITTED, UNKNOWN_SHARD, code_of_act, code_of_open, code_of_word,
 };
 use kinds::{change_of, mode_of, step_of};
-use read::read_of;
+use read::{read_of, tell};
 pub use record_parts::RecordParts;
 use record_parts::number;
 use sm_desk::Command;
@@ -220,12 +222,7 @@ pub extern "C" fn durkenzo_pass(
 
 /// Looks at the shard, with a pass that may hold a permit.
 #[unsafe(no_mangle)]
-pub extern "C" fn durkenzo_look(
-    alloc: Global,
-    pass: &mut Handle,
-    shard: u16,
-    parts: &mut RecordParts,
-) -> u32
+pub extern "C" fn durkenzo_look(pass: &mut Handle, shard: u16, parts: &mut RecordParts) -> u32
     ensures seen { result ≡ 0 → LooksAt pass.old.owned.state pass.new.owned.state shard parts.new }
     ensures kept { result ≢ 0 → pass.new.owned.state ≡ pass.old.owned.state }
     ensures unwritten { result ≢ 0 → parts.new ≡ parts.old }
@@ -233,7 +230,7 @@ pub extern "C" fn durkenzo_look(
     let Some(k) = ShardId::new(shard) else {
         return UNKNOWN_SHARD;
     };
-    match pass.look(alloc, k) {
+    match pass.look(k) {
         Ok(state) => {
             *parts = RecordParts::of(&state);
             0
@@ -247,7 +244,6 @@ pub extern "C" fn durkenzo_look(
 /// to `read`.
 #[unsafe(no_mangle)]
 pub extern "C" fn durkenzo_admit(
-    alloc: Global,
     pass: &mut Handle,
     shard: u16,
     from: u16,
@@ -255,7 +251,9 @@ pub extern "C" fn durkenzo_admit(
     read: &mut RecordParts,
 ) -> u32
     ensures admitted { result ≡ 0 → AdmitsFrom pass.old.owned.state pass.new.owned.state shard from number.new }
-    ensures refused { result ≢ 0 → RefusesFrom pass.old.owned.state pass.new.owned.state shard from }
+    ensures refused { result ≢ 0
+        → RefusesFrom pass.old.owned.state pass.new.owned.state shard from read.old read.new }
+    ensures unread { result ≡ 0 → read.new ≡ read.old }
     ensures unwritten { result ≢ 0 → number.new ≡ number.old }
 {
     let Some(k) = ShardId::new(shard) else {
@@ -264,15 +262,13 @@ pub extern "C" fn durkenzo_admit(
     let Some(mode) = mode_of(from) else {
         return BAD_ARGUMENT;
     };
-    match pass.admit(alloc, k, mode) {
+    match pass.admit(k, mode) {
         Ok(body) => {
             *number = body;
             0
         }
         Err(fault) => {
-            if let Some(state) = read_of(&fault) {
-                *read = RecordParts::of(&state);
-            }
+            tell(read_of(&fault), read);
             code_of_act(fault)
         }
     }
@@ -280,12 +276,12 @@ pub extern "C" fn durkenzo_admit(
 
 /// Ends the admission of the pass. `generation` is the shard's since then.
 #[unsafe(no_mangle)]
-pub extern "C" fn durkenzo_finish(alloc: Global, pass: &mut Handle, generation: &mut u64) -> u32
+pub extern "C" fn durkenzo_finish(pass: &mut Handle, generation: &mut u64) -> u32
     ensures ended { result ≡ 0 → EndsHandle pass.old.owned.state pass.new.owned.state generation.new }
     ensures kept { result ≢ 0 → pass.new.owned.state ≡ pass.old.owned.state }
     ensures unwritten { result ≢ 0 → generation.new ≡ generation.old }
 {
-    match pass.finish(alloc) {
+    match pass.finish() {
         Ok(left) => {
             *generation = left;
             0
@@ -297,7 +293,6 @@ pub extern "C" fn durkenzo_finish(alloc: Global, pass: &mut Handle, generation: 
 /// Makes the change of this kind and server. A refusal by a record, or a lost race, writes to `read`.
 #[unsafe(no_mangle)]
 pub extern "C" fn durkenzo_change(
-    alloc: Global,
     chief: &mut Handle,
     shard: u16,
     kind: u8,
@@ -305,7 +300,9 @@ pub extern "C" fn durkenzo_change(
     read: &mut RecordParts,
 ) -> u32
     ensures made { result ≡ 0 → ChangesBoard chief.old.owned.state chief.new.owned.state shard kind server }
-    ensures refused { result ≢ 0 → RefusesChange chief.old.owned.state chief.new.owned.state shard kind server }
+    ensures refused { result ≢ 0
+        → RefusesChange chief.old.owned.state chief.new.owned.state shard kind server read.old read.new }
+    ensures unread { result ≡ 0 → read.new ≡ read.old }
 {
     let Some(k) = ShardId::new(shard) else {
         return UNKNOWN_SHARD;
@@ -313,12 +310,10 @@ pub extern "C" fn durkenzo_change(
     let Some(change) = change_of(kind, server) else {
         return BAD_ARGUMENT;
     };
-    match chief.command(alloc, Command::Change(k, change)) {
+    match chief.command(Command::Change(k, change)) {
         Ok(()) => 0,
         Err(fault) => {
-            if let Some(state) = read_of(&fault) {
-                *read = RecordParts::of(&state);
-            }
+            tell(read_of(&fault), read);
             code_of_act(fault)
         }
     }
@@ -326,14 +321,14 @@ pub extern "C" fn durkenzo_change(
 
 /// Makes the step of this kind of the server's restart.
 #[unsafe(no_mangle)]
-pub extern "C" fn durkenzo_restart(alloc: Global, chief: &mut Handle, kind: u8, server: u16) -> u32
+pub extern "C" fn durkenzo_restart(chief: &mut Handle, kind: u8, server: u16) -> u32
     ensures made { result ≡ 0 → Restarts chief.old.owned.state chief.new.owned.state kind server }
     ensures refused { result ≢ 0 → RefusesRestart chief.old.owned.state chief.new.owned.state kind server }
 {
     let Some(step) = step_of(kind, server) else {
         return BAD_ARGUMENT;
     };
-    match chief.command(alloc, step) {
+    match chief.command(step) {
         Ok(()) => 0,
         Err(fault) => code_of_act(fault),
     }

@@ -22,12 +22,12 @@ pub extern "C" fn durkenzo_map(alloc: Global, map: &mut Handle) -> u32
 
 /// Writes how many keys of the map hold something; 2^64 - 1 where there are more.
 #[unsafe(no_mangle)]
-pub extern "C" fn durkenzo_map_length(alloc: Global, map: &mut Handle, length: &mut u64) -> u32
+pub extern "C" fn durkenzo_map_length(map: &mut Handle, length: &mut u64) -> u32
     ensures found { result ≡ 0 → CountsKeys map.old.owned.state length.new }
     ensures unwritten { result ≢ 0 → length.new ≡ length.old }
     ensures unchanged { map.new.owned.state ≡ map.old.owned.state }
 {
-    match map.map_len(alloc) {
+    match map.map_len() {
         Ok(count) => {
             *length = count.min(u128::from(u64::MAX)) as u64;
             0

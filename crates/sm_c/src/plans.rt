@@ -34,7 +34,6 @@ pub extern "C" fn durkenzo_plan(
 /// Writes the move at this place of the plan, from 0: a shard, and the server that it goes to.
 #[unsafe(no_mangle)]
 pub extern "C" fn durkenzo_move(
-    alloc: Global,
     plan: &mut Handle,
     at: usize,
     shard: &mut u16,
@@ -44,7 +43,7 @@ pub extern "C" fn durkenzo_move(
     ensures unwritten { result ≢ 0 → (shard.new ≡ shard.old) × (server.new ≡ server.old) }
     ensures unchanged { plan.new.owned.state ≡ plan.old.owned.state }
 {
-    match plan.planned(alloc, at) {
+    match plan.planned(at) {
         Ok(step) => {
             *shard = step.shard.number();
             *server = step.to.number();
@@ -56,12 +55,12 @@ pub extern "C" fn durkenzo_move(
 
 /// Writes the shard at this place, from 0, of those for which the plan found no server.
 #[unsafe(no_mangle)]
-pub extern "C" fn durkenzo_left(alloc: Global, plan: &mut Handle, at: usize, shard: &mut u16) -> u32
+pub extern "C" fn durkenzo_left(plan: &mut Handle, at: usize, shard: &mut u16) -> u32
     ensures found { result ≡ 0 → IsLeftOut plan.old.owned.state at shard.new }
     ensures unwritten { result ≢ 0 → shard.new ≡ shard.old }
     ensures unchanged { plan.new.owned.state ≡ plan.old.owned.state }
 {
-    match plan.left(alloc, at) {
+    match plan.left(at) {
         Ok(found) => {
             *shard = found.number();
             0

@@ -1,4 +1,8 @@
 //! The record that a refused call had read.
+ghost use Rattle.std.specs.Prelude.{◌≡◌};
+ghost use Rattle.sm_c.specs.Reading.{TellsRecord, act_read, admission_read, refusal_read};
+
+use crate::record_parts::RecordParts;
 use sm_control::ControlFault;
 use sm_desk::CommandFault;
 use sm_handle::ActFault;
@@ -7,26 +11,42 @@ use sm_ownership::record::Record;
 use sm_rule::AdmitRefusal;
 use sm_server::{CheckpointFault, Refusal};
 
+/// Writes the record, where there is one.
+pub(crate) fn tell(state: Option<Record>, read: &mut RecordParts)
+    ensures { TellsRecord state read.old read.new }
+{
+    match state {
+        Some(state) => *read = RecordParts::of(&state),
+        None => {}
+    }
+}
+
 /// The record by which a server refused an envelope, or the one that was found in its place.
-pub(crate) fn read_of_refusal(refusal: &Refusal) -> Option<Record> {
+pub(crate) fn read_of_refusal(refusal: &Refusal) -> Option<Record>
+    ensures { result ≡ refusal_read refusal.now }
+{
     match refusal {
-        Refusal::Admit(refusal) => read_of_admission(refusal),
+        Refusal::Admit(refusal) => Some(read_of_admission(refusal)),
         _ => None,
     }
 }
 
-fn read_of_admission(refusal: &AdmitRefusal) -> Option<Record> {
+fn read_of_admission(refusal: &AdmitRefusal) -> Record
+    ensures { result ≡ admission_read refusal.now }
+{
     match refusal {
-        AdmitRefusal::Refused(_, read) => Some(*read),
-        AdmitRefusal::Raced { read: _, found } => Some(*found),
+        AdmitRefusal::Refused(_, read) => *read,
+        AdmitRefusal::Raced { read: _, found } => *found,
     }
 }
 
 /// The record by which a call was refused, or the one that was found in its place; none where no record was read.
-pub(crate) fn read_of(fault: &ActFault) -> Option<Record> {
+pub(crate) fn read_of(fault: &ActFault) -> Option<Record>
+    ensures { result ≡ act_read fault.now }
+{
     match fault {
-        ActFault::Admit(refusal) => read_of_admission(refusal),
-        ActFault::Checkpoint(CheckpointFault::Admit(refusal)) => read_of_admission(refusal),
+        ActFault::Admit(refusal) => Some(read_of_admission(refusal)),
+        ActFault::Checkpoint(CheckpointFault::Admit(refusal)) => Some(read_of_admission(refusal)),
         ActFault::Command(ControlFault::Raced { read: _, found }) => Some(*found),
         ActFault::Command(ControlFault::Command(CommandFault::Change(ChangeFault::Spent(read)))) =>
             Some(*read),

@@ -4,12 +4,10 @@ ghost use Rattle.sm_handle.specs.Maps.{PairHeld, WritesHeldText, WritesKey, Writ
 
 use crate::codes::code_of_act;
 use sm_handle::{ActFault, Handle, ReplyParts};
-use std::alloc::Global;
 
 /// Writes the text that was replied, and its length.
 #[unsafe(no_mangle)]
 pub extern "C" fn durkenzo_reply_text(
-    alloc: Global,
     reply: &mut Handle,
     into: &mut [u8],
     length: &mut usize,
@@ -19,23 +17,18 @@ pub extern "C" fn durkenzo_reply_text(
     ensures no_length { result ≢ 0 → length.new ≡ length.old }
     ensures unchanged { reply.new.owned.state ≡ reply.old.owned.state }
 {
-    let made = reply.text(alloc, into);
+    let made = reply.text(into);
     code_of_written(made, length)
 }
 
 /// Writes the parts of what the key of the pair at this place, from 0, held.
 #[unsafe(no_mangle)]
-pub extern "C" fn durkenzo_pair(
-    alloc: Global,
-    reply: &mut Handle,
-    at: usize,
-    parts: &mut ReplyParts,
-) -> u32
+pub extern "C" fn durkenzo_pair(reply: &mut Handle, at: usize, parts: &mut ReplyParts) -> u32
     ensures found { result ≡ 0 → PairHeld reply.old.owned.state at parts.new }
     ensures unwritten { result ≢ 0 → parts.new ≡ parts.old }
     ensures unchanged { reply.new.owned.state ≡ reply.old.owned.state }
 {
-    match reply.pair(alloc, at) {
+    match reply.pair(at) {
         Ok(made) => {
             *parts = made;
             0
@@ -47,7 +40,6 @@ pub extern "C" fn durkenzo_pair(
 /// Writes the key of the pair at this place, and its length, which is at most 255.
 #[unsafe(no_mangle)]
 pub extern "C" fn durkenzo_pair_key(
-    alloc: Global,
     reply: &mut Handle,
     at: usize,
     into: &mut [u8],
@@ -58,14 +50,13 @@ pub extern "C" fn durkenzo_pair_key(
     ensures no_length { result ≢ 0 → length.new ≡ length.old }
     ensures unchanged { reply.new.owned.state ≡ reply.old.owned.state }
 {
-    let made = reply.pair_key(alloc, at, into);
+    let made = reply.pair_key(at, into);
     code_of_written(made, length)
 }
 
 /// Writes the text that the key of the pair at this place held, and its length.
 #[unsafe(no_mangle)]
 pub extern "C" fn durkenzo_pair_text(
-    alloc: Global,
     reply: &mut Handle,
     at: usize,
     into: &mut [u8],
@@ -76,7 +67,7 @@ pub extern "C" fn durkenzo_pair_text(
     ensures no_length { result ≢ 0 → length.new ≡ length.old }
     ensures unchanged { reply.new.owned.state ≡ reply.old.owned.state }
 {
-    let made = reply.pair_text(alloc, at, into);
+    let made = reply.pair_text(at, into);
     code_of_written(made, length)
 }
 

@@ -4,14 +4,16 @@ ghost use Rattle.sm_handle.specs.Maps.{Replied};
 ghost use Rattle.sm_handle.specs.Serving.{IsOfBoard, IsServiceOpened, MakesCheckpoint, Serves, TellsAnswer};
 ghost use Rattle.sm_handle.specs.declared.served_as.ServedAs.TheVariants.{Answered, Forward, Refused};
 ghost use Rattle.sm_server.specs.declared.refusal.Refusal.{Refusal as RefusalValue};
-ghost use Rattle.sm_c.specs.Requests.{ComesBack, LeavesShard, SendsRequest};
+ghost use Rattle.sm_c.specs.Reading.{TellsRecord, refusal_read};
+ghost use Rattle.sm_c.specs.Requests.{ComesBack, LeavesShard, SendsRequest, TellsSent};
 
 use crate::codes::{
     FORWARD, UNKNOWN_SHARD, code_of_act, code_of_open, code_of_refusal, code_of_request,
 };
-use crate::read::{read_of, read_of_refusal};
+use crate::read::{read_of, read_of_refusal, tell};
 use crate::record_parts::RecordParts;
 use crate::requests::request_of;
+use crate::sent_parts::SentParts;
 use sm_handle::{AnswerParts, Handle, ReplyParts, ServedAs};
 use sm_ranges::shard_id::ShardId;
 use std::alloc::Global;
@@ -75,7 +77,6 @@ pub extern "C" fn durkenzo_envelope(
 /// refusal by a record, or a lost race, writes to `read`.
 #[unsafe(no_mangle)]
 pub extern "C" fn durkenzo_serve(
-    alloc: Global,
     pass: &mut Handle,
     layout: &mut Handle,
     envelope: &mut Handle,
@@ -88,12 +89,29 @@ pub extern "C" fn durkenzo_serve(
     ensures forwarded { result ≡ FORWARD → Serves pass.old.owned.state pass.new.owned.state layout.old.owned.state
         envelope.old.owned.state envelope.new.owned.state (Forward to.new) }
     ensures refused { result ≢ 0 → result ≢ FORWARD → ComesBack pass.old.owned.state pass.new.owned.state
-        layout.old.owned.state envelope.old.owned.state envelope.new.owned.state }
+        layout.old.owned.state envelope.old.owned.state envelope.new.owned.state read.old read.new }
+    ensures unread { result ≡ 0 → read.new ≡ read.old }
     ensures layout { layout.new.owned.state ≡ layout.old.owned.state }
     ensures unwritten { result ≢ FORWARD → to.new ≡ to.old }
 {
-    match pass.serve(alloc, layout, envelope) {
+    match pass.serve(layout, envelope) {
         Ok(served) => code_of_served(served, to, read),
+        Err(fault) => code_of_act(fault),
+    }
+}
+
+/// Writes the parts of the envelope, but for its request and its note.
+#[unsafe(no_mangle)]
+pub extern "C" fn durkenzo_sent(envelope: &mut Handle, parts: &mut SentParts) -> u32
+    ensures found { result ≡ 0 → TellsSent envelope.old.owned.state parts.new }
+    ensures unwritten { result ≢ 0 → parts.new ≡ parts.old }
+    ensures unchanged { envelope.new.owned.state ≡ envelope.old.owned.state }
+{
+    match envelope.sent() {
+        Ok(sent) => {
+            *parts = SentParts::of(&sent);
+            0
+        }
         Err(fault) => code_of_act(fault),
     }
 }
@@ -101,7 +119,6 @@ pub extern "C" fn durkenzo_serve(
 /// Writes the parts of the answer, and of its reply.
 #[unsafe(no_mangle)]
 pub extern "C" fn durkenzo_answer(
-    alloc: Global,
     answer: &mut Handle,
     parts: &mut AnswerParts,
     reply: &mut ReplyParts,
@@ -111,11 +128,11 @@ pub extern "C" fn durkenzo_answer(
     ensures unwritten { result ≢ 0 → (parts.new ≡ parts.old) × (reply.new ≡ reply.old) }
     ensures unchanged { answer.new.owned.state ≡ answer.old.owned.state }
 {
-    let made = match answer.answer(alloc) {
+    let made = match answer.answer() {
         Ok(made) => made,
         Err(fault) => return code_of_act(fault),
     };
-    match answer.reply(alloc) {
+    match answer.reply() {
         Ok(told) => {
             *parts = made;
             *reply = told;
@@ -129,7 +146,6 @@ pub extern "C" fn durkenzo_answer(
 /// it is made, `generation` is the shard's since then. A refusal by a record, or a lost race, writes to `read`.
 #[unsafe(no_mangle)]
 pub extern "C" fn durkenzo_checkpoint(
-    alloc: Global,
     pass: &mut Handle,
     shard: u16,
     generation: &mut u64,
@@ -137,21 +153,21 @@ pub extern "C" fn durkenzo_checkpoint(
 ) -> u32
     ensures made { result ≡ 0 → MakesCheckpoint pass.old.owned.state pass.new.owned.state shard
         generation.new }
-    ensures refused { result ≢ 0 → LeavesShard pass.old.owned.state pass.new.owned.state shard }
+    ensures refused { result ≢ 0
+        → LeavesShard pass.old.owned.state pass.new.owned.state shard read.old read.new }
+    ensures unread { result ≡ 0 → read.new ≡ read.old }
     ensures unwritten { result ≢ 0 → generation.new ≡ generation.old }
 {
     let Some(k) = ShardId::new(shard) else {
         return UNKNOWN_SHARD;
     };
-    match pass.checkpoint(alloc, k) {
+    match pass.checkpoint(k) {
         Ok(left) => {
             *generation = left;
             0
         }
         Err(fault) => {
-            if let Some(state) = read_of(&fault) {
-                *read = RecordParts::of(&state);
-            }
+            tell(read_of(&fault), read);
             code_of_act(fault)
         }
     }
@@ -161,7 +177,9 @@ pub extern "C" fn durkenzo_checkpoint(
 fn code_of_served(served: ServedAs, to: &mut u16, read: &mut RecordParts) -> u32
     ensures answered { result ≡ 0 → served ≡ Answered }
     ensures forwarded { result ≡ FORWARD → served ≡ Forward to.new }
-    ensures refused { result ≢ 0 → result ≢ FORWARD → (refusal : RefusalValue) × (served ≡ Refused refusal) }
+    ensures refused { result ≢ 0 → result ≢ FORWARD → (refusal : RefusalValue) × (served ≡ Refused refusal)
+        × TellsRecord (refusal_read refusal) read.old read.new }
+    ensures unread { result ≡ 0 → read.new ≡ read.old }
     ensures unwritten { result ≢ FORWARD → to.new ≡ to.old }
 {
     match served {
@@ -171,9 +189,7 @@ fn code_of_served(served: ServedAs, to: &mut u16, read: &mut RecordParts) -> u32
             FORWARD
         }
         ServedAs::Refused(refusal) => {
-            if let Some(state) = read_of_refusal(&refusal) {
-                *read = RecordParts::of(&state);
-            }
+            tell(read_of_refusal(&refusal), read);
             code_of_refusal(refusal)
         }
     }

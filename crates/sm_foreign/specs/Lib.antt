@@ -1,1 +1,2 @@
 pub mod Chiefs
+pub mod Holding

@@ -1,10 +1,13 @@
-ghost use Rattle.std.specs.Prelude.{◌≡◌, ◌<◌, ◌≤◌, [], All, IfOk, IfSome, length, map};
+ghost use Rattle.std.specs.Prelude.{◌≡◌, ◌<◌, ◌≤◌, [], All, IfOk, IfSome, None, length, map};
 ghost use Rattle.std.specs.Arc.{arc_value};
 ghost use Rattle.sm_ranges.specs.declared.stand.Stand.TheVariants.{Vacant};
 ghost use Rattle.sm_control.specs.Controls.{Commanded};
 ghost use Rattle.sm_desk.specs.Desk.{desk_fault};
 ghost use Rattle.sm_place.specs.Plans.{assign_plan, drain_plan};
+ghost use Rattle.sm_foreign.specs.Chiefs.{desk_of_rows};
 
+use crate::board_pass::BoardPass;
+use crate::foreign::Foreign;
 use crate::free_pass::FreePass;
 use crate::open_fault::OpenFault;
 use sm_body::service::Service;
@@ -13,8 +16,8 @@ use sm_desk::{Command, Desk};
 use sm_place::{Books, BooksFault, Plan};
 use sm_ranges::server_id::ServerId;
 use sm_rows::limits::MAX_DOMAIN_DOWN;
-use sm_rows::{GroupRow, ServerRow, ShardRow, equal_domains};
-use sm_rule::Board;
+use sm_rows::{DomainRow, GroupRow, ServerRow, ShardRow, equal_domains};
+use sm_rule::{Board, Chair};
 use sm_tasks::Tasks;
 use sm_tasks::laws::all_up_meets_caps;
 use std::alloc::{AllocError, Global};
@@ -74,6 +77,58 @@ impl<S: Service> Chief<S> {
             Ok(desk) => desk,
             Err(fault) => return Err(OpenFault::Books(fault)),
         };
+        Chief::of_parts(alloc, board, chair, desk)
+    }
+
+    /// The chief of a new board with these bodies, which have applied nothing yet, and of books of these rows, with one
+    /// for each body, at most `ops` of whose servers (at most 4,095) restart at once; generations stay at or below the
+    /// ceiling (3 to 2^36 - 1).
+    pub fn by_rows(
+        alloc: Global,
+        bodies: Vec<S>,
+        servers: &[ServerRow],
+        groups: &[GroupRow],
+        shards: &[ShardRow],
+        domains: &[DomainRow],
+        ops: u16,
+        ceiling: u64,
+    ) -> Result<Chief<S>, OpenFault>
+        requires initial { All (λ body. S.base body ≡ S.initial) bodies.items }
+        requires before { All (λ body. S.before body ≡ 0) bodies.items }
+        requires empty { All (λ body. S.requests body ≡ []) bodies.items }
+        requires rows { length shards.now ≡ length bodies.items }
+        requires ops { ops ≤ 4095 }
+        ensures count { IfOk result (λ chief. chief.chair.board.limits.count ≡ length bodies.items) }
+        ensures ceiling { IfOk result (λ chief. chief.chair.board.limits.ceiling ≡ ceiling) }
+        ensures bodies { IfOk result (λ chief. chief.chair.board.limits.bodies ≡ map S.limit bodies.items) }
+        ensures desk { IfOk result
+            (λ chief. chief.desk ≡ desk_of_rows servers.now groups.now shards.now domains.now ops) }
+    {
+        let (board, chair) = match Board::make(alloc, bodies, ceiling) {
+            Ok(made) => made,
+            Err(fault) => return Err(OpenFault::Board(fault)),
+        };
+        let desk = match desk_over(alloc, servers, groups, shards, domains, ops) {
+            Ok(desk) => desk,
+            Err(fault) => return Err(OpenFault::Books(fault)),
+        };
+        Chief::of_parts(alloc, board, chair, desk)
+    }
+
+    // The chief of a board whose chair has seen nothing.
+    fn of_parts(
+        alloc: Global,
+        board: Board<S>,
+        chair: Chair<S>,
+        desk: Desk,
+    ) -> Result<Chief<S>, OpenFault>
+        requires board { chair.board ≡ board }
+        requires seen { chair.seen ≡ [] }
+        requires count { length desk.books.shards ≡ chair.board.limits.count }
+        requires vacant { All (λ shard. shard.stand ≡ Vacant) desk.books.shards }
+        ensures chair { IfOk result (λ chief. chief.chair ≡ chair) }
+        ensures desk { IfOk result (λ chief. chief.desk ≡ desk) }
+    {
         match Arc::new(alloc, board) {
             Ok(board) => Ok(Chief {
                 board,
@@ -115,6 +170,18 @@ impl<S: Service> Chief<S> {
     }
 }
 
+impl Chief<Foreign> {
+    /// A new pass to foreign bodies, admitted as this server, or never. It is refused for want of memory alone.
+    pub fn foreign_pass(&self, server: Option<ServerId>) -> Result<BoardPass<Foreign>, AllocError>
+        ensures board { IfOk result (λ pass. pass.0.board ≡ self.now.chair.board) }
+        ensures server { IfOk result (λ pass. pass.0.server ≡ server) }
+        ensures free { IfOk result (λ pass. pass.1 ≡ None) }
+    {
+        let board = Arc::try_clone(&self.board)?;
+        Ok(BoardPass::new(board, server))
+    }
+}
+
 // Servers 1 to this one, each in a domain of its own.
 fn rows_of(alloc: Global, last: u16) -> Result<Vec<ServerRow>, AllocError> {
     let mut rows = Vec::new(alloc);
@@ -150,7 +217,23 @@ fn desk_of(alloc: Global, servers: u16, count: usize, ops: u16) -> Result<Desk, 
         cap: 1
     }; count]?;
     let domains = equal_domains(alloc, &rows, MAX_DOMAIN_DOWN)?;
-    let books = Books::new(alloc, &rows, &groups, &shards, &domains)?;
+    desk_over(alloc, &rows, &groups, &shards, &domains, ops)
+}
+
+// The desk of these rows: all servers are up, and all shards vacant.
+fn desk_over(
+    alloc: Global,
+    servers: &[ServerRow],
+    groups: &[GroupRow],
+    shards: &[ShardRow],
+    domains: &[DomainRow],
+    ops: u16,
+) -> Result<Desk, BooksFault>
+    requires { ops ≤ 4095 }
+    ensures desk { IfOk result (λ desk. desk ≡ desk_of_rows servers.now groups.now shards.now domains.now ops) }
+    ensures vacant { IfOk result (λ desk. All (λ shard. shard.stand ≡ Vacant) desk.books.shards) }
+{
+    let books = Books::new(alloc, servers, groups, shards, domains)?;
     all_up_meets_caps();
     Ok(Desk::new(books, Tasks::new(ops)))
 }

@@ -1,17 +1,13 @@
-ghost use Rattle.std.specs.Prelude.{◌≡◌, ◌<◌, None, IfErr, IfOk};
+ghost use Rattle.std.specs.Prelude.{◌≡◌, ◌<◌, IfOk};
 ghost use Rattle.std.specs.Arc.{arc_value};
-ghost use Rattle.sm_rule.specs.Admissions.{PassAdmitted, RefusedBy};
-ghost use Rattle.sm_rule.specs.Boards.{limit_at};
 ghost use Rattle.sm_rule.specs.Passes.{PassLooks, record_of};
 ghost use Rattle.sm_rule.specs.Views.{Begins, IsMet};
 
-use crate::held_pass::HeldPass;
 use sm_body::service::Service;
-use sm_ownership::mode::Mode;
 use sm_ownership::record::Record;
 use sm_ranges::server_id::ServerId;
 use sm_ranges::shard_id::ShardId;
-use sm_rule::{AdmitRefusal, Board, Pass};
+use sm_rule::{Board, Pass};
 use std::alloc::AllocError;
 use std::marker::Model;
 use std::sync::Arc;
@@ -81,24 +77,5 @@ impl<S: Service> FreePass<S> {
     {
         let FreePass { board: _, pass } = other;
         self.board.meet(&mut self.pass, pass.into_note());
-    }
-
-    /// Admits the pass to the shard for a request that came so; or says why not, and the pass has looked.
-    pub fn admit(self, k: ShardId, mode: Mode) -> Result<HeldPass<S>, (FreePass<S>, AdmitRefusal)>
-        requires { k < self.board.limits.count }
-        ensures admitted { IfOk result (λ held. PassAdmitted self k mode held.0) }
-        ensures shard { IfOk result (λ held. held.1.shard ≡ k) }
-        ensures limit { IfOk result (λ held. S.limit held.1.body ≡ limit_at self.board.limits k) }
-        ensures refused { IfErr result (λ back. PassLooks self back.0 × RefusedBy self back.0 k mode back.1) }
-    {
-        let FreePass { board, mut pass } = self;
-        match board.admit(&mut pass, k, mode) {
-            Ok(permit) => Ok(HeldPass {
-                board,
-                pass,
-                permit,
-            }),
-            Err(refusal) => Err((FreePass { board, pass }, refusal)),
-        }
     }
 }

@@ -6,20 +6,20 @@
 //! let Ok(mut chief) = Chief::make(alloc, bodies, 2, 1, 100) else {
 //!     return Err("no board".into());
 //! };
-//! let free = chief.pass(Some(one))?;
-//! assert_eq!(rt; free.count(), 2);
+//! let pass = chief.foreign_pass(Some(one))?;
+//! assert_eq!(rt; pass.count(), 2);
 //! ```
 #![tactic(auto)]
 
+pub mod board_pass;
 pub mod chief;
 pub mod foreign;
 pub mod free_pass;
-pub mod held_pass;
 pub mod open_fault;
 mod serving;
 
+pub use board_pass::{BoardPass, ForeignPass};
 pub use chief::Chief;
 pub use foreign::Foreign;
 pub use free_pass::FreePass;
-pub use held_pass::{HeldPass, LastingPass};
 pub use open_fault::OpenFault;

@@ -1,48 +1,44 @@
 -- What calls do to the state of a handle.
 use Rattle.std.specs.Prelude.{ℕ, ◌≡◌, List, length, map, Option, Some, None, Result, Ok, Err}
-use Rattle.sm_ownership.specs.declared.entry.Ending.TheVariants.{Nothing}
-use Rattle.sm_ownership.specs.declared.entry.Kind.TheVariants.{Done}
 use Rattle.sm_ownership.specs.declared.mode.Mode.{Mode}
 use Rattle.sm_ownership.specs.declared.record.Record.{Record}
-use Rattle.sm_rule.specs.Admissions.{PassAdmitted, RefusedBy}
-use Rattle.sm_rule.specs.Boards.{limit_at}
-use Rattle.sm_rule.specs.Passes.{PassAdds, PassLooks, record_of}
+use Rattle.sm_rule.specs.Admissions.{RefusedBy}
+use Rattle.sm_rule.specs.Passes.{PassLooks, record_of}
 use Rattle.sm_control.specs.Controls.{Commanded}
 use Rattle.sm_desk.specs.declared.command.Command.{Command}
 use Rattle.sm_desk.specs.Desk.{desk_fault}
 use Rattle.sm_foreign.specs.declared.foreign.Foreign.{Foreign}
 use Rattle.sm_foreign.specs.Chiefs.{foreign_of}
+use Rattle.sm_foreign.specs.Holding.{AdmitsPass, EndsPermit}
 use Rattle.sm_handle.specs.declared.act_fault.ActFault.{ActFault}
 use Rattle.sm_handle.specs.declared.act_fault.ActFault.TheVariants.{WrongHandle, Admit, Command as CommandRefused}
 use Rattle.sm_handle.specs.declared.handle_state.HandleState.{HandleState}
-use Rattle.sm_handle.specs.declared.handle_state.HandleState.TheVariants.{Chief, Free, Held, TextChief, TextPass}
+use Rattle.sm_handle.specs.declared.handle_state.HandleState.TheVariants.{Chief, Pass, TextChief, TextPass}
 
 -- a pass that held nothing was admitted to the shard and holds the permit, and the number is that of the shard's body
 abbrev pub AdmitsState : HandleState → HandleState → ℕ → Mode → ℕ → Type 0
-AdmitsState (Free before) (Held after) shard mode number =
-    PassAdmitted before shard mode after.held.0 × (after.held.1.shard ≡ shard)
-    × (limit_at before.board.limits shard ≡ number) × (after.held.1.body.number ≡ number)
+AdmitsState (Pass before) (Pass after) shard mode number =
+    (before.held.1 ≡ None) × AdmitsPass before.held after.held shard mode number
 AdmitsState before after shard mode number = ⊥
 
 -- a pass isn't admitted and has looked, or the state is as it was
 abbrev pub RefusesState : HandleState → HandleState → ℕ → Mode → ActFault → Type 0
-RefusesState (Free before) (Free after) shard mode (Admit refusal) =
-    PassLooks before after × RefusedBy before after shard mode refusal
+RefusesState (Pass before) (Pass after) shard mode (Admit refusal) =
+    PassLooks before.held.0 after.held.0 × RefusedBy before.held.0 after.held.0 shard mode refusal
+    × (after.held.1 ≡ before.held.1)
 RefusesState before after shard mode fault = after ≡ before
 
 -- the admission of the pass has ended, and it holds nothing
 abbrev pub EndsState : HandleState → HandleState → ℕ → Type 0
-EndsState (Held before) (Free after) generation =
-    PassAdds before.held.0 before.held.1.shard (Done Nothing) after
-    × (generation ≡ (record_of after before.held.1.shard).generation)
+EndsState (Pass before) (Pass after) generation =
+    EndsPermit before.held.1 before.held.0 after.held.0 generation × (after.held.1 ≡ None)
 EndsState before after generation = ⊥
 
 -- the pass has seen more, in which this is the shard's record, and what it holds is as it was
 abbrev pub LooksState : HandleState → HandleState → ℕ → Record → Type 0
-LooksState (Free before) (Free after) shard state = PassLooks before after × (state ≡ record_of after shard)
-LooksState (TextPass before) (TextPass after) shard state = PassLooks before after × (state ≡ record_of after shard)
-LooksState (Held before) (Held after) shard state =
+LooksState (Pass before) (Pass after) shard state =
     PassLooks before.held.0 after.held.0 × (after.held.1 ≡ before.held.1) × (state ≡ record_of after.held.0 shard)
+LooksState (TextPass before) (TextPass after) shard state = PassLooks before after × (state ≡ record_of after shard)
 LooksState before after shard state = ⊥
 
 -- the control answers the command and is then what it leaves, or the state is as it was
@@ -60,7 +56,8 @@ CommandsState before after command (Err fault) = (fault ≡ WrongHandle) × (aft
 
 -- a new pass on the board of the control, with this server or none
 abbrev pub IsPassOfState : HandleState → Option ℕ → HandleState → Type 0
-IsPassOfState (Chief chief) server (Free pass) = (pass.board ≡ chief.value.chair.board) × (pass.server ≡ server)
+IsPassOfState (Chief chief) server (Pass pass) =
+    (pass.held.0.board ≡ chief.value.chair.board) × (pass.held.0.server ≡ server) × (pass.held.1 ≡ None)
 IsPassOfState (TextChief chief) server (TextPass pass) = (pass.board ≡ chief.value.chair.board) × (pass.server ≡ server)
 IsPassOfState chief server pass = ⊥
 

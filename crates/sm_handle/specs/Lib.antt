@@ -1,7 +1,9 @@
 pub mod Acts
 pub mod Layouts
+pub mod Lending
 pub mod Maps
 pub mod Notes
+pub mod Opening
 pub mod Owns
 pub mod Plans
 pub mod Serving

@@ -1,11 +1,9 @@
 -- Boards of the sample service, their passes, and envelopes, that handles keep.
-use Rattle.std.specs.Prelude.{ℕ, ◌≡◌, [], List, map, replicate, Option, Some, None}
+use Rattle.std.specs.Prelude.{ℕ, ◌≡◌, [], replicate, Option, Some}
 use Rattle.sm_body.specs.Service.{Service, meaning_of}
-use Rattle.sm_envelope.specs.Envelope.{EnvelopeView}
-use Rattle.sm_map.specs.KeyMap.{KeyPair}
 use Rattle.sm_ownership.specs.declared.mode.Mode.TheVariants.{Direct}
 use Rattle.sm_rule.specs.Passes.{PassLooks, record_of}
-use Rattle.sm_rule.specs.Views.{Begins, IsMet}
+use Rattle.sm_rule.specs.Views.{Begins}
 use Rattle.sm_server.specs.Answers.{AnswerValue}
 use Rattle.sm_server.specs.Basing.{CheckpointRefused, HasMadeCheckpoint}
 use Rattle.sm_server.specs.Serving.{Sent, Served as IsServed, is_here}
@@ -20,6 +18,7 @@ use Rattle.sm_handle.specs.declared.act_fault.ActFault.TheVariants.{Checkpoint}
 use Rattle.sm_handle.specs.declared.answer_parts.AnswerParts.{AnswerParts}
 use Rattle.sm_handle.specs.declared.handle_state.HandleState.{HandleState}
 use Rattle.sm_handle.specs.declared.handle_state.HandleState.TheVariants.{Answer, Envelope, Layout, TextChief, TextPass}
+use Rattle.sm_handle.specs.declared.sent_as.SentAs.{SentAs}
 use Rattle.sm_handle.specs.declared.served_as.ServedAs.{ServedAs}
 use Rattle.sm_handle.specs.declared.served_as.ServedAs.TheVariants.{Answered, Forward, Refused}
 
@@ -42,6 +41,13 @@ Carries (Some (TextPass pass)) (Some (Envelope envelope)) number shard request =
     (envelope.number ≡ number) × (envelope.shard ≡ shard) × (envelope.mode ≡ Direct) × (envelope.hops ≡ 0)
     × (envelope.request ≡ request) × (envelope.note.board ≡ pass.board) × Begins pass.seen envelope.note.seen
 Carries pass state number shard request = ⊥
+
+-- the handle keeps an envelope with this number for this shard, which came so and was forwarded so often
+abbrev pub IsSentAs : Option HandleState → SentAs → Type 0
+IsSentAs (Some (Envelope envelope)) sent =
+    (sent.number ≡ envelope.number) × (sent.shard ≡ envelope.shard) × (sent.mode ≡ envelope.mode)
+    × (sent.hops ≡ envelope.hops)
+IsSentAs state sent = ⊥
 
 -- the handle keeps what became of an envelope: the answer in its place, or the envelope that goes on or comes back
 abbrev pub KeepsOutcome :

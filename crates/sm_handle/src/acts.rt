@@ -5,7 +5,7 @@ ghost use Rattle.sm_handle.specs.Acts.{AdmitsState, CommandsState, EndsState, Is
 use crate::act_fault::ActFault;
 use crate::handle_state::HandleState;
 use sm_desk::Command;
-use sm_foreign::LastingPass;
+use sm_foreign::ForeignPass;
 use sm_ownership::mode::Mode;
 use sm_ownership::record::Record;
 use sm_ranges::server_id::ServerId;
@@ -16,27 +16,18 @@ pub fn admit(state: &mut HandleState, k: ShardId, mode: Mode) -> Result<u64, Act
     ensures admitted { IfOk result (AdmitsState state.old state.new k mode) }
     ensures refused { IfErr result (RefusesState state.old state.new k mode) }
 {
-    let free = match std::mem::replace(&mut *state, HandleState::Empty) {
-        HandleState::Free(free) => free,
-        other => {
-            *state = other;
-            return Err(ActFault::WrongHandle);
-        }
+    let HandleState::Pass(pass) = state else {
+        return Err(ActFault::WrongHandle);
     };
-    if u32::from(k.number()) >= free.count() {
-        *state = HandleState::Free(free);
+    if !pass.held.is_free() {
+        return Err(ActFault::WrongHandle);
+    }
+    if u32::from(k.number()) >= pass.held.count() {
         return Err(ActFault::UnknownShard);
     }
-    match free.admit(k, mode) {
-        Ok(mut held) => {
-            let number = held.number();
-            *state = HandleState::Held(LastingPass { held });
-            Ok(number)
-        }
-        Err((free, refusal)) => {
-            *state = HandleState::Free(free);
-            Err(ActFault::Admit(refusal))
-        }
+    match pass.held.admit(k, mode) {
+        Ok(number) => Ok(number),
+        Err(refusal) => Err(ActFault::Admit(refusal)),
     }
 }
 
@@ -45,16 +36,12 @@ pub fn finish(state: &mut HandleState) -> Result<u64, ActFault>
     ensures ended { IfOk result (EndsState state.old state.new) }
     ensures refused { IfErr result (λ fault. state.new ≡ state.old) }
 {
-    match std::mem::replace(&mut *state, HandleState::Empty) {
-        HandleState::Held(lasting) => {
-            let (pass, front) = lasting.into_held().finish();
-            *state = HandleState::Free(pass);
-            Ok(front.generation)
-        }
-        other => {
-            *state = other;
-            Err(ActFault::WrongHandle)
-        }
+    match state {
+        HandleState::Pass(pass) => match pass.held.finish() {
+            Some(front) => Ok(front.generation),
+            None => Err(ActFault::WrongHandle),
+        },
+        _ => Err(ActFault::WrongHandle),
     }
 }
 
@@ -64,23 +51,17 @@ pub fn look(state: &mut HandleState, k: ShardId) -> Result<Record, ActFault>
     ensures refused { IfErr result (λ fault. state.new ≡ state.old) }
 {
     match state {
-        HandleState::Free(free) => {
-            if u32::from(k.number()) >= free.count() {
+        HandleState::Pass(pass) => {
+            if u32::from(k.number()) >= pass.held.count() {
                 return Err(ActFault::UnknownShard);
             }
-            Ok(free.look(k))
+            Ok(pass.held.look(k))
         }
-        HandleState::TextPass(free) => {
-            if u32::from(k.number()) >= free.count() {
+        HandleState::TextPass(pass) => {
+            if u32::from(k.number()) >= pass.count() {
                 return Err(ActFault::UnknownShard);
             }
-            Ok(free.look(k))
-        }
-        HandleState::Held(lasting) => {
-            if u32::from(k.number()) >= lasting.held.count() {
-                return Err(ActFault::UnknownShard);
-            }
-            Ok(lasting.held.look(k))
+            Ok(pass.look(k))
         }
         _ => Err(ActFault::WrongHandle),
     }
@@ -91,8 +72,8 @@ pub fn pass(state: &HandleState, server: Option<ServerId>) -> Result<HandleState
     ensures { IfOk result (IsPassOfState state.now server) }
 {
     match state {
-        HandleState::Chief(chief) => match chief.pass(server) {
-            Ok(free) => Ok(HandleState::Free(free)),
+        HandleState::Chief(chief) => match chief.foreign_pass(server) {
+            Ok(held) => Ok(HandleState::Pass(ForeignPass { held })),
             Err(_) => Err(ActFault::NoMemory),
         },
         HandleState::TextChief(chief) => match chief.pass(server) {

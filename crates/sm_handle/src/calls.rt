@@ -1,5 +1,5 @@
 //! Calls on handles.
-ghost use Rattle.std.specs.Prelude.{◌≡◌, None, IfErr, IfOk, OnOk};
+ghost use Rattle.std.specs.Prelude.{◌≡◌, IfErr, IfOk, OnOk};
 ghost use Rattle.sm_handle.specs.Acts.{AdmitsHandle, CommandsHandle, EndsHandle, IsOpened, IsPassOf};
 ghost use Rattle.sm_handle.specs.Acts.{LooksHandle, RefusesHandle};
 
@@ -36,64 +36,53 @@ impl Handle {
         let Ok(chief) = Box::new(alloc, chief) else {
             return Err(OpenFault::NoMemory);
         };
-        match Box::new(alloc, HandleState::Chief(chief)) {
-            Ok(state) => {
-                self.keep(alloc, state);
-                Ok(())
-            }
+        match self.keep(alloc, HandleState::Chief(chief)) {
+            Ok(()) => Ok(()),
             Err(_) => Err(OpenFault::NoMemory),
         }
     }
 
     /// Admits the pass to the shard for a request that came so: the number of the shard's body, or why not.
-    pub fn admit(&mut self, alloc: Global, k: ShardId, mode: Mode) -> Result<u64, ActFault>
+    pub fn admit(&mut self, k: ShardId, mode: Mode) -> Result<u64, ActFault>
         ensures admitted { IfOk result (AdmitsHandle self.old.owned.state self.new.owned.state k mode) }
         ensures refused { IfErr result (RefusesHandle self.old.owned.state self.new.owned.state k mode) }
     {
-        let Some(mut state) = self.take(alloc) else {
+        if !self.full {
             return Err(ActFault::WrongHandle);
-        };
-        let made = acts::admit(&mut state, k, mode);
-        self.put(state);
-        made
+        }
+        acts::admit(self.owned.state_mut(), k, mode)
     }
 
     /// Ends the admission of the pass: the shard's generation since then, or why not, and the handle is as it was.
-    pub fn finish(&mut self, alloc: Global) -> Result<u64, ActFault>
+    pub fn finish(&mut self) -> Result<u64, ActFault>
         ensures ended { IfOk result (EndsHandle self.old.owned.state self.new.owned.state) }
         ensures refused { IfErr result (λ fault. self.new.owned.state ≡ self.old.owned.state) }
     {
-        let Some(mut state) = self.take(alloc) else {
+        if !self.full {
             return Err(ActFault::WrongHandle);
-        };
-        let made = acts::finish(&mut state);
-        self.put(state);
-        made
+        }
+        acts::finish(self.owned.state_mut())
     }
 
     /// The shard's record after all that the pass then has seen; or why not, and the handle is as it was.
-    pub fn look(&mut self, alloc: Global, k: ShardId) -> Result<Record, ActFault>
+    pub fn look(&mut self, k: ShardId) -> Result<Record, ActFault>
         ensures seen { IfOk result (LooksHandle self.old.owned.state self.new.owned.state k) }
         ensures refused { IfErr result (λ fault. self.new.owned.state ≡ self.old.owned.state) }
     {
-        let Some(mut state) = self.take(alloc) else {
+        if !self.full {
             return Err(ActFault::WrongHandle);
-        };
-        let made = acts::look(&mut state, k);
-        self.put(state);
-        made
+        }
+        acts::look(self.owned.state_mut(), k)
     }
 
     /// Gives the command to the control: it is made, or refused by the first fault that applies.
-    pub fn command(&mut self, alloc: Global, command: Command) -> Result<(), ActFault>
+    pub fn command(&mut self, command: Command) -> Result<(), ActFault>
         ensures answer { CommandsHandle self.old.owned.state self.new.owned.state command result }
     {
-        let Some(mut state) = self.take(alloc) else {
+        if !self.full {
             return Err(ActFault::WrongHandle);
-        };
-        let made = acts::command(&mut state, command);
-        self.put(state);
-        made
+        }
+        acts::command(self.owned.state_mut(), command)
     }
 
     /// Keeps a new pass on the board whose control the other handle keeps, with this server or none, in place of what
@@ -108,24 +97,13 @@ impl Handle {
         ensures made { OnOk result (IsPassOf chief.old.owned.state self.new.owned.state server) }
         ensures refused { IfErr result (λ fault. self.new.owned.state ≡ self.old.owned.state) }
     {
-        let Some(state) = chief.take(alloc) else {
+        if !chief.full {
             return Err(ActFault::WrongHandle);
-        };
-        let made = acts::pass(&state, server);
-        chief.put(state);
-        match Box::new(alloc, made?) {
-            Ok(state) => {
-                self.keep(alloc, state);
-                Ok(())
-            }
+        }
+        let made = acts::pass(chief.owned.state_mut(), server)?;
+        match self.keep(alloc, made) {
+            Ok(()) => Ok(()),
             Err(_) => Err(ActFault::NoMemory),
         }
-    }
-
-    /// Lets go what is kept.
-    pub fn close(&mut self, alloc: Global)
-        ensures { self.new.owned.state ≡ None }
-    {
-        let _ = self.take(alloc);
     }
 }

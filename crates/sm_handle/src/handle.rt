@@ -1,16 +1,16 @@
-ghost use Rattle.std.specs.Prelude.{◌≡◌, Some, None, IfSome, IfNone, is_some, true, false};
+ghost use Rattle.std.specs.Prelude.{◌≡◌, Some, None, OnErr, OnOk, is_some, true};
 
 use crate::box_parts::BoxParts;
 use crate::handle_state::HandleState;
 use crate::owned::Owned;
-use std::alloc::Global;
+use std::alloc::{AllocError, Global};
 
 /// What a caller in C keeps, 16 bytes. It begins as bytes of 0, isn't copied, and is used by one call at a time.
 #[repr(C)]
 #[derive(Drop)]
 pub struct Handle {
-    full: bool,
-    owned: Owned,
+    pub(crate) full: bool,
+    pub(crate) owned: Owned,
     ghost tied: { is_some owned.state ≡ full },
 }
 
@@ -25,39 +25,38 @@ impl Handle {
         }
     }
 
-    /// Takes the state out.
-    pub fn take(&mut self, alloc: Global) -> Option<Box<HandleState>>
-        ensures empty { self.new.full ≡ false }
-        ensures none { self.new.owned.state ≡ None }
-        ensures taken { IfSome result (λ state. self.old.owned.state ≡ Some state.value) }
-        ensures nothing { IfNone result (self.old.owned.state ≡ None) }
+    /// Keeps the state, and lets go what was kept. It is refused for want of memory alone, and the handle is as it was.
+    pub fn keep(&mut self, alloc: Global, state: HandleState) -> Result<(), AllocError>
+        ensures kept { OnOk result (self.new.owned.state ≡ Some state) }
+        ensures refused { OnErr result (self.new.owned.state ≡ self.old.owned.state) }
     {
-        let Handle { full, owned } = std::mem::replace(self, Handle::new(alloc));
-        if full {
-            Some(owned.into_parts().into_box())
-        } else {
-            None
+        if self.full {
+            *self.owned.state_mut() = state;
+            return Ok(());
         }
-    }
-
-    /// Lets go what was kept, and keeps the state.
-    pub fn keep(&mut self, alloc: Global, state: Box<HandleState>)
-        ensures full { self.new.full ≡ true }
-        ensures state { self.new.owned.state ≡ Some state.value }
-    {
-        let _ = self.take(alloc);
+        let state = Box::new(alloc, state)?;
         self.put(state);
+        Ok(())
     }
 
     /// Keeps the state, where nothing is kept: else that would never be let go.
-    pub fn put(&mut self, state: Box<HandleState>)
+    pub(crate) fn put(&mut self, state: Box<HandleState>)
         requires { self.old.owned.state ≡ None }
-        ensures full { self.new.full ≡ true }
-        ensures state { self.new.owned.state ≡ Some state.value }
+        ensures { self.new.owned.state ≡ Some state.value }
     {
         *self = Handle {
             full: true,
             owned: Owned::of_parts(BoxParts::of(state)),
         };
+    }
+
+    /// Lets go what is kept.
+    pub fn close(&mut self, alloc: Global)
+        ensures { self.new.owned.state ≡ None }
+    {
+        let Handle { full, owned } = std::mem::replace(self, Handle::new(alloc));
+        if full {
+            let _ = owned.into_parts().into_box();
+        }
     }
 }

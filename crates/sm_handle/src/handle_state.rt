@@ -1,5 +1,5 @@
 use sm_envelope::envelope::Envelope;
-use sm_foreign::{Chief, Foreign, FreePass, LastingPass};
+use sm_foreign::{Chief, Foreign, ForeignPass, FreePass};
 use sm_place::Plan;
 use sm_ranges::layout::Layout;
 use sm_rule::note::Note;
@@ -15,10 +15,8 @@ pub enum HandleState {
     Chief(Box<Chief<Foreign>>),
     /// The control of a board of the sample service.
     TextChief(Box<Chief<CounterText>>),
-    /// A pass that holds nothing.
-    Free(FreePass<Foreign>),
-    /// A pass with the permit that it holds.
-    Held(LastingPass),
+    /// A pass to foreign bodies, with the permit that it holds, if any.
+    Pass(ForeignPass),
     /// A pass of a board of the sample service.
     TextPass(FreePass<CounterText>),
     /// A request to the sample service on its way.

@@ -21,41 +21,34 @@ impl Handle {
         ensures refused { IfErr result (λ fault. self.new.owned.state ≡ self.old.owned.state) }
     {
         let layout = layout_of(alloc, text, parts)?;
-        match Box::new(alloc, HandleState::Layout(layout)) {
-            Ok(state) => {
-                self.keep(alloc, state);
-                Ok(())
-            }
+        match self.keep(alloc, HandleState::Layout(layout)) {
+            Ok(()) => Ok(()),
             Err(_) => Err(CutFault::Layout(LayoutFault::NoMemory)),
         }
     }
 
     /// The shard of the key, which may be any bytes, in the layout that the handle keeps.
-    pub fn shard_of(&mut self, alloc: Global, key: &[u8]) -> Result<ShardId, ActFault>
+    pub fn shard_of(&mut self, key: &[u8]) -> Result<ShardId, ActFault>
         ensures shard { IfOk result (IsShardOf self.old.owned.state key.now) }
         ensures unchanged { self.new.owned.state ≡ self.old.owned.state }
     {
-        let Some(state) = self.take(alloc) else {
+        if !self.full {
             return Err(ActFault::WrongHandle);
-        };
-        let made = shard_in(&state, key);
-        self.put(state);
-        made
+        }
+        shard_in(self.owned.state_mut(), key)
     }
 
     /// Writes the bound at which the shard begins, in the layout that the handle keeps: its length, at most 255; or why
     /// not, and nothing is written.
-    pub fn bound(&mut self, alloc: Global, k: ShardId, into: &mut [u8]) -> Result<usize, ActFault>
+    pub fn bound(&mut self, k: ShardId, into: &mut [u8]) -> Result<usize, ActFault>
         ensures written { IfOk result (WritesBound self.old.owned.state k into.new) }
         ensures unwritten { IfErr result (λ fault. into.new ≡ into.old) }
         ensures unchanged { self.new.owned.state ≡ self.old.owned.state }
     {
-        let Some(state) = self.take(alloc) else {
+        if !self.full {
             return Err(ActFault::WrongHandle);
-        };
-        let made = bound_in(&state, k, into);
-        self.put(state);
-        made
+        }
+        bound_in(self.owned.state_mut(), k, into)
     }
 }
 

@@ -2,10 +2,10 @@
 //!
 //! ```rust
 //! assert!(rt; chief.open(alloc, &[70, 80], 2, 1, 100).is_ok());
-//! assert!(rt; chief.command(alloc, assign).is_ok());
+//! assert!(rt; chief.command(assign).is_ok());
 //! assert!(rt; pass.pass(alloc, &mut chief, Some(one)).is_ok());
-//! assert!(rt; matches!(pass.admit(alloc, k, Mode::Direct), Ok(80)));
-//! assert!(rt; matches!(pass.finish(alloc), Ok(3)));
+//! assert!(rt; matches!(pass.admit(k, Mode::Direct), Ok(80)));
+//! assert!(rt; matches!(pass.finish(), Ok(3)));
 //! ```
 #![tactic(auto)]
 
@@ -20,12 +20,15 @@ pub mod handle_state;
 mod layouts;
 mod maps;
 mod notes;
+mod opening;
 pub mod owned;
 mod plans;
 mod replies;
 pub mod reply_parts;
+pub mod sent_as;
 pub mod served_as;
 mod serving;
+pub mod settings_open_fault;
 pub mod text_part;
 mod written;
 
@@ -35,5 +38,7 @@ pub use cut_fault::CutFault;
 pub use handle::Handle;
 pub use handle_state::HandleState;
 pub use reply_parts::ReplyParts;
+pub use sent_as::SentAs;
 pub use served_as::ServedAs;
+pub use settings_open_fault::SettingsOpenFault;
 pub use text_part::TextPart;

@@ -19,22 +19,18 @@ impl Handle {
         ensures refused { IfErr result (λ fault. self.new.owned.state ≡ self.old.owned.state) }
     {
         let map = Box::new(alloc, KeyMachine::new(alloc))?;
-        let state = Box::new(alloc, HandleState::Map(map))?;
-        self.keep(alloc, state);
-        Ok(())
+        self.keep(alloc, HandleState::Map(map))
     }
 
     /// How many keys of the map that the handle keeps hold something.
-    pub fn map_len(&mut self, alloc: Global) -> Result<u128, ActFault>
+    pub fn map_len(&mut self) -> Result<u128, ActFault>
         ensures count { IfOk result (HoldsKeys self.old.owned.state) }
         ensures unchanged { self.new.owned.state ≡ self.old.owned.state }
     {
-        let Some(state) = self.take(alloc) else {
+        if !self.full {
             return Err(ActFault::WrongHandle);
-        };
-        let made = len_of(&state);
-        self.put(state);
-        made
+        }
+        len_of(self.owned.state_mut())
     }
 
     /// Makes the request of the map that the handle keeps: the parts of the reply, which the other handle keeps, in
@@ -55,15 +51,14 @@ impl Handle {
         let Ok(mut place) = Box::new(alloc, HandleState::Empty) else {
             return Err(ActFault::NoMemory);
         };
-        let Some(mut state) = self.take(alloc) else {
+        if !self.full {
             return Err(ActFault::WrongHandle);
-        };
-        let made = reply_of(alloc, &mut state, request);
-        self.put(state);
-        let made = made?;
+        }
+        let made = reply_of(alloc, self.owned.state_mut(), request)?;
         let parts = ReplyParts::of(&made);
         *place = HandleState::Reply(made);
-        reply.keep(alloc, place);
+        reply.close(alloc);
+        reply.put(place);
         Ok(parts)
     }
 }

@@ -1,10 +1,12 @@
 //! What passes in handles tell each other.
 ghost use Rattle.std.specs.Prelude.{◌≡◌, IfErr, IfNone, IfOk, IfSome, None, OnOk, Some};
+ghost use Rattle.sm_handle.specs.declared.handle_state.HandleState.TheVariants.{Pass as Passing};
 ghost use Rattle.sm_handle.specs.Notes.{AreOfOneBoard, IsSplitFrom, MeetsHandle};
 
 use crate::act_fault::ActFault;
 use crate::handle::Handle;
 use crate::handle_state::HandleState;
+use sm_foreign::ForeignPass;
 use std::alloc::Global;
 
 impl Handle {
@@ -15,22 +17,19 @@ impl Handle {
         ensures made { OnOk result (IsSplitFrom from.old.owned.state self.new.owned.state) }
         ensures refused { IfErr result (λ fault. self.new.owned.state ≡ self.old.owned.state) }
     {
-        let Some(mut state) = from.take(alloc) else {
+        if !from.full {
             return Err(ActFault::WrongHandle);
-        };
-        let made = split_of(&mut state);
-        from.put(state);
-        match Box::new(alloc, made?) {
-            Ok(state) => {
-                self.keep(alloc, state);
-                Ok(())
-            }
+        }
+        let made = split_of(from.owned.state_mut())?;
+        match self.keep(alloc, made) {
+            Ok(()) => Ok(()),
             Err(_) => Err(ActFault::NoMemory),
         }
     }
 
-    /// Tells the pass that the handle keeps all that the other handle's pass of its board had seen, and the other
-    /// handle keeps nothing; or says why not, and both are as they were.
+    /// Tells the pass that the handle keeps all that the other handle's pass of its board had seen, or what its
+    /// answer tells, and the other handle keeps nothing; or says why not, and both are as they were. A pass that holds
+    /// a permit neither tells nor is told.
     pub fn meet(&mut self, alloc: Global, other: &mut Handle) -> Result<(), ActFault>
         requires { AreOfOneBoard self.old.owned.state other.old.owned.state }
         ensures met { OnOk result (MeetsHandle self.old.owned.state other.old.owned.state self.new.owned.state) }
@@ -38,24 +37,17 @@ impl Handle {
         ensures refused { IfErr result (λ fault. self.new.owned.state ≡ self.old.owned.state) }
         ensures back { IfErr result (λ fault. other.new.owned.state ≡ other.old.owned.state) }
     {
-        let Some(mut state) = self.take(alloc) else {
+        if !self.full || !other.full {
             return Err(ActFault::WrongHandle);
-        };
-        let Some(mut told) = other.take(alloc) else {
-            self.put(state);
-            return Err(ActFault::WrongHandle);
-        };
-        let (next, back) = met(
-            std::mem::replace(&mut *state, HandleState::Empty),
-            std::mem::replace(&mut *told, HandleState::Empty),
-        );
-        *state = next;
-        self.put(state);
-        match back {
-            None => Ok(()),
+        }
+        let told = std::mem::replace(other.owned.state_mut(), HandleState::Empty);
+        match meet_in(self.owned.state_mut(), told) {
+            None => {
+                other.close(alloc);
+                Ok(())
+            }
             Some(back) => {
-                *told = back;
-                other.put(told);
+                *other.owned.state_mut() = back;
                 Err(ActFault::WrongHandle)
             }
         }
@@ -67,39 +59,60 @@ fn split_of(state: &mut HandleState) -> Result<HandleState, ActFault>
     ensures made { IfOk result (λ pass. IsSplitFrom (Some state.old) (Some pass)) }
 {
     match state {
-        HandleState::Free(free) => match free.split() {
-            Ok(pass) => Ok(HandleState::Free(pass)),
+        HandleState::Pass(pass) if pass.held.is_free() => match pass.held.split() {
+            Ok(held) => Ok(HandleState::Pass(ForeignPass { held })),
             Err(_) => Err(ActFault::NoMemory),
         },
-        HandleState::TextPass(free) => match free.split() {
-            Ok(pass) => Ok(HandleState::TextPass(pass)),
+        HandleState::TextPass(pass) => match pass.split() {
+            Ok(new) => Ok(HandleState::TextPass(new)),
             Err(_) => Err(ActFault::NoMemory),
         },
         _ => Err(ActFault::WrongHandle),
     }
 }
 
-// The first state once its pass has met that of the second; or both as they were, where one isn't a pass that holds
-// nothing.
-fn met(state: HandleState, other: HandleState) -> (HandleState, Option<HandleState>)
-    requires { AreOfOneBoard (Some state) (Some other) }
-    ensures met { IfNone result.1 (MeetsHandle (Some state) (Some other) (Some result.0)) }
-    ensures refused { IfSome result.1 (λ back. (back ≡ other) × (result.0 ≡ state)) }
+// Tells the state's pass what the other state tells; or gives the other one back, where it tells nothing to the first.
+fn meet_in(state: &mut HandleState, other: HandleState) -> Option<HandleState>
+    requires { AreOfOneBoard (Some state.old) (Some other) }
+    ensures met { IfNone result (MeetsHandle (Some state.old) (Some other) (Some state.new)) }
+    ensures refused { IfSome result (λ back. (back ≡ other) × (state.new ≡ state.old)) }
 {
-    match (state, other) {
-        (HandleState::Free(mut free), HandleState::Free(told)) => {
-            free.meet(told);
-            (HandleState::Free(free), None)
-        }
-        (HandleState::TextPass(mut pass), HandleState::TextPass(told)) => {
+    match other {
+        HandleState::Pass(told) => match meet_pass(state, told) {
+            None => None,
+            Some(told) => Some(HandleState::Pass(told)),
+        },
+        HandleState::TextPass(told) => {
+            let HandleState::TextPass(pass) = state else {
+                return Some(HandleState::TextPass(told));
+            };
             pass.meet(told);
-            (HandleState::TextPass(pass), None)
+            None
         }
-        (HandleState::TextPass(mut pass), HandleState::Answer(answer)) => {
+        HandleState::Answer(answer) => {
+            let HandleState::TextPass(pass) = state else {
+                return Some(HandleState::Answer(answer));
+            };
             let (_, note) = answer.parts();
             pass.hear(note);
-            (HandleState::TextPass(pass), None)
+            None
         }
-        (state, other) => (state, Some(other)),
+        other => Some(other),
     }
+}
+
+// The same of a pass to foreign bodies.
+fn meet_pass(state: &mut HandleState, told: ForeignPass) -> Option<ForeignPass>
+    requires { AreOfOneBoard (Some state.old) (Some (Passing told)) }
+    ensures met { IfNone result (MeetsHandle (Some state.old) (Some (Passing told)) (Some state.new)) }
+    ensures refused { IfSome result (λ back. (back ≡ told) × (state.new ≡ state.old)) }
+{
+    let HandleState::Pass(pass) = state else {
+        return Some(told);
+    };
+    if !pass.held.is_free() || !told.held.is_free() {
+        return Some(told);
+    }
+    pass.held.meet(told.into_held());
+    None
 }

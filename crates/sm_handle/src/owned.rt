@@ -54,3 +54,18 @@ impl Owned {
         }
     }
 }
+
+impl Owned {
+    ghost use Rattle.std.specs.Borrow.{sem};
+    ghost use Rattle.std.specs.Prelude.{◌≡◌, Some, is_some, true};
+    ghost use Rattle.sm_handle.specs.Lending.{LendsState};
+
+    /// The state that is owned, to change it in its place.
+    pub(crate) fn state_mut(&mut self) -> &mut HandleState
+        requires { is_some self.old.state ≡ true }
+        ensures* writes_back { sem 𝓛 (LendsState self.entry result) }
+        ensures value { self.old.state ≡ Some result.now }
+    {
+        unsafe { &mut *(self.ptr as *mut HandleState) }
+    }
+}

@@ -27,44 +27,36 @@ impl Handle {
         ensures made { OnOk result (IsPlanOf chief.old.owned.state self.new.owned.state from) }
         ensures refused { IfErr result (λ fault. self.new.owned.state ≡ self.old.owned.state) }
     {
-        let Some(state) = chief.take(alloc) else {
+        if !chief.full {
             return Err(ActFault::WrongHandle);
-        };
-        let made = plan_of(alloc, &state, from);
-        chief.put(state);
-        match Box::new(alloc, made?) {
-            Ok(state) => {
-                self.keep(alloc, state);
-                Ok(())
-            }
+        }
+        let made = plan_of(alloc, chief.owned.state_mut(), from)?;
+        match self.keep(alloc, made) {
+            Ok(()) => Ok(()),
             Err(_) => Err(ActFault::NoMemory),
         }
     }
 
     /// The move at this place of the plan that the handle keeps.
-    pub fn planned(&mut self, alloc: Global, at: usize) -> Result<Move, ActFault>
+    pub fn planned(&mut self, at: usize) -> Result<Move, ActFault>
         ensures found { IfOk result (IsMove self.old.owned.state at) }
         ensures unchanged { self.new.owned.state ≡ self.old.owned.state }
     {
-        let Some(state) = self.take(alloc) else {
+        if !self.full {
             return Err(ActFault::WrongHandle);
-        };
-        let made = move_in(&state, at);
-        self.put(state);
-        made
+        }
+        move_in(self.owned.state_mut(), at)
     }
 
     /// The shard at this place of those that the plan that the handle keeps has no room for.
-    pub fn left(&mut self, alloc: Global, at: usize) -> Result<ShardId, ActFault>
+    pub fn left(&mut self, at: usize) -> Result<ShardId, ActFault>
         ensures found { IfOk result (IsLeftOut self.old.owned.state at) }
         ensures unchanged { self.new.owned.state ≡ self.old.owned.state }
     {
-        let Some(state) = self.take(alloc) else {
+        if !self.full {
             return Err(ActFault::WrongHandle);
-        };
-        let made = left_in(&state, at);
-        self.put(state);
-        made
+        }
+        left_in(self.owned.state_mut(), at)
     }
 }
 

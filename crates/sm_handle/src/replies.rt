@@ -8,82 +8,66 @@ use crate::handle_state::HandleState;
 use crate::reply_parts::ReplyParts;
 use crate::written::write;
 use sm_service::{Pair, Reply, Val};
-use std::alloc::Global;
 
 impl Handle {
     /// The parts of the reply that the handle keeps.
-    pub fn reply(&mut self, alloc: Global) -> Result<ReplyParts, ActFault>
+    pub fn reply(&mut self) -> Result<ReplyParts, ActFault>
         ensures parts { IfOk result (Replied self.old.owned.state) }
         ensures unchanged { self.new.owned.state ≡ self.old.owned.state }
     {
-        let Some(state) = self.take(alloc) else {
+        if !self.full {
             return Err(ActFault::WrongHandle);
-        };
-        let made = parts_in(&state);
-        self.put(state);
-        made
+        }
+        parts_in(self.owned.state_mut())
     }
 
     /// Writes the text that was replied: its length; or says why not, and nothing is written.
-    pub fn text(&mut self, alloc: Global, into: &mut [u8]) -> Result<usize, ActFault>
+    pub fn text(&mut self, into: &mut [u8]) -> Result<usize, ActFault>
         ensures written { IfOk result (WritesText self.old.owned.state into.new) }
         ensures unwritten { IfErr result (λ fault. into.new ≡ into.old) }
         ensures unchanged { self.new.owned.state ≡ self.old.owned.state }
     {
-        let Some(state) = self.take(alloc) else {
+        if !self.full {
             return Err(ActFault::WrongHandle);
-        };
-        let made = text_in(&state, into);
-        self.put(state);
-        made
+        }
+        text_in(self.owned.state_mut(), into)
     }
 
     /// The parts of what the key held that the pair at this place of the reply has.
-    pub fn pair(&mut self, alloc: Global, at: usize) -> Result<ReplyParts, ActFault>
+    pub fn pair(&mut self, at: usize) -> Result<ReplyParts, ActFault>
         ensures parts { IfOk result (PairHeld self.old.owned.state at) }
         ensures unchanged { self.new.owned.state ≡ self.old.owned.state }
     {
-        let Some(state) = self.take(alloc) else {
+        if !self.full {
             return Err(ActFault::WrongHandle);
-        };
-        let made = held_in(&state, at);
-        self.put(state);
-        made
+        }
+        held_in(self.owned.state_mut(), at)
     }
 
     /// Writes the key of the pair at this place of the reply: its length, at most 255; or says why not, and nothing is
     /// written.
-    pub fn pair_key(&mut self, alloc: Global, at: usize, into: &mut [u8]) -> Result<usize, ActFault>
+    pub fn pair_key(&mut self, at: usize, into: &mut [u8]) -> Result<usize, ActFault>
         ensures written { IfOk result (WritesKey self.old.owned.state at into.new) }
         ensures unwritten { IfErr result (λ fault. into.new ≡ into.old) }
         ensures unchanged { self.new.owned.state ≡ self.old.owned.state }
     {
-        let Some(state) = self.take(alloc) else {
+        if !self.full {
             return Err(ActFault::WrongHandle);
-        };
-        let made = key_in(&state, at, into);
-        self.put(state);
-        made
+        }
+        key_in(self.owned.state_mut(), at, into)
     }
 
     /// Writes the text that the key of the pair at this place of the reply held: its length; or says why not, and
     /// nothing is written.
-    pub fn pair_text(
-        &mut self,
-        alloc: Global,
-        at: usize,
-        into: &mut [u8],
-    ) -> Result<usize, ActFault>
+    pub fn pair_text(&mut self, at: usize, into: &mut [u8]) -> Result<usize, ActFault>
         ensures written { IfOk result (WritesHeldText self.old.owned.state at into.new) }
         ensures unwritten { IfErr result (λ fault. into.new ≡ into.old) }
         ensures unchanged { self.new.owned.state ≡ self.old.owned.state }
     {
-        let Some(state) = self.take(alloc) else {
+        if !self.full {
             return Err(ActFault::WrongHandle);
-        };
-        let made = held_text_in(&state, at, into);
-        self.put(state);
-        made
+        }
+        held_text_in(self.owned.state_mut(), at, into)
     }
 }
 

@@ -2,13 +2,14 @@
 ghost use Rattle.std.specs.Prelude.{◌≡◌, [], IfErr, IfOk, IsSome, OnOk, Some, replicate};
 ghost use Rattle.sm_handle.specs.declared.handle_state.HandleState.TheVariants.{Envelope as Sent};
 ghost use Rattle.sm_handle.specs.declared.handle_state.HandleState.TheVariants.{Layout as LayoutOf, TextPass};
-ghost use Rattle.sm_handle.specs.Serving.{Carries, IsOfBoard, IsServiceOpened, MakesCheckpoint};
+ghost use Rattle.sm_handle.specs.Serving.{Carries, IsOfBoard, IsSentAs, IsServiceOpened, MakesCheckpoint};
 ghost use Rattle.sm_handle.specs.Serving.{RefusesCheckpoint, Serves, TellsAnswer};
 
 use crate::act_fault::ActFault;
 use crate::answer_parts::AnswerParts;
 use crate::handle::Handle;
 use crate::handle_state::HandleState;
+use crate::sent_as::SentAs;
 use crate::served_as::ServedAs;
 use sm_envelope::envelope::Envelope;
 use sm_foreign::{Chief, FreePass, OpenFault};
@@ -42,11 +43,8 @@ impl Handle {
         let Ok(chief) = Box::new(alloc, chief) else {
             return Err(OpenFault::NoMemory);
         };
-        match Box::new(alloc, HandleState::TextChief(chief)) {
-            Ok(state) => {
-                self.keep(alloc, state);
-                Ok(())
-            }
+        match self.keep(alloc, HandleState::TextChief(chief)) {
+            Ok(()) => Ok(()),
             Err(_) => Err(OpenFault::NoMemory),
         }
     }
@@ -66,16 +64,12 @@ impl Handle {
         ensures made { OnOk result (Carries pass.old.owned.state self.new.owned.state number k request) }
         ensures refused { IfErr result (λ fault. self.new.owned.state ≡ self.old.owned.state) }
     {
-        let Some(mut state) = pass.take(alloc) else {
+        if !pass.full {
             return Err(ActFault::WrongHandle);
-        };
-        let made = envelope_of(&mut state, number, k, request);
-        pass.put(state);
-        match Box::new(alloc, made?) {
-            Ok(state) => {
-                self.keep(alloc, state);
-                Ok(())
-            }
+        }
+        let made = envelope_of(pass.owned.state_mut(), number, k, request)?;
+        match self.keep(alloc, made) {
+            Ok(()) => Ok(()),
             Err(_) => Err(ActFault::NoMemory),
         }
     }
@@ -85,7 +79,6 @@ impl Handle {
     /// back; or why nothing was done, and each handle is as it was.
     pub fn serve(
         &mut self,
-        alloc: Global,
         layout: &mut Handle,
         envelope: &mut Handle,
     ) -> Result<ServedAs, ActFault>
@@ -96,60 +89,56 @@ impl Handle {
         ensures kept { IfErr result (λ fault. self.new.owned.state ≡ self.old.owned.state) }
         ensures back { IfErr result (λ fault. envelope.new.owned.state ≡ envelope.old.owned.state) }
     {
-        let Some(mut state) = self.take(alloc) else {
+        if !self.full || !layout.full || !envelope.full {
             return Err(ActFault::WrongHandle);
-        };
-        let Some(shards) = layout.take(alloc) else {
-            self.put(state);
-            return Err(ActFault::WrongHandle);
-        };
-        let Some(mut sent) = envelope.take(alloc) else {
-            self.put(state);
-            layout.put(shards);
-            return Err(ActFault::WrongHandle);
-        };
-        let (next, served) = served_by(
-            &mut state,
-            &shards,
-            std::mem::replace(&mut *sent, HandleState::Empty),
-        );
-        *sent = next;
-        self.put(state);
-        layout.put(shards);
-        envelope.put(sent);
+        }
+        let sent = std::mem::replace(envelope.owned.state_mut(), HandleState::Empty);
+        let (next, served) = served_by(self.owned.state_mut(), layout.owned.state_mut(), sent);
+        *envelope.owned.state_mut() = next;
         served
     }
 
+    /// The envelope that the handle keeps, but for its request and its note.
+    pub fn sent(&mut self) -> Result<SentAs, ActFault>
+        ensures sent { IfOk result (IsSentAs self.old.owned.state) }
+        ensures unchanged { self.new.owned.state ≡ self.old.owned.state }
+    {
+        if !self.full {
+            return Err(ActFault::WrongHandle);
+        }
+        sent_in(self.owned.state_mut())
+    }
+
     /// The answer that the handle keeps, but for its reply.
-    pub fn answer(&mut self, alloc: Global) -> Result<AnswerParts, ActFault>
+    pub fn answer(&mut self) -> Result<AnswerParts, ActFault>
         ensures parts { IfOk result (TellsAnswer self.old.owned.state) }
         ensures unchanged { self.new.owned.state ≡ self.old.owned.state }
     {
-        let Some(state) = self.take(alloc) else {
+        if !self.full {
             return Err(ActFault::WrongHandle);
-        };
-        let made = answer_in(&state);
-        self.put(state);
-        made
+        }
+        answer_in(self.owned.state_mut())
     }
 
     /// Makes the shard's present state its base, so that it keeps no request: its generation since then; or says why
     /// not.
-    pub fn checkpoint(&mut self, alloc: Global, k: ShardId) -> Result<u64, ActFault>
+    pub fn checkpoint(&mut self, k: ShardId) -> Result<u64, ActFault>
         ensures made { IfOk result (MakesCheckpoint self.old.owned.state self.new.owned.state k) }
         ensures refused { IfErr result (RefusesCheckpoint self.old.owned.state self.new.owned.state k) }
     {
-        let Some(mut state) = self.take(alloc) else {
+        if !self.full {
             return Err(ActFault::WrongHandle);
-        };
-        let made = checkpoint_of(&mut state, k);
-        self.put(state);
-        made
+        }
+        checkpoint_of(self.owned.state_mut(), k)
     }
 }
 
 // A body without a request for each shard.
-fn empty_bodies(alloc: Global, count: usize, kept: usize) -> Result<Vec<CounterText>, AllocError>
+pub(crate) fn empty_bodies(
+    alloc: Global,
+    count: usize,
+    kept: usize,
+) -> Result<Vec<CounterText>, AllocError>
     ensures { IfOk result (λ bodies. bodies.items
         ≡ replicate count (record { base = []; before = 0; requests = []; limit = kept })) }
 {
@@ -217,6 +206,20 @@ fn serve_at(
             HandleState::Envelope(back),
             ServedAs::Refused(refusal),
         ),
+    }
+}
+
+fn sent_in(state: &HandleState) -> Result<SentAs, ActFault>
+    ensures { IfOk result (IsSentAs (Some state.now)) }
+{
+    match state {
+        HandleState::Envelope(envelope) => Ok(SentAs {
+            number: envelope.number(),
+            shard: envelope.shard(),
+            mode: envelope.mode(),
+            hops: envelope.hops(),
+        }),
+        _ => Err(ActFault::WrongHandle),
     }
 }
 

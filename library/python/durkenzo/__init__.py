@@ -29,7 +29,10 @@ from ._kept import Kept as _Kept, check as _check
 from ._library import LIBRARY, Part, RecordParts
 from .errors import *
 from .errors import BadArgument, Busy, DurkenzoError, IsAdmitted, NotAdmitted, Raced
-from ._map import Map, Value
+from ._map import Map
+from ._reply import ReplyKind, RequestKind, Value
+from ._service import Answer, BadSettings, Envelope, Forward, KeptFull, Reply, Request, ServicePass, TooManyHops
+from ._service import WrongShard, _RULES
 from .record import Phase, Record
 
 T = TypeVar("T")
@@ -167,7 +170,7 @@ class Plan:
 class Control(Generic[T]):
     """Moves the shards of a board between its servers. Threads may share it: each call takes the control's lock."""
 
-    def __init__(self, board: Board[T]) -> None:
+    def __init__(self, board: Board[T] | Service) -> None:
         self._board = board
 
     def _change(self, shard: int, kind: int, server: int = 0) -> None:
@@ -334,3 +337,49 @@ class Layout(_Kept):
         with self._lock:
             _check(LIBRARY.durkenzo_bound(ctypes.byref(self._handle), shard, into, 255, ctypes.byref(length)))
         return into.raw[: length.value]
+
+
+class Service(_Kept):
+    """A board of the sample service with the layout of its keys: texts and counts by key, of which the library executes
+    the requests itself. Threads may share it."""
+
+    def __init__(
+        self,
+        layout: Layout,
+        servers: int,
+        kept: int = (1 << 64) - 1,
+        restarts: int = 1,
+        ceiling: int = MAX_GENERATION,
+    ) -> None:
+        """Makes a board with a shard for each of the layout's, each of which keeps at most `kept` requests between
+        checkpoints, of servers 1 to this one, at most `restarts` of which restart at once.
+
+        Raises BadArgument, BadCeiling or NoMemory.
+        """
+        super().__init__()
+        self._begin(layout)
+        at, sizes = ctypes.byref(self._handle), (kept, servers, restarts, ceiling)
+        _check(LIBRARY.durkenzo_open_service(at, len(layout), *sizes))
+
+    @classmethod
+    def by_settings(cls, line: bytes) -> Service:
+        """Makes the board that a line of settings says, but for its workers. Raises BadSettings or NoMemory."""
+        service, layout, count = cls.__new__(cls), Layout.__new__(Layout), ctypes.c_size_t()
+        for kept in (service, layout):
+            _Kept.__init__(kept)
+        handles = map(ctypes.byref, (service._handle, layout._handle))
+        code = LIBRARY.durkenzo_open_settings(*handles, line, len(line), ctypes.byref(count))
+        if code >= 70:
+            raise BadSettings(_RULES[code - 70])
+        _check(code)
+        layout._lock, layout._count = threading.Lock(), count.value
+        service._begin(layout)
+        return service
+
+    def _begin(self, layout: Layout) -> None:
+        self.layout, self._lock = layout, threading.Lock()
+        self.control: Control[None] = Control(self)
+
+    def new_pass(self, server: int) -> ServicePass:
+        """Returns a new pass, which serves as this server, and makes envelopes. Raises BadArgument or NoMemory."""
+        return ServicePass(self, server)

@@ -33,6 +33,18 @@ class ReplyParts(ctypes.Structure):
     _fields_ = [("count", i64), ("length", ctypes.c_size_t), ("kind", u8)]
 
 
+class AnswerParts(ctypes.Structure):
+    """An answer but for its reply."""
+
+    _fields_ = [("number", u64), ("place", u64), ("server", u16)]
+
+
+class SentParts(ctypes.Structure):
+    """An envelope but for its request and its note."""
+
+    _fields_ = [("number", u64), ("shard", u16), ("from", u16), ("hops", u8)]
+
+
 def found() -> str:
     """Returns where the library is."""
     here = pathlib.Path(__file__).resolve().parent
@@ -73,6 +85,13 @@ def loaded() -> ctypes.CDLL:
         "pair": [handle, size, parts],
         "pair_key": [handle, size, text, size, length],
         "pair_text": [handle, size, text, size, length],
+        "open_service": [handle, size, size, u16, u16, u64],
+        "open_settings": [handle, handle, text, size, length],
+        "envelope": [handle, handle, u64, u16, u8, text, size, text, size, i64],
+        "sent": [handle, ctypes.POINTER(SentParts)],
+        "serve": [handle, handle, handle, shard, record],
+        "answer": [handle, ctypes.POINTER(AnswerParts), parts],
+        "checkpoint": [handle, u16, number, record],
     }
     for name, types in calls.items():
         call = getattr(library, f"durkenzo_{name}")

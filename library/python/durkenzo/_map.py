@@ -2,25 +2,13 @@
 from __future__ import annotations
 
 import ctypes
-from enum import IntEnum
-from typing import Union
 
 from ._kept import Kept, check
 from ._library import LIBRARY, Handle, ReplyParts
+from ._reply import ReplyKind, RequestKind, Value, pairs_in, value_in
 from .errors import CountOverflow, TextTooLong, WrongKind
 
-Value = Union[bytes, int]
-
-
-class _Request(IntEnum):
-    GET, PUT, APPEND, ADD, REMOVE, SCAN = range(1, 7)
-
-
-class _Reply(IntEnum):
-    NOTHING, DONE, TEXT, COUNT, PAIRS, WRONG_KIND, OVERFLOW, TOO_LONG = range(8)
-
-
-_REFUSALS = {_Reply.WRONG_KIND: WrongKind, _Reply.OVERFLOW: CountOverflow, _Reply.TOO_LONG: TextTooLong}
+_REFUSALS = {ReplyKind.WRONG_KIND: WrongKind, ReplyKind.OVERFLOW: CountOverflow, ReplyKind.TOO_LONG: TextTooLong}
 
 
 class Map(Kept):
@@ -40,38 +28,38 @@ class Map(Kept):
 
     def get(self, key: bytes) -> Value | None:
         """Returns the text or the count that the key holds, or None."""
-        parts = self._ask(_Request.GET, key)
-        return None if parts.kind == _Reply.NOTHING else self._value(parts)
+        parts = self._ask(RequestKind.GET, key)
+        return None if parts.kind == ReplyKind.NOTHING else value_in(self._reply, parts)
 
     def put(self, key: bytes, text: bytes) -> None:
         """Has the key hold the text, in place of the text that it held. Raises WrongKind where the key holds a count,
         and TextTooLong."""
-        self._ask(_Request.PUT, key, text)
+        self._ask(RequestKind.PUT, key, text)
 
     def append(self, key: bytes, tail: bytes) -> None:
         """Has the key hold its text followed by this one; a key that holds nothing counts as the empty text. Raises
         WrongKind and TextTooLong."""
-        self._ask(_Request.APPEND, key, tail)
+        self._ask(RequestKind.APPEND, key, tail)
 
     def add(self, key: bytes, amount: int) -> int:
         """Adds to the key's count, and returns the sum; a key that holds nothing counts as 0. Raises WrongKind where
         the key holds a text, and CountOverflow."""
-        return self._ask(_Request.ADD, key, amount=amount).count
+        return self._ask(RequestKind.ADD, key, amount=amount).count
 
     def remove(self, key: bytes) -> bool:
         """Has the key hold nothing. Returns whether it held something."""
-        return self._ask(_Request.REMOVE, key).kind == _Reply.DONE
+        return self._ask(RequestKind.REMOVE, key).kind == ReplyKind.DONE
 
     def scan(self, low: bytes, high: bytes, most: int = 100) -> list[tuple[bytes, Value]]:
         """Returns the first pairs with keys from `low` on and below `high`, `most` of them and at most 100."""
-        return [self._pair(at) for at in range(self._ask(_Request.SCAN, low, high, most).length)]
+        return pairs_in(self._reply, self._ask(RequestKind.SCAN, low, high, most))
 
     def close(self) -> None:
         """Lets go what the library keeps for the map. Further calls raise WrongHandle."""
         super().close()
         LIBRARY.durkenzo_close(ctypes.byref(self._reply))
 
-    def _ask(self, kind: _Request, key: bytes, other: bytes = b"", amount: int = 0) -> ReplyParts:
+    def _ask(self, kind: RequestKind, key: bytes, other: bytes = b"", amount: int = 0) -> ReplyParts:
         if not -(1 << 63) <= amount < 1 << 63:
             raise CountOverflow()
         parts, handles = ReplyParts(), map(ctypes.byref, (self._handle, self._reply))
@@ -79,20 +67,3 @@ class Map(Kept):
         if refusal := _REFUSALS.get(parts.kind):
             raise refusal()
         return parts
-
-    def _value(self, parts: ReplyParts) -> Value:
-        return parts.count if parts.kind == _Reply.COUNT else self._written(LIBRARY.durkenzo_reply_text, parts.length)
-
-    def _pair(self, at: int) -> tuple[bytes, Value]:
-        parts = ReplyParts()
-        check(LIBRARY.durkenzo_pair(ctypes.byref(self._reply), at, ctypes.byref(parts)))
-        key = self._written(LIBRARY.durkenzo_pair_key, 255, at)
-        if parts.kind == _Reply.COUNT:
-            return key, parts.count
-        return key, self._written(LIBRARY.durkenzo_pair_text, parts.length, at)
-
-    def _written(self, call: ctypes._CFuncPtr, room: int, *place: int) -> bytes:
-        """Returns what the call writes into so many bytes."""
-        into, length = ctypes.create_string_buffer(room or 1), ctypes.c_size_t()
-        check(call(ctypes.byref(self._reply), *place, into, room, ctypes.byref(length)))
-        return into.raw[: length.value]

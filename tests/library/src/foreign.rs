@@ -10,7 +10,7 @@ fn makes_a_pass(rt: HostRuntime) -> Result<(), Fail> {
     let Ok(mut chief) = Chief::make(alloc, bodies, 2, 1, 100) else {
         return Err("no board".into());
     };
-    let free = chief.pass(Some(one))?;
-    assert_eq!(rt; free.count(), 2);
+    let pass = chief.foreign_pass(Some(one))?;
+    assert_eq!(rt; pass.count(), 2);
     Ok(())
 }

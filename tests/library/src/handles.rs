@@ -13,18 +13,13 @@ fn admits_and_finishes(rt: HostRuntime) {
     };
     let assign = Command::Change(k, Change::Assign(one));
     let (mut chief, mut pass) = (Handle::new(alloc), Handle::new(alloc));
-    assert!(rt;
-        matches!(
-            pass.admit(alloc, k, Mode::Direct),
-            Err(ActFault::WrongHandle)
-        )
-    );
+    assert!(rt; matches!(pass.admit(k, Mode::Direct), Err(ActFault::WrongHandle)));
     assert!(rt; chief.open(alloc, &[70, 80], 2, 1, 100).is_ok());
-    assert!(rt; chief.command(alloc, assign).is_ok());
+    assert!(rt; chief.command(assign).is_ok());
     assert!(rt; pass.pass(alloc, &mut chief, Some(one)).is_ok());
-    assert!(rt; matches!(pass.admit(alloc, k, Mode::Direct), Ok(80)));
-    assert!(rt; matches!(pass.finish(alloc), Ok(3)));
-    assert!(rt; matches!(pass.finish(alloc), Err(ActFault::WrongHandle)));
+    assert!(rt; matches!(pass.admit(k, Mode::Direct), Ok(80)));
+    assert!(rt; matches!(pass.finish(), Ok(3)));
+    assert!(rt; matches!(pass.finish(), Err(ActFault::WrongHandle)));
     pass.close(alloc);
     chief.close(alloc);
 }

@@ -2,7 +2,8 @@ use crate::board::Shared;
 use crate::fault::{ChangeFault, PlanFault, RestartFault};
 use crate::plan::Plan;
 use crate::raw::{self, Handle, RecordParts};
-use crate::record::Record;
+use crate::record::{Record, Stand};
+use crate::restore_fault::RestoreFault;
 use std::sync::Arc;
 
 /// The control of a board: it alone changes who owns a shard. Each call takes the control's lock for its own time.
@@ -68,6 +69,22 @@ impl<T> Control<T> {
         again(|| self.drop_shard(shard))
     }
 
+    /// Makes the changes that lead a vacant shard, or one on its way, to the stand, as where an older board's is to be
+    /// reached anew: its generations aren't. The changes before a refused one stay made.
+    pub fn restore(&self, shard: u16, to: Stand) -> Result<(), RestoreFault> {
+        let (from, mut at) = (self.stand(shard)?, to);
+        let mut steps = Vec::new();
+        while at != from {
+            let (before, kind, server) = at.step_to().ok_or(ChangeFault::WrongPhase)?;
+            steps.push((kind, server));
+            at = before;
+        }
+        for (kind, server) in steps.into_iter().rev() {
+            self.change(shard, kind, server)?;
+        }
+        Ok(())
+    }
+
     /// Asks for a restart of the server.
     pub fn ask(&self, server: u16) -> Result<(), RestartFault> {
         self.restart(1, server)
@@ -113,6 +130,21 @@ impl<T> Control<T> {
         match unsafe { raw::durkenzo_plan(&mut *self.shared.chief(), &mut plan, from) } {
             0 => Ok(Plan::of(plan)),
             code => Err(PlanFault::of(code)),
+        }
+    }
+
+    // The shard's stand, which a pass of any server sees.
+    fn stand(&self, shard: u16) -> Result<Stand, RestoreFault> {
+        let (mut pass, mut read) = (Handle::empty(), RecordParts::default());
+        // SAFETY: the control's handle is locked, and the others are this call's alone.
+        let codes = unsafe {
+            let made = raw::durkenzo_pass(&mut *self.shared.chief(), &mut pass, 1);
+            (made, raw::durkenzo_look(&mut pass, shard, &mut read))
+        };
+        match codes {
+            (0, 0) => Ok(Record::of(&read).stand),
+            (0, _) => Err(ChangeFault::UnknownShard.into()),
+            _ => Err(RestoreFault::NoMemory),
         }
     }
 

@@ -1,5 +1,6 @@
 use crate::board::Shared;
-use crate::raw::{AnswerParts, Handle};
+use crate::pass::Mode;
+use crate::raw::{self, AnswerParts, Handle, SentParts};
 use crate::reply::Reply;
 use crate::service::Texts;
 use std::fmt;
@@ -25,6 +26,27 @@ impl Envelope {
     /// The shard that it is for.
     pub fn shard(&self) -> u16 {
         self.shard
+    }
+
+    /// How it came to the server that serves it next.
+    pub fn mode(&mut self) -> Mode {
+        match self.sent().from {
+            0 => Mode::Direct,
+            server => Mode::Forwarded(server),
+        }
+    }
+
+    /// How often it was forwarded, 0 to 4.
+    pub fn hops(&mut self) -> u8 {
+        self.sent().hops
+    }
+
+    fn sent(&mut self) -> SentParts {
+        let mut parts = SentParts::default();
+        // SAFETY: the handle is this envelope's, which is borrowed alone.
+        let code = unsafe { raw::durkenzo_sent(&mut self.handle, &mut parts) };
+        assert_eq!(code, 0, "the handle of an envelope keeps it");
+        parts
     }
 }
 

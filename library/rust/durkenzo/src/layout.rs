@@ -45,11 +45,16 @@ impl Layout {
             )
         };
         match code {
-            0 => Ok(Layout {
-                count: parts.len(),
-                handle: Mutex::new(handle),
-            }),
+            0 => Ok(Layout::of(handle, parts.len())),
             code => Err(LayoutFault::of(code)),
+        }
+    }
+
+    /// The layout of so many shards that the handle keeps.
+    pub(crate) fn of(handle: Handle, count: usize) -> Layout {
+        Layout {
+            count,
+            handle: Mutex::new(handle),
         }
     }
 

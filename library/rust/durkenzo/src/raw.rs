@@ -56,6 +56,16 @@ pub(crate) struct ReplyParts {
     pub(crate) kind: u8,
 }
 
+/// An envelope but for its request and its note.
+#[repr(C)]
+#[derive(Clone, Copy, Default)]
+pub(crate) struct SentParts {
+    pub(crate) number: u64,
+    pub(crate) shard: u16,
+    pub(crate) from: u16,
+    pub(crate) hops: u8,
+}
+
 /// An answer but for its reply.
 #[repr(C)]
 #[derive(Clone, Copy, Default)]
@@ -164,6 +174,14 @@ extern "C" {
         ops: u16,
         ceiling: u64,
     ) -> u32;
+    pub(crate) fn durkenzo_open_settings(
+        chief: *mut Handle,
+        layout: *mut Handle,
+        line: *const u8,
+        length: usize,
+        shards: *mut usize,
+    ) -> u32;
+    pub(crate) fn durkenzo_sent(envelope: *mut Handle, parts: *mut SentParts) -> u32;
     pub(crate) fn durkenzo_envelope(
         pass: *mut Handle,
         envelope: *mut Handle,

@@ -49,6 +49,31 @@ impl Stand {
         NAMES[usize::from(self.phase())]
     }
 
+    /// The server that has to own the shard first, where its stand is to be reached anew.
+    pub fn first_owner(&self) -> Option<u16> {
+        match *self {
+            Stand::Vacant => None,
+            Stand::Serving(owner) | Stand::Paused(owner) => Some(owner),
+            Stand::Prepared { owner, .. } | Stand::Forwarding { owner, .. } => Some(owner),
+            Stand::Taken { previous, .. } => Some(previous),
+        }
+    }
+
+    /// The stand before this one on the shortest way from a vacant shard, and the kind and server of the change.
+    pub(crate) fn step_to(&self) -> Option<(Stand, u8, u16)> {
+        match *self {
+            Stand::Vacant => None,
+            Stand::Serving(owner) => Some((Stand::Vacant, 1, owner)),
+            Stand::Prepared { owner, next } => Some((Stand::Serving(owner), 2, next)),
+            Stand::Forwarding { owner, next } => Some((Stand::Prepared { owner, next }, 3, 0)),
+            Stand::Taken {
+                owner: next,
+                previous: owner,
+            } => Some((Stand::Forwarding { owner, next }, 4, 0)),
+            Stand::Paused(owner) => Some((Stand::Serving(owner), 7, 0)),
+        }
+    }
+
     fn phase(&self) -> u8 {
         match self {
             Stand::Vacant => 0,

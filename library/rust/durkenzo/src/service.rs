@@ -23,6 +23,7 @@ use crate::fault::{BuildFault, PassFault};
 use crate::layout::Layout;
 use crate::raw::{self, Handle};
 use crate::service_pass::ServicePass;
+use crate::settings_fault::SettingsFault;
 use std::fmt;
 use std::sync::Arc;
 
@@ -108,6 +109,30 @@ impl Service {
             servers: 1,
             restarts: 1,
             ceiling: MAX_GENERATION,
+        }
+    }
+
+    /// A new board as the line of settings says with which a script begins: its layout, servers, groups, domains and
+    /// limits, but for its workers. Nobody owns a shard yet.
+    pub fn by_settings(line: impl AsRef<[u8]>) -> Result<Service, SettingsFault> {
+        let (mut chief, mut layout, mut count) = (Handle::empty(), Handle::empty(), 0);
+        let line = line.as_ref();
+        // SAFETY: the handles are this call's alone, and the slice lasts as long as the call.
+        let code = unsafe {
+            raw::durkenzo_open_settings(
+                &mut chief,
+                &mut layout,
+                line.as_ptr(),
+                line.len(),
+                &mut count,
+            )
+        };
+        match code {
+            0 => Ok(Service {
+                shared: Arc::new(Shared::without_bodies(chief)),
+                layout: Arc::new(Layout::of(layout, count)),
+            }),
+            code => Err(SettingsFault::of(code)),
         }
     }
 

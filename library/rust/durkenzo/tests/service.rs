@@ -1,8 +1,10 @@
 //! A board of the sample service.
 use durkenzo::{
-    AdmitFault, BuildFault, CheckpointFault, Envelope, Layout, Reply, Request, SendFault,
-    ServeFault, Served, Service, ServicePass, Value,
+    AdmitFault, BuildFault, ChangeFault, CheckpointFault, Envelope, Layout, Mode, Reply, Request,
+    RestoreFault, SendFault, ServeFault, Served, Service, ServicePass, SettingsFault, Stand, Value,
 };
+
+const SETTINGS: &str = r#"{"version":2,"bounds":["","n"],"servers":[{"id":1,"domain":0,"capacity":1},{"id":7,"domain":1,"capacity":2}],"groups":[{"limit":2,"down":1}],"shards":[{"group":0,"load":1,"cap":1},{"group":0,"load":1,"cap":1}],"ops":1,"kept":1,"ceiling":100,"workers":1,"domains":[{"domain":0,"down":1},{"domain":1,"down":0}]}"#;
 
 fn service(bounds: &[&str], servers: u16) -> Service {
     let layout = Layout::new(bounds).unwrap();
@@ -220,4 +222,92 @@ fn counted(service: &Service, server: u16, rounds: i64) -> i64 {
         }
     }
     done
+}
+
+#[test]
+fn settings_open_a_board() {
+    let service = Service::by_settings(SETTINGS).unwrap();
+    assert_eq!(
+        (service.layout().count(), service.layout().shard_of("z")),
+        (2, 1)
+    );
+    let control = service.control();
+    assert_eq!(control.assign(0, 2), Err(ChangeFault::UnknownServer));
+    control.assign(0, 1).unwrap();
+    assert_eq!(control.assign(1, 1), Err(ChangeFault::NoCapacity));
+    control.assign(1, 7).unwrap();
+    let mut owner = service.pass(1).unwrap();
+    executed(&mut owner, &Request::Add(b"a", 1));
+    let full = owner.envelope(0, &Request::Add(b"a", 1)).unwrap();
+    let refused = owner.serve(full).unwrap_err();
+    assert_eq!(refused.fault, ServeFault::KeptFull);
+    control.ask(7).unwrap();
+    assert!(control.approve(7).is_err(), "its domain may not be down");
+}
+
+#[test]
+fn settings_are_refused_by_their_first_fault() {
+    for (line, fault) in [
+        (String::new(), SettingsFault::BadJson),
+        (SETTINGS.replace(":100", ":2"), SettingsFault::BadCeiling),
+        (
+            SETTINGS.replace("\"down\":0", "\"down\":9999"),
+            SettingsFault::BadDomains,
+        ),
+        (" ".repeat(1_048_577), SettingsFault::TooLong),
+    ] {
+        assert_eq!(Service::by_settings(line).unwrap_err(), fault);
+    }
+    assert_eq!(SettingsFault::BadCeiling.to_string(), "BadCeiling");
+}
+
+#[test]
+fn stands_are_reached_anew() {
+    let stands = [
+        Stand::Vacant,
+        Stand::Serving(3),
+        Stand::Prepared { owner: 1, next: 2 },
+        Stand::Forwarding { owner: 1, next: 2 },
+        Stand::Taken {
+            owner: 2,
+            previous: 1,
+        },
+        Stand::Paused(2),
+    ];
+    let layout = Layout::new(["", "b", "c", "d", "e", "f"]).unwrap();
+    let service = Service::builder(layout).servers(3).build().unwrap();
+    let (control, mut watch) = (service.control(), service.pass(1).unwrap());
+    for (shard, stand) in stands.into_iter().enumerate() {
+        let shard = shard as u16;
+        if shard % 2 == 0 {
+            if let Some(first) = stand.first_owner() {
+                control.assign(shard, first).unwrap();
+            }
+        }
+        control.restore(shard, stand).unwrap();
+        assert_eq!(watch.look(shard).unwrap().stand, stand);
+        control.restore(shard, stand).unwrap();
+        assert_eq!(watch.look(shard).unwrap().stand, stand);
+    }
+    assert_eq!(
+        control.restore(1, Stand::Serving(2)),
+        Err(RestoreFault::Change(ChangeFault::WrongPhase))
+    );
+    assert_eq!(
+        control.restore(9, Stand::Serving(2)),
+        Err(RestoreFault::Change(ChangeFault::UnknownShard))
+    );
+}
+
+#[test]
+fn an_envelope_tells_how_it_came() {
+    let service = service(&[""], 2);
+    let control = service.control();
+    control.prepare_add_shard(0, 2).unwrap();
+    control.prepare_drop_shard(0).unwrap();
+    let mut owner = service.pass(1).unwrap();
+    let mut sent = owner.envelope(0, &Request::Get(b"a")).unwrap();
+    assert_eq!((sent.mode(), sent.hops()), (Mode::Direct, 0));
+    let (to, mut sent) = forwarded(&mut owner, sent);
+    assert_eq!((to, sent.mode(), sent.hops()), (2, Mode::Forwarded(1), 1));
 }

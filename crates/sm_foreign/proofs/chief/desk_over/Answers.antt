@@ -5,7 +5,7 @@ use Rattle.sm_ranges.specs.declared.stand.Stand.TheVariants.{Vacant}
 use Rattle.sm_place.specs.declared.shard.Shard.{Shard}
 use Rattle.sm_place.specs.Books.{BooksView, vacant_shard}
 use Rattle.sm_tasks.specs.Caps.{MeetsCaps}
-use Rattle.sm_foreign.proofs.chief.desk_of.Goals as goal
+use Rattle.sm_foreign.proofs.chief.desk_over.Goals as goal
 
 pub new-requires-3 : goal.new-requires-3
 new-requires-3 c = subst (λ (books : BooksView). MeetsCaps c.new-2.result books) (sym c.in_ok-books.ensures.ok)

@@ -1,0 +1,39 @@
+-- The record that a refused call had read.
+use Rattle.std.specs.Prelude.{◌≡◌, Option, Some, None}
+use Rattle.sm_control.specs.declared.control_fault.ControlFault.TheVariants.{Command as ByCommand, Raced as RacedChange}
+use Rattle.sm_desk.specs.declared.command.CommandFault.TheVariants.{Change as ByChange}
+use Rattle.sm_ownership.specs.declared.change_fault.ChangeFault.TheVariants.{Busy, Spent}
+use Rattle.sm_ownership.specs.declared.record.Record.{Record}
+use Rattle.sm_rule.specs.declared.admit_refusal.AdmitRefusal.{AdmitRefusal}
+use Rattle.sm_rule.specs.declared.admit_refusal.AdmitRefusal.TheVariants.{Refused, Raced}
+use Rattle.sm_server.specs.declared.checkpoint_fault.CheckpointFault.TheVariants.{Admit as ByAdmission}
+use Rattle.sm_server.specs.declared.refusal.Refusal.{Refusal}
+use Rattle.sm_server.specs.declared.refusal.Refusal.TheVariants.{Admit as UnadmittedAt}
+use Rattle.sm_handle.specs.declared.act_fault.ActFault.{ActFault}
+use Rattle.sm_handle.specs.declared.act_fault.ActFault.TheVariants.{Admit, Checkpoint, Command}
+use Rattle.sm_c.specs.Words.{ArePartsOf}
+use Rattle.sm_c.specs.declared.record_parts.RecordParts.{RecordParts}
+
+-- the record that refused an admission, or the one that was found in its place
+abbrev pub admission_read : AdmitRefusal → Record
+admission_read (Refused fault read) = read
+admission_read (Raced read found) = found
+
+-- the record that refused an act, or the one that was found in its place; none where none was read
+abbrev pub act_read : ActFault → Option Record
+act_read (Admit refusal) = Some (admission_read refusal)
+act_read (Checkpoint (ByAdmission refusal)) = Some (admission_read refusal)
+act_read (Command (RacedChange read found)) = Some found
+act_read (Command (ByCommand (ByChange (Spent read)))) = Some read
+act_read (Command (ByCommand (ByChange (Busy read)))) = Some read
+act_read fault = None
+
+-- the same of an envelope
+abbrev pub refusal_read : Refusal → Option Record
+refusal_read (UnadmittedAt refusal) = Some (admission_read refusal)
+refusal_read refusal = None
+
+-- the parts are then those of this record, and without one as they were
+abbrev pub TellsRecord : Option Record → RecordParts → RecordParts → Type 0
+TellsRecord (Some state) before after = ArePartsOf after state
+TellsRecord None before after = after ≡ before

@@ -1,0 +1,61 @@
+//! Boards that a line of settings describes.
+ghost use Rattle.std.specs.Prelude.{◌≡◌, ◌≢◌, ◌≤◌};
+ghost use Rattle.sm_handle.specs.Opening.{OpensService};
+ghost use Rattle.sm_c.specs.Opening.{HasFault, settings_code};
+
+use crate::codes::{NO_MEMORY, code_of_open};
+use sm_handle::{Handle, SettingsOpenFault};
+use sm_settings::SettingsFault;
+use std::alloc::Global;
+
+/// Opens a board of the sample service as the line of settings says, which a script begins with, without its line feed:
+/// its layout, servers, groups, shards, domains and limits, but for its workers. The chief's handle keeps the control,
+/// and the layout's handle the layout, in place of what they kept, and `shards` is how many there are.
+#[unsafe(no_mangle)]
+pub extern "C" fn durkenzo_open_settings(
+    alloc: Global,
+    chief: &mut Handle,
+    layout: &mut Handle,
+    line: &[u8],
+    shards: &mut usize,
+) -> u32
+    ensures made { result ≡ 0
+        → OpensService line.now chief.new.owned.state layout.new.owned.state shards.new }
+    ensures fault { 70 ≤ result → HasFault line.now result }
+    ensures kept { result ≢ 0 → chief.new.owned.state ≡ chief.old.owned.state }
+    ensures unwritten { result ≢ 0
+        → (layout.new.owned.state ≡ layout.old.owned.state) × (shards.new ≡ shards.old) }
+{
+    match chief.open_by(alloc, layout, line) {
+        Ok(count) => {
+            *shards = count;
+            0
+        }
+        Err(SettingsOpenFault::Settings(fault)) => code_of_settings(fault),
+        Err(SettingsOpenFault::Open(fault)) => code_of_open(fault),
+    }
+}
+
+/// The code of what a line of settings breaks.
+fn code_of_settings(fault: SettingsFault) -> u32
+    ensures code { result ≡ settings_code fault }
+    ensures refused { result ≢ 0 }
+{
+    match fault {
+        SettingsFault::TooLong => 70,
+        SettingsFault::BadJson => 71,
+        SettingsFault::BadVersion => 72,
+        SettingsFault::BadShape => 73,
+        SettingsFault::BadLayout => 74,
+        SettingsFault::BadServers => 75,
+        SettingsFault::BadGroups => 76,
+        SettingsFault::BadShards => 77,
+        SettingsFault::BadOps => 78,
+        SettingsFault::BadKept => 79,
+        SettingsFault::BadCeiling => 80,
+        SettingsFault::BadWorkers => 81,
+        SettingsFault::BadDomains => 82,
+        SettingsFault::TooManyWorkers => 83,
+        SettingsFault::NoMemory => NO_MEMORY,
+    }
+}

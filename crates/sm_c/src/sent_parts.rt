@@ -1,0 +1,39 @@
+ghost use Rattle.sm_c.specs.Requests.{AreSentParts};
+ghost use Rattle.sm_c.specs.Words.{CameFrom};
+
+use sm_handle::SentAs;
+use sm_ownership::mode::Mode;
+
+/// An envelope but for its request and its note, as C sees it: its number, its shard, the server that forwarded it, or
+/// 0 where it came directly, and how often it was forwarded.
+#[repr(C)]
+#[derive(Clone, Copy, Drop)]
+pub struct SentParts {
+    pub number: u64,
+    pub shard: u16,
+    pub from: u16,
+    pub hops: u8,
+}
+
+impl SentParts {
+    /// The parts of an envelope.
+    pub(crate) fn of(sent: &SentAs) -> SentParts
+        ensures { AreSentParts result sent.now }
+    {
+        SentParts {
+            number: sent.number,
+            shard: sent.shard.number(),
+            from: from_of(&sent.mode),
+            hops: sent.hops,
+        }
+    }
+}
+
+fn from_of(mode: &Mode) -> u16
+    ensures { CameFrom result mode.now }
+{
+    match mode {
+        Mode::Direct => 0,
+        Mode::Forwarded(server) => server.number(),
+    }
+}

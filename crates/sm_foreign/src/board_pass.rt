@@ -1,0 +1,193 @@
+ghost use Rattle.std.specs.Prelude.{◌≡◌, ◌<◌, None, IfErr, IfNone, IfOk, IfSome, is_none};
+ghost use Rattle.std.specs.Arc.{arc_value};
+ghost use Rattle.sm_rule.specs.Admissions.{RefusedBy};
+ghost use Rattle.sm_rule.specs.Passes.{PassLooks, record_of};
+ghost use Rattle.sm_rule.specs.Views.{Begins, IsMet};
+ghost use Rattle.sm_foreign.specs.Holding.{AdmitsPass, EndsPass};
+
+use crate::foreign::Foreign;
+use sm_body::service::Service;
+use sm_ownership::mode::Mode;
+use sm_ownership::record::Record;
+use sm_ranges::server_id::ServerId;
+use sm_ranges::shard_id::ShardId;
+use sm_rule::{AdmitRefusal, Board, Front, Pass, Permit};
+use std::alloc::AllocError;
+use std::marker::Model;
+use std::sync::Arc;
+
+/// A pass with the permit that it holds, if any, whose body is as it was, and its board. Contracts see the pass and the
+/// permit.
+pub struct BoardPass<S: Service> {
+    board: Arc<Board<S>>,
+    pass: Pass<S>,
+    permit: Option<Permit<S>>,
+}
+
+impl<S: Service> Model for BoardPass<S> {
+    ghost use Rattle.std.specs.Prelude.{◌≡◌, Option};
+    ghost use Rattle.std.specs.Arc.{arc_value};
+    ghost use Rattle.sm_rule.specs.Admissions.{PermitValue};
+    ghost use Rattle.sm_rule.specs.Bodies.{Keeps};
+    ghost use Rattle.sm_rule.specs.Passes.{PassValue};
+    ghost use Rattle.sm_foreign.specs.Holding.{IsPermitOf};
+
+    ghost Value = { PassValue S.Request × Option (PermitValue S) };
+
+    ghost view = { λ it. (it.pass, it.permit) };
+
+    ghost invariant = { λ it. (it.pass.board ≡ arc_value it.board)
+        × IsPermitOf (Keeps S.initial S.next S.base S.before S.requests) S.limit it.pass.board it.pass.held it.permit };
+}
+
+impl BoardPass<Foreign> {
+    /// A new pass on the board, admitted as this server, or never.
+    pub fn new(board: Arc<Board<Foreign>>, server: Option<ServerId>) -> BoardPass<Foreign>
+        ensures board { result.0.board ≡ arc_value board }
+        ensures server { result.0.server ≡ server }
+        ensures free { result.1 ≡ None }
+    {
+        let pass = board.pass(server);
+        BoardPass {
+            board,
+            pass,
+            permit: None,
+        }
+    }
+
+    /// The number of the board's shards.
+    pub fn count(&self) -> u32
+        ensures { result ≡ self.now.0.board.limits.count }
+    {
+        self.board.count()
+    }
+
+    /// Whether the pass holds no permit.
+    pub fn is_free(&self) -> bool
+        ensures { result ≡ is_none self.now.1 }
+    {
+        self.permit.is_none()
+    }
+
+    /// The shard's record after all that the pass then has seen.
+    pub fn look(&mut self, k: ShardId) -> Record
+        requires { k < self.old.0.board.limits.count }
+        ensures seen { PassLooks self.old.0 self.new.0 }
+        ensures permit { self.new.1 ≡ self.old.1 }
+        ensures state { result ≡ record_of self.new.0 k }
+    {
+        self.board.look(&mut self.pass, k)
+    }
+
+    /// A new pass with the same server, which has seen all that this one has. It is refused for want of memory alone.
+    pub fn split(&mut self) -> Result<BoardPass<Foreign>, AllocError>
+        ensures unchanged { self.new ≡ self.old }
+        ensures board { IfOk result (λ pass. pass.0.board ≡ self.old.0.board) }
+        ensures server { IfOk result (λ pass. pass.0.server ≡ self.old.0.server) }
+        ensures seen { IfOk result (λ pass. Begins self.old.0.seen pass.0.seen) }
+        ensures free { IfOk result (λ pass. pass.1 ≡ None) }
+    {
+        let board = Arc::try_clone(&self.board)?;
+        let pass = self.board.split(&mut self.pass);
+        Ok(BoardPass {
+            board,
+            pass,
+            permit: None,
+        })
+    }
+
+    /// Tells the pass all that another one of its board had seen, which holds nothing and acts no more. It can't be
+    /// refused.
+    pub fn meet(&mut self, other: BoardPass<Foreign>)
+        requires board { other.0.board ≡ self.old.0.board }
+        requires free { other.1 ≡ None }
+        ensures looks { PassLooks self.old.0 self.new.0 }
+        ensures permit { self.new.1 ≡ self.old.1 }
+        ensures met { IsMet other.0.number other.0.seen self.new.0.seen }
+    {
+        let BoardPass {
+            board: _,
+            mut pass,
+            permit,
+        } = other;
+        match permit {
+            None => self.board.meet(&mut self.pass, pass.into_note()),
+            Some(permit) => {
+                let _ = self.board.finish(&mut pass, permit);
+                unreachable!()
+            }
+        }
+    }
+
+    /// Admits the pass, which holds nothing, to the shard for a request that came so: the number of the shard's body;
+    /// or says why not, and the pass has looked.
+    pub fn admit(&mut self, k: ShardId, mode: Mode) -> Result<u64, AdmitRefusal>
+        requires shard { k < self.old.0.board.limits.count }
+        requires free { self.old.1 ≡ None }
+        ensures admitted { IfOk result (AdmitsPass self.old self.new k mode) }
+        ensures refused { IfErr result
+            (λ refusal. PassLooks self.old.0 self.new.0 × RefusedBy self.old.0 self.new.0 k mode refusal) }
+        ensures unheld { IfErr result (λ refusal. self.new.1 ≡ self.old.1) }
+    {
+        let mut permit = match self.board.admit(&mut self.pass, k, mode) {
+            Ok(permit) => permit,
+            Err(refusal) => return Err(refusal),
+        };
+        let number = permit.body().number;
+        match self.permit.replace(permit) {
+            None => Ok(number),
+            Some(earlier) => {
+                let _ = self.board.finish(&mut self.pass, earlier);
+                unreachable!()
+            }
+        }
+    }
+
+    /// Ends the admission, which changed nothing that the board knows of; or the pass holds nothing.
+    pub fn finish(&mut self) -> Option<Front>
+        ensures ended { IfSome result (EndsPass self.old self.new) }
+        ensures none { IfNone result (self.new ≡ self.old) }
+    {
+        match self.permit.take() {
+            Some(permit) => Some(self.board.finish(&mut self.pass, permit)),
+            None => None,
+        }
+    }
+
+    // Ends the admission, if there is one, for good.
+    fn end(self) {
+        let BoardPass {
+            board,
+            mut pass,
+            permit,
+        } = self;
+        match permit {
+            Some(permit) => {
+                let _ = board.finish(&mut pass, permit);
+            }
+            None => {}
+        }
+    }
+}
+
+/// A pass to foreign bodies, whose admission ends where it is let go.
+pub struct ForeignPass {
+    pub held: BoardPass<Foreign>,
+}
+
+impl ForeignPass {
+    /// The pass.
+    pub fn into_held(self) -> BoardPass<Foreign>
+        ensures { result ≡ self.held }
+    {
+        let ForeignPass { held } = self;
+        held
+    }
+}
+
+impl Drop for ForeignPass {
+    fn drop(self) {
+        let ForeignPass { held } = self;
+        held.end();
+    }
+}

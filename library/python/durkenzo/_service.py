@@ -1,0 +1,212 @@
+"""A board of the sample service, whose requests the library executes itself."""
+from __future__ import annotations
+
+import ctypes
+from dataclasses import dataclass
+from types import TracebackType
+from typing import TYPE_CHECKING, Union
+
+from ._kept import Kept, check
+from ._library import LIBRARY, AnswerParts, RecordParts, ReplyParts, SentParts
+from ._reply import ReplyKind, RequestKind, Value, pairs_in, value_in
+from .errors import BadArgument, DurkenzoError
+from .record import Record
+
+if TYPE_CHECKING:
+    from . import Service
+
+FORWARD = 60
+
+
+class WrongShard(DurkenzoError):
+    """The request's key is of another shard."""
+
+
+class TooManyHops(DurkenzoError):
+    """The request was forwarded as often as it may be."""
+
+
+class KeptFull(DurkenzoError):
+    """The shard keeps as many requests as it may; make a checkpoint."""
+
+
+class BadSettings(DurkenzoError):
+    """The line of settings breaks a rule. `rule` is the first one's name, as docs/SETTINGS.md has it."""
+
+    def __init__(self, rule: str) -> None:
+        super().__init__()
+        self.rule = rule
+
+
+_RULES = (
+    *("TooLong", "BadJson", "BadVersion", "BadShape", "BadLayout", "BadServers", "BadGroups", "BadShards", "BadOps"),
+    *("BadKept", "BadCeiling", "BadWorkers", "BadDomains"),
+)
+_REFUSALS = {61: WrongShard, 62: TooManyHops, 63: KeptFull}
+
+
+@dataclass(frozen=True)
+class Request:
+    """What is asked of the service. Keys have 1 to 255 bytes, texts at most 65,535."""
+
+    kind: RequestKind
+    key: bytes
+    other: bytes = b""
+    amount: int = 0
+
+    @staticmethod
+    def get(key: bytes) -> Request:
+        """What does the key hold?"""
+        return Request(RequestKind.GET, key)
+
+    @staticmethod
+    def put(key: bytes, text: bytes) -> Request:
+        """The key is to hold the text, in place of the text that it held."""
+        return Request(RequestKind.PUT, key, text)
+
+    @staticmethod
+    def append(key: bytes, tail: bytes) -> Request:
+        """The key is to hold its text followed by this one."""
+        return Request(RequestKind.APPEND, key, tail)
+
+    @staticmethod
+    def add(key: bytes, amount: int) -> Request:
+        """The number is to be added to the key's count."""
+        return Request(RequestKind.ADD, key, amount=amount)
+
+    @staticmethod
+    def remove(key: bytes) -> Request:
+        """The key is to hold nothing."""
+        return Request(RequestKind.REMOVE, key)
+
+    @staticmethod
+    def scan(low: bytes, high: bytes, most: int = 100) -> Request:
+        """Which keys hold what, from the first of these on and below the second?"""
+        return Request(RequestKind.SCAN, low, high, most)
+
+
+@dataclass(frozen=True)
+class Reply:
+    """What the service replied: its kind, and the text, the count or the pairs."""
+
+    kind: ReplyKind
+    value: Union[Value, list[tuple[bytes, Value]], None] = None
+
+
+class Envelope(Kept):
+    """A request on its way, with what its sender had seen. A host that forwards it hands on just this."""
+
+    def __init__(self, service: Service) -> None:
+        super().__init__()
+        self._service = service
+
+    def _sent(self) -> SentParts:
+        parts = SentParts()
+        check(LIBRARY.durkenzo_sent(ctypes.byref(self._handle), ctypes.byref(parts)))
+        return parts
+
+    @property
+    def shard(self) -> int:
+        """The shard that it is for."""
+        return self._sent().shard
+
+    @property
+    def hops(self) -> int:
+        """How often it was forwarded, 0 to 4."""
+        return self._sent().hops
+
+    @property
+    def forwarded_by(self) -> int:
+        """The server that forwarded it, or 0 where it came directly."""
+        return getattr(self._sent(), "from")
+
+
+class Answer(Kept):
+    """The answer to a request, and what its server had then seen."""
+
+    def __init__(self, envelope: Envelope) -> None:
+        super().__init__()
+        self._service = envelope._service
+        self._handle, envelope._handle = envelope._handle, self._handle
+        parts, reply = AnswerParts(), ReplyParts()
+        check(LIBRARY.durkenzo_answer(*map(ctypes.byref, (self._handle, parts, reply))))
+        self.number, self.place, self.server = parts.number, parts.place, parts.server
+        self.reply = Reply(ReplyKind(reply.kind), self._value(reply))
+
+    def _value(self, parts: ReplyParts) -> Union[Value, list[tuple[bytes, Value]], None]:
+        if parts.kind in (ReplyKind.TEXT, ReplyKind.COUNT):
+            return value_in(self._handle, parts)
+        return pairs_in(self._handle, parts) if parts.kind == ReplyKind.PAIRS else None
+
+
+@dataclass(frozen=True)
+class Forward:
+    """The envelope goes on to this server, with one hop more."""
+
+    to: int
+    envelope: Envelope
+
+
+class ServicePass(Kept):
+    """What one thread at a time serves with, as one server for good, and makes envelopes."""
+
+    def __init__(self, service: Service, server: int) -> None:
+        super().__init__()
+        self._service = service
+        with service._lock:
+            check(LIBRARY.durkenzo_pass(ctypes.byref(service._handle), ctypes.byref(self._handle), server))
+
+    def look(self, shard: int) -> Record:
+        """Returns the shard's record now. Raises UnknownShard."""
+        parts = RecordParts()
+        check(LIBRARY.durkenzo_look(ctypes.byref(self._handle), shard, ctypes.byref(parts)))
+        return Record.of(parts)
+
+    def envelope(self, number: int, request: Request) -> Envelope:
+        """Returns an envelope with your number for the request's shard, with a note of all that the pass has seen.
+        Raises KeyEmpty, KeyTooLong, BadArgument or NoMemory."""
+        envelope, it = Envelope(self._service), request
+        shard = self._service.layout.shard_of(it.key)
+        handles = map(ctypes.byref, (self._handle, envelope._handle))
+        texts = (it.key, len(it.key), it.other, len(it.other))
+        check(LIBRARY.durkenzo_envelope(*handles, number, shard, it.kind, *texts, it.amount))
+        return envelope
+
+    def serve(self, envelope: Envelope) -> Union[Answer, Forward]:
+        """Has the pass's server serve the envelope: it executes the request, or names the server that the envelope
+        goes to. Raises why it does neither, and the envelope is as it was: NobodyOwns, IsPaused, NotExecutor, NotYet,
+        IsAdmitted, Spent or Raced, with the record that was read; WrongShard, TooManyHops, KeptFull, NoMemory; or
+        BadArgument for an envelope of another board."""
+        if envelope._service is not self._service:
+            raise BadArgument()
+        to, read, layout = ctypes.c_uint16(), RecordParts(), self._service.layout
+        with layout._lock:
+            handles = map(ctypes.byref, (self._handle, layout._handle, envelope._handle))
+            code = LIBRARY.durkenzo_serve(*handles, ctypes.byref(to), ctypes.byref(read))
+        if code == FORWARD:
+            return Forward(to.value, envelope)
+        if refusal := _REFUSALS.get(code):
+            raise refusal()
+        check(code, read)
+        return Answer(envelope)
+
+    def hear(self, answer: Answer) -> None:
+        """Tells the pass all that the answer has seen, so that what it asks next comes after the answered request.
+        Raises WrongHandle where it was heard, or BadArgument for an answer of another board."""
+        if answer._service is not self._service:
+            raise BadArgument()
+        check(LIBRARY.durkenzo_meet(ctypes.byref(self._handle), ctypes.byref(answer._handle)))
+
+    def checkpoint(self, shard: int) -> int:
+        """Makes the shard's state its base, so that it keeps no request, and returns its generation since then. Raises
+        as serve, and UnknownShard."""
+        generation, read = ctypes.c_uint64(), RecordParts()
+        at = ctypes.byref(self._handle)
+        check(LIBRARY.durkenzo_checkpoint(at, shard, ctypes.byref(generation), ctypes.byref(read)), read)
+        return generation.value
+
+    def __enter__(self) -> ServicePass:
+        return self
+
+    def __exit__(self, kind: type[BaseException] | None, error: BaseException | None, at: TracebackType | None) -> None:
+        self.close()

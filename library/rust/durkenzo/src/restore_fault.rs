@@ -1,0 +1,30 @@
+//! Why a stand isn't reached anew.
+use crate::fault::ChangeFault;
+use std::error::Error;
+use std::fmt;
+
+/// Why a stand isn't reached anew.
+#[derive(Clone, Copy, Debug, PartialEq, Eq)]
+pub enum RestoreFault {
+    /// A change on the way is refused; `WrongPhase` also where no way leads from where the shard stands.
+    Change(ChangeFault),
+    /// Memory was refused.
+    NoMemory,
+}
+
+impl fmt::Display for RestoreFault {
+    fn fmt(&self, f: &mut fmt::Formatter<'_>) -> fmt::Result {
+        match self {
+            RestoreFault::Change(fault) => fault.fmt(f),
+            RestoreFault::NoMemory => f.write_str("out of memory"),
+        }
+    }
+}
+
+impl Error for RestoreFault {}
+
+impl From<ChangeFault> for RestoreFault {
+    fn from(fault: ChangeFault) -> RestoreFault {
+        RestoreFault::Change(fault)
+    }
+}
