@@ -66,13 +66,21 @@ impl Drain {
                 return Ok(when);
             }
         }
-        let next = self.left.pop_front();
+        let next = self.next(control);
         if let Some(Move { shard, .. }) = next.filter(|_| self.is_restart) {
             control.homes.entry(shard).or_insert(self.server);
         }
         self.current = next.map(|it| (Migration::new(it.shard, it.server), it));
         self.tell(control);
         Ok(Next::soon())
+    }
+
+    /// The next move of a shard that the server has still: another task may have moved it since the plan.
+    fn next(&mut self, control: &mut Controller) -> Option<Move> {
+        std::iter::from_fn(|| self.left.pop_front()).find(|it| {
+            let record = control.observer.record(it.shard);
+            record.is_ok_and(|read| read.owner() == Some(self.server))
+        })
     }
 
     /// Plans what is still to be moved; says what comes next where nothing can be moved now.

@@ -66,6 +66,11 @@ impl Returning {
         let Some(shard) = self.left.pop_front() else {
             return Next::Done(());
         };
+        if control.homes.get(&shard) != Some(&self.server) {
+            // Somebody had it move elsewhere for good.
+            self.share.of -= 1;
+            return Next::soon();
+        }
         self.current = Some(Migration::new(shard, self.server));
         let doing = Doing::Returning(self.share);
         control.cluster.progress.set(self.server, doing);
