@@ -86,7 +86,7 @@ fn run_request(
 }
 
 /// Sends the request of this shard to the server, has it delivered, and finishes it where it began.
-fn run_request_at(
+pub(crate) fn run_request_at(
     world: &mut World<TextBody>,
     shard: ShardId,
     server: ServerId,

@@ -1,10 +1,13 @@
-ghost use Rattle.std.specs.Prelude.{◌≡◌, IfOk, true};
+ghost use Rattle.std.specs.Prelude.{◌≡◌, ◌<◌, IfOk, length, true};
+ghost use Rattle.sm_ranges.specs.Ranges.{shard_of};
+ghost use Rattle.sm_script.specs.declared.call.Call.TheVariants as call;
+ghost use Rattle.sm_service.specs.Service.{key_of_request};
 ghost use Rattle.sm_settings.specs.SettingsLine.{values_of};
 ghost use Rattle.sm_settings.specs.SettingsRules.{KeepsRules};
 ghost use Rattle.sm_model.specs.Calls.{ends_in_step};
 ghost use Rattle.sm_model.specs.Sessions.{GivesAnswer, IsNew};
 
-use crate::calls::{answer_of, carry_out};
+use crate::calls::{answer_of, carry_out, run_request_at};
 use sm_desk::command::Command;
 use sm_ranges::key::Key;
 use sm_ranges::server_id::ServerId;
@@ -61,6 +64,20 @@ impl WorldBackend {
         ensures { IfOk result (λ answer. GivesAnswer self.old call answer self.new) }
     {
         answer_of(carry_out(&mut self.world, call))
+    }
+
+    /// Has the request of this shard executed from the server on; an error is want of memory.
+    fn ask_at(
+        &mut self,
+        shard: ShardId,
+        server: ServerId,
+        request: Request,
+    ) -> Result<LineAnswer, AllocError>
+        requires within { shard < length self.old.bounds }
+        requires shard { shard ≡ shard_of self.old.bounds (key_of_request request) }
+        ensures { IfOk result (λ answer. GivesAnswer self.old (call.RequestAt server request) answer self.new) }
+    {
+        answer_of(run_request_at(&mut self.world, shard, server, request))
     }
 }
 
@@ -134,7 +151,7 @@ impl Backend for WorldBackend {
     fn request_by_route(&mut self, request: Request) -> Result<LineAnswer, AllocError> {
         let shard = self.world.shard_of(&request);
         match self.world.route(shard) {
-            Some(route) => self.make(Call::RequestAt(route.server, request)),
+            Some(route) => self.ask_at(shard, route.server, request),
             None => Ok(LineAnswer::Refused(Refused::NoRoute)),
         }
     }
