@@ -91,17 +91,18 @@ def by_model(script, asked):
 
 
 def unlimited(settings):
-    """Rows by which nothing is refused but by the cap of restarts at once."""
-    return {
-        "version": 1, "servers": [{"id": it["id"], "domain": it["id"], "capacity": 4096} for it in settings["servers"]],
-        "groups": [{"limit": 4096, "down": 4096}], "shards": [{"group": 0, "load": 1, "cap": 1} for _ in settings["bounds"]],
-    }  # fmt: skip
+    """These settings with rows by which nothing is refused but by the cap of restarts at once."""
+    kept = {name: value for name, value in settings.items() if name != "domains"}
+    servers = [{"id": it["id"], "domain": it["id"], "capacity": 4096} for it in settings["servers"]]
+    shards = [{"group": 0, "load": 1, "cap": 1} for _ in settings["bounds"]]
+    groups = [{"limit": 4096, "down": 4096}]
+    return {**kept, "version": 1, "servers": servers, "groups": groups, "shards": shards}
 
 
 def compare(program, seed):
     """Has a server do the lines of a random script; returns how many."""
     script = SCRIPTS.Script(seed, is_served=True)
-    script.settings |= unlimited(script.settings)
+    script.settings = unlimited(script.settings)
     script.model = SCRIPTS.Model(script.settings)
     asked = list(script.answered(LINES))
     answers = by_model(script, asked)

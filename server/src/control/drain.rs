@@ -6,9 +6,7 @@ use durkenzo::Move;
 use std::collections::VecDeque;
 use std::time::{Duration, Instant};
 
-/// How long moves that were refused are planned anew, as another task may have had their shards.
-const PATIENCE: Duration = Duration::from_secs(2);
-/// How long until they are.
+/// How long until moves that were refused are planned anew.
 const PAUSE: Duration = Duration::from_millis(10);
 
 /// Migrates all shards of a server to where the library's plan has them go.
@@ -23,7 +21,8 @@ pub(super) struct Drain {
     made: Vec<Move>,
     /// Why a move of this plan wasn't made.
     refused: Option<Refusal>,
-    end: Instant,
+    /// Until when moves that were refused are planned anew, as another task may have their shards.
+    end: Option<Instant>,
 }
 
 impl Drain {
@@ -36,7 +35,7 @@ impl Drain {
             current: None,
             made: Vec::new(),
             refused: None,
-            end: Instant::now() + PATIENCE,
+            end: None,
         }
     }
 
@@ -56,7 +55,10 @@ impl Drain {
             let shard = migration.shard();
             match migration.advance(&control.mover) {
                 Ok(Next::At(when)) => return Ok(Next::At(when)),
-                Ok(Next::Done(())) => self.made.push(*wanted),
+                Ok(Next::Done(())) => {
+                    self.made.push(*wanted);
+                    self.end = None;
+                }
                 Err(fault) => self.refused = Some(control.why_unchanged(shard, fault)),
             }
             self.current = None;
@@ -66,7 +68,7 @@ impl Drain {
                 return Ok(when);
             }
         }
-        let next = self.left.pop_front();
+        let next = self.next(control);
         if let Some(Move { shard, .. }) = next.filter(|_| self.is_restart) {
             control.homes.entry(shard).or_insert(self.server);
         }
@@ -75,10 +77,19 @@ impl Drain {
         Ok(Next::soon())
     }
 
+    /// The next move of a shard that the server has still: another task may have moved it since the plan.
+    fn next(&mut self, control: &mut Controller) -> Option<Move> {
+        std::iter::from_fn(|| self.left.pop_front()).find(|it| {
+            let record = control.observer.record(it.shard);
+            record.is_ok_and(|read| read.owner() == Some(self.server))
+        })
+    }
+
     /// Plans what is still to be moved; says what comes next where nothing can be moved now.
     fn plan(&mut self, control: &mut Controller) -> Result<Option<Next<()>>, Refusal> {
         if let Some(refusal) = self.refused.take() {
-            if Instant::now() > self.end {
+            let end = *self.end.get_or_insert_with(|| control.mover.patience());
+            if Instant::now() > end {
                 return Err(refusal);
             }
             self.left = control.plan_drain(self.server)?;

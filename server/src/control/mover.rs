@@ -9,6 +9,9 @@ use std::time::{Duration, Instant};
 /// How long a change is tried again while its shard is admitted.
 pub(super) const PATIENCE: Duration = Duration::from_secs(2);
 
+/// How many pauses of another task's migrations are waited for.
+const MOST_PAUSES: u32 = 8;
+
 /// Makes changes.
 pub(super) struct Mover {
     pub(super) control: Control<Shard>,
@@ -53,6 +56,11 @@ impl Mover {
             self.cluster.note_change();
         }
         Ok(())
+    }
+
+    /// When a task gives a shard up that another one has, whose migration pauses between its steps.
+    pub(super) fn patience(&self) -> Instant {
+        Instant::now() + PATIENCE + MOST_PAUSES * self.pace()
     }
 
     /// The pause between the steps of a migration.

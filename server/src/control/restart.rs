@@ -10,8 +10,6 @@ use std::time::{Duration, Instant};
 
 /// How often a restart that the caps hold back asks again.
 const PAUSE: Duration = Duration::from_millis(10);
-/// How long a server that still serves a shard is drained again.
-const PATIENCE: Duration = Duration::from_secs(2);
 
 /// A whole restart of a server, of which each call makes a step: the others serve its shards meanwhile, which come home
 /// then.
@@ -112,7 +110,7 @@ impl Restart {
 
     /// Stops the drained server, or drains it again where a shard came to it before it was approved.
     fn stop(&mut self, control: &mut Controller) {
-        let end = *self.end.get_or_insert_with(|| Instant::now() + PATIENCE);
+        let end = *self.end.get_or_insert_with(|| control.mover.patience());
         control.cluster.progress.set(self.server, Doing::Stopping);
         match control.stop(self.server) {
             Ok(settling) => self.stage = Stage::Stopped(settling),

@@ -5,9 +5,7 @@ use durkenzo::ChangeFault;
 use std::collections::VecDeque;
 use std::time::{Duration, Instant};
 
-/// How long a shard that other tasks have is tried again.
-const PATIENCE: Duration = Duration::from_secs(5);
-/// How long until it is.
+/// How long until a shard that another task has is tried again.
 const PAUSE: Duration = Duration::from_millis(5);
 
 /// Has a server's shards come home after its restart.
@@ -18,7 +16,7 @@ pub(super) struct Returning {
     current: Option<Migration>,
     share: Share,
     /// Until when shards are tried again that other tasks have.
-    end: Instant,
+    end: Option<Instant>,
 }
 
 impl Returning {
@@ -33,7 +31,7 @@ impl Returning {
             left: shards.into(),
             current: None,
             share,
-            end: Instant::now() + PATIENCE,
+            end: None,
         }
     }
 
@@ -45,11 +43,12 @@ impl Returning {
     /// Makes the next step of a migration. A shard that isn't moved stays where it is.
     pub(super) fn advance(&mut self, control: &mut Controller) -> Next<()> {
         if let Some(migration) = &mut self.current {
+            let end = *self.end.get_or_insert_with(|| control.mover.patience());
             match migration.advance(&control.mover) {
                 Ok(Next::At(when)) => return Next::At(when),
                 // Where it is there already, another task moved it.
                 Ok(Next::Done(())) | Err(ChangeFault::SameServer) => self.share.done += 1,
-                Err(ChangeFault::WrongPhase) if Instant::now() < self.end => {
+                Err(ChangeFault::WrongPhase) if Instant::now() < end => {
                     self.left.push_back(migration.shard());
                     self.current = None;
                     return Next::At(Instant::now() + PAUSE);
@@ -60,12 +59,17 @@ impl Returning {
                 }
             }
             control.homes.remove(&migration.shard());
-            self.end = Instant::now() + PATIENCE;
+            self.end = None;
             self.current = None;
         }
         let Some(shard) = self.left.pop_front() else {
             return Next::Done(());
         };
+        if control.homes.get(&shard) != Some(&self.server) {
+            // Somebody had it move elsewhere for good.
+            self.share.of -= 1;
+            return Next::soon();
+        }
         self.current = Some(Migration::new(shard, self.server));
         let doing = Doing::Returning(self.share);
         control.cluster.progress.set(self.server, doing);
