@@ -77,7 +77,7 @@ impl<S: Service> Control<S> {
             IsLegal limits.count limits.ceiling self.now.chair.seen }
         ensures stands { AreStandsSeen self.now.desk.books self.now.chair }
         ensures books { AreSound self.now.desk.books }
-        ensures caps { MeetsCaps self.now.desk.ops self.now.desk.books }
+        ensures caps { MeetsCaps self.now.desk.caps self.now.desk.books }
     {
         self.chair.soundness();
         self.desk.soundness();

@@ -57,7 +57,7 @@ impl<S: Service> Chief<S> {
         ensures count { IfOk result (λ chief. chief.chair.board.limits.count ≡ length bodies.items) }
         ensures ceiling { IfOk result (λ chief. chief.chair.board.limits.ceiling ≡ ceiling) }
         ensures bodies { IfOk result (λ chief. chief.chair.board.limits.bodies ≡ map S.limit bodies.items) }
-        ensures ops { IfOk result (λ chief. chief.desk.ops ≡ ops) }
+        ensures ops { IfOk result (λ chief. chief.desk.caps.ops ≡ ops) }
     {
         if servers > 4095 {
             return Err(OpenFault::Servers);
@@ -137,7 +137,7 @@ fn desk_of(alloc: Global, servers: u16, count: usize, ops: u16) -> Result<Desk, 
     requires { ops ≤ 4095 }
     ensures count { IfOk result (λ desk. length desk.books.shards ≡ count) }
     ensures vacant { IfOk result (λ desk. All (λ shard. shard.stand ≡ Vacant) desk.books.shards) }
-    ensures ops { IfOk result (λ desk. desk.ops ≡ ops) }
+    ensures ops { IfOk result (λ desk. desk.caps.ops ≡ ops) }
 {
     let groups = [GroupRow {
         limit: 4096,
