@@ -1,5 +1,4 @@
 //! The record that a refused call had read.
-use sm_control::ControlFault;
 use sm_desk::CommandFault;
 use sm_handle::ActFault;
 use sm_ownership::change_fault::ChangeFault;
@@ -27,11 +26,9 @@ pub(crate) fn read_of(fault: &ActFault) -> Option<Record> {
     match fault {
         ActFault::Admit(refusal) => read_of_admission(refusal),
         ActFault::Checkpoint(CheckpointFault::Admit(refusal)) => read_of_admission(refusal),
-        ActFault::Command(ControlFault::Raced { read: _, found }) => Some(*found),
-        ActFault::Command(ControlFault::Command(CommandFault::Change(ChangeFault::Spent(read)))) =>
-            Some(*read),
-        ActFault::Command(ControlFault::Command(CommandFault::Change(ChangeFault::Busy(read)))) =>
-            Some(*read),
+        ActFault::Command(CommandFault::Raced { read: _, found }) => Some(*found),
+        ActFault::Command(CommandFault::Change(ChangeFault::Spent(read))) => Some(*read),
+        ActFault::Command(CommandFault::Change(ChangeFault::Busy(read))) => Some(*read),
         _ => None,
     }
 }

@@ -8,8 +8,8 @@ ghost use Rattle.sm_place.specs.Plans.{assign_plan, drain_plan};
 use crate::free_pass::FreePass;
 use crate::open_fault::OpenFault;
 use sm_body::service::Service;
-use sm_control::{Control, ControlFault, DrainFault};
-use sm_desk::{Command, Desk};
+use sm_control::{Control, DrainFault};
+use sm_desk::{Command, CommandFault, Desk};
 use sm_place::{Books, BooksFault, Plan};
 use sm_ranges::server_id::ServerId;
 use sm_rows::limits::MAX_DOMAIN_DOWN;
@@ -107,7 +107,7 @@ impl<S: Service> Chief<S> {
     }
 
     /// Gives the command to the control: it is made, or refused by the first fault that applies.
-    pub fn command(&mut self, command: Command) -> Result<(), ControlFault>
+    pub fn command(&mut self, command: Command) -> Result<(), CommandFault>
         ensures answer { Commanded (desk_fault self.old.desk command) self.old self.new command result }
         ensures board { self.new.chair.board ≡ self.old.chair.board }
     {

@@ -54,6 +54,7 @@ command_fault_name (command.Place place.Leaving) = codes "Leaving"
 command_fault_name (command.Place place.NoCapacity) = codes "NoCapacity"
 command_fault_name (command.Place place.DomainLimit) = codes "DomainLimit"
 command_fault_name (command.Restart fault) = restart_fault_name fault
+command_fault_name (command.Raced read found) = codes "Raced"
 
 -- the name of an admission's refusal
 abbrev pub admit_fault_name : AdmitFault → List ℕ

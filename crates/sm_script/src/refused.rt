@@ -91,6 +91,7 @@ fn command_fault_name(fault: CommandFault) -> &'static str
         CommandFault::Place(PlaceFault::NoCapacity) => "NoCapacity",
         CommandFault::Place(PlaceFault::DomainLimit) => "DomainLimit",
         CommandFault::Restart(fault) => fault.name(),
+        CommandFault::Raced { .. } => "Raced",
     }
 }
 
