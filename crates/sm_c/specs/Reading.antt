@@ -1,7 +1,6 @@
 -- The record that a refused call had read.
 use Rattle.std.specs.Prelude.{◌≡◌, Option, Some, None}
-use Rattle.sm_control.specs.declared.control_fault.ControlFault.TheVariants.{Command as ByCommand, Raced as RacedChange}
-use Rattle.sm_desk.specs.declared.command.CommandFault.TheVariants.{Change as ByChange}
+use Rattle.sm_desk.specs.declared.command.CommandFault.TheVariants.{Change as ByChange, Raced as RacedChange}
 use Rattle.sm_ownership.specs.declared.change_fault.ChangeFault.TheVariants.{Busy, Spent}
 use Rattle.sm_ownership.specs.declared.record.Record.{Record}
 use Rattle.sm_rule.specs.declared.admit_refusal.AdmitRefusal.{AdmitRefusal}
@@ -24,8 +23,8 @@ abbrev pub act_read : ActFault → Option Record
 act_read (Admit refusal) = Some (admission_read refusal)
 act_read (Checkpoint (ByAdmission refusal)) = Some (admission_read refusal)
 act_read (Command (RacedChange read found)) = Some found
-act_read (Command (ByCommand (ByChange (Spent read)))) = Some read
-act_read (Command (ByCommand (ByChange (Busy read)))) = Some read
+act_read (Command (ByChange (Spent read))) = Some read
+act_read (Command (ByChange (Busy read))) = Some read
 act_read fault = None
 
 -- the same of an envelope

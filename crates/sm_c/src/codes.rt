@@ -3,7 +3,6 @@ ghost use Rattle.std.specs.Prelude.{◌≢◌, ◌<◌};
 
 use crate::requests::RequestFault;
 use crate::word_fault::WordFault;
-use sm_control::ControlFault;
 use sm_desk::CommandFault;
 use sm_foreign::OpenFault;
 use sm_handle::{ActFault, CutFault};
@@ -238,10 +237,7 @@ pub(crate) fn code_of_act(fault: ActFault) -> u32
             CheckpointFault::Admit(refusal) => code_of_admission(refusal),
             CheckpointFault::NoMemory => NO_MEMORY,
         },
-        ActFault::Command(fault) => match fault {
-            ControlFault::Command(fault) => code_of_command(fault),
-            ControlFault::Raced { .. } => RACED,
-        },
+        ActFault::Command(fault) => code_of_command(fault),
     }
 }
 
@@ -309,6 +305,7 @@ fn code_of_command(fault: CommandFault) -> u32
             PlaceFault::DomainLimit => DOMAIN_LIMIT,
         },
         CommandFault::Restart(fault) => code_of_restart(fault),
+        CommandFault::Raced { .. } => RACED,
     }
 }
 

@@ -3,7 +3,6 @@ ghost use Rattle.std.specs.Prelude.{◌≡◌};
 ghost use Rattle.sm_c.specs.Reading.{TellsRecord, act_read, admission_read, refusal_read};
 
 use crate::record_parts::RecordParts;
-use sm_control::ControlFault;
 use sm_desk::CommandFault;
 use sm_handle::ActFault;
 use sm_ownership::change_fault::ChangeFault;
@@ -47,11 +46,9 @@ pub(crate) fn read_of(fault: &ActFault) -> Option<Record>
     match fault {
         ActFault::Admit(refusal) => Some(read_of_admission(refusal)),
         ActFault::Checkpoint(CheckpointFault::Admit(refusal)) => Some(read_of_admission(refusal)),
-        ActFault::Command(ControlFault::Raced { read: _, found }) => Some(*found),
-        ActFault::Command(ControlFault::Command(CommandFault::Change(ChangeFault::Spent(read)))) =>
-            Some(*read),
-        ActFault::Command(ControlFault::Command(CommandFault::Change(ChangeFault::Busy(read)))) =>
-            Some(*read),
+        ActFault::Command(CommandFault::Raced { read: _, found }) => Some(*found),
+        ActFault::Command(CommandFault::Change(ChangeFault::Spent(read))) => Some(*read),
+        ActFault::Command(CommandFault::Change(ChangeFault::Busy(read))) => Some(*read),
         _ => None,
     }
 }

@@ -13,7 +13,7 @@ use Rattle.sm_ownership.specs.History.{IsLegal, open_admissions}
 use Rattle.sm_ownership.specs.Rules.{executor, executor_of}
 use Rattle.sm_place.specs.declared.shard.Shard.{Shard}
 use Rattle.sm_place.specs.Books.{BooksView, no_shard, shard_at, state_of}
-use Rattle.sm_tasks.specs.Caps.{MeetsCaps}
+use Rattle.sm_tasks.specs.Caps.{MeetsCaps, RestartCaps}
 use Rattle.sm_place.specs.ServerState.{is_stopped}
 use Rattle.sm_rule.specs.Changes.{ChairValue}
 use Rattle.sm_rule.specs.Views.{record_in}
@@ -34,7 +34,7 @@ executor_named test (Taken owner previous) server is passes = let same : owner �
     (ap (λ b. b || test previous) (ap test same ∙ passes), refl)
 executor_named test (Paused owner) server is passes = absurd (cc)
 
-module _ (ops : ℕ) (books : BooksView) (caps : MeetsCaps ops books) (shard server : ℕ)
+module _ (allowed : RestartCaps) (books : BooksView) (caps : MeetsCaps allowed books) (shard server : ℕ)
     (is : executor_of (shard_at books.shards shard).stand ≡ Some server) where
   within : shard < length books.shards
   within =
@@ -57,7 +57,7 @@ module _ (ops : ℕ) (books : BooksView) (caps : MeetsCaps ops books) (shard ser
           (shard_at books.shards shard).stand server is stopped in
           absurd (true≢false (sym (caps.stopped shard within named.0) ∙ named.1))
 
-module _ {Q : Type 0} (ops : ℕ) (books : BooksView) (caps : MeetsCaps ops books) (p : ChairValue Q)
+module _ {Q : Type 0} (allowed : RestartCaps) (books : BooksView) (caps : MeetsCaps allowed books) (p : ChairValue Q)
     (same : AreStandsSeen books p) (history : List (Entry Q)) (led : PassesLeadTo p history) where
   -- the stands are the shards' still
   pub stands_led : AreStandsIn books p.board.limits history
@@ -68,7 +68,8 @@ module _ {Q : Type 0} (ops : ℕ) (books : BooksView) (caps : MeetsCaps ops book
 
   pub executor_led : (shard server : ℕ) → executor (record_in p.board.limits history shard) ≡ Some server
       → is_stopped (state_of books server) ≡ false
-  executor_led shard server is = executor_runs ops books caps shard server (ap executor_of (stands_led.1 shard) ∙ is)
+  executor_led shard server is =
+      executor_runs allowed books caps shard server (ap executor_of (stands_led.1 shard) ∙ is)
 
   -- what holds of the admissions that stand, by the law of executors
   abbrev IsOfExecutor : ℕ → Entry Q → Type 0

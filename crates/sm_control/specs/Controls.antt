@@ -16,11 +16,8 @@ use Rattle.sm_rule.specs.Views.{record_in}
 use Rattle.sm_desk.specs.declared.command.Command.{Command}
 use Rattle.sm_desk.specs.declared.command.Command.TheVariants.{Change as ChangeOf}
 use Rattle.sm_desk.specs.declared.command.CommandFault.{CommandFault}
-use Rattle.sm_desk.specs.declared.command.CommandFault.TheVariants.{Change as ChangeRefused}
+use Rattle.sm_desk.specs.declared.command.CommandFault.TheVariants.{Change as ChangeRefused, Raced as Overtaken}
 use Rattle.sm_desk.specs.Desk.{DeskView, commanded}
-use Rattle.sm_control.specs.declared.control_fault.ControlFault.{ControlFault}
-use Rattle.sm_control.specs.declared.control_fault.ControlFault.TheVariants.{Command as CommandRefused}
-use Rattle.sm_control.specs.declared.control_fault.ControlFault.TheVariants.{Raced as Overtaken}
 
 -- the chair of a board, and the desk that its changes are checked against
 pub record ControlValue (Q : Type 0) : Type 0 where
@@ -49,20 +46,20 @@ AdmitsUnstopped books entry =
     (server : ℕ) × (mode : Mode) × (entry.kind ≡ Admit server mode) × (is_stopped (state_of books server) ≡ false)
 
 -- the fault of a command whose change the board refuses
-abbrev pub fault_of : ChangeRefusal → ControlFault
-fault_of (Spent state) = CommandRefused (ChangeRefused (SpentRecord state))
-fault_of (Busy state) = CommandRefused (ChangeRefused (BusyRecord state))
+abbrev pub fault_of : ChangeRefusal → CommandFault
+fault_of (Spent state) = ChangeRefused (SpentRecord state)
+fault_of (Busy state) = ChangeRefused (BusyRecord state)
 fault_of (Raced read found) = Overtaken read found
 
 -- what the control answers and is then, where the desk refuses the command
 abbrev pub CommandIsRefused : {Q : Type 0} → CommandFault → ControlValue Q → ControlValue Q
-    → Result (Unit {0}) ControlFault → Type 0
-CommandIsRefused fault before after result = (result ≡ Err (CommandRefused fault)) × (after ≡ before)
+    → Result (Unit {0}) CommandFault → Type 0
+CommandIsRefused fault before after result = (result ≡ Err fault) × (after ≡ before)
 
 -- what a change answers whose fault by the desk is this one, or none. Made, the chair has added it, and the desk has it
 -- too. Where the board refuses it, the chair may have seen more, and the desk is as it was
 abbrev pub Changed : {Q : Type 0} → Option CommandFault → ControlValue Q → ControlValue Q → ℕ → Change
-    → Result (Unit {0}) ControlFault → Type 0
+    → Result (Unit {0}) CommandFault → Type 0
 Changed (Some fault) before after shard change result = CommandIsRefused fault before after result
 Changed None before after shard change (Ok made) =
     ChairAdds before.chair shard change after.chair × (after.desk ≡ commanded before.desk (ChangeOf shard change))
@@ -72,13 +69,13 @@ Changed None before after shard change (Err fault) =
 
 -- what a step of a restart answers whose fault by the desk is this one, or none. Made, the chair is as it was
 abbrev pub IsMadeOrRefused : {Q : Type 0} → Option CommandFault → ControlValue Q → ControlValue Q → Command
-    → Result (Unit {0}) ControlFault → Type 0
+    → Result (Unit {0}) CommandFault → Type 0
 IsMadeOrRefused (Some fault) before after step result = CommandIsRefused fault before after result
 IsMadeOrRefused None before after step result =
     (result ≡ Ok tt) × (after ≡ record { chair = before.chair; desk = commanded before.desk step })
 
 -- what a command answers whose fault by the desk is this one, or none
 abbrev pub Commanded : {Q : Type 0} → Option CommandFault → ControlValue Q → ControlValue Q → Command
-    → Result (Unit {0}) ControlFault → Type 0
+    → Result (Unit {0}) CommandFault → Type 0
 Commanded fault before after (ChangeOf shard change) result = Changed fault before after shard change result
 Commanded fault before after step result = IsMadeOrRefused fault before after step result

@@ -16,9 +16,8 @@ mod planning;
 mod restarting;
 mod telling;
 
-use crate::control_fault::ControlFault;
 use sm_body::service::Service;
-use sm_desk::{Command, Desk};
+use sm_desk::{Command, CommandFault, Desk};
 use sm_ownership::laws::executor_admitted;
 use sm_rule::{Board, Chair};
 use std::marker::Model;
@@ -77,7 +76,7 @@ impl<S: Service> Control<S> {
             IsLegal limits.count limits.ceiling self.now.chair.seen }
         ensures stands { AreStandsSeen self.now.desk.books self.now.chair }
         ensures books { AreSound self.now.desk.books }
-        ensures caps { MeetsCaps self.now.desk.ops self.now.desk.books }
+        ensures caps { MeetsCaps self.now.desk.caps self.now.desk.books }
     {
         self.chair.soundness();
         self.desk.soundness();
@@ -101,7 +100,7 @@ impl<S: Service> Control<S> {
 
     /// Gives the command to the desk, and a change to the board: the command is made, or refused by the first fault
     /// that applies.
-    pub fn command(&mut self, board: &Board<S>, command: Command) -> Result<(), ControlFault>
+    pub fn command(&mut self, board: &Board<S>, command: Command) -> Result<(), CommandFault>
         requires { self.old.chair.board ≡ board.now }
         ensures answer { Commanded (desk_fault self.old.desk command) self.old self.new command result }
         ensures board { self.new.chair.board ≡ self.old.chair.board }

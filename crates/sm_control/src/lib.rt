@@ -12,9 +12,7 @@
 #![tactic(auto)]
 
 pub mod control;
-pub mod control_fault;
 pub mod drain_fault;
 
 pub use control::Control;
-pub use control_fault::ControlFault;
 pub use drain_fault::DrainFault;

@@ -20,16 +20,17 @@ use Rattle.sm_place.specs.Room.{fit}
 use Rattle.sm_place.specs.ServerState.{is_leaving, is_unreached}
 use Rattle.sm_tasks.specs.declared.restart_fault.RestartFault.{RestartFault}
 use Rattle.sm_tasks.specs.Approvals.{approvable, askable, failable, returnable, stoppable}
+use Rattle.sm_tasks.specs.Caps.{RestartCaps}
 use Rattle.sm_desk.specs.declared.command.Command.{Command}
 use Rattle.sm_desk.specs.declared.command.Command.TheVariants.{Change, Ask, Approve, Stopped, Back, Fail}
 use Rattle.sm_desk.specs.declared.command.CommandFault.{CommandFault}
 use Rattle.sm_desk.specs.declared.command.CommandFault.TheVariants.{UnknownServer, Change as ChangeRefused, Place}
 use Rattle.sm_desk.specs.declared.command.CommandFault.TheVariants.{Restart as RestartRefused}
 
--- the books, and how many servers may be leaving for an approval
+-- the books, and the caps that are numbers
 pub record DeskView : Type 0 where
   pub books : BooksView
-  pub ops : ℕ
+  pub caps : RestartCaps
 
 -- there is a row of the server
 abbrev pub is_known : List ServerRow → ℕ → Bool
@@ -86,7 +87,7 @@ restart_fault books server step =
 abbrev pub desk_fault : DeskView → Command → Option CommandFault
 desk_fault desk (Change shard change) = desk_change_fault desk.books shard change
 desk_fault desk (Ask server) = restart_fault desk.books server (askable desk.books server)
-desk_fault desk (Approve server) = restart_fault desk.books server (approvable desk.ops desk.books server)
+desk_fault desk (Approve server) = restart_fault desk.books server (approvable desk.caps desk.books server)
 desk_fault desk (Stopped server) = restart_fault desk.books server (stoppable desk.books server)
 desk_fault desk (Back server) = restart_fault desk.books server (returnable desk.books server)
 desk_fault desk (Fail server) = restart_fault desk.books server (failable desk.books server)
@@ -108,4 +109,4 @@ books_commanded books (Fail server) = with_state books server IsFailed
 
 -- the desk after a command that it doesn't refuse
 abbrev pub commanded : DeskView → Command → DeskView
-commanded desk command = record { books = books_commanded desk.books command; ops = desk.ops }
+commanded desk command = record { books = books_commanded desk.books command; caps = desk.caps }

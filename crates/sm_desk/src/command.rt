@@ -1,5 +1,6 @@
 use sm_ownership::change::Change;
 use sm_ownership::change_fault::ChangeFault;
+use sm_ownership::record::Record;
 use sm_place::PlaceFault;
 use sm_ranges::server_id::ServerId;
 use sm_ranges::shard_id::ShardId;
@@ -24,7 +25,8 @@ pub enum Command {
 }
 
 /// Why a command was refused. The first that applies is answered. Of a change: an unknown shard, an unknown server, the
-/// other reasons of the shard's stand, and then those of the server that the change newly names, or has execute again.
+/// other reasons of the shard's stand, then those of the server that the change newly names, or has execute again. The
+/// desk finds these; where a board is to make the change too, `Spent` or `Busy` of the record read, and then `Raced`.
 #[derive(Clone, Copy, Debug, PartialEq, Eq, Drop, Error)]
 pub enum CommandFault {
     /// There is no such server.
@@ -39,6 +41,9 @@ pub enum CommandFault {
     /// The server's restart doesn't allow the step.
     #[error("{0}")]
     Restart(RestartFault),
+    /// The record read allows the change, but another one was found when it was to be made.
+    #[error("another thread was first")]
+    Raced { read: Record, found: Record },
 }
 
 impl From<ChangeFault> for CommandFault {

@@ -19,7 +19,7 @@ use sm_ranges::stand::Stand;
 use sm_tasks::Tasks;
 use std::marker::Model;
 
-/// What the control checks its commands against: the books, and how many servers may be leaving for an approval.
+/// What the control checks its commands against: the books, and the steps of restarts with their caps.
 /// At all times the books have room, and the caps of approved restarts are kept.
 #[derive(Drop)]
 pub struct Desk {
@@ -33,7 +33,7 @@ impl Model for Desk {
 
     ghost Value = { DeskView };
 
-    ghost view = { λ desk. record { books = desk.books; ops = desk.tasks } };
+    ghost view = { λ desk. record { books = desk.books; caps = desk.tasks } };
 
     ghost invariant = { λ desk. MeetsCaps desk.tasks desk.books };
 }
@@ -43,7 +43,7 @@ impl Desk {
     pub fn new(books: Books, tasks: Tasks) -> Desk
         requires { MeetsCaps tasks books }
         ensures books { result.books ≡ books }
-        ensures ops { result.ops ≡ tasks }
+        ensures caps { result.caps ≡ tasks }
     {
         Desk { books, tasks }
     }
@@ -58,7 +58,7 @@ impl Desk {
     /// Says, for proofs alone, that the books are sound, and that the caps are kept. It does nothing.
     pub fn soundness(&self)
         ensures books { AreSound self.now.books }
-        ensures caps { MeetsCaps self.now.ops self.now.books }
+        ensures caps { MeetsCaps self.now.caps self.now.books }
     {
         self.books.soundness();
     }

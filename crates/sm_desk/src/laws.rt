@@ -11,8 +11,8 @@ use sm_tasks::laws::{stands_keep_caps, steps_keep_caps};
 
 /// A command that the desk doesn't refuse keeps the caps of approved restarts.
 pub fn commands_keep_caps()
-    ensures { (desk : DeskView) (command : Command) → AreSound desk.books → MeetsCaps desk.ops desk.books
-        → desk_fault desk command ≡ None → MeetsCaps desk.ops (books_commanded desk.books command) }
+    ensures { (desk : DeskView) (command : Command) → AreSound desk.books → MeetsCaps desk.caps desk.books
+        → desk_fault desk command ≡ None → MeetsCaps desk.caps (books_commanded desk.books command) }
 {
     fit_leaves_room();
     stands_keep_caps();

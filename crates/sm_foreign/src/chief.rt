@@ -11,8 +11,8 @@ use crate::foreign::Foreign;
 use crate::free_pass::FreePass;
 use crate::open_fault::OpenFault;
 use sm_body::service::Service;
-use sm_control::{Control, ControlFault, DrainFault};
-use sm_desk::{Command, Desk};
+use sm_control::{Control, DrainFault};
+use sm_desk::{Command, CommandFault, Desk};
 use sm_place::{Books, BooksFault, Plan};
 use sm_ranges::server_id::ServerId;
 use sm_rows::limits::MAX_DOMAIN_DOWN;
@@ -60,7 +60,7 @@ impl<S: Service> Chief<S> {
         ensures count { IfOk result (λ chief. chief.chair.board.limits.count ≡ length bodies.items) }
         ensures ceiling { IfOk result (λ chief. chief.chair.board.limits.ceiling ≡ ceiling) }
         ensures bodies { IfOk result (λ chief. chief.chair.board.limits.bodies ≡ map S.limit bodies.items) }
-        ensures ops { IfOk result (λ chief. chief.desk.ops ≡ ops) }
+        ensures ops { IfOk result (λ chief. chief.desk.caps.ops ≡ ops) }
     {
         if servers > 4095 {
             return Err(OpenFault::Servers);
@@ -162,7 +162,7 @@ impl<S: Service> Chief<S> {
     }
 
     /// Gives the command to the control: it is made, or refused by the first fault that applies.
-    pub fn command(&mut self, command: Command) -> Result<(), ControlFault>
+    pub fn command(&mut self, command: Command) -> Result<(), CommandFault>
         ensures answer { Commanded (desk_fault self.old.desk command) self.old self.new command result }
         ensures board { self.new.chair.board ≡ self.old.chair.board }
     {
@@ -204,7 +204,7 @@ fn desk_of(alloc: Global, servers: u16, count: usize, ops: u16) -> Result<Desk, 
     requires { ops ≤ 4095 }
     ensures count { IfOk result (λ desk. length desk.books.shards ≡ count) }
     ensures vacant { IfOk result (λ desk. All (λ shard. shard.stand ≡ Vacant) desk.books.shards) }
-    ensures ops { IfOk result (λ desk. desk.ops ≡ ops) }
+    ensures ops { IfOk result (λ desk. desk.caps.ops ≡ ops) }
 {
     let groups = [GroupRow {
         limit: 4096,

@@ -96,5 +96,5 @@ abbrev pub IsOpened : Option HandleState → List ℕ → ℕ → ℕ → Type 0
 IsOpened (Some (Chief chief)) numbers ops ceiling =
     (chief.value.chair.board.limits.count ≡ length numbers) × (chief.value.chair.board.limits.ceiling ≡ ceiling)
     × (chief.value.chair.board.limits.bodies ≡ map (λ (body : Foreign). body.number) (foreign_of numbers))
-    × (chief.value.desk.ops ≡ ops)
+    × (chief.value.desk.caps.ops ≡ ops)
 IsOpened state numbers ops ceiling = ⊥

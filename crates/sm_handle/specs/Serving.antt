@@ -31,7 +31,7 @@ sample = meaning_of [] after reply key_of_request
 abbrev pub IsServiceOpened : Option HandleState → ℕ → ℕ → ℕ → ℕ → Type 0
 IsServiceOpened (Some (TextChief chief)) count kept ops ceiling =
     (chief.value.chair.board.limits.count ≡ count) × (chief.value.chair.board.limits.ceiling ≡ ceiling)
-    × (chief.value.chair.board.limits.bodies ≡ replicate count kept) × (chief.value.desk.ops ≡ ops)
+    × (chief.value.chair.board.limits.bodies ≡ replicate count kept) × (chief.value.desk.caps.ops ≡ ops)
 IsServiceOpened state count kept ops ceiling = ⊥
 
 -- the second handle keeps an envelope with this number for this shard that carries the request, which came directly,

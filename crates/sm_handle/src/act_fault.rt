@@ -1,4 +1,4 @@
-use sm_control::ControlFault;
+use sm_desk::CommandFault;
 use sm_rule::AdmitRefusal;
 use sm_server::CheckpointFault;
 
@@ -22,5 +22,5 @@ pub enum ActFault {
     /// There is no checkpoint.
     Checkpoint(CheckpointFault),
     /// The command is refused.
-    Command(ControlFault),
+    Command(CommandFault),
 }

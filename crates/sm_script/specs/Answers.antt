@@ -14,8 +14,7 @@ use Rattle.sm_ownership.specs.declared.record.Record.{Record}
 use Rattle.sm_place.specs.declared.place_fault.PlaceFault.TheVariants as place
 use Rattle.sm_place.specs.declared.plan.Move.{Move}
 use Rattle.sm_place.specs.Plans.{PlanView}
-use Rattle.sm_tasks.specs.declared.restart_fault.RestartFault.{RestartFault}
-use Rattle.sm_tasks.specs.declared.restart_fault.RestartFault.TheVariants as restart
+use Rattle.sm_tasks.specs.Approvals.{restart_fault_name, restart_fault_number}
 use Rattle.sm_ownership.specs.declared.route.Route.{Route}
 use Rattle.sm_ranges.specs.Stand.{other_of, owner_of}
 use Rattle.sm_ranges.specs.declared.stand.Stand.{Stand}
@@ -43,19 +42,6 @@ line_fault_name BadNumber = codes "BadNumber"
 line_fault_name BadKey = codes "BadKey"
 line_fault_name NotHere = codes "NotHere"
 
--- the name of the refusal of a step of a restart
-abbrev pub restart_fault_name : RestartFault → List ℕ
-restart_fault_name restart.NotUp = codes "NotUp"
-restart_fault_name restart.NotAsked = codes "NotAsked"
-restart_fault_name restart.GlobalCap = codes "GlobalCap"
-restart_fault_name (restart.ShardCap shard) = codes "ShardCap"
-restart_fault_name (restart.GroupCap group) = codes "GroupCap"
-restart_fault_name (restart.DomainCap domain) = codes "DomainCap"
-restart_fault_name restart.NotApproved = codes "NotApproved"
-restart_fault_name (restart.StillServing shard) = codes "StillServing"
-restart_fault_name restart.AlreadyUp = codes "AlreadyUp"
-restart_fault_name restart.AlreadyFailed = codes "AlreadyFailed"
-
 -- the name of a command's refusal
 abbrev pub command_fault_name : CommandFault → List ℕ
 command_fault_name command.UnknownServer = codes "UnknownServer"
@@ -68,6 +54,7 @@ command_fault_name (command.Place place.Leaving) = codes "Leaving"
 command_fault_name (command.Place place.NoCapacity) = codes "NoCapacity"
 command_fault_name (command.Place place.DomainLimit) = codes "DomainLimit"
 command_fault_name (command.Restart fault) = restart_fault_name fault
+command_fault_name (command.Raced read found) = codes "Raced"
 
 -- the name of an admission's refusal
 abbrev pub admit_fault_name : AdmitFault → List ℕ
@@ -97,10 +84,7 @@ refused_name refused.KeptFull = codes "KeptFull"
 
 -- the number that the answer gives after it, where there is one: of the shard, group or domain at which it came
 abbrev pub refused_number : Refused → Option ℕ
-refused_number (refused.Command (command.Restart (restart.ShardCap shard))) = Some shard
-refused_number (refused.Command (command.Restart (restart.GroupCap group))) = Some group
-refused_number (refused.Command (command.Restart (restart.DomainCap domain))) = Some domain
-refused_number (refused.Command (command.Restart (restart.StillServing shard))) = Some shard
+refused_number (refused.Command (command.Restart fault)) = restart_fault_number fault
 refused_number why = None
 
 -- a name, and the number after it

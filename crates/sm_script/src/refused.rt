@@ -1,11 +1,10 @@
 ghost use Rattle.std.specs.Prelude.{◌≡◌};
-ghost use Rattle.sm_script.specs.Answers.{command_fault_name, admit_fault_name, restart_fault_name};
+ghost use Rattle.sm_script.specs.Answers.{command_fault_name, admit_fault_name};
 
 use sm_desk::command::CommandFault;
 use sm_ownership::admit_fault::AdmitFault;
 use sm_ownership::change_fault::ChangeFault;
 use sm_place::PlaceFault;
-use sm_tasks::RestartFault;
 
 /// Why a call of a script was refused.
 #[derive(Clone, Copy, PartialEq, Eq, Drop)]
@@ -71,11 +70,7 @@ impl Refused {
         ensures { result ≡ refused_number self }
     {
         match self {
-            Refused::Command(CommandFault::Restart(fault)) => match fault {
-                RestartFault::ShardCap(k) | RestartFault::StillServing(k) => Some(k.number()),
-                RestartFault::GroupCap(n) | RestartFault::DomainCap(n) => Some(n),
-                _ => None,
-            },
+            Refused::Command(CommandFault::Restart(fault)) => fault.number(),
             _ => None,
         }
     }
@@ -95,25 +90,8 @@ fn command_fault_name(fault: CommandFault) -> &'static str
         CommandFault::Place(PlaceFault::Leaving) => "Leaving",
         CommandFault::Place(PlaceFault::NoCapacity) => "NoCapacity",
         CommandFault::Place(PlaceFault::DomainLimit) => "DomainLimit",
-        CommandFault::Restart(fault) => restart_fault_name(fault),
-    }
-}
-
-// The name that an answer gives to the refusal of a step of a restart.
-fn restart_fault_name(fault: RestartFault) -> &'static str
-    ensures { result.now ≡ restart_fault_name fault }
-{
-    match fault {
-        RestartFault::NotUp => "NotUp",
-        RestartFault::NotAsked => "NotAsked",
-        RestartFault::GlobalCap => "GlobalCap",
-        RestartFault::ShardCap(_) => "ShardCap",
-        RestartFault::GroupCap(_) => "GroupCap",
-        RestartFault::DomainCap(_) => "DomainCap",
-        RestartFault::NotApproved => "NotApproved",
-        RestartFault::StillServing(_) => "StillServing",
-        RestartFault::AlreadyUp => "AlreadyUp",
-        RestartFault::AlreadyFailed => "AlreadyFailed",
+        CommandFault::Restart(fault) => fault.name(),
+        CommandFault::Raced { .. } => "Raced",
     }
 }
 

@@ -7,5 +7,5 @@ use Rattle.sm_settings.specs.SettingsLine.{SettingsValues}
 abbrev pub settings_desk : SettingsValues → DeskView
 settings_desk settings = record {
   books = new_books settings.servers settings.groups settings.shards settings.domains;
-  ops = settings.ops;
+  caps = record { ops = settings.ops };
 }

@@ -35,7 +35,7 @@ world_table w = table_of (count_of w) w.frame.ceiling w.history
 pub record IsFrame (frame : Frame) : Type 0 where
   pub layout : IsLayout frame.bounds
   pub books : AreSound frame.start.books
-  pub caps : MeetsCaps frame.start.ops frame.start.books
+  pub caps : MeetsCaps frame.start.caps frame.start.books
   pub vacant : stands_of frame.start ≡ replicate (length frame.bounds) Vacant
 
 -- the desk after these commands, the latest first

@@ -66,7 +66,7 @@ pub fn caps_and_room_hold<Q, R>()
         → let books = (world_of service frame steps).desk.books in
         HasRoom books.servers books.groups books.shards }
     ensures caps { (service : Service Q R) (frame : Frame) (steps : List (Mark × Step Q)) → IsFrame frame
-        → MeetsCaps frame.start.ops (world_of service frame steps).desk.books }
+        → MeetsCaps frame.start.caps (world_of service frame steps).desk.books }
 {
     commands_keep_caps();
     commands_keep_soundness();

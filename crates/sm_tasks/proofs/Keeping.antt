@@ -16,7 +16,7 @@ use Rattle.sm_place.specs.ServerState.{is_leaving, is_away, is_stopped}
 use Rattle.sm_place.specs.lemmas.Changed.{state_of-set}
 use Rattle.sm_place.specs.lemmas.Named.{names_one-found, names_one-named}
 use Rattle.sm_tasks.specs.Approvals.{approvable, leaving_count, names_down, stoppable, would_be_down}
-use Rattle.sm_tasks.specs.Caps.{MeetsCaps, names_away}
+use Rattle.sm_tasks.specs.Caps.{MeetsCaps, RestartCaps, names_away}
 use Rattle.sm_tasks.specs.Groups.{group_count, down_of, is_in_group}
 use Rattle.sm_tasks.specs.Domains.{domain_count, domain_down, is_server_of}
 use Rattle.sm_tasks.proofs.Restarts.{cond_within, false_within, count_by-within, count_by-within_but}
@@ -50,13 +50,13 @@ of_within p q g shard h e =
 
 -- a step to a state that is away only if the old one is, and that is stopped only where the shards are paused, keeps
 -- the caps
-pub MeetsCaps-calm : (ops : ℕ) (books : BooksView) (a : ℕ) (state : ServerState)
+pub MeetsCaps-calm : (allowed : RestartCaps) (books : BooksView) (a : ℕ) (state : ServerState)
     → length books.states ≡ length books.servers → IsKnown books.servers a
     → (is_away state ≡ true → is_away (state_of books a) ≡ true)
     → (is_stopped state ≡ true → (k : ℕ) → k < length books.shards → names (shard_at books.shards k).stand a ≡ true
     → is_paused (shard_at books.shards k).stand ≡ true)
-    → MeetsCaps ops books → MeetsCaps ops (with_state books a state)
-MeetsCaps-calm ops books a state len known away stopped caps =
+    → MeetsCaps allowed books → MeetsCaps allowed (with_state books a state)
+MeetsCaps-calm allowed books a state len known away stopped caps =
     let inside : place_of books.servers a < length books.states = rw len known in
     let within : (stand : Stand) → names_away (with_state books a state) stand ≡ true → names_away books stand ≡ true =
     λ stand. one_within (λ b. is_away (state_of (with_state books a state) b)) (λ b. is_away (state_of books b)) stand
@@ -93,39 +93,39 @@ MeetsCaps-calm ops books a state len known away stopped caps =
     }
 
 -- a server that is asked for, comes back or fails
-pub MeetsCaps-ask : (ops : ℕ) (books : BooksView) (a : ℕ) → length books.states ≡ length books.servers
+pub MeetsCaps-ask : (allowed : RestartCaps) (books : BooksView) (a : ℕ) → length books.states ≡ length books.servers
     → IsKnown books.servers a
-    → MeetsCaps ops books → MeetsCaps ops (with_state books a Asked)
-MeetsCaps-ask ops books a len known caps =
-    MeetsCaps-calm ops books a Asked len known (λ e. absurd (cc)) (λ e k h n. absurd (cc)) caps
+    → MeetsCaps allowed books → MeetsCaps allowed (with_state books a Asked)
+MeetsCaps-ask allowed books a len known caps =
+    MeetsCaps-calm allowed books a Asked len known (λ e. absurd (cc)) (λ e k h n. absurd (cc)) caps
 
-pub MeetsCaps-back : (ops : ℕ) (books : BooksView) (a : ℕ) → length books.states ≡ length books.servers
+pub MeetsCaps-back : (allowed : RestartCaps) (books : BooksView) (a : ℕ) → length books.states ≡ length books.servers
     → IsKnown books.servers a
-    → MeetsCaps ops books → MeetsCaps ops (with_state books a Up)
-MeetsCaps-back ops books a len known caps =
-    MeetsCaps-calm ops books a Up len known (λ e. absurd (cc)) (λ e k h n. absurd (cc)) caps
+    → MeetsCaps allowed books → MeetsCaps allowed (with_state books a Up)
+MeetsCaps-back allowed books a len known caps =
+    MeetsCaps-calm allowed books a Up len known (λ e. absurd (cc)) (λ e k h n. absurd (cc)) caps
 
-pub MeetsCaps-fail : (ops : ℕ) (books : BooksView) (a : ℕ) → length books.states ≡ length books.servers
+pub MeetsCaps-fail : (allowed : RestartCaps) (books : BooksView) (a : ℕ) → length books.states ≡ length books.servers
     → IsKnown books.servers a
-    → MeetsCaps ops books → MeetsCaps ops (with_state books a Failed)
-MeetsCaps-fail ops books a len known caps =
-    MeetsCaps-calm ops books a Failed len known (λ e. absurd (cc)) (λ e k h n. absurd (cc)) caps
+    → MeetsCaps allowed books → MeetsCaps allowed (with_state books a Failed)
+MeetsCaps-fail allowed books a len known caps =
+    MeetsCaps-calm allowed books a Failed len known (λ e. absurd (cc)) (λ e k h n. absurd (cc)) caps
 
 -- a server that is stopped
-pub MeetsCaps-stopped : (ops : ℕ) (books : BooksView) (a : ℕ) → length books.states ≡ length books.servers
+pub MeetsCaps-stopped : (allowed : RestartCaps) (books : BooksView) (a : ℕ) → length books.states ≡ length books.servers
     → IsKnown books.servers a
-    → stoppable books a ≡ Ok tt → MeetsCaps ops books → MeetsCaps ops (with_state books a Stopped)
-MeetsCaps-stopped ops books a len known e caps =
+    → stoppable books a ≡ Ok tt → MeetsCaps allowed books → MeetsCaps allowed (with_state books a Stopped)
+MeetsCaps-stopped allowed books a len known e caps =
     let may = IsStoppable-stoppable books a e in
-    MeetsCaps-calm ops books a Stopped len known (λ _. is_away-approved (state_of books a) may.approved)
+    MeetsCaps-calm allowed books a Stopped len known (λ _. is_away-approved (state_of books a) may.approved)
     (λ _. may.paused) caps
 
 -- a server that is approved
-pub MeetsCaps-approve : (ops : ℕ) (books : BooksView) (a : ℕ) → length books.states ≡ length books.servers
+pub MeetsCaps-approve : (allowed : RestartCaps) (books : BooksView) (a : ℕ) → length books.states ≡ length books.servers
     → IsKnown books.servers a
-    → approvable ops books a ≡ Ok tt → MeetsCaps ops books → MeetsCaps ops (with_state books a Approved)
-MeetsCaps-approve ops books a len known e caps =
-    let may = IsApprovable-approvable ops books a e in
+    → approvable allowed books a ≡ Ok tt → MeetsCaps allowed books → MeetsCaps allowed (with_state books a Approved)
+MeetsCaps-approve allowed books a len known e caps =
+    let may = IsApprovable-approvable allowed books a e in
     let new = with_state books a Approved in
     let inside : place_of books.servers a < length books.states = rw len known in
     let unnamed : (stand : Stand) → names stand a ≡ false → names_away new stand ≡ true

@@ -10,16 +10,16 @@ use Rattle.std.proofs.lemmas.Bool.Decides.{nat_tests}
 use Rattle.std.proofs.lemmas.List.FromFn.{length-range_with_len, get_or-range_with_len}
 use Rattle.std.proofs.lemmas.List.Sums.{fails_before_first, sum_by-cons, sum_by-le-sum_by}
 use Rattle.sm_place.specs.declared.server_state.ServerState.{ServerState}
-use Rattle.sm_place.specs.declared.server_state.ServerState.TheVariants.{Up, Asked, Approved, Stopped, Failed}
 use Rattle.sm_place.specs.Books.{BooksView, domain_of, no_shard, shard_at, state_of}
 use Rattle.sm_ranges.specs.Stand.{names, is_paused}
 use Rattle.sm_place.specs.ServerState.{is_approved, is_asked, is_away, is_failed, is_leaving, is_stopped}
 use Rattle.sm_tasks.specs.declared.restart_fault.RestartFault.{RestartFault}
 use Rattle.sm_tasks.specs.declared.restart_fault.RestartFault.TheVariants.{NotAsked, GlobalCap, ShardCap, GroupCap}
 use Rattle.sm_tasks.specs.declared.restart_fault.RestartFault.TheVariants.{DomainCap, NotApproved, StillServing}
-use Rattle.sm_tasks.specs.Approvals.{approvable, capped_shard, full_domain, full_group, is_full, leaving_count}
+use Rattle.sm_tasks.specs.Approvals.{approvable, capped_shard, full_group, is_full, leaving_count}
 use Rattle.sm_tasks.specs.Approvals.{ok_unless, serving_shard, stoppable}
 use Rattle.sm_tasks.specs.Domains.{domain_count, domain_down}
+use Rattle.sm_tasks.specs.Caps.{RestartCaps}
 
 no_place : (n len : ℕ) → cond (nat_lt n len) (Some n) None ≡ None → len ≤ n
 no_place n len h = grind (arith, nat_tests)
@@ -68,25 +68,25 @@ count_by-within_but p q r (x ∷ xs) none h =
     no_one true n e = absurd (omega arith)
 
 -- what an approval shows
-pub record IsApprovable (ops : ℕ) (books : BooksView) (a : ℕ) : Type 0 where
+pub record IsApprovable (allowed : RestartCaps) (books : BooksView) (a : ℕ) : Type 0 where
   pub asked : is_asked (state_of books a) ≡ true
-  pub few : leaving_count books + 1 ≤ ops
+  pub few : leaving_count books + 1 ≤ allowed.ops
   pub uncapped : (k : ℕ) → k < length books.shards → (shard_at books.shards k).row.cap ≡ 0
       → names (shard_at books.shards k).stand a ≡ false
   pub groups : (g : ℕ) → g < length books.groups → is_full books a g ≡ false
   pub domain :
       domain_count is_leaving books (domain_of books.servers a) + 1 ≤ domain_down books (domain_of books.servers a)
 
-pub IsApprovable-approvable : (ops : ℕ) (books : BooksView) (a : ℕ) → approvable ops books a ≡ Ok tt
-    → IsApprovable ops books a
-IsApprovable-approvable ops books a e =
+pub IsApprovable-approvable : (allowed : RestartCaps) (books : BooksView) (a : ℕ) → approvable allowed books a ≡ Ok tt
+    → IsApprovable allowed books a
+IsApprovable-approvable allowed books a e =
     let d = domain_of books.servers a in
-    let t = five (is_asked (state_of books a)) (nat_lt ops (leaving_count books + 1)) (capped_shard books a)
+    let t = five (is_asked (state_of books a)) (nat_lt allowed.ops (leaving_count books + 1)) (capped_shard books a)
     (full_group books a)
     (nat_lt (domain_down books d) (domain_count is_leaving books d + 1)) d e in
     record {
       asked = t.0;
-      few = ltb-false ops (leaving_count books + 1) t.1.0;
+      few = ltb-false allowed.ops (leaving_count books + 1) t.1.0;
       uncapped = λ k h cap. unnamed (eqb (shard_at books.shards k).row.cap 0) (names (shard_at books.shards k).stand a)
           (eq-eqb _ _ cap)
           (fails_everywhere (λ shard. eqb shard.row.cap 0 && names shard.stand a) books.shards k no_shard t.1.1.0 h);

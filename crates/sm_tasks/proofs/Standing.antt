@@ -20,9 +20,9 @@ use Rattle.sm_ranges.specs.Stand.{AllNamed, names, other_of, owner_of, is_paused
 use Rattle.sm_place.specs.ServerState.{is_leaving, is_away, is_stopped}
 use Rattle.sm_place.specs.lemmas.Changed.{length-with_stand, shard_at-other, shard_at-same}
 use Rattle.sm_place.specs.lemmas.Named.{AllNamed-at, names_one-found, names_one-named, names-owner}
-use Rattle.sm_tasks.specs.Caps.{MeetsCaps, TakesNoneLeaving, names_away, names_stopped}
+use Rattle.sm_tasks.specs.Caps.{MeetsCaps, RestartCaps, TakesNoneLeaving, names_away, names_stopped}
 use Rattle.sm_tasks.specs.Groups.{group_count, is_in_group}
-use Rattle.sm_tasks.specs.Domains.{domain_count, domain_down}
+use Rattle.sm_tasks.specs.Domains.{domain_count}
 use Rattle.sm_tasks.proofs.Zipped.{domain_count-none}
 use Rattle.sm_tasks.proofs.Restarts.{cond_within, false_within, is_away-stopped, is_leaving-away}
 
@@ -40,9 +40,9 @@ of_vacant : (test : Stand → Bool) (g : ℕ) (shard : Shard) → test Vacant �
     → is_in_group test g shard ≡ false
 of_vacant test g shard fails e = and_right (eqb shard.row.group g) (test shard.stand) (ap test e ∙ fails)
 
-pub MeetsCaps-all_up : (ops : ℕ) (books : BooksView) → All (λ state. state ≡ Up) books.states
-    → All (λ shard. shard.stand ≡ Vacant) books.shards → MeetsCaps ops books
-MeetsCaps-all_up ops books up all = record {
+pub MeetsCaps-all_up : (allowed : RestartCaps) (books : BooksView) → All (λ state. state ≡ Up) books.states
+    → All (λ shard. shard.stand ≡ Vacant) books.shards → MeetsCaps allowed books
+MeetsCaps-all_up allowed books up all = record {
   servers = let none : count_by is_away books.states ≤ 0 =
       none_counted is_away books.states (λ k d h. ap is_away (up k d h)) in omega arith;
   shards = λ k h cap. ap (names_away books) (All-get_or (λ shard. shard.stand ≡ Vacant) books.shards k no_shard h all);
@@ -62,10 +62,11 @@ MeetsCaps-all_up ops books up all = record {
 }
 
 pub MeetsCaps-new :
-    (ops : ℕ) (servers : List ServerRow) (groups : List GroupRow) (shards : List ShardRow) (domains : List DomainRow)
-    → MeetsCaps ops (new_books servers groups shards domains)
-MeetsCaps-new ops servers groups shards domains =
-    MeetsCaps-all_up ops (new_books servers groups shards domains)
+    (allowed : RestartCaps) (servers : List ServerRow) (groups : List GroupRow) (shards : List ShardRow)
+    (domains : List DomainRow)
+    → MeetsCaps allowed (new_books servers groups shards domains)
+MeetsCaps-new allowed servers groups shards domains =
+    MeetsCaps-all_up allowed (new_books servers groups shards domains)
     (All-replicate (λ state. state ≡ Up) (length servers) Up refl)
     (All-map (λ shard. shard.stand ≡ Vacant) vacant_shard shards (λ k d h. refl))
 
@@ -105,10 +106,10 @@ of_within p g shard stand h e = both (eqb shard.row.group g) (p stand) (p shard.
     both true v w h e = h e
     both false v w h e = e
 
-pub MeetsCaps-taken : (ops : ℕ) (books : BooksView) (k : ℕ) (stand : Stand) → k < length books.shards
+pub MeetsCaps-taken : (allowed : RestartCaps) (books : BooksView) (k : ℕ) (stand : Stand) → k < length books.shards
     → TakesNoneLeaving books (shard_at books.shards k).stand stand
-    → MeetsCaps ops books → MeetsCaps ops (record books { shards = with_stand books.shards k stand })
-MeetsCaps-taken ops books k stand inside takes caps =
+    → MeetsCaps allowed books → MeetsCaps allowed (record books { shards = with_stand books.shards k stand })
+MeetsCaps-taken allowed books k stand inside takes caps =
     let s = shard_at books.shards k in
     let away = old_away books s.stand stand takes in
     record {
@@ -150,29 +151,31 @@ MeetsCaps-taken ops books k stand inside takes caps =
     }
 
 -- a server that stays serves the shard
-pub MeetsCaps-serving : (ops : ℕ) (books : BooksView) (k a : ℕ) → k < length books.shards
+pub MeetsCaps-serving : (allowed : RestartCaps) (books : BooksView) (k a : ℕ) → k < length books.shards
     → is_leaving (state_of books a) ≡ false
-    → MeetsCaps ops books → MeetsCaps ops (record books { shards = with_stand books.shards k (Serving a) })
-MeetsCaps-serving ops books k a inside stays caps = MeetsCaps-taken ops books k (Serving a) inside (inl stays, tt) caps
+    → MeetsCaps allowed books → MeetsCaps allowed (record books { shards = with_stand books.shards k (Serving a) })
+MeetsCaps-serving allowed books k a inside stays caps =
+    MeetsCaps-taken allowed books k (Serving a) inside (inl stays, tt) caps
 
 -- a server that stays makes ready beside the owner
-pub MeetsCaps-prepared : (ops : ℕ) (books : BooksView) (k owner a : ℕ) → k < length books.shards
+pub MeetsCaps-prepared : (allowed : RestartCaps) (books : BooksView) (k owner a : ℕ) → k < length books.shards
     → (shard_at books.shards k).stand ≡ Serving owner → is_leaving (state_of books a) ≡ false
-    → MeetsCaps ops books → MeetsCaps ops (record books { shards = with_stand books.shards k (Prepared owner a) })
-MeetsCaps-prepared ops books k owner a inside serves stays caps =
+    → MeetsCaps allowed books
+    → MeetsCaps allowed (record books { shards = with_stand books.shards k (Prepared owner a) })
+MeetsCaps-prepared allowed books k owner a inside serves stays caps =
     let unpaused : is_paused (shard_at books.shards k).stand ≡ false = ap is_paused serves in
-    MeetsCaps-taken ops books k (Prepared owner a) inside
+    MeetsCaps-taken allowed books k (Prepared owner a) inside
     (inr (names-owner (shard_at books.shards k).stand owner (ap owner_of serves), λ held. absurd (cc)), inl stays) caps
 
 -- a shard that isn't paused names no further server
-pub MeetsCaps-fewer : (ops : ℕ) (books : BooksView) (k : ℕ) (stand : Stand) → k < length books.shards
+pub MeetsCaps-fewer : (allowed : RestartCaps) (books : BooksView) (k : ℕ) (stand : Stand) → k < length books.shards
     → is_paused (shard_at books.shards k).stand ≡ false
     → AllNamed (λ a. names (shard_at books.shards k).stand a ≡ true) stand
-    → MeetsCaps ops books → MeetsCaps ops (record books { shards = with_stand books.shards k stand })
-MeetsCaps-fewer ops books k stand inside unpaused named caps =
+    → MeetsCaps allowed books → MeetsCaps allowed (record books { shards = with_stand books.shards k stand })
+MeetsCaps-fewer allowed books k stand inside unpaused named caps =
     let old = (shard_at books.shards k).stand in
     let held : is_paused old ≡ true → is_paused stand ≡ true = λ h. absurd (cc) in
-    MeetsCaps-taken ops books k stand inside (
+    MeetsCaps-taken allowed books k stand inside (
       IfSome_then (owner_of stand) named.0 (λ a n. inr (n, held)),
       IfSome_then (other_of stand) named.1 (λ a n. inr (n, held)),
     ) caps

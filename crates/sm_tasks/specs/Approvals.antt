@@ -1,6 +1,6 @@
 -- When a step of a restart succeeds, or the first fault that applies, by counts over all servers and shards.
 use Rattle.std.specs.Prelude.{ℕ, Bool, Option, Some, None, Result, Ok, Err, ◌+◌, ◌==◌, ◌&&◌, ◌||◌, not}
-use Rattle.std.specs.Prelude.{nat_lt, if◌then◌else◌, length, count_by, position}
+use Rattle.std.specs.Prelude.{nat_lt, if◌then◌else◌, length, count_by, position, List, codes}
 use Rattle.std.specs.List.{range_with_len}
 use Rattle.std.specs.Option.{option_map, option_or}
 use Rattle.sm_ranges.specs.declared.stand.Stand.{Stand}
@@ -11,6 +11,7 @@ use Rattle.sm_tasks.specs.declared.restart_fault.RestartFault.{RestartFault}
 use Rattle.sm_tasks.specs.declared.restart_fault.RestartFault.TheVariants.{NotUp, NotAsked, GlobalCap, ShardCap}
 use Rattle.sm_tasks.specs.declared.restart_fault.RestartFault.TheVariants.{GroupCap, DomainCap, NotApproved}
 use Rattle.sm_tasks.specs.declared.restart_fault.RestartFault.TheVariants.{StillServing, AlreadyUp, AlreadyFailed}
+use Rattle.sm_tasks.specs.Caps.{RestartCaps}
 use Rattle.sm_tasks.specs.Groups.{group_count, down_of}
 use Rattle.sm_tasks.specs.Domains.{domain_count, domain_down}
 
@@ -56,10 +57,10 @@ full_domain books a =
     if nat_lt (domain_down books d) (domain_count is_leaving books d + 1) then Some d else None
 
 -- whether the restart of the server is approved, where at most `ops` servers may be leaving
-abbrev pub approvable : ℕ → BooksView → ℕ → Result (Unit {0}) RestartFault
-approvable ops books a =
+abbrev pub approvable : RestartCaps → BooksView → ℕ → Result (Unit {0}) RestartFault
+approvable caps books a =
     if not (is_asked (state_of books a)) then Err NotAsked
-    else (if nat_lt ops (leaving_count books + 1) then Err GlobalCap
+    else (if nat_lt caps.ops (leaving_count books + 1) then Err GlobalCap
     else ok_unless (option_or (option_map ShardCap (capped_shard books a))
     (option_or (option_map GroupCap (full_group books a)) (option_map DomainCap (full_domain books a)))))
 
@@ -80,3 +81,24 @@ returnable books a = if is_up (state_of books a) then Err AlreadyUp else Ok tt
 -- whether the server may fail
 abbrev pub failable : BooksView → ℕ → Result (Unit {0}) RestartFault
 failable books a = if is_failed (state_of books a) then Err AlreadyFailed else Ok tt
+
+-- the name of the refusal of a step
+abbrev pub restart_fault_name : RestartFault → List ℕ
+restart_fault_name NotUp = codes "NotUp"
+restart_fault_name NotAsked = codes "NotAsked"
+restart_fault_name GlobalCap = codes "GlobalCap"
+restart_fault_name (ShardCap shard) = codes "ShardCap"
+restart_fault_name (GroupCap group) = codes "GroupCap"
+restart_fault_name (DomainCap domain) = codes "DomainCap"
+restart_fault_name NotApproved = codes "NotApproved"
+restart_fault_name (StillServing shard) = codes "StillServing"
+restart_fault_name AlreadyUp = codes "AlreadyUp"
+restart_fault_name AlreadyFailed = codes "AlreadyFailed"
+
+-- the number of the shard, group or domain at which it came
+abbrev pub restart_fault_number : RestartFault → Option ℕ
+restart_fault_number (ShardCap shard) = Some shard
+restart_fault_number (GroupCap group) = Some group
+restart_fault_number (DomainCap domain) = Some domain
+restart_fault_number (StillServing shard) = Some shard
+restart_fault_number fault = None

@@ -15,11 +15,15 @@ names_away books stand = names_one (λ b. is_away (state_of books b)) stand
 abbrev pub names_stopped : BooksView → Stand → Bool
 names_stopped books stand = names_one (λ b. is_stopped (state_of books b)) stand
 
+-- the caps that are numbers: how many servers may be leaving for an approval
+pub record RestartCaps : Type 0 where
+  pub ops : ℕ
+
 -- what approved restarts keep to: at most `ops` servers are away, no shard of cap 0 names one of them, of each group at
 -- most `down` shards name one, each shard that names a stopped server is paused, and of each domain at most `down`
 -- servers are away
-pub record MeetsCaps (ops : ℕ) (books : BooksView) : Type 0 where
-  pub servers : count_by is_away books.states ≤ ops
+pub record MeetsCaps (caps : RestartCaps) (books : BooksView) : Type 0 where
+  pub servers : count_by is_away books.states ≤ caps.ops
   pub shards : (k : ℕ) → k < length books.shards
       → (shard_at books.shards k).row.cap ≡ 0 → names_away books (shard_at books.shards k).stand ≡ false
   pub groups : (g : ℕ) → g < length books.groups → group_count (names_away books) books.shards g ≤ down_of books g

@@ -12,52 +12,53 @@ ghost use Rattle.sm_place.specs.Books.{BooksView, IsKnown, new_books, shard_at, 
 ghost use Rattle.sm_ranges.specs.Stand.{AllNamed, names, is_paused};
 ghost use Rattle.sm_place.specs.ServerState.{is_leaving};
 ghost use Rattle.sm_tasks.specs.Approvals.{approvable, stoppable};
-ghost use Rattle.sm_tasks.specs.Caps.{MeetsCaps, TakesNoneLeaving};
+ghost use Rattle.sm_tasks.specs.Caps.{MeetsCaps, RestartCaps, TakesNoneLeaving};
 
 /// Books whose servers are all up and whose shards are all vacant meet the caps, and so do new books.
 pub fn all_up_meets_caps()
-    ensures all_up { (ops : ℕ) (books : BooksView)
+    ensures all_up { (caps : RestartCaps) (books : BooksView)
         → All (λ state. state ≡ Up) books.states → All (λ shard. shard.stand ≡ Vacant) books.shards
-        → MeetsCaps ops books }
-    ensures new { (ops : ℕ) (servers : List ServerRow) (groups : List GroupRow) (shards : List ShardRow)
+        → MeetsCaps caps books }
+    ensures new { (caps : RestartCaps) (servers : List ServerRow) (groups : List GroupRow) (shards : List ShardRow)
         (domains : List DomainRow)
-        → MeetsCaps ops (new_books servers groups shards domains) }
+        → MeetsCaps caps (new_books servers groups shards domains) }
 {}
 
 /// Each step of a restart that is made keeps the caps. Coming back and failing keep them whatever the state was.
 pub fn steps_keep_caps()
-    ensures ask { (ops : ℕ) (books : BooksView) (a : ℕ)
+    ensures ask { (caps : RestartCaps) (books : BooksView) (a : ℕ)
         → length books.states ≡ length books.servers → IsKnown books.servers a
-        → MeetsCaps ops books → MeetsCaps ops (with_state books a Asked) }
-    ensures approve { (ops : ℕ) (books : BooksView) (a : ℕ)
+        → MeetsCaps caps books → MeetsCaps caps (with_state books a Asked) }
+    ensures approve { (caps : RestartCaps) (books : BooksView) (a : ℕ)
         → length books.states ≡ length books.servers → IsKnown books.servers a
-        → approvable ops books a ≡ Ok tt → MeetsCaps ops books → MeetsCaps ops (with_state books a Approved) }
-    ensures stopped { (ops : ℕ) (books : BooksView) (a : ℕ)
+        → approvable caps books a ≡ Ok tt → MeetsCaps caps books → MeetsCaps caps (with_state books a Approved) }
+    ensures stopped { (caps : RestartCaps) (books : BooksView) (a : ℕ)
         → length books.states ≡ length books.servers → IsKnown books.servers a
-        → stoppable books a ≡ Ok tt → MeetsCaps ops books → MeetsCaps ops (with_state books a Stopped) }
-    ensures back { (ops : ℕ) (books : BooksView) (a : ℕ)
+        → stoppable books a ≡ Ok tt → MeetsCaps caps books → MeetsCaps caps (with_state books a Stopped) }
+    ensures back { (caps : RestartCaps) (books : BooksView) (a : ℕ)
         → length books.states ≡ length books.servers → IsKnown books.servers a
-        → MeetsCaps ops books → MeetsCaps ops (with_state books a Up) }
-    ensures fail { (ops : ℕ) (books : BooksView) (a : ℕ)
+        → MeetsCaps caps books → MeetsCaps caps (with_state books a Up) }
+    ensures fail { (caps : RestartCaps) (books : BooksView) (a : ℕ)
         → length books.states ≡ length books.servers → IsKnown books.servers a
-        → MeetsCaps ops books → MeetsCaps ops (with_state books a Failed) }
+        → MeetsCaps caps books → MeetsCaps caps (with_state books a Failed) }
 {}
 
 /// A new stand of a shard keeps the caps where it takes on no server that is leaving: so where a server that isn't
 /// leaving comes to serve the shard, or is prepared beside the owner, and where a shard that is not paused names no
 /// further server. A shard that is paused and keeps naming a server that is leaving has to stay paused.
 pub fn stands_keep_caps()
-    ensures taken { (ops : ℕ) (books : BooksView) (k : ℕ) (stand : Stand) → k < length books.shards
+    ensures taken { (caps : RestartCaps) (books : BooksView) (k : ℕ) (stand : Stand) → k < length books.shards
         → TakesNoneLeaving books (shard_at books.shards k).stand stand
-        → MeetsCaps ops books → MeetsCaps ops (record books { shards = with_stand books.shards k stand }) }
-    ensures serving { (ops : ℕ) (books : BooksView) (k a : ℕ) → k < length books.shards
+        → MeetsCaps caps books → MeetsCaps caps (record books { shards = with_stand books.shards k stand }) }
+    ensures serving { (caps : RestartCaps) (books : BooksView) (k a : ℕ) → k < length books.shards
         → is_leaving (state_of books a) ≡ false
-        → MeetsCaps ops books → MeetsCaps ops (record books { shards = with_stand books.shards k (Serving a) }) }
-    ensures prepared { (ops : ℕ) (books : BooksView) (k owner a : ℕ) → k < length books.shards
+        → MeetsCaps caps books → MeetsCaps caps (record books { shards = with_stand books.shards k (Serving a) }) }
+    ensures prepared { (caps : RestartCaps) (books : BooksView) (k owner a : ℕ) → k < length books.shards
         → (shard_at books.shards k).stand ≡ Serving owner → is_leaving (state_of books a) ≡ false
-        → MeetsCaps ops books → MeetsCaps ops (record books { shards = with_stand books.shards k (Prepared owner a) }) }
-    ensures fewer { (ops : ℕ) (books : BooksView) (k : ℕ) (stand : Stand) → k < length books.shards
+        → MeetsCaps caps books
+        → MeetsCaps caps (record books { shards = with_stand books.shards k (Prepared owner a) }) }
+    ensures fewer { (caps : RestartCaps) (books : BooksView) (k : ℕ) (stand : Stand) → k < length books.shards
         → is_paused (shard_at books.shards k).stand ≡ false
         → AllNamed (λ a. names (shard_at books.shards k).stand a ≡ true) stand
-        → MeetsCaps ops books → MeetsCaps ops (record books { shards = with_stand books.shards k stand }) }
+        → MeetsCaps caps books → MeetsCaps caps (record books { shards = with_stand books.shards k stand }) }
 {}

@@ -1,3 +1,6 @@
+ghost use Rattle.std.specs.Prelude.{◌≡◌};
+ghost use Rattle.sm_tasks.specs.Approvals.{restart_fault_name, restart_fault_number};
+
 use sm_ranges::ShardId;
 use thiserror::Error;
 
@@ -35,4 +38,35 @@ pub enum RestartFault {
     /// The server fails, and had Failed.
     #[error("the server failed already")]
     AlreadyFailed,
+}
+
+impl RestartFault {
+    /// Its name, as scripts and other languages have it.
+    pub fn name(self) -> &'static str
+        ensures { result.now ≡ restart_fault_name self }
+    {
+        match self {
+            RestartFault::NotUp => "NotUp",
+            RestartFault::NotAsked => "NotAsked",
+            RestartFault::GlobalCap => "GlobalCap",
+            RestartFault::ShardCap(_) => "ShardCap",
+            RestartFault::GroupCap(_) => "GroupCap",
+            RestartFault::DomainCap(_) => "DomainCap",
+            RestartFault::NotApproved => "NotApproved",
+            RestartFault::StillServing(_) => "StillServing",
+            RestartFault::AlreadyUp => "AlreadyUp",
+            RestartFault::AlreadyFailed => "AlreadyFailed",
+        }
+    }
+
+    /// The number of the shard, group or domain at which the step is refused, where it is at one.
+    pub fn number(self) -> Option<u16>
+        ensures { result ≡ restart_fault_number self }
+    {
+        match self {
+            RestartFault::ShardCap(k) | RestartFault::StillServing(k) => Some(k.number()),
+            RestartFault::GroupCap(n) | RestartFault::DomainCap(n) => Some(n),
+            _ => None,
+        }
+    }
 }

@@ -21,23 +21,24 @@ pub struct Tasks {
 }
 
 impl Model for Tasks {
-    ghost use Rattle.std.specs.Prelude.{ℕ, ◌≤◌};
+    ghost use Rattle.std.specs.Prelude.{◌≤◌};
     ghost use Rattle.sm_ranges.specs.declared.limits.TheConstants.{MAX_SERVER};
+    ghost use Rattle.sm_tasks.specs.Caps.{RestartCaps};
 
-    ghost Value = { ℕ };
+    ghost Value = { RestartCaps };
 
-    ghost view = { λ tasks. tasks.ops };
+    ghost view = { λ tasks. record { ops = tasks.ops } };
 
     ghost invariant = { λ tasks. tasks.ops ≤ MAX_SERVER };
 
-    ghost inverse = { λ ops. record { ops = ops } };
+    ghost inverse = { λ caps. record { ops = caps.ops } };
 }
 
 impl Tasks {
     /// Steps where at most `ops` servers, 0 to 4,095, may be approved to restart, stopped or failed for an approval.
     pub fn new(ops: u16) -> Tasks
         requires { ops ≤ MAX_SERVER }
-        ensures { result ≡ ops }
+        ensures { result.ops ≡ ops }
     {
         Tasks { ops }
     }

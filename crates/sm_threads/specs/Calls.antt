@@ -14,8 +14,8 @@ use Rattle.sm_cluster.specs.Clusters.{cluster_commanded}
 use Rattle.sm_cluster.specs.declared.call_refused.CallFault.{CallFault}
 use Rattle.sm_cluster.specs.declared.hold_fault.HoldFault.{HoldFault}
 use Rattle.sm_control.specs.Controls.{Commanded}
-use Rattle.sm_control.specs.declared.control_fault.ControlFault.{ControlFault}
 use Rattle.sm_desk.specs.declared.command.Command.{Command}
+use Rattle.sm_desk.specs.declared.command.CommandFault.{CommandFault}
 use Rattle.sm_desk.specs.Desk.{desk_fault, is_known}
 use Rattle.sm_session.specs.Service.{counter_text}
 use Rattle.sm_ownership.specs.Routes.{routes_of}
@@ -40,7 +40,7 @@ use Rattle.sm_service.specs.declared.reply.Reply.{Reply}
 use Rattle.sm_service.specs.declared.request.Request.{Request}
 use Rattle.sm_threads.specs.Loads.{IsLoadOf, IsVerdictOn}
 use Rattle.sm_cluster.specs.declared.loading.LoadReport.{LoadReport}
-use Rattle.sm_threads.specs.Refusals.{call_refused, command_refused, hold_refused, publish_refused}
+use Rattle.sm_threads.specs.Refusals.{call_refused, hold_refused, publish_refused}
 use Rattle.sm_threads.specs.Sessions.{SessionValue}
 
 -- a session whose client is now this
@@ -126,11 +126,11 @@ TellsClient before after =
 -- a command was made or refused as the cluster's control says
 abbrev pub WasCommanded : SessionValue → Command → LineAnswer → SessionValue → Type 0
 WasCommanded before command answer after =
-    (made : Result (Unit {0}) ControlFault)
+    (made : Result (Unit {0}) CommandFault)
     × Commanded
     (desk_fault before.cluster.control.desk command) before.cluster.control after.cluster.control command made
     × TellsMore (cluster_commanded before.cluster after.cluster.control) after.cluster
-    × (may_answer (λ fault. Some (command_refused fault)) made ≡ Some answer) × TellsClient before after
+    × (may_answer (λ fault. Some (refused.Command fault)) made ≡ Some answer) × TellsClient before after
 
 -- a hold was made or refused as the cluster says, and its end
 abbrev pub WasHeld : SessionValue → ℕ → ℕ → LineAnswer → SessionValue → Type 0

@@ -6,8 +6,6 @@ use Rattle.sm_cluster.specs.declared.hold_fault.HoldFault.{HoldFault}
 use Rattle.sm_cluster.specs.declared.hold_fault.HoldFault.TheVariants as hold
 use Rattle.sm_cluster.specs.declared.start_fault.StartFault.{StartFault}
 use Rattle.sm_cluster.specs.declared.start_fault.StartFault.TheVariants as start
-use Rattle.sm_control.specs.declared.control_fault.ControlFault.{ControlFault}
-use Rattle.sm_control.specs.declared.control_fault.ControlFault.TheVariants as control
 use Rattle.sm_ownership.specs.declared.route_fault.RouteFault.{RouteFault}
 use Rattle.sm_ownership.specs.declared.route_fault.RouteFault.TheVariants as route
 use Rattle.sm_rule.specs.declared.admit_refusal.AdmitRefusal.{AdmitRefusal}
@@ -24,11 +22,6 @@ abbrev pub begin_fault : StartFault → BeginFault
 begin_fault start.TooManyWorkers = begin.Settings TooManyWorkers
 begin_fault start.NoMemory = begin.NoMemory
 begin_fault start.NoThread = begin.NoThread
-
--- the refusal of a command
-abbrev pub command_refused : ControlFault → Refused
-command_refused (control.Command fault) = refused.Command fault
-command_refused (control.Raced read found) = refused.Raced
 
 -- the refusal of an admission
 abbrev pub admit_refused : AdmitRefusal → Refused

@@ -1,12 +1,13 @@
 //! The answers to calls that a cluster refused.
 ghost use Rattle.std.specs.Prelude.{◌≡◌, IfOk, OnErr, None, Some};
 ghost use Rattle.std.specs.Option.{option_map};
+ghost use Rattle.sm_script.specs.declared.refused.Refused.TheVariants.{Command as CommandRefused};
 ghost use Rattle.sm_threads.specs.Calls.{may_answer};
-ghost use Rattle.sm_threads.specs.Refusals.{admit_refused, begin_fault, call_refused, command_refused};
+ghost use Rattle.sm_threads.specs.Refusals.{admit_refused, begin_fault, call_refused};
 ghost use Rattle.sm_threads.specs.Refusals.{hold_refused, publish_refused};
 
 use sm_cluster::{CallFault, HoldFault, StartFault};
-use sm_control::ControlFault;
+use sm_desk::CommandFault;
 use sm_ownership::route::Route;
 use sm_ownership::route_fault::RouteFault;
 use sm_rule::admit_refusal::AdmitRefusal;
@@ -28,13 +29,12 @@ pub(crate) fn begin_fault(fault: StartFault) -> BeginFault
 }
 
 /// The answer to a command.
-pub(crate) fn command_answer(made: Result<(), ControlFault>) -> LineAnswer
-    ensures { may_answer (λ fault. Some (command_refused fault)) made ≡ Some result }
+pub(crate) fn command_answer(made: Result<(), CommandFault>) -> LineAnswer
+    ensures { may_answer (λ fault. Some (CommandRefused fault)) made ≡ Some result }
 {
     match made {
         Ok(()) => LineAnswer::Made,
-        Err(ControlFault::Command(fault)) => LineAnswer::Refused(Refused::Command(fault)),
-        Err(ControlFault::Raced { .. }) => LineAnswer::Refused(Refused::Raced),
+        Err(fault) => LineAnswer::Refused(Refused::Command(fault)),
     }
 }
 

@@ -4,7 +4,7 @@ ghost use Rattle.std.specs.Prelude.{◌≡◌, ◌<◌};
 use crate::holding::Holding;
 use crate::running::{Running, ask, bodies_of, get_of, idle, inc_of, kept_of, setup_of, shard};
 use sm_cluster::{CallFault, CallRefused, Client, Cluster, HoldFault, Open, StartFault};
-use sm_control::{ControlFault, DrainFault};
+use sm_control::DrainFault;
 use sm_desk::{Command, CommandFault};
 use sm_ownership::{AdmitFault, Change, Route, RouteFault};
 use sm_place::Move;
@@ -121,7 +121,7 @@ fn shut_both<R: Wait + Abort>(rt: &R, alloc: Global, running: &mut Running) {
             Command::Fail(one),
         ],
     );
-    let again = Err(ControlFault::Command(CommandFault::Restart(RestartFault::AlreadyFailed)));
+    let again = Err(CommandFault::Restart(RestartFault::AlreadyFailed));
     assert!(rt; running.cluster.command(Command::Fail(one)) == again);
     let shut = Some(CallFault::Unreachable);
     assert!(rt; refusal(rt, alloc, &mut running.first, b"a") == shut);

@@ -3,7 +3,7 @@ ghost use Rattle.std.specs.Prelude.{◌<◌};
 
 use crate::common::{idle, new_running, shard};
 use crate::running::{Answer, Running};
-use sm_control::{ControlFault, DrainFault};
+use sm_control::DrainFault;
 use sm_desk::{Command, CommandFault};
 use sm_ownership::change::Change;
 use sm_ownership::change_fault::ChangeFault;
@@ -18,7 +18,7 @@ use std::alloc::Global;
 use std::process::Abort;
 
 fn refused(fault: CommandFault) -> Answer {
-    Err(ControlFault::Command(fault))
+    Err(fault)
 }
 
 /// Gives the commands in turn, each of which has its answer.

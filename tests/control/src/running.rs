@@ -3,8 +3,8 @@ ghost use Rattle.std.specs.Prelude.{◌≡◌, ◌≤◌, [], All, length};
 ghost use Rattle.sm_ranges.specs.declared.stand.Stand.TheVariants.{Vacant};
 
 use crate::common::shard;
-use sm_control::{Control, ControlFault, DrainFault};
-use sm_desk::{Command, Desk};
+use sm_control::{Control, DrainFault};
+use sm_desk::{Command, CommandFault, Desk};
 use sm_ownership::mode::Mode;
 use sm_ownership::record::Record;
 use sm_ownership::route::Route;
@@ -17,7 +17,7 @@ use std::alloc::Global;
 use std::process::Abort;
 
 /// What a control answers to a command.
-pub(crate) type Answer = Result<(), ControlFault>;
+pub(crate) type Answer = Result<(), CommandFault>;
 
 /// A board of one shard or more, with its control.
 #[derive(Drop)]

@@ -4,7 +4,7 @@ ghost use Rattle.std.specs.Prelude.{◌≡◌, ◌<◌, ◌≤◌, ◌^◌, None
 
 use crate::common::{idle, new_running, shard};
 use crate::running::Running;
-use sm_control::{Control, ControlFault};
+use sm_control::Control;
 use sm_desk::{Command, CommandFault};
 use sm_ownership::change::Change;
 use sm_ownership::change_fault::ChangeFault;
@@ -152,7 +152,7 @@ fn server_after(turn: u32) -> ServerId {
 }
 
 // Not made, where the cause is another than that a pass was first.
-fn other_cause(fault: ControlFault) -> Option<bool> {
+fn other_cause(fault: CommandFault) -> Option<bool> {
     if is_overtaken(fault) {
         None
     } else {
@@ -161,10 +161,10 @@ fn other_cause(fault: ControlFault) -> Option<bool> {
 }
 
 // A pass was first: the record read is admitted, or was idle and has a greater generation now.
-fn is_overtaken(fault: ControlFault) -> bool {
+fn is_overtaken(fault: CommandFault) -> bool {
     match fault {
-        ControlFault::Command(CommandFault::Change(ChangeFault::Busy(read))) => read.admitted,
-        ControlFault::Raced { read, found } => !read.admitted && read.generation < found.generation,
+        CommandFault::Change(ChangeFault::Busy(read)) => read.admitted,
+        CommandFault::Raced { read, found } => !read.admitted && read.generation < found.generation,
         _ => false,
     }
 }

@@ -4,7 +4,7 @@ ghost use Rattle.std.specs.Prelude.{◌≡◌, None, IsSome};
 
 use crate::running::{Running, SHARDS, new_running};
 use crate::server::note_of;
-use sm_control::{Control, ControlFault};
+use sm_control::Control;
 use sm_desk::{Command, CommandFault};
 use sm_envelope::Envelope;
 use sm_ownership::change::Change;
@@ -201,10 +201,10 @@ fn rows_of<S: Service, R: Abort>(rt: &R, steward: Steward<S>) -> Vec<(Record, Op
 }
 
 // Not made, where the cause is another than that a pass was first.
-fn other_cause(fault: ControlFault) -> Option<bool> {
+fn other_cause(fault: CommandFault) -> Option<bool> {
     match fault {
-        ControlFault::Command(CommandFault::Change(ChangeFault::Busy(_))) => None,
-        ControlFault::Raced { .. } => None,
+        CommandFault::Change(ChangeFault::Busy(_)) => None,
+        CommandFault::Raced { .. } => None,
         _ => Some(false),
     }
 }

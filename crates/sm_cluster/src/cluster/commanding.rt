@@ -11,8 +11,8 @@ ghost use Rattle.sm_cluster.specs.Publications.{Published};
 use super::Cluster;
 use super::telling::report;
 use sm_body::service::Service;
-use sm_control::{ControlFault, DrainFault};
-use sm_desk::{Command, Desk};
+use sm_control::DrainFault;
+use sm_desk::{Command, CommandFault, Desk};
 use sm_ownership::route::Route;
 use sm_ownership::route_fault::RouteFault;
 use sm_place::Plan;
@@ -24,7 +24,7 @@ use std::sync::Wait;
 impl<S: Service> Cluster<S> {
     /// Makes the command, or answers the first fault that applies. A server's door shuts where it failed or was
     /// stopped, and opens where it is back. The cluster then tells all that the control has seen.
-    pub fn command(&mut self, command: Command) -> Result<(), ControlFault>
+    pub fn command(&mut self, command: Command) -> Result<(), CommandFault>
         ensures answer { Commanded
             (desk_fault self.old.control.desk command) self.old.control self.new.control command result }
         ensures board { self.new.control.chair.board ≡ self.old.control.chair.board }

@@ -5,19 +5,20 @@ ghost use Rattle.sm_ownership.specs.declared.change.Change.TheVariants.{AddShard
 ghost use Rattle.sm_ownership.specs.declared.change.Change.TheVariants.{Reassign};
 ghost use Rattle.sm_desk.specs.declared.command.Command.TheVariants.{Change as ChangeOf};
 ghost use Rattle.sm_desk.specs.Desk.{desk_fault};
-ghost use Rattle.sm_control.specs.Controls.{Commanded};
+ghost use Rattle.sm_control.specs.Controls.{Commanded, fault_of};
 
 use super::Control;
-use crate::control_fault::ControlFault;
 use sm_body::service::Service;
+use sm_desk::CommandFault;
 use sm_ownership::change::Change;
+use sm_ownership::change_fault::ChangeFault;
 use sm_ranges::server_id::ServerId;
 use sm_ranges::shard_id::ShardId;
-use sm_rule::Board;
+use sm_rule::{Board, ChangeRefusal};
 
 impl<S: Service> Control<S> {
     /// Gives a vacant shard this owner, or answers the first fault that applies.
-    pub fn assign(&mut self, board: &Board<S>, k: ShardId, a: ServerId) -> Result<(), ControlFault>
+    pub fn assign(&mut self, board: &Board<S>, k: ShardId, a: ServerId) -> Result<(), CommandFault>
         requires { self.old.chair.board ≡ board.now }
         ensures answer { let command = ChangeOf k (Assign a) in
             Commanded (desk_fault self.old.desk command) self.old self.new command result }
@@ -32,7 +33,7 @@ impl<S: Service> Control<S> {
         board: &Board<S>,
         k: ShardId,
         next: ServerId,
-    ) -> Result<(), ControlFault>
+    ) -> Result<(), CommandFault>
         requires { self.old.chair.board ≡ board.now }
         ensures answer { let command = ChangeOf k (PrepareAddShard next) in
             Commanded (desk_fault self.old.desk command) self.old self.new command result }
@@ -42,7 +43,7 @@ impl<S: Service> Control<S> {
     }
 
     /// Has the shard's owner stop executing and forward to the next owner, or answers the first fault that applies.
-    pub fn prepare_drop_shard(&mut self, board: &Board<S>, k: ShardId) -> Result<(), ControlFault>
+    pub fn prepare_drop_shard(&mut self, board: &Board<S>, k: ShardId) -> Result<(), CommandFault>
         requires { self.old.chair.board ≡ board.now }
         ensures answer { let command = ChangeOf k PrepareDropShard in
             Commanded (desk_fault self.old.desk command) self.old self.new command result }
@@ -52,7 +53,7 @@ impl<S: Service> Control<S> {
     }
 
     /// Makes the next owner the owner, to whom the previous one forwards, or answers the first fault that applies.
-    pub fn add_shard(&mut self, board: &Board<S>, k: ShardId) -> Result<(), ControlFault>
+    pub fn add_shard(&mut self, board: &Board<S>, k: ShardId) -> Result<(), CommandFault>
         requires { self.old.chair.board ≡ board.now }
         ensures answer { let command = ChangeOf k AddShard in
             Commanded (desk_fault self.old.desk command) self.old self.new command result }
@@ -62,7 +63,7 @@ impl<S: Service> Control<S> {
     }
 
     /// Ends the migration, as the previous owner drops the shard, or answers the first fault that applies.
-    pub fn drop_shard(&mut self, board: &Board<S>, k: ShardId) -> Result<(), ControlFault>
+    pub fn drop_shard(&mut self, board: &Board<S>, k: ShardId) -> Result<(), CommandFault>
         requires { self.old.chair.board ≡ board.now }
         ensures answer { let command = ChangeOf k DropShard in
             Commanded (desk_fault self.old.desk command) self.old self.new command result }
@@ -72,7 +73,7 @@ impl<S: Service> Control<S> {
     }
 
     /// Gives the migration up before `add_shard`, or answers the first fault that applies.
-    pub fn cancel(&mut self, board: &Board<S>, k: ShardId) -> Result<(), ControlFault>
+    pub fn cancel(&mut self, board: &Board<S>, k: ShardId) -> Result<(), CommandFault>
         requires { self.old.chair.board ≡ board.now }
         ensures answer { let command = ChangeOf k Cancel in
             Commanded (desk_fault self.old.desk command) self.old self.new command result }
@@ -82,7 +83,7 @@ impl<S: Service> Control<S> {
     }
 
     /// Pauses the shard, so that nobody executes its requests, or answers the first fault that applies.
-    pub fn pause(&mut self, board: &Board<S>, k: ShardId) -> Result<(), ControlFault>
+    pub fn pause(&mut self, board: &Board<S>, k: ShardId) -> Result<(), CommandFault>
         requires { self.old.chair.board ≡ board.now }
         ensures answer { let command = ChangeOf k Pause in
             Commanded (desk_fault self.old.desk command) self.old self.new command result }
@@ -92,7 +93,7 @@ impl<S: Service> Control<S> {
     }
 
     /// Has the owner of a paused shard execute again, or answers the first fault that applies.
-    pub fn resume(&mut self, board: &Board<S>, k: ShardId) -> Result<(), ControlFault>
+    pub fn resume(&mut self, board: &Board<S>, k: ShardId) -> Result<(), CommandFault>
         requires { self.old.chair.board ≡ board.now }
         ensures answer { let command = ChangeOf k Resume in
             Commanded (desk_fault self.old.desk command) self.old self.new command result }
@@ -107,7 +108,7 @@ impl<S: Service> Control<S> {
         board: &Board<S>,
         k: ShardId,
         next: ServerId,
-    ) -> Result<(), ControlFault>
+    ) -> Result<(), CommandFault>
         requires { self.old.chair.board ≡ board.now }
         ensures answer { let command = ChangeOf k (Reassign next) in
             Commanded (desk_fault self.old.desk command) self.old self.new command result }
@@ -122,20 +123,28 @@ impl<S: Service> Control<S> {
         board: &Board<S>,
         k: ShardId,
         change: Change,
-    ) -> Result<(), ControlFault>
+    ) -> Result<(), CommandFault>
         requires { self.old.chair.board ≡ board.now }
         ensures answer { let command = ChangeOf k change in
             Commanded (desk_fault self.old.desk command) self.old self.new command result }
         ensures board { self.new.chair.board ≡ self.old.chair.board }
     {
-        let stand = match self.desk.check_change(k, &change) {
-            Ok(stand) => stand,
-            Err(fault) => return Err(fault.into()),
-        };
+        let stand = self.desk.check_change(k, &change)?;
         if let Err(refusal) = board.change_to(&mut self.chair, k, &change, &stand) {
-            return Err(refusal.into());
+            return Err(fault_of(refusal));
         }
         self.desk.commit_change(k, &change, &stand);
         Ok(())
+    }
+}
+
+// The fault of a command whose change the board refuses.
+fn fault_of(refusal: ChangeRefusal) -> CommandFault
+    ensures { result ≡ fault_of refusal }
+{
+    match refusal {
+        ChangeRefusal::Spent(state) => ChangeFault::Spent(state).into(),
+        ChangeRefusal::Busy(state) => ChangeFault::Busy(state).into(),
+        ChangeRefusal::Raced { read, found } => CommandFault::Raced { read, found },
     }
 }

@@ -5,14 +5,13 @@ ghost use Rattle.sm_desk.specs.Desk.{books_commanded, desk_fault};
 ghost use Rattle.sm_control.specs.Controls.{Commanded, IsMadeOrRefused};
 
 use super::Control;
-use crate::control_fault::ControlFault;
 use sm_body::service::Service;
-use sm_desk::Command;
+use sm_desk::{Command, CommandFault};
 use sm_ranges::server_id::ServerId;
 
 impl<S: Service> Control<S> {
     /// Asks for a restart of the server, or answers the first fault that applies.
-    pub fn ask(&mut self, a: ServerId) -> Result<(), ControlFault>
+    pub fn ask(&mut self, a: ServerId) -> Result<(), CommandFault>
         ensures answer { Commanded (desk_fault self.old.desk (Ask a)) self.old self.new (Ask a) result }
         ensures board { self.new.chair.board ≡ self.old.chair.board }
     {
@@ -20,7 +19,7 @@ impl<S: Service> Control<S> {
     }
 
     /// Approves the restart of the server, or answers the first fault that applies.
-    pub fn approve(&mut self, a: ServerId) -> Result<(), ControlFault>
+    pub fn approve(&mut self, a: ServerId) -> Result<(), CommandFault>
         ensures answer { Commanded (desk_fault self.old.desk (Approve a)) self.old self.new (Approve a) result }
         ensures board { self.new.chair.board ≡ self.old.chair.board }
     {
@@ -28,7 +27,7 @@ impl<S: Service> Control<S> {
     }
 
     /// Notes that the server was stopped for its restart, or answers the first fault that applies.
-    pub fn stopped(&mut self, a: ServerId) -> Result<(), ControlFault>
+    pub fn stopped(&mut self, a: ServerId) -> Result<(), CommandFault>
         ensures answer { Commanded (desk_fault self.old.desk (Stopped a)) self.old self.new (Stopped a) result }
         ensures board { self.new.chair.board ≡ self.old.chair.board }
     {
@@ -36,7 +35,7 @@ impl<S: Service> Control<S> {
     }
 
     /// Notes that the server is up again, or answers the first fault that applies.
-    pub fn back(&mut self, a: ServerId) -> Result<(), ControlFault>
+    pub fn back(&mut self, a: ServerId) -> Result<(), CommandFault>
         ensures answer { Commanded (desk_fault self.old.desk (Back a)) self.old self.new (Back a) result }
         ensures board { self.new.chair.board ≡ self.old.chair.board }
     {
@@ -44,7 +43,7 @@ impl<S: Service> Control<S> {
     }
 
     /// Notes that the server failed, or answers the first fault that applies.
-    pub fn fail(&mut self, a: ServerId) -> Result<(), ControlFault>
+    pub fn fail(&mut self, a: ServerId) -> Result<(), CommandFault>
         ensures answer { Commanded (desk_fault self.old.desk (Fail a)) self.old self.new (Fail a) result }
         ensures board { self.new.chair.board ≡ self.old.chair.board }
     {
@@ -52,7 +51,7 @@ impl<S: Service> Control<S> {
     }
 
     // Makes a step, which leaves the stands as they are, where the desk lets it through.
-    fn step(&mut self, step: Command) -> Result<(), ControlFault>
+    fn step(&mut self, step: Command) -> Result<(), CommandFault>
         requires { (books_commanded self.old.desk.books step).shards ≡ self.old.desk.books.shards }
         ensures answer { IsMadeOrRefused (desk_fault self.old.desk step) self.old self.new step result }
         ensures board { self.new.chair.board ≡ self.old.chair.board }

@@ -11,24 +11,24 @@ use Rattle.sm_desk.proofs.laws.commands_keep_caps.Goals as goal
 pub returns : goal.returns
 returns c = keep
   where
-    keep : (desk : DeskView) (command : Command) → AreSound desk.books → MeetsCaps desk.ops desk.books
-        → desk_fault desk command ≡ None → MeetsCaps desk.ops (books_commanded desk.books command)
+    keep : (desk : DeskView) (command : Command) → AreSound desk.books → MeetsCaps desk.caps desk.books
+        → desk_fault desk command ≡ None → MeetsCaps desk.caps (books_commanded desk.books command)
     keep desk (Change k change) sound caps e =
         let through = let_through desk.books k change e in
-        c.stands_keep_caps.ensures.taken desk.ops desk.books k (stand_of desk.books k change) through.within
+        c.stands_keep_caps.ensures.taken desk.caps desk.books k (stand_of desk.books k change) through.within
         (takes_none_leaving c.fit_leaves_room.ensures.stays desk.books k change through) caps
     keep desk (Ask a) sound caps e =
         let t = restart_through desk.books a _ e in
-        c.steps_keep_caps.ensures.ask desk.ops desk.books a sound.states t.0 caps
+        c.steps_keep_caps.ensures.ask desk.caps desk.books a sound.states t.0 caps
     keep desk (Approve a) sound caps e =
         let t = restart_through desk.books a _ e in
-        c.steps_keep_caps.ensures.approve desk.ops desk.books a sound.states t.0 t.1 caps
+        c.steps_keep_caps.ensures.approve desk.caps desk.books a sound.states t.0 t.1 caps
     keep desk (Stopped a) sound caps e =
         let t = restart_through desk.books a _ e in
-        c.steps_keep_caps.ensures.stopped desk.ops desk.books a sound.states t.0 t.1 caps
+        c.steps_keep_caps.ensures.stopped desk.caps desk.books a sound.states t.0 t.1 caps
     keep desk (Back a) sound caps e =
         let t = restart_through desk.books a _ e in
-        c.steps_keep_caps.ensures.back desk.ops desk.books a sound.states t.0 caps
+        c.steps_keep_caps.ensures.back desk.caps desk.books a sound.states t.0 caps
     keep desk (Fail a) sound caps e =
         let t = restart_through desk.books a _ e in
-        c.steps_keep_caps.ensures.fail desk.ops desk.books a sound.states t.0 caps
+        c.steps_keep_caps.ensures.fail desk.caps desk.books a sound.states t.0 caps
