@@ -1,7 +1,7 @@
 use sm_desk::{Command, CommandFault, Desk};
 use sm_lead::{
-    CommandSending, CommandWrite, Judged, Follower, Leadership, LoadFault, NextStep, SendOutcome,
-    RecordRead, StoreControl,
+    CommandSending, CommandWrite, Follower, Judged, Leadership, LoadFault, NextStep, RecordRead,
+    SendOutcome, StoreControl,
 };
 use sm_ownership::{Change, Record};
 use sm_place::{Books, ServerState};
