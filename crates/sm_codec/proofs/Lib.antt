@@ -1,4 +1,5 @@
 pub mod Batches
+pub mod Controls
 pub mod FieldLemmas
 pub mod Heads
 pub mod Loop

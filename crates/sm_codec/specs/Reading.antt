@@ -10,9 +10,14 @@ use Rattle.sm_store.specs.declared.head.Head.{Head}
 use Rattle.sm_store.specs.declared.item.Item.{Item}
 use Rattle.sm_codec.specs.declared.fault.Fault.{Fault}
 use Rattle.sm_codec.specs.declared.fault.Fault.TheVariants.{Short, Version, Server, Trailing}
+use Rattle.sm_codec.specs.declared.fault.Fault.TheVariants.{State, Address}
 use Rattle.sm_codec.specs.declared.fault.ReadError.{ReadError}
 use Rattle.sm_codec.specs.declared.fault.ReadError.TheVariants as errors
-use Rattle.sm_codec.specs.Spelling.{Batch}
+use Rattle.sm_codec.specs.declared.stored_server.TheConstants.{MAX_ADDRESS}
+use Rattle.sm_codec.specs.declared.stored_state.StoredState.{StoredState}
+use Rattle.sm_codec.specs.Spelling.{Batch, ServerKey}
+use Rattle.sm_place.specs.declared.server_state.ServerState.{ServerState}
+use Rattle.sm_place.specs.declared.server_state.ServerState.TheVariants.{Up, Asked, Approved, Stopped, Failed}
 
 infixl 10 ◌>>=◌
 -- goes on by the value, or with the fault
@@ -92,6 +97,48 @@ pair_in bytes = do
   first ← number_in w64 rest
   second ← number_in w64 first.1
   all_read (first.0, second.0) second.1
+
+-- a process
+unfoldable pub process_in : List ℕ → Result ℕ Fault
+process_in bytes = do
+  rest ← version_in bytes
+  process ← number_in w64 rest
+  all_read process.0 process.1
+
+-- the state of a server that has this number
+abbrev pub state_named : ℕ → Option ServerState
+state_named number =
+    if number == 0 then Some Up
+    else if number == 1 then Some Asked
+    else if number == 2 then Some Approved
+    else if number == 3 then Some Stopped
+    else if number == 4 then Some Failed
+    else None
+
+-- the state that a number names, where it names one, by this process
+abbrev pub state_by : Option ServerState → ℕ → Result StoredState Fault
+state_by None process = Err State
+state_by (Some state) process = Ok (record { state = state; process = process })
+
+-- a server's state
+unfoldable pub state_in : List ℕ → Result StoredState Fault
+state_in bytes = do
+  pair ← pair_in bytes
+  state_by (state_named pair.0) pair.1
+
+-- an address, which is no longer than may be
+unfoldable pub address_in : List ℕ → Result (List ℕ × List ℕ) Fault
+address_in bytes = do
+  string ← string_in bytes
+  if nat_lt MAX_ADDRESS (length string.0) then Err Address else Ok (string.0, string.1)
+
+-- a server's key
+unfoldable pub server_key_in : List ℕ → Result ServerKey Fault
+server_key_in bytes = do
+  rest ← version_in bytes
+  revision ← number_in w64 rest
+  address ← address_in revision.1
+  all_read (record { revision = revision.0; address = address.0 }) address.1
 
 -- a request of a batch
 unfoldable pub item_in : List ℕ → Result (Item (List ℕ) × List ℕ) Fault

@@ -3,7 +3,7 @@ ghost use Rattle.sm_codec.specs.declared.fault.ReadError.TheVariants.{Memory};
 
 use std::alloc::{AllocError, AllocFailed};
 
-/// What is wrong with the bytes at a key: the first fault from left to right, where a word is judged last.
+/// What is wrong with the bytes at a key: the first fault from left to right, where a word and a state are judged last.
 #[derive(Clone, Copy, Debug, PartialEq, Eq, Drop)]
 pub enum Fault {
     /// A field passes the end.
@@ -14,6 +14,10 @@ pub enum Fault {
     Server,
     /// No record has this word.
     Word,
+    /// No state of a server has this number.
+    State,
+    /// A server's address has more bytes than `MAX_ADDRESS`.
+    Address,
     /// Bytes stand after the last field.
     Trailing,
 }

@@ -51,8 +51,9 @@ pub fn read_head(bytes: &[u8]) -> Result<Head, ReadError>
     head_of(bytes)
 }
 
+/// Two numbers, which are all of the bytes.
 #[tactic(auto, unfolding(crate::specs::Reading::pair_in))]
-fn pair_of(bytes: &[u8]) -> Result<(u64, u64), ReadError>
+pub(crate) fn pair_of(bytes: &[u8]) -> Result<(u64, u64), ReadError>
     ensures { Decodes (λ pair. pair) result (pair_in bytes.now) }
 {
     let rest = version_of(bytes)?;

@@ -27,7 +27,8 @@ pub fn write_head(alloc: Global, head: &Head) -> Result<Vec<u8>, AllocError>
     Ok(out)
 }
 
-fn write_pair(alloc: Global, first: u64, second: u64) -> Result<Vec<u8>, AllocError>
+/// The bytes of two numbers.
+pub(crate) fn write_pair(alloc: Global, first: u64, second: u64) -> Result<Vec<u8>, AllocError>
     ensures { IfOk result (λ bytes. bytes.items ≡ pair_bytes first second) }
 {
     let mut out = Vec::new(alloc);
@@ -72,7 +73,8 @@ fn put_front(out: &mut Vec<u8>, client: u64, number: u64, code: u32) -> Result<(
     Ok(())
 }
 
-fn put_string(out: &mut Vec<u8>, bytes: &[u8]) -> Result<(), AllocError>
+/// Adds a number of bytes, and so many bytes.
+pub(crate) fn put_string(out: &mut Vec<u8>, bytes: &[u8]) -> Result<(), AllocError>
     requires { length bytes.now < 2 ^ 32 }
     ensures { OnOk result (out.new.items ≡ out.old.items ++ string_bytes bytes.now) }
 {

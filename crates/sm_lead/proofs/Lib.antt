@@ -1,0 +1,4 @@
+mod Agreement
+mod Caps
+mod Knowing
+mod Replays

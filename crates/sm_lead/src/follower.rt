@@ -1,9 +1,9 @@
-ghost use Rattle.std.specs.Prelude.{IsTrue};
-ghost use Rattle.sm_lead.specs.Changes.{AllFollow};
+ghost use Rattle.std.specs.Prelude.{◌≡◌};
+ghost use Rattle.sm_lead.specs.NextSteps.{all_follow, is_following};
 
 use sm_ranges::server_id::ServerId;
 
-/// A process that follows the store, and the revision up to which it has said that it has read.
+/// A server whose key is there, as its lease hasn't ended, and the revision up to which it has said that it has read.
 #[derive(Clone, Copy, Debug, Drop)]
 pub struct Follower {
     pub server: ServerId,
@@ -12,12 +12,16 @@ pub struct Follower {
 
 /// Whether each of them has read the store up to this revision.
 pub fn all_follow(followers: &[Follower], revision: u64) -> bool
-    ensures { IsTrue result → AllFollow followers.now revision }
+    ensures { result ≡ all_follow followers.now revision }
 {
-    for follower in followers {
-        if follower.revision < revision {
-            return false;
-        }
-    }
-    true
+    followers
+        .iter()
+        .all(|follower| revision <= follower.revision)
+}
+
+/// Whether the server is among them.
+pub(crate) fn is_following(followers: &[Follower], server: ServerId) -> bool
+    ensures { result ≡ is_following followers.now server }
+{
+    followers.iter().any(|follower| follower.server == server)
 }

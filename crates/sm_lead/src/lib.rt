@@ -1,23 +1,39 @@
-//! What the control that leads decides over a shared store, with no input or output of its own: one change is one
-//! transaction.
+//! What the control that leads decides over a shared store, with no input or output of its own. It reads all records
+//! and states, judges each command by its desk, and sends it as one transaction; what became of that tells it how to go
+//! on. A new one goes on with what it reads.
 //!
 //! ```rust
 //! let lead = Leadership::new(7, 5).expect(&rt, "a revision");
-//! let read = RecordRead::new(shard, 8, state, 0).expect(&rt, "one of 8 shards");
-//! let sending = read.change::<u64, u64>(&lead, &Change::Assign(one), 100);
-//! let sending = sending.ok().expect(&rt, "a change");
-//! assert!(rt; sending.elected == 5);
-//! assert!(rt; sending.next.stand == Stand::Serving(one));
-//! assert!(rt; RecordRead::new(shard, 0, state, 0).is_none());
+//! let read = StoreControl::read(desk, lead, 100, records, &states, 4);
+//! let control = read.ok().expect(&rt, "a control");
+//! let Judged::Sent(sent) = control.command(Command::Change(shard, Change::Assign(one))) else {
+//!     return;
+//! };
+//! assert!(rt; sent.sending().elected == 5);
+//! let control = sent.outcome(SendOutcome::Made(6)).expect(&rt, "made");
+//! assert!(rt; control.placed == 6);
 //! ```
 #![tactic(auto)]
 
-pub mod change_sending;
+pub mod command_sending;
+pub mod command_write;
 pub mod follower;
+pub mod laws;
 pub mod leadership;
+pub mod load_fault;
+pub mod next_step;
 pub mod record_read;
+pub mod replay;
+pub mod sent_command;
+pub mod stepping;
+pub mod store_control;
 
-pub use change_sending::ChangeSending;
+pub use command_sending::CommandSending;
+pub use command_write::CommandWrite;
 pub use follower::{Follower, all_follow};
 pub use leadership::Leadership;
+pub use load_fault::LoadFault;
+pub use next_step::NextStep;
 pub use record_read::RecordRead;
+pub use sent_command::{Judged, SendOutcome, SentCommand};
+pub use store_control::StoreControl;

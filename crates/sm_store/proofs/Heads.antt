@@ -7,7 +7,8 @@ use Rattle.sm_store.specs.declared.head.Head.{Head}
 use Rattle.sm_store.specs.declared.item.Item.{Item}
 use Rattle.sm_store.specs.Store.{Transaction, Write, head_key, head_of, made, made_by, made_until, executed_by, touches}
 use Rattle.sm_store.specs.Deeds.{Charter, Deed, Electing, Expiring, Changing, Executing, Basing, Naming, Clearing}
-use Rattle.sm_store.specs.Deeds.{Following, Checking, Foreign, transaction_of, HasRequests, IsRight, AreRight, ShardLog}
+use Rattle.sm_store.specs.Deeds.{Following, Restarting, Settling, Checking, Foreign, transaction_of, HasRequests}
+use Rattle.sm_store.specs.Deeds.{IsRight, AreRight, ShardLog}
 
 -- there are as many batches, and as new a base
 pub record IsRisen (old new : Head) : Type 0 where
@@ -36,7 +37,7 @@ module _ {Q P : Type 0} (charter : Charter Q P) (shard : ℕ) where
       → IsRisen (before log) (since log deed)
   risen_one log (Electing process) right = risen_same (before log)
   risen_one log (Expiring key) right = risen_same (before log)
-  risen_one log (Changing process at change next stood elected) right = risen_same (before log)
+  risen_one log (Changing process at change next elected placed) right = risen_same (before log)
   risen_one log (Executing at server items head stood logged) right =
       cond_both (at == shard) (record { batches = head.batches + 1; base = head.base; parts = head.parts }) (before log)
       (IsRisen (before log))
@@ -57,6 +58,8 @@ module _ {Q P : Type 0} (charter : Charter Q P) (shard : ℕ) where
       (record { batches = omega arith; base = omega arith }))
       (λ apart. risen_same (before log))
   risen_one log (Clearing key) right = risen_same (before log)
+  risen_one log (Restarting process server state elected placed) right = risen_same (before log)
+  risen_one log (Settling settings) right = risen_same (before log)
   risen_one log (Following server revision) right = risen_same (before log)
   risen_one log (Checking compares) right = risen_same (before log)
   risen_one log Foreign right = risen_same (before log)
@@ -87,8 +90,8 @@ module _ {Q P : Type 0} (charter : Charter Q P) (shard : ℕ) where
       → GoesOn (before log) (since log deed) (made_by shard (transaction_of deed).writes)
   goes_one log (Electing process) right = inl (no_made (transaction_of {Q = Q} {P = P} (Electing process)).writes refl)
   goes_one log (Expiring key) right = inl (no_made (transaction_of {Q = Q} {P = P} (Expiring key)).writes refl)
-  goes_one log (Changing process at change next stood elected) right =
-      inl (no_made (transaction_of {Q = Q} {P = P} (Changing process at change next stood elected)).writes refl)
+  goes_one log (Changing process at change next elected placed) right =
+      inl (no_made (transaction_of {Q = Q} {P = P} (Changing process at change next elected placed)).writes refl)
   goes_one log (Executing at server items head stood logged) right =
       ⊎_elim
       (λ (same : (at == shard) ≡ true).
@@ -108,6 +111,10 @@ module _ {Q P : Type 0} (charter : Charter Q P) (shard : ℕ) where
   goes_one log (Naming at head number parts logged) right = inl
       (no_made (transaction_of {Q = Q} {P = P} (Naming at head number parts logged)).writes refl)
   goes_one log (Clearing key) right = inl (no_made (transaction_of {Q = Q} {P = P} (Clearing key)).writes refl)
+  goes_one log (Restarting process server state elected placed) right = inl (no_made
+      (transaction_of {Q = Q} {P = P} (Restarting process server state elected placed)).writes refl)
+  goes_one log (Settling settings) right = inl (no_made
+      (transaction_of {Q = Q} {P = P} (Settling settings)).writes refl)
   goes_one log (Following server revision) right = inl (no_made
       (transaction_of {Q = Q} {P = P} (Following server revision)).writes refl)
   goes_one log (Checking compares) right = inl (no_made (transaction_of {Q = Q} {P = P} (Checking compares)).writes

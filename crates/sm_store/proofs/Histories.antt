@@ -18,7 +18,7 @@ use Rattle.sm_ownership.specs.lemmas.Growth.{record_at-empty, record_at-latest, 
 use Rattle.sm_ownership.specs.Rules.{stand_after, accepts, accepts_at}
 use Rattle.sm_store.specs.declared.item.Item.{Item}
 use Rattle.sm_store.specs.Deeds.{AreRight, Charter, Deed, Electing, Expiring, Changing, Executing, Basing, Naming}
-use Rattle.sm_store.specs.Deeds.{Clearing, Following, Checking, Foreign, IsRight, transaction_of}
+use Rattle.sm_store.specs.Deeds.{Clearing, Following, Restarting, Settling, Checking, Foreign, IsRight, transaction_of}
 use Rattle.sm_store.specs.Histories.{history_of, with_requests, with_write}
 use Rattle.sm_store.specs.Store.{Transaction, left_by, stored_record}
 
@@ -193,14 +193,14 @@ module _ {Q P : Type 0} (charter : Charter Q P) (ceiling : ℕ) where
       → Agrees (with_deed deed earlier) (λ k. (stored_record k (transaction_of deed ∷ log)).stand)
   deed_step log (Electing process) earlier right room agrees = agrees
   deed_step log (Expiring key) earlier right room agrees = agrees
-  deed_step log (Changing process shard change next stood elected) earlier right room agrees =
+  deed_step log (Changing process shard change next elected placed) earlier right room agrees =
       let state = stored_record shard log in
       let parts = and_parts (not state.admitted) (nat_lt state.generation charter.ceiling && is_some
       (stand_after state.stand change)) right.changed.fits in
       let leads = (and_parts (nat_lt state.generation charter.ceiling)
       (is_some (stand_after state.stand change)) parts.1).1 in
       let itself : (shard == shard) ≡ true = eq-eqb shard shard refl in
-      let deed : Deed Q P = Changing process shard change next stood elected in
+      let deed : Deed Q P = Changing process shard change next elected placed in
       change_step earlier (λ k. (stored_record k log).stand) (λ k. (stored_record k (transaction_of deed ∷ log)).stand)
       shard change right.within (omega arith) leads
       (ap (λ (r : Record). r.stand) (cond-true (shard == shard) next state itself)
@@ -214,6 +214,8 @@ module _ {Q P : Type 0} (charter : Charter Q P) (ceiling : ℕ) where
   deed_step log (Basing shard number place part) earlier right room agrees = agrees
   deed_step log (Naming shard head number parts logged) earlier right room agrees = agrees
   deed_step log (Clearing key) earlier right room agrees = agrees
+  deed_step log (Restarting process server state elected placed) earlier right room agrees = agrees
+  deed_step log (Settling settings) earlier right room agrees = agrees
   deed_step log (Following server revision) earlier right room agrees = agrees
   deed_step log (Checking compares) earlier right room agrees = agrees
   deed_step log Foreign earlier right room agrees = agrees
@@ -221,11 +223,13 @@ module _ {Q P : Type 0} (charter : Charter Q P) (ceiling : ℕ) where
   no_shorter : (deed : Deed Q P) (earlier : List (Entry Q)) → length earlier ≤ length (with_deed deed earlier)
   no_shorter (Electing process) earlier = omega arith
   no_shorter (Expiring key) earlier = omega arith
-  no_shorter (Changing process shard change next stood elected) earlier = omega arith
+  no_shorter (Changing process shard change next elected placed) earlier = omega arith
   no_shorter (Executing shard server items head stood logged) earlier = longer shard server items earlier
   no_shorter (Basing shard number place part) earlier = omega arith
   no_shorter (Naming shard head number parts logged) earlier = omega arith
   no_shorter (Clearing key) earlier = omega arith
+  no_shorter (Restarting process server state elected placed) earlier = omega arith
+  no_shorter (Settling settings) earlier = omega arith
   no_shorter (Following server revision) earlier = omega arith
   no_shorter (Checking compares) earlier = omega arith
   no_shorter Foreign earlier = omega arith

@@ -14,7 +14,7 @@ use Rattle.sm_ownership.specs.History.{record_at, table_of, table_of_latest, IsL
 use Rattle.sm_ownership.specs.History.{request_of}
 use Rattle.sm_store.specs.declared.item.Item.{Item}
 use Rattle.sm_store.specs.Deeds.{AreRight, Charter, Deed, Electing, Expiring, Changing, Executing, Basing, Naming}
-use Rattle.sm_store.specs.Deeds.{Clearing, Following, Checking, Foreign, transaction_of}
+use Rattle.sm_store.specs.Deeds.{Clearing, Following, Restarting, Settling, Checking, Foreign, transaction_of}
 use Rattle.sm_store.specs.Histories.{history_of, with_requests, with_write}
 use Rattle.sm_store.specs.Store.{Transaction, head_key, left_by, made, made_by, stored_record, touches}
 use Rattle.sm_store.proofs.Histories.{agrees, with_deed}
@@ -100,7 +100,7 @@ module _ {Q P : Type 0} (charter : Charter Q P) where
       ≡ all_of (reverse earlier) k ++ requests (made_by k (transaction_of deed).writes)
   requests_of_deed k (Electing process) earlier = sym (append-nil (all_of (reverse earlier) k))
   requests_of_deed k (Expiring key) earlier = sym (append-nil (all_of (reverse earlier) k))
-  requests_of_deed k (Changing process shard change next stood elected) earlier =
+  requests_of_deed k (Changing process shard change next elected placed) earlier =
       no_request shard k change earlier ∙ sym (append-nil (all_of (reverse earlier) k))
   requests_of_deed k (Executing shard server items head stood logged) earlier =
       requests_of_batch shard server k items earlier
@@ -111,6 +111,9 @@ module _ {Q P : Type 0} (charter : Charter Q P) where
       nothing k earlier (touches (head_key k) (transaction_of {Q = Q} {P = P}
       (Naming shard head number parts logged)).writes) [] refl
   requests_of_deed k (Clearing key) earlier = sym (append-nil (all_of (reverse earlier) k))
+  requests_of_deed k (Restarting process server state elected placed) earlier =
+      sym (append-nil (all_of (reverse earlier) k))
+  requests_of_deed k (Settling settings) earlier = sym (append-nil (all_of (reverse earlier) k))
   requests_of_deed k (Following server revision) earlier = sym (append-nil (all_of (reverse earlier) k))
   requests_of_deed k (Checking compares) earlier = sym (append-nil (all_of (reverse earlier) k))
   requests_of_deed k Foreign earlier = sym (append-nil (all_of (reverse earlier) k))

@@ -5,4 +5,5 @@ mod Once
 mod Parts
 mod Right
 mod Runs
+mod Settings
 mod Whole

@@ -9,7 +9,8 @@ use Rattle.sm_store.specs.declared.store_key.PassingKey.{PassingKey}
 use Rattle.sm_store.specs.declared.store_key.PassingKey.TheVariants.{Leader, Server, Batch, Part, Other}
 use Rattle.sm_store.specs.Store.{Transaction, head_of, made_until, part_at, same_passing, Deletes}
 use Rattle.sm_store.specs.Deeds.{Charter, Deed, Electing, Expiring, Changing, Executing, Basing, Naming, Clearing}
-use Rattle.sm_store.specs.Deeds.{Following, Checking, Foreign, transaction_of, is_leased, IsBehind, IsRight, AreRight}
+use Rattle.sm_store.specs.Deeds.{Following, Restarting, Settling, Checking, Foreign, transaction_of, is_leased}
+use Rattle.sm_store.specs.Deeds.{IsBehind, IsRight, AreRight}
 use Rattle.sm_store.proofs.Heads.{risen_by, until_there}
 
 some_or : {A : Type 0} (b : Bool) (x y : A) (o : Option A) → (if b then Some x else o) ≡ Some y
@@ -33,7 +34,7 @@ module _ {Q P : Type 0} (charter : Charter Q P) (shard number place : ℕ) where
       → (part_at shard number place log ≡ Some part) ⊎ IsPartOf log part
   written log (Electing process) part right is = inl is
   written log (Expiring key) part right is = inl (none_or (same_passing key (Part shard number place)) part _ is)
-  written log (Changing process at change next stood elected) part right is = inl is
+  written log (Changing process at change next elected placed) part right is = inl is
   written log (Executing at server items head stood logged) part right is = inl is
   written log (Basing at n i one) part right is =
       ⊎_elim
@@ -55,6 +56,8 @@ module _ {Q P : Type 0} (charter : Charter Q P) (shard number place : ℕ) where
       (some_or (at == shard && (n == number && i == place)) one part (part_at shard number place log) is)
   written log (Naming at head n parts logged) part right is = inl is
   written log (Clearing key) part right is = inl (none_or (same_passing key (Part shard number place)) part _ is)
+  written log (Restarting process server state elected placed) part right is = inl is
+  written log (Settling settings) part right is = inl is
   written log (Following server revision) part right is = inl is
   written log (Checking compares) part right is = inl is
   written log Foreign part right is = inl is
@@ -122,7 +125,7 @@ module _ {Q P : Type 0} (charter : Charter Q P) (shard number place : ℕ) where
       → (head_of shard log).base ≤ number → HasPart log → HasPart (transaction_of deed ∷ log)
   stays_one log (Electing process) right newest has = has
   stays_one log (Expiring key) right newest has = kept log key (leased_apart key right) has
-  stays_one log (Changing process at change next stood elected) right newest has = has
+  stays_one log (Changing process at change next elected placed) right newest has = has
   stays_one log (Executing at server items head stood logged) right newest has = has
   stays_one log (Basing at n i one) right newest has =
       let here = at == shard && (n == number && i == place) in
@@ -132,6 +135,8 @@ module _ {Q P : Type 0} (charter : Charter Q P) (shard number place : ℕ) where
       (cases_Bool here)
   stays_one log (Naming at head n parts logged) right newest has = has
   stays_one log (Clearing key) right newest has = kept log key (behind_apart log key right newest) has
+  stays_one log (Restarting process server state elected placed) right newest has = has
+  stays_one log (Settling settings) right newest has = has
   stays_one log (Following server revision) right newest has = has
   stays_one log (Checking compares) right newest has = has
   stays_one log Foreign right newest has = has

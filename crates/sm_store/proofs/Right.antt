@@ -1,22 +1,25 @@
 -- What is made of an honest store was right when it was made.
 use Rattle.std.proofs.Common.{◌≡◌, ℕ, ◌≤◌, true, List, [], ◌∷◌, ◌++◌, Some, length, refl, sym, ap, subst, ◌∙◌, arith}
-use Rattle.std.proofs.Common.{inl, inr}
-use Rattle.std.specs.Prelude.{slice_get}
+use Rattle.std.proofs.Common.{append-nil, inl, inr}
+use Rattle.std.specs.Prelude.{IsTrue, None, slice_get}
 use Rattle.sm_ownership.specs.declared.record.Record.{Record}
 use Rattle.sm_store.specs.declared.head.Head.{Head}
 use Rattle.sm_store.specs.declared.item.Item.{Item}
 use Rattle.sm_store.specs.declared.store_key.PassingKey.{PassingKey}
 use Rattle.sm_store.specs.declared.store_key.PassingKey.TheVariants.{Leader, Server, Batch, Part, Other}
 use Rattle.sm_store.specs.Store.{Transaction, all_hold, head_key, head_of, leader_key, leader_of, made, part_at}
-use Rattle.sm_store.specs.Store.{record_key, stored_record}
+use Rattle.sm_store.specs.Store.{Placement, placement_key, placement_of, record_key, revision_of, settings_key}
+use Rattle.sm_store.specs.Store.{stored_settings, stored_record}
 use Rattle.sm_store.specs.Deeds.{Charter, Deed, Electing, Expiring, Changing, Executing, Basing, Naming, Clearing}
-use Rattle.sm_store.specs.Deeds.{Following, Checking, Foreign, transaction_of, at, AreAccepted, IsChanged, ShardLog}
+use Rattle.sm_store.specs.Deeds.{Following, Restarting, Settling, Checking, Foreign, transaction_of, at, AreAccepted}
+use Rattle.sm_store.specs.Deeds.{IsChanged, ShardLog}
 use Rattle.sm_store.specs.Deeds.{shard_log, WasFound, MayDo, MayName, MayClear, IsHonest, IsBehind, IsRight}
-use Rattle.sm_store.specs.Deeds.{IsRightBase, AreRight}
+use Rattle.sm_store.specs.Deeds.{HasLed, IsRightBase, AreRight}
 use Rattle.sm_store.proofs.Heads.{read_until, risen}
-use Rattle.sm_store.specs.lemmas.Heart.{first_held, stands}
+use Rattle.sm_store.specs.lemmas.Heart.{first_held, stands, stands_among, unwritten}
 use Rattle.sm_store.proofs.Parts.{part_is, part_stays}
-use Rattle.sm_store.specs.lemmas.Views.{head_view, leader_view, log_view, record_view}
+use Rattle.sm_store.specs.lemmas.Views.{IsOfDeed, deeds_of_right, head_view, leader_view, log_view, placement_view}
+use Rattle.sm_store.specs.lemmas.Views.{record_view, settings_view}
 
 module _ {Q P : Type 0} (charter : Charter Q P) where
   head_behind : (log : List (Transaction Q P)) (shard : ℕ) (head : Head) (revision : ℕ) → AreRight charter log
@@ -63,20 +66,38 @@ module _ {Q P : Type 0} (charter : Charter Q P) where
   clear_right log (Server server) right may = may
   clear_right log Other right may = may
 
+  leads_still : (log : List (Transaction Q P)) (process elected : ℕ) → HasLed log process elected
+      → revision_of leader_key log ≡ elected → leader_of log ≡ process
+  leads_still log process elected led now =
+      stands leader_of leader_key leader_view log process elected (inr led.was_elected) led.leads now
+
+  placement_stands : (log : List (Transaction Q P)) (read : Placement) (placed : ℕ) → AreRight charter log
+      → WasFound placement_of placement_key log read placed → revision_of placement_key log ≡ placed
+      → placement_of log ≡ read
+  placement_stands log read placed right found now =
+      stands_among IsOfDeed placement_of placement_key placement_view log read placed
+      (deeds_of_right charter log right) (inl refl) found now
+
+  never_settled : (log : List (Transaction Q P)) → revision_of settings_key log ≡ 0 → stored_settings log ≡ None
+  never_settled log now =
+      ap stored_settings (sym (append-nil log))
+      ∙ unwritten stored_settings settings_key settings_view log [] (inl refl)
+      (ap (revision_of settings_key) (append-nil log) ∙ now)
+
   right_one : (log : List (Transaction Q P)) (deed : Deed Q P) → AreRight charter log
       → all_hold log (transaction_of deed).compares ≡ true → MayDo charter log deed → IsRight charter log deed
   right_one log (Electing process) right held may = tt
   right_one log (Expiring key) right held may = may
-  right_one log (Changing process shard change next stood elected) right held may =
-      let first = first_held log (record_key shard) stood (at leader_key elected ∷ []) held in
-      let second = first_held log leader_key elected [] first.1 in
-      let now : stored_record shard log ≡ may.state =
-      stands (stored_record shard) (record_key shard) (record_view shard) log may.state stood
-      (inl refl) may.record_was first.0 in
+  right_one log (Changing process shard change next elected placed) right held may =
+      let first = first_held log leader_key elected (at placement_key placed ∷ []) held in
+      let second = first_held log placement_key placed [] first.1 in
+      let now = placement_stands log may.read placed right may.placement_was second.0 in
       record {
         within = may.within;
-        leads = stands leader_of leader_key leader_view log process elected (inr may.was_elected) may.leads second.0;
-        changed = subst (λ (state : Record). IsChanged charter.ceiling state change next) (sym now) may.changed;
+        leads = leads_still log process elected may.led first.0;
+        allowed = subst (λ (p : Placement). IsTrue (charter.allows_change p shard change)) (sym now) may.allowed;
+        changed = subst (λ (p : Placement). IsChanged charter.ceiling (p.records shard) change next) (sym now)
+            may.changed;
       }
   right_one log (Executing shard server items head stood logged) right held may =
       let first = first_held log (record_key shard) stood (at (head_key shard) logged ∷ []) held in
@@ -107,6 +128,16 @@ module _ {Q P : Type 0} (charter : Charter Q P) where
       base_right log shard head number parts logged right
       (stands (head_of shard) (head_key shard) (head_view shard) log head logged (inl refl) may.head_was first.0) may
   right_one log (Clearing key) right held may = clear_right log key right may
+  right_one log (Restarting process server state elected placed) right held may =
+      let first = first_held log leader_key elected (at placement_key placed ∷ []) held in
+      let second = first_held log placement_key placed [] first.1 in
+      let now = placement_stands log may.read placed right may.placement_was second.0 in
+      record {
+        leads = leads_still log process elected may.led first.0;
+        allowed = subst (λ (p : Placement). IsTrue (charter.allows_state p server state)) (sym now) may.allowed;
+      }
+  right_one log (Settling settings) right held may =
+      never_settled log (first_held log settings_key 0 [] held).0
   right_one log (Following server revision) right held may = tt
   right_one log (Checking compares) right held may = tt
   right_one log Foreign right held may = tt

@@ -10,7 +10,8 @@ use Rattle.sm_store.specs.declared.store_key.PassingKey.{PassingKey}
 use Rattle.sm_store.specs.declared.store_key.PassingKey.TheVariants.{Leader, Server, Batch, Part, Other}
 use Rattle.sm_store.specs.Store.{Transaction, batch_at, head_of, made, made_by, made_until, same_passing, Deletes}
 use Rattle.sm_store.specs.Deeds.{Charter, Deed, Electing, Expiring, Changing, Executing, Basing, Naming, Clearing}
-use Rattle.sm_store.specs.Deeds.{Following, Checking, Foreign, transaction_of, is_leased, IsBehind, IsRight, AreRight}
+use Rattle.sm_store.specs.Deeds.{Following, Restarting, Settling, Checking, Foreign, transaction_of, is_leased}
+use Rattle.sm_store.specs.Deeds.{IsBehind, IsRight, AreRight}
 use Rattle.sm_store.specs.Whole.{AreThere, IsBased, IsBatchThere, IsLogWhole, base_parts}
 use Rattle.sm_store.proofs.Heads.{until_all, until_there}
 use Rattle.sm_store.proofs.Parts.{part_is, part_stays_one}
@@ -73,8 +74,8 @@ module _ {Q P : Type 0} (charter : Charter Q P) (shard : ℕ) where
       → IsBased charter shard (transaction_of deed ∷ log) (head_of shard (transaction_of deed ∷ log))
   based_one log (Electing process) right rights was = based_same log (Electing process) right rights was
   based_one log (Expiring key) right rights was = based_same log (Expiring key) right rights was
-  based_one log (Changing process at change next stood elected) right rights was =
-      based_same log (Changing process at change next stood elected) right rights was
+  based_one log (Changing process at change next elected placed) right rights was =
+      based_same log (Changing process at change next elected placed) right rights was
   based_one log (Executing at server items head stood logged) right rights was =
       let deed : Deed Q P = Executing at server items head stood logged in
       let same = based_same log deed right rights was in
@@ -107,6 +108,10 @@ module _ {Q P : Type 0} (charter : Charter Q P) (shard : ℕ) where
       (record { within = mine.within; all = λ _. mine.all; there = λ _. mine.there }))
       (λ apart. based_same log deed right rights was)
   based_one log (Clearing key) right rights was = based_same log (Clearing key) right rights was
+  based_one log (Restarting process server state elected placed) right rights was =
+      based_same log (Restarting process server state elected placed) right rights was
+  based_one log (Settling settings) right rights was =
+      based_same log (Settling settings) right rights was
   based_one log (Following server revision) right rights was =
       based_same log (Following server revision) right rights was
   based_one log (Checking compares) right rights was = based_same log (Checking compares) right rights was
@@ -220,8 +225,8 @@ module _ {Q P : Type 0} (charter : Charter Q P) (shard : ℕ) where
   there_one log (Expiring key) right rights was =
       there_same log (Expiring key)
       (λ number newest below. deleted_stay log key number (leased_apart shard (number + 1) key right)) was
-  there_one log (Changing process at change next stood elected) right rights was =
-      there_same log (Changing process at change next stood elected) (λ number newest below. refl) was
+  there_one log (Changing process at change next elected placed) right rights was =
+      there_same log (Changing process at change next elected placed) (λ number newest below. refl) was
   there_one log (Executing at server items head stood logged) right rights was =
       let deed : Deed Q P = Executing at server items head stood logged in
       let next : Head = record { batches = head.batches + 1; base = head.base; parts = head.parts } in
@@ -249,6 +254,10 @@ module _ {Q P : Type 0} (charter : Charter Q P) (shard : ℕ) where
   there_one log (Clearing key) right rights was =
       there_same log (Clearing key)
       (λ number newest below. deleted_stay log key number (behind_apart log key number right newest)) was
+  there_one log (Restarting process server state elected placed) right rights was =
+      there_same log (Restarting process server state elected placed) (λ number newest below. refl) was
+  there_one log (Settling settings) right rights was =
+      there_same log (Settling settings) (λ number newest below. refl) was
   there_one log (Following server revision) right rights was =
       there_same log (Following server revision) (λ number newest below. refl) was
   there_one log (Checking compares) right rights was = there_same log (Checking compares)

@@ -1,12 +1,14 @@
 -- What processes do to the store: which transaction each deed is, when a process may send it, by what it has read, and
 -- when it is right for the store as it is.
-use Rattle.std.specs.Prelude.{ℕ, Bool, true, false, Some, ◌≡◌, ◌≢◌, ◌<◌, ◌≤◌, ◌+◌, IsTrue, List, [], ◌∷◌, ◌++◌, length}
+use Rattle.std.specs.Prelude.{ℕ, Bool, true, false, Some, None, ◌≡◌, ◌≢◌, ◌<◌, ◌≤◌, ◌+◌, IsTrue, List, [], ◌∷◌, ◌++◌}
+use Rattle.std.specs.Prelude.{length}
 use Rattle.std.specs.Prelude.{slice_get}
 use Rattle.std.specs.List.{AllByRecursion}
 use Rattle.sm_ownership.specs.declared.change.Change.{Change}
 use Rattle.sm_ownership.specs.declared.record.Record.{Record}
 use Rattle.sm_ownership.specs.History.{after_change, change_fits}
 use Rattle.sm_ownership.specs.Rules.{accepts}
+use Rattle.sm_place.specs.declared.server_state.ServerState.{ServerState}
 use Rattle.sm_store.specs.declared.compare.Compare.{Compare}
 use Rattle.sm_store.specs.declared.head.Head.{Head}
 use Rattle.sm_store.specs.declared.item.Item.{Item}
@@ -15,14 +17,17 @@ use Rattle.sm_store.specs.declared.store_key.PassingKey.TheVariants.{Leader, Ser
 use Rattle.sm_store.specs.declared.store_key.StoreKey.{StoreKey}
 use Rattle.sm_store.specs.Clients.{AreNext}
 use Rattle.sm_store.specs.Store.{Transaction, Leads, Stands, Heads, Executes, Bases, Follows, Deletes, Elsewhere}
-use Rattle.sm_store.specs.Store.{leader_key, record_key, head_key, part_key, revision_of, all_hold, leader_of}
-use Rattle.sm_store.specs.Store.{stored_record, head_of, part_at, made, made_until}
+use Rattle.sm_store.specs.Store.{Enters, Commands, Settles, Placement, leader_key, record_key, head_key, part_key}
+use Rattle.sm_store.specs.Store.{placement_key, settings_key, revision_of, all_hold, leader_of, stored_record}
+use Rattle.sm_store.specs.Store.{placement_of, stored_settings, head_of, part_at, made, made_until}
 
--- what all processes go by: how many shards there are, the greatest generation of a record, and the parts of a base
--- that stands for requests
+-- what all processes go by: how many shards there are, the greatest generation of a record, which changes and states
+-- the control allows by the records and states as they are, and the parts of a base that stands for requests
 pub record Charter (Q P : Type 0) : Type 0 where
   pub count : ℕ
   pub ceiling : ℕ
+  pub allows_change : Placement → ℕ → Change → Bool
+  pub allows_state : Placement → ℕ → ServerState → Bool
   pub parts : List (Item Q) → List P
 
 -- what a process does to the store
@@ -31,9 +36,13 @@ pub data Deed (Q P : Type 0) : Type 0 where
   Electing : (process : ℕ) → Deed Q P
   -- a lease ends, and its key goes
   Expiring : (key : PassingKey) → Deed Q P
-  -- a process that leads changes a shard's record, which it read at the first revision, as was its election at the
-  -- second
-  Changing : (process shard : ℕ) (change : Change) (next : Record) (stood elected : ℕ) → Deed Q P
+  -- a process that leads changes a shard's record; it read its election at the first revision, and all records and
+  -- states at the second
+  Changing : (process shard : ℕ) (change : Change) (next : Record) (elected placed : ℕ) → Deed Q P
+  -- such a process makes a step of a server's restart
+  Restarting : (process server : ℕ) (state : ServerState) (elected placed : ℕ) → Deed Q P
+  -- a process writes the settings
+  Settling : (settings : List ℕ) → Deed Q P
   -- a server executes requests of a shard, whose record it read at the first revision, and this head at the second
   Executing : (shard server : ℕ) (items : List (Item Q)) (head : Head) (stood logged : ℕ) → Deed Q P
   -- a server writes a part of the base of so many batches
@@ -53,15 +62,25 @@ pub data Deed (Q P : Type 0) : Type 0 where
 abbrev pub at : StoreKey → ℕ → Compare
 at key revision = record { key = key; revision = revision }
 
+-- what each command compares: who leads, and all records and states
+abbrev pub command_compares : ℕ → ℕ → List Compare
+command_compares elected placed = at leader_key elected ∷ at placement_key placed ∷ []
+
 -- the transaction of a deed
 abbrev pub transaction_of : {Q P : Type 0} → Deed Q P → Transaction Q P
 transaction_of (Electing process) = record { compares = []; writes = Leads process ∷ [] }
 transaction_of (Expiring key) = record { compares = []; writes = Deletes key ∷ [] }
-transaction_of (Changing process shard change next stood elected) =
+transaction_of (Changing process shard change next elected placed) =
     record {
-      compares = at (record_key shard) stood ∷ at leader_key elected ∷ [];
-      writes = Stands process shard change next ∷ [];
+      compares = command_compares elected placed;
+      writes = Stands process shard change next ∷ Commands process ∷ [];
     }
+transaction_of (Restarting process server state elected placed) =
+    record {
+      compares = command_compares elected placed;
+      writes = Enters process server state ∷ Commands process ∷ [];
+    }
+transaction_of (Settling settings) = record { compares = at settings_key 0 ∷ []; writes = Settles settings ∷ [] }
 transaction_of (Executing shard server items head stood logged) =
     record {
       compares = at (record_key shard) stood ∷ at (head_key shard) logged ∷ [];
@@ -113,16 +132,29 @@ is_leased Leader = true
 is_leased (Server server) = true
 is_leased _ = false
 
--- one who has read that it leads, and the record
-pub record MayChange {Q P : Type 0} (charter : Charter Q P) (log : List (Transaction Q P)) (process shard : ℕ)
-    (change : Change) (next : Record)
-    (stood elected : ℕ) : Type 0 where
-  pub within : shard < charter.count
+-- one who has read that it leads
+pub record HasLed {Q P : Type 0} (log : List (Transaction Q P)) (process elected : ℕ) : Type 0 where
   pub was_elected : 0 < elected
   pub leads : WasFound leader_of leader_key log process elected
-  pub state : Record
-  pub record_was : WasFound (stored_record shard) (record_key shard) log state stood
-  pub changed : IsChanged charter.ceiling state change next
+
+-- one who has read that it leads, and all records and states
+pub record MayChange {Q P : Type 0} (charter : Charter Q P) (log : List (Transaction Q P)) (process shard : ℕ)
+    (change : Change) (next : Record)
+    (elected placed : ℕ) : Type 0 where
+  pub within : shard < charter.count
+  pub led : HasLed log process elected
+  pub read : Placement
+  pub placement_was : WasFound placement_of placement_key log read placed
+  pub allowed : IsTrue (charter.allows_change read shard change)
+  pub changed : IsChanged charter.ceiling (read.records shard) change next
+
+-- and whose step of a restart they allow
+pub record MayRestart {Q P : Type 0} (charter : Charter Q P) (log : List (Transaction Q P)) (process server : ℕ)
+    (state : ServerState) (elected placed : ℕ) : Type 0 where
+  pub led : HasLed log process elected
+  pub read : Placement
+  pub placement_was : WasFound placement_of placement_key log read placed
+  pub allowed : IsTrue (charter.allows_state read server state)
 
 -- one who has read the record, and head and requests
 pub record MayExecute {Q P : Type 0} (charter : Charter Q P) (log : List (Transaction Q P)) (shard server : ℕ)
@@ -176,8 +208,11 @@ MayClear charter log _ = ⊥
 abbrev pub MayDo : {Q P : Type 0} → Charter Q P → List (Transaction Q P) → Deed Q P → Type 0
 MayDo charter log (Electing process) = Unit {0}
 MayDo charter log (Expiring key) = IsTrue (is_leased key)
-MayDo charter log (Changing process shard change next stood elected) =
-    MayChange charter log process shard change next stood elected
+MayDo charter log (Changing process shard change next elected placed) =
+    MayChange charter log process shard change next elected placed
+MayDo charter log (Restarting process server state elected placed) =
+    MayRestart charter log process server state elected placed
+MayDo charter log (Settling settings) = Unit {0}
 MayDo charter log (Executing shard server items head stood logged) =
     MayExecute charter log shard server items head stood logged
 MayDo charter log (Basing shard number place part) = MayBase charter log shard number place part
@@ -202,13 +237,20 @@ IsHonest charter (txn ∷ earlier) = IsTrue (all_hold earlier txn.compares) × M
 
 -- below, `log` is the store before the deed
 
--- the change is made by who leads, and the rule allows it of the record
+-- the change is made by who leads, and the rule allows it of the record, and the control of all records and states
 pub record IsRightChange {Q P : Type 0} (charter : Charter Q P) (log : List (Transaction Q P)) (process shard : ℕ)
     (change : Change)
     (next : Record) : Type 0 where
   pub within : shard < charter.count
   pub leads : leader_of log ≡ process
+  pub allowed : IsTrue (charter.allows_change (placement_of log) shard change)
   pub changed : IsChanged charter.ceiling (stored_record shard log) change next
+
+-- the step of a restart is made by who leads, and all records and states allow it
+pub record IsRightRestart {Q P : Type 0} (charter : Charter Q P) (log : List (Transaction Q P)) (process server : ℕ)
+    (state : ServerState) : Type 0 where
+  pub leads : leader_of log ≡ process
+  pub allowed : IsTrue (charter.allows_state (placement_of log) server state)
 
 -- the requests are executed by the server that the record accepts, and come next in the log
 pub record IsRightBatch {Q P : Type 0} (charter : Charter Q P) (log : List (Transaction Q P)) (shard server : ℕ)
@@ -245,8 +287,10 @@ IsBehind charter log _ = ⊥
 abbrev pub IsRight : {Q P : Type 0} → Charter Q P → List (Transaction Q P) → Deed Q P → Type 0
 IsRight charter log (Electing process) = Unit {0}
 IsRight charter log (Expiring key) = IsTrue (is_leased key)
-IsRight charter log (Changing process shard change next stood elected) =
+IsRight charter log (Changing process shard change next elected placed) =
     IsRightChange charter log process shard change next
+IsRight charter log (Restarting process server state elected placed) = IsRightRestart charter log process server state
+IsRight charter log (Settling settings) = stored_settings log ≡ None
 IsRight charter log (Executing shard server items head stood logged) = IsRightBatch charter log shard server items head
 IsRight charter log (Basing shard number place part) = IsRightPart charter log shard number place part
 IsRight charter log (Naming shard head number parts logged) = IsRightBase charter log shard head number parts

@@ -6,11 +6,15 @@ use Rattle.std.specs.List.{list_all, list_any}
 use Rattle.sm_ownership.specs.declared.change.Change.{Change}
 use Rattle.sm_ownership.specs.declared.record.Record.{Record}
 use Rattle.sm_ownership.specs.History.{vacant}
+use Rattle.sm_place.specs.declared.server_state.ServerState.{ServerState}
+use Rattle.sm_place.specs.declared.server_state.ServerState.TheVariants.{Up}
 use Rattle.sm_store.specs.declared.compare.Compare.{Compare}
 use Rattle.sm_store.specs.declared.head.Head.{Head}
 use Rattle.sm_store.specs.declared.item.Item.{Item}
 use Rattle.sm_store.specs.declared.store_key.LastingKey.{LastingKey}
 use Rattle.sm_store.specs.declared.store_key.LastingKey.TheVariants.{Record as RecordKey, Head as HeadKey}
+use Rattle.sm_store.specs.declared.store_key.LastingKey.TheVariants.{State as StateKey, Placement as PlacementKey}
+use Rattle.sm_store.specs.declared.store_key.LastingKey.TheVariants.{Settings as SettingsKey}
 use Rattle.sm_store.specs.declared.store_key.PassingKey.{PassingKey}
 use Rattle.sm_store.specs.declared.store_key.PassingKey.TheVariants.{Leader, Server, Batch, Part, Other}
 use Rattle.sm_store.specs.declared.store_key.StoreKey.{StoreKey}
@@ -22,6 +26,12 @@ pub data Write (Q P : Type 0) : Type 0 where
   Leads : (process : ℕ) → Write Q P
   -- a shard's record becomes this one, by a change that this process makes
   Stands : (process shard : ℕ) (change : Change) (next : Record) → Write Q P
+  -- a server's state becomes this one, by a step of its restart that this process makes
+  Enters : (process server : ℕ) (state : ServerState) → Write Q P
+  -- this process made a command
+  Commands : (process : ℕ) → Write Q P
+  -- these are the settings
+  Settles : (settings : List ℕ) → Write Q P
   -- the head of a shard's log becomes this one
   Heads : (shard : ℕ) (head : Head) → Write Q P
   -- the shard's batch of this number holds these requests, which this server executed
@@ -52,6 +62,18 @@ record_key shard = Lasting (RecordKey shard)
 abbrev pub head_key : ℕ → StoreKey
 head_key shard = Lasting (HeadKey shard)
 
+-- the key of a server's state
+abbrev pub state_key : ℕ → StoreKey
+state_key server = Lasting (StateKey server)
+
+-- the key that each command writes
+abbrev pub placement_key : StoreKey
+placement_key = Lasting PlacementKey
+
+-- the key of the settings
+abbrev pub settings_key : StoreKey
+settings_key = Lasting SettingsKey
+
 -- the key of a shard's batch of this number
 abbrev pub batch_key : ℕ → ℕ → StoreKey
 batch_key shard number = Passing (Batch shard number)
@@ -64,6 +86,9 @@ part_key shard number place = Passing (Part shard number place)
 abbrev pub written_key : {Q P : Type 0} → Write Q P → StoreKey
 written_key (Leads process) = leader_key
 written_key (Stands process shard change next) = record_key shard
+written_key (Enters process server state) = state_key server
+written_key (Commands process) = placement_key
+written_key (Settles settings) = settings_key
 written_key (Heads shard head) = head_key shard
 written_key (Executes shard number server items) = batch_key shard number
 written_key (Bases shard number place part) = part_key shard number place
@@ -80,6 +105,9 @@ is_deletion _ = false
 abbrev pub same_lasting : LastingKey → LastingKey → Bool
 same_lasting (RecordKey a) (RecordKey b) = a == b
 same_lasting (HeadKey a) (HeadKey b) = a == b
+same_lasting (StateKey a) (StateKey b) = a == b
+same_lasting PlacementKey PlacementKey = true
+same_lasting SettingsKey SettingsKey = true
 same_lasting _ _ = false
 
 -- two keys that may be deleted are the same
@@ -139,6 +167,34 @@ stood shard before _ = before
 -- the record of a shard
 abbrev pub stored_record : {Q P : Type 0} → ℕ → List (Transaction Q P) → Record
 stored_record shard log = view_from (stood shard) vacant log
+
+-- a server's state after a write
+abbrev pub entered : {Q P : Type 0} → ℕ → ServerState → Write Q P → ServerState
+entered server before (Enters process at state) = if at == server then state else before
+entered server before _ = before
+
+-- the state of a server
+abbrev pub stored_state : {Q P : Type 0} → ℕ → List (Transaction Q P) → ServerState
+stored_state server log = view_from (entered server) Up log
+
+-- what a command rests on: the record of each shard, and the state of each server
+pub record Placement : Type 0 where
+  pub records : ℕ → Record
+  pub states : ℕ → ServerState
+
+-- the records and states
+abbrev pub placement_of : {Q P : Type 0} → List (Transaction Q P) → Placement
+placement_of log =
+    record { records = λ shard. stored_record shard log; states = λ server. stored_state server log }
+
+-- the settings after a write
+abbrev pub settled : {Q P : Type 0} → Option (List ℕ) → Write Q P → Option (List ℕ)
+settled before (Settles settings) = Some settings
+settled before _ = before
+
+-- the settings, where they are written
+abbrev pub stored_settings : {Q P : Type 0} → List (Transaction Q P) → Option (List ℕ)
+stored_settings log = view_from settled None log
 
 -- the head of a shard's log after a write
 abbrev pub headed : {Q P : Type 0} → ℕ → Head → Write Q P → Head

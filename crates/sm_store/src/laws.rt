@@ -1,12 +1,12 @@
 //! Laws of the store.
 
-ghost use Rattle.std.specs.Prelude.{◌≡◌, ◌<◌, ◌≤◌, ◌++◌, ℕ, List, length, map, reverse};
+ghost use Rattle.std.specs.Prelude.{◌≡◌, ◌<◌, ◌≤◌, ◌++◌, ℕ, Some, List, length, map, reverse};
 ghost use Rattle.std.specs.List.{AllByRecursion};
 ghost use Rattle.sm_ownership.specs.declared.record.Record.{Record};
 ghost use Rattle.sm_ownership.specs.History.{IsLegal, all_of, record_at, table_of};
 ghost use Rattle.sm_store.specs.Histories.{history_of};
 ghost use Rattle.sm_store.specs.Store.{Transaction, made, head_key, leader_key, leader_of, record_key, revision_of};
-ghost use Rattle.sm_store.specs.Store.{stored_record};
+ghost use Rattle.sm_store.specs.Store.{stored_record, stored_settings};
 ghost use Rattle.sm_store.specs.Deeds.{AreRight, Charter, IsHonest, ShardLog, WasFound, shard_log};
 ghost use Rattle.sm_store.specs.System.{Event, IsLawful, MightHappen, StaysOvertaken, system_after};
 ghost use Rattle.sm_store.specs.Whole.{IsLogWhole};
@@ -25,11 +25,18 @@ pub fn read_stands<Q, P>()
 {}
 
 /// Each transaction of an honest store, to which all sent only what they might, was right for the store before
-/// it: a change was made by who led then, and the rule allowed it; a batch by the server that the record accepts, with
-/// requests that come next; a head names a base that lies there whole; and what was deleted lay behind the base, or was
-/// a lease.
+/// it: a change of a record or a state was made by who led then, and the rule allowed it by all records and states as
+/// they were; a batch by the server that the record accepts, with requests that come next; a head names a base that
+/// lies there whole; settings were the first; and what was deleted lay behind the base, or was a lease.
 pub fn honest_is_right<Q, P>()
     ensures { (charter : Charter Q P) (log : List (Transaction Q P)) → IsHonest charter log → AreRight charter log }
+{}
+
+/// Settings that were written stay as they are.
+pub fn settings_stay<Q, P>()
+    ensures { (charter : Charter Q P) (later past : List (Transaction Q P)) (settings : List ℕ)
+        → IsHonest charter (later ++ past) → stored_settings past ≡ Some settings
+        → stored_settings (later ++ past) ≡ Some settings }
 {}
 
 /// What lies at a shard's keys leads to all requests that are made: the base that the head names, and the batches after

@@ -8,6 +8,12 @@ pub enum LastingKey {
     Record(ShardId),
     /// The head of a shard's log.
     Head(ShardId),
+    /// How far the restart of a server has come.
+    State(ServerId),
+    /// What each command of a control writes, so that its revision is that of all records and states.
+    Placement,
+    /// What all processes go by.
+    Settings,
 }
 
 /// A key that may be deleted.

@@ -1,8 +1,11 @@
 use sm_codec::{
-    Fault, ReadError, StoreSettings, StoredBatch, StoredRecord, read_batch, read_head, read_record,
-    read_settings, write_batch, write_head, write_record, write_settings,
+    Fault, MAX_ADDRESS, ReadError, StoreSettings, StoredBatch, StoredRecord, StoredServer,
+    StoredState, read_batch, read_head, read_process, read_record, read_server, read_settings,
+    read_state, write_batch, write_head, write_process, write_record, write_server, write_settings,
+    write_state,
 };
 use sm_ownership::{Mode, Record};
+use sm_place::ServerState;
 use sm_ranges::{ServerId, Stand};
 use sm_store::{Head, Item};
 use std::process::Abort;
@@ -73,4 +76,37 @@ fn lets_no_bytes_stand(rt: HostRuntime) {
     assert!(rt; read_settings(&bytes) == Ok(settings));
     assert!(rt; bytes.push(0).is_ok());
     assert!(rt; read_settings(&bytes) == Err(ReadError::Fault(Fault::Trailing)));
+}
+
+#[test]
+fn reads_controls_and_servers_again(rt: HostRuntime) {
+    let bytes = write_process(rt.alloc(), 7).expect(&rt, "memory");
+    assert!(rt; read_process(&bytes) == Ok(7));
+    let stored = StoredState {
+        state: ServerState::Failed,
+        process: 7,
+    };
+    let mut bytes = write_state(rt.alloc(), &stored).expect(&rt, "memory");
+    assert!(rt; matches!(read_state(&bytes), Ok(found) if found == stored));
+    bytes[8] = 5;
+    assert!(rt; matches!(read_state(&bytes), Err(ReadError::Fault(Fault::State))));
+    let stored = StoredServer {
+        revision: 12,
+        address: Vec::from_slice(rt.alloc(), b"10.0.0.1:7379").expect(&rt, "memory"),
+    };
+    let bytes = write_server(rt.alloc(), &stored).expect(&rt, "memory");
+    let found = read_server(rt.alloc(), &bytes).ok().expect(&rt, "a server");
+    assert!(rt; found.revision == 12);
+    assert!(rt; found.address.as_slice() == b"10.0.0.1:7379".as_slice());
+}
+
+#[test]
+fn reads_no_address_that_is_too_long(rt: HostRuntime) {
+    let stored = StoredServer {
+        revision: 12,
+        address: vec![in rt.alloc(); 0; MAX_ADDRESS + 1].expect(&rt, "memory"),
+    };
+    let bytes = write_server(rt.alloc(), &stored).expect(&rt, "memory");
+    let read = read_server(rt.alloc(), &bytes);
+    assert!(rt; matches!(read, Err(ReadError::Fault(Fault::Address))));
 }

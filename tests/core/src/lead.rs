@@ -1,22 +1,328 @@
-use sm_lead::{Leadership, RecordRead};
+use sm_desk::{Command, CommandFault, Desk};
+use sm_lead::{
+    CommandSending, CommandWrite, Follower, Judged, Leadership, LoadFault, NextStep, RecordRead,
+    SendOutcome, StoreControl,
+};
 use sm_ownership::{Change, Record};
+use sm_place::{Books, ServerState};
 use sm_ranges::{ServerId, ShardId, Stand};
+use sm_rows::{GroupRow, ServerRow, ShardRow, equal_domains};
+use sm_tasks::{RestartFault, Tasks};
+use std::alloc::Global;
 use std::process::Abort;
+
+// A store of four shards and three servers, in memory.
+#[derive(Drop)]
+struct MemoryStore {
+    records: [RecordRead; 4],
+    states: [ServerState; 3],
+    elected: u64,
+    placed: u64,
+    revision: u64,
+}
+
+impl MemoryStore {
+    fn new() -> MemoryStore {
+        let vacant = Record {
+            stand: Stand::Vacant,
+            admitted: false,
+            generation: 0,
+        };
+        let unwritten = RecordRead {
+            state: vacant,
+            stood: 0,
+        };
+        MemoryStore {
+            records: [unwritten; 4],
+            states: [ServerState::Up; 3],
+            elected: 0,
+            placed: 0,
+            revision: 0,
+        }
+    }
+
+    // Makes what was sent, where both compares hold.
+    fn make(&mut self, sending: &CommandSending) -> SendOutcome {
+        if sending.elected != self.elected || sending.placed != self.placed {
+            return SendOutcome::Lost;
+        }
+        self.revision += 1;
+        self.placed = self.revision;
+        match sending.write {
+            CommandWrite::Record { shard, next, .. } => {
+                self.records[shard.index()] = RecordRead {
+                    state: next,
+                    stood: self.revision,
+                };
+            }
+            CommandWrite::State { server, state } => {
+                self.states[usize::from(server.number()) - 1] = state;
+            }
+        }
+        SendOutcome::Made(self.revision)
+    }
+
+    // A control is elected, and reads.
+    fn elect(&mut self, rt: &impl Abort, alloc: Global, process: u64) -> StoreControl {
+        self.revision += 1;
+        self.elected = self.revision;
+        self.read(rt, alloc, process)
+    }
+
+    // A control that leads reads all records and states.
+    fn read(&self, rt: &impl Abort, alloc: Global, process: u64) -> StoreControl {
+        let lead = Leadership::new(process, self.elected).expect(rt, "a revision");
+        let records = Vec::from_slice(alloc, &self.records).expect(rt, "memory");
+        let read = StoreControl::read(
+            desk(rt, alloc),
+            lead,
+            100,
+            records,
+            &self.states,
+            self.placed,
+        );
+        read.ok().expect(rt, "a control")
+    }
+}
+
+// The desk of the settings: each server takes three shards, one server may be leaving, and one shard may be down.
+fn desk(rt: &impl Abort, alloc: Global) -> Desk {
+    let row = |number| ServerRow {
+        id: ServerId::of(number),
+        domain: number,
+        capacity: 3,
+    };
+    let servers = [row(1), row(2), row(3)];
+    let group = GroupRow { limit: 4, down: 1 };
+    let shard = ShardRow {
+        group: 0,
+        load: 1,
+        cap: 1,
+    };
+    let domains = equal_domains(alloc, &servers, 1).ok().expect(rt, "memory");
+    let books = Books::new(alloc, &servers, &[group], &[shard; 4], &domains);
+    Desk::new(books.ok().expect(rt, "books"), Tasks::new(1))
+}
+
+fn shard(rt: &impl Abort, number: u16) -> ShardId {
+    ShardId::new(number).expect(rt, "a shard")
+}
+
+// The control sends the command, which is made.
+fn made(
+    rt: &impl Abort,
+    store: &mut MemoryStore,
+    control: StoreControl,
+    command: Command,
+) -> StoreControl {
+    match control.command(command) {
+        Judged::Sent(sent) => {
+            let outcome = store.make(&sent.sending());
+            sent.outcome(outcome).expect(rt, "a command that is made")
+        }
+        Judged::Refused(control, _) => {
+            assert!(rt; false);
+            control
+        }
+    }
+}
+
+// The control takes the step, which is one.
+fn taken(
+    rt: &impl Abort,
+    store: &mut MemoryStore,
+    control: StoreControl,
+    step: NextStep,
+) -> StoreControl {
+    match step {
+        NextStep::Takes(command) => made(rt, store, control, command),
+        NextStep::Waits | NextStep::Nothing => {
+            assert!(rt; false);
+            control
+        }
+    }
+}
+
+// All three servers have read up to this revision.
+fn followers(revision: u64) -> [Follower; 3] {
+    [1, 2, 3].map(|number| Follower {
+        server: ServerId::of(number),
+        revision,
+    })
+}
 
 // The example of the crate's documentation.
 #[test]
 fn sends_a_change(rt: HostRuntime) {
-    let (one, shard) = (ServerId::of(1), ShardId::new(0).expect(&rt, "a shard"));
-    let state = Record {
-        stand: Stand::Vacant,
-        admitted: false,
-        generation: 0,
-    };
+    let (one, shard) = (ServerId::of(1), shard(&rt, 0));
+    let store = MemoryStore::new();
+    let (desk, states) = (desk(&rt, rt.alloc()), store.states);
+    let records = Vec::from_slice(rt.alloc(), &store.records).expect(&rt, "memory");
     let lead = Leadership::new(7, 5).expect(&rt, "a revision");
-    let read = RecordRead::new(shard, 8, state, 0).expect(&rt, "one of 8 shards");
-    let sending = read.change::<u64, u64>(&lead, &Change::Assign(one), 100);
-    let sending = sending.ok().expect(&rt, "a change");
-    assert!(rt; sending.elected == 5);
-    assert!(rt; sending.next.stand == Stand::Serving(one));
-    assert!(rt; RecordRead::new(shard, 0, state, 0).is_none());
+    let read = StoreControl::read(desk, lead, 100, records, &states, 4);
+    let control = read.ok().expect(&rt, "a control");
+    let Judged::Sent(sent) = control.command(Command::Change(shard, Change::Assign(one))) else {
+        return;
+    };
+    assert!(rt; sent.sending().elected == 5);
+    let control = sent.outcome(SendOutcome::Made(6)).expect(&rt, "made");
+    assert!(rt; control.placed == 6);
+}
+
+// A shard migrates, while the control that began it stops and another one goes on with what it reads.
+#[test]
+fn migrates_across_leaders(rt: HostRuntime) {
+    let (one, two, k) = (ServerId::of(1), ServerId::of(2), shard(&rt, 0));
+    let mut store = MemoryStore::new();
+    let control = store.elect(&rt, rt.alloc(), 7);
+    let control = made(
+        &rt,
+        &mut store,
+        control,
+        Command::Change(k, Change::Assign(one)),
+    );
+    let prepare = Command::Change(k, Change::PrepareAddShard(two));
+    let control = made(&rt, &mut store, control, prepare);
+    let step = control.next_of_shard(k, &followers(0));
+    let old = taken(&rt, &mut store, control, step);
+    assert!(rt;
+        store.records[0].state.stand
+            == Stand::Forwarding {
+                owner: one,
+                next: two,
+            }
+    );
+
+    // The old leader goes on although another one was elected: its command isn't made, so it reads again.
+    let control = store.elect(&rt, rt.alloc(), 8);
+    let Judged::Sent(late) = old.command(Command::Change(k, Change::AddShard)) else {
+        return;
+    };
+    let outcome = store.make(&late.sending());
+    assert!(rt; outcome == SendOutcome::Lost);
+    assert!(rt; late.outcome(outcome).is_none());
+
+    let step = control.next_of_shard(k, &followers(0));
+    let control = taken(&rt, &mut store, control, step);
+    let stood = store.records[0].stood;
+    assert!(rt; control.next_of_shard(k, &followers(stood - 1)) == NextStep::Waits);
+    let step = control.next_of_shard(k, &followers(stood));
+    let control = taken(&rt, &mut store, control, step);
+    assert!(rt; store.records[0].state.stand == Stand::Serving(two));
+    assert!(rt; control.next_of_shard(k, &followers(0)) == NextStep::Nothing);
+}
+
+// An answer that didn't come: the control forgets, and reads whether its command was made.
+#[test]
+fn reads_after_an_unknown_outcome(rt: HostRuntime) {
+    let (one, k) = (ServerId::of(1), shard(&rt, 0));
+    let mut store = MemoryStore::new();
+    let control = store.elect(&rt, rt.alloc(), 7);
+    let assign = Command::Change(k, Change::Assign(one));
+    let Judged::Sent(sent) = control.command(assign) else {
+        return;
+    };
+    assert!(rt; store.make(&sent.sending()) == SendOutcome::Made(2));
+    let late = sent.sending();
+    assert!(rt; sent.outcome(SendOutcome::Unknown).is_none());
+    assert!(rt; store.make(&late) == SendOutcome::Lost);
+    let control = store.read(&rt, rt.alloc(), 7);
+    assert!(rt;
+        matches!(
+            control.command(assign),
+            Judged::Refused(_, CommandFault::Change(_))
+        )
+    );
+}
+
+// Two servers ask for a restart. The caps let one go at a time, also under another leader.
+#[test]
+fn restarts_under_caps(rt: HostRuntime) {
+    let (one, two) = (ServerId::of(1), ServerId::of(2));
+    let mut store = MemoryStore::new();
+    let mut control = store.elect(&rt, rt.alloc(), 7);
+    for number in 0..4 {
+        let owner = if number == 3 { two } else { one };
+        let assign = Command::Change(shard(&rt, number), Change::Assign(owner));
+        control = made(&rt, &mut store, control, assign);
+    }
+    control = made(&rt, &mut store, control, Command::Ask(two));
+    let step = control.next_of_server(two);
+    control = taken(&rt, &mut store, control, step);
+    control = made(&rt, &mut store, control, Command::Ask(one));
+    assert!(rt; control.next_of_server(one) == NextStep::Waits);
+    let Judged::Refused(_, fault) = control.command(Command::Approve(one)) else {
+        return;
+    };
+    assert!(rt; fault == CommandFault::Restart(RestartFault::GlobalCap));
+
+    // The next leader drains the server, which then stops and comes back.
+    let mut control = store.elect(&rt, rt.alloc(), 8);
+    assert!(rt; control.next_of_server(two) == NextStep::Waits);
+    let step = control
+        .next_of_drain(rt.alloc(), two)
+        .ok()
+        .expect(&rt, "memory");
+    control = taken(&rt, &mut store, control, step);
+    for _ in 0..3 {
+        let step = control.next_of_shard(shard(&rt, 3), &followers(store.revision));
+        control = taken(&rt, &mut store, control, step);
+    }
+    assert!(rt; store.records[3].state.stand == Stand::Serving(ServerId::of(3)));
+    let step = control.next_of_server(two);
+    control = taken(&rt, &mut store, control, step);
+    assert!(rt; store.states[1] == ServerState::Stopped);
+    control = made(&rt, &mut store, control, Command::Back(two));
+    assert!(rt; control.next_of_server(two) == NextStep::Nothing);
+}
+
+// A server whose lease ended is said to have failed, and what it owned goes to others.
+#[test]
+fn reassigns_after_a_failure(rt: HostRuntime) {
+    let (one, k) = (ServerId::of(1), shard(&rt, 0));
+    let mut store = MemoryStore::new();
+    let control = store.elect(&rt, rt.alloc(), 7);
+    let control = made(
+        &rt,
+        &mut store,
+        control,
+        Command::Change(k, Change::Assign(one)),
+    );
+    let all = followers(0);
+    assert!(rt; control.fallen_server(&all) == None);
+    assert!(rt; control.fallen_server(&all[1..]) == Some(one));
+    let mut control = made(&rt, &mut store, control, Command::Fail(one));
+    assert!(rt; control.fallen_server(&all[1..]) == None);
+    for _ in 0..2 {
+        let step = control.next_of_shard(k, &all[1..]);
+        control = taken(&rt, &mut store, control, step);
+    }
+    assert!(rt; store.records[0].state.stand == Stand::Serving(ServerId::of(2)));
+    assert!(rt; control.next_of_shard(k, &all[1..]) == NextStep::Nothing);
+}
+
+// What no commands lead to is a named fault.
+#[test]
+fn reads_no_unlawful_store(rt: HostRuntime) {
+    let store = MemoryStore::new();
+    let lead = Leadership::new(7, 5).expect(&rt, "a revision");
+    let records = Vec::from_slice(rt.alloc(), &store.records).expect(&rt, "memory");
+    let away = [
+        ServerState::Approved,
+        ServerState::Approved,
+        ServerState::Up,
+    ];
+    let read = StoreControl::read(desk(&rt, rt.alloc()), lead, 100, records, &away, 4);
+    let cap = CommandFault::Restart(RestartFault::GlobalCap);
+    assert!(rt; matches!(read, Err(LoadFault::Unreached(fault)) if fault == cap));
+    let none = StoreControl::read(
+        desk(&rt, rt.alloc()),
+        lead,
+        100,
+        Vec::new(rt.alloc()),
+        &store.states,
+        4,
+    );
+    assert!(rt; matches!(none, Err(LoadFault::Different)));
+    assert!(rt; Leadership::new(7, 0).is_none());
 }

@@ -10,7 +10,8 @@ use Rattle.sm_store.specs.declared.store_key.StoreKey.{StoreKey}
 use Rattle.sm_store.specs.Clients.{last_of, AreNext, reply_in}
 use Rattle.sm_store.specs.Store.{Transaction, head_key, made, made_by, touches}
 use Rattle.sm_store.specs.Deeds.{AreRight, Charter, Deed, Electing, Expiring, Changing, Executing, Basing, Naming}
-use Rattle.sm_store.specs.Deeds.{Clearing, Following, Checking, Foreign, HasRequests, IsRight, MayClear, MayDo, MaySend}
+use Rattle.sm_store.specs.Deeds.{Clearing, Following, Restarting, Settling, Checking, Foreign, HasLed, HasRequests}
+use Rattle.sm_store.specs.Deeds.{IsRight, MayClear, MayDo, MaySend}
 use Rattle.sm_store.specs.Deeds.{WasFound, transaction_of}
 use Rattle.sm_store.specs.System.{Ask, Claim, Replies, Overtaken, Reads, IsSo, WasAsked}
 use Rattle.sm_store.specs.lemmas.Numbers.{last-append, next-append, reply-append}
@@ -60,6 +61,11 @@ module _ {Q P : Type 0} (charter : Charter Q P) where
     all = has.all;
   }
 
+  led_grows : (more log : List (Transaction Q P)) (process elected : ℕ) → HasLed log process elected
+      → HasLed (more ++ log) process elected
+  led_grows more log process elected led =
+      record { was_elected = led.was_elected; leads = found_grows _ _ more log _ _ led.leads }
+
   clear_grows : (more log : List (Transaction Q P)) (key : PassingKey) → MayClear charter log key
       → MayClear charter (more ++ log) key
   clear_grows more log (Batch shard number) may = (may.0, may.1, found_grows _ _ more log _ _ may.2, may.3)
@@ -72,12 +78,12 @@ module _ {Q P : Type 0} (charter : Charter Q P) where
       → MayDo charter (more ++ log) deed
   may_grow more log (Electing process) may = tt
   may_grow more log (Expiring key) may = may
-  may_grow more log (Changing process shard change next stood elected) may = record {
+  may_grow more log (Changing process shard change next elected placed) may = record {
     within = may.within;
-    was_elected = may.was_elected;
-    leads = found_grows _ _ more log _ _ may.leads;
-    state = may.state;
-    record_was = found_grows _ _ more log _ _ may.record_was;
+    led = led_grows more log process elected may.led;
+    read = may.read;
+    placement_was = found_grows _ _ more log _ _ may.placement_was;
+    allowed = may.allowed;
     changed = may.changed;
   }
   may_grow more log (Executing shard server items head stood logged) may = record {
@@ -103,6 +109,13 @@ module _ {Q P : Type 0} (charter : Charter Q P) where
     there = λ place below. let one = may.there place below in (one.0, one.1, found_grows _ _ more log _ _ one.2);
   }
   may_grow more log (Clearing key) may = clear_grows more log key may
+  may_grow more log (Restarting process server state elected placed) may = record {
+    led = led_grows more log process elected may.led;
+    read = may.read;
+    placement_was = found_grows _ _ more log _ _ may.placement_was;
+    allowed = may.allowed;
+  }
+  may_grow more log (Settling settings) may = tt
   may_grow more log (Following server revision) may = tt
   may_grow more log (Checking compares) may = tt
   may_grow more log Foreign may = tt
@@ -116,7 +129,7 @@ module _ {Q P : Type 0} (charter : Charter Q P) where
       → AreNext (made shard log) (made_by shard (transaction_of deed).writes)
   added_next shard log (Electing process) right = tt
   added_next shard log (Expiring key) right = tt
-  added_next shard log (Changing process at change next stood elected) right = tt
+  added_next shard log (Changing process at change next elected placed) right = tt
   added_next shard log (Executing at server items head stood logged) right =
       ⊎_elim
       (λ (yes : (at == shard) ≡ true).
@@ -130,6 +143,8 @@ module _ {Q P : Type 0} (charter : Charter Q P) where
       next_none (made shard log) (touches (head_key shard) (transaction_of {Q = Q} {P = P}
       (Naming at head number parts logged)).writes) [] refl
   added_next shard log (Clearing key) right = tt
+  added_next shard log (Restarting process server state elected placed) right = tt
+  added_next shard log (Settling settings) right = tt
   added_next shard log (Following server revision) right = tt
   added_next shard log (Checking compares) right = tt
   added_next shard log Foreign right = tt

@@ -2,12 +2,14 @@
 use Rattle.std.proofs.Common.{◌≡◌, ℕ, ◌+◌, ◌<◌, ◌≤◌, Bool, true, false, List, [], ◌∷◌, ◌++◌, length, refl, sym, ap}
 use Rattle.std.proofs.Common.{subst, ◌∙◌, arith, ⊎_elim, inl, inr, length-append}
 use Rattle.std.specs.Prelude.{◌==◌, ◌||◌, ◌⊎◌, if◌then◌else◌}
+use Rattle.std.specs.List.{AllByRecursion}
 use Rattle.std.proofs.lemmas.Bool.{true≢false, and_parts, eqb-true, or_cases, cond-true, cond-false, cases_Bool}
 use Rattle.sm_store.specs.declared.compare.Compare.{Compare}
 use Rattle.sm_store.specs.declared.store_key.PassingKey.{PassingKey}
 use Rattle.sm_store.specs.declared.store_key.StoreKey.{StoreKey}
 use Rattle.sm_store.specs.declared.store_key.StoreKey.TheVariants.{Lasting, Passing}
-use Rattle.sm_store.specs.Store.{Transaction, Write, Leads, Stands, Heads, Executes, Bases, Follows, Deletes, Elsewhere}
+use Rattle.sm_store.specs.Store.{Transaction, Write, Leads, Stands, Heads, Executes, Bases, Enters, Commands, Settles}
+use Rattle.sm_store.specs.Store.{Follows, Deletes, Elsewhere}
 use Rattle.sm_store.specs.Store.{all_hold, same_store_key, written_key, is_deletion, left_by, revised, revision_of}
 use Rattle.sm_store.specs.Store.{touches}
 use Rattle.sm_store.specs.Deeds.{WasFound, at}
@@ -45,6 +47,12 @@ module _ {Q P : Type 0} where
       (txn : Transaction Q P) (earlier : List (Transaction Q P)) → touches key txn.writes ≡ false
       → view (txn ∷ earlier) ≡ view earlier
 
+  -- no write of another key by such a transaction does
+  abbrev pub IsViewAmong : {A : Type 0} → (Transaction Q P → Type 0) → (List (Transaction Q P) → A) → StoreKey → Type 0
+  IsViewAmong IsSuch view key =
+      (txn : Transaction Q P) (earlier : List (Transaction Q P)) → IsSuch txn → touches key txn.writes ≡ false
+      → view (txn ∷ earlier) ≡ view earlier
+
   pub apart_writes : (key : StoreKey) (write : Write Q P) (writes : List (Write Q P)) → touches key (write ∷ writes)
       ≡ false
       → (same_store_key (written_key write) key ≡ false) × (touches key writes ≡ false)
@@ -57,6 +65,9 @@ module _ {Q P : Type 0} where
   revised_one key now before (Heads shard head) same = inl (cond-true _ now before same)
   revised_one key now before (Executes shard number server items) same = inl (cond-true _ now before same)
   revised_one key now before (Bases shard number place part) same = inl (cond-true _ now before same)
+  revised_one key now before (Enters process name state) same = inl (cond-true _ now before same)
+  revised_one key now before (Commands process) same = inl (cond-true _ now before same)
+  revised_one key now before (Settles settings) same = inl (cond-true _ now before same)
   revised_one key now before (Follows server revision) same = inl (cond-true _ now before same)
   revised_one key now before (Deletes passing) same =
       inr (cond-true (same_store_key (Passing passing) key) 0 before same, passing_apart passing key same)
@@ -103,11 +114,12 @@ module _ {Q P : Type 0} where
   longer later past = omega (arith, length-append later past)
 
   -- a key whose revision is the same at two moments was not written between them
-  pub unwritten : {A : Type 0} (view : List (Transaction Q P) → A) (key : StoreKey) → IsViewOf view key
-      → (later past : List (Transaction Q P)) → IsTelling key (revision_of key past)
+  pub unwritten_among : {A : Type 0} (IsSuch : Transaction Q P → Type 0) (view : List (Transaction Q P) → A)
+      (key : StoreKey) → IsViewAmong IsSuch view key → (later past : List (Transaction Q P))
+      → AllByRecursion IsSuch later → IsTelling key (revision_of key past)
       → revision_of key (later ++ past) ≡ revision_of key past → view (later ++ past) ≡ view past
-  unwritten view key local [] past telling same = refl
-  unwritten view key local (txn ∷ later) past telling same =
+  unwritten_among IsSuch view key local [] past all telling same = refl
+  unwritten_among IsSuch view key local (txn ∷ later) past all telling same =
       ⊎_elim
       (λ (yes : touches key txn.writes ≡ true).
       ⊎_elim
@@ -123,8 +135,39 @@ module _ {Q P : Type 0} where
       (revised_by key (length (later ++ past) + 1) (revision_of key (later ++ past)) txn.writes yes))
       (λ (no : touches key txn.writes ≡ false).
       let alone = revised_alone key (length (later ++ past) + 1) (revision_of key (later ++ past)) txn.writes no in
-      local txn (later ++ past) no ∙ unwritten view key local later past telling (sym alone ∙ same))
+      local txn (later ++ past) all.0 no
+      ∙ unwritten_among IsSuch view key local later past all.1 telling (sym alone ∙ same))
       (cases_Bool (touches key txn.writes))
+
+  such : (log : List (Transaction Q P)) → AllByRecursion (λ (txn : Transaction Q P). Unit {0}) log
+  such [] = tt
+  such (txn ∷ log) = (tt, such log)
+
+  pub unwritten : {A : Type 0} (view : List (Transaction Q P) → A) (key : StoreKey) → IsViewOf view key
+      → (later past : List (Transaction Q P)) → IsTelling key (revision_of key past)
+      → revision_of key (later ++ past) ≡ revision_of key past → view (later ++ past) ≡ view past
+  unwritten view key local later past telling same =
+      unwritten_among (λ (txn : Transaction Q P). Unit {0}) view key (λ txn earlier any apart. local txn earlier apart)
+      later past (such later) telling same
+
+  all_front : (IsSuch : Transaction Q P → Type 0) (later past : List (Transaction Q P))
+      → AllByRecursion IsSuch (later ++ past) → AllByRecursion IsSuch later
+  all_front IsSuch [] past all = tt
+  all_front IsSuch (txn ∷ later) past all = (all.0, all_front IsSuch later past all.1)
+
+  -- what was read stands, where all transactions are such, and its key's revision is the one that was read
+  pub stands_among : {A : Type 0} (IsSuch : Transaction Q P → Type 0) (view : List (Transaction Q P) → A)
+      (key : StoreKey) → IsViewAmong IsSuch view key → (log : List (Transaction Q P)) (value : A) (revision : ℕ)
+      → AllByRecursion IsSuch log → IsTelling key revision → WasFound view key log value revision
+      → revision_of key log ≡ revision → view log ≡ value
+  stands_among IsSuch view key local log value revision all telling found now =
+      let same : revision_of key (found.later ++ found.past) ≡ revision_of key found.past =
+      ap (revision_of key) (sym found.is) ∙ now ∙ sym found.at in
+      ap view found.is
+      ∙ unwritten_among IsSuch view key local found.later found.past
+      (all_front IsSuch found.later found.past (subst (AllByRecursion IsSuch) found.is all))
+      (subst (IsTelling key) (sym found.at) telling) same
+      ∙ found.was
 
   -- what was read stands, where its key's revision is the one that was read
   pub stands : {A : Type 0} (view : List (Transaction Q P) → A) (key : StoreKey) → IsViewOf view key
@@ -145,25 +188,48 @@ module _ {Q P : Type 0} where
   ends (x ∷ xs) [] a b same = inr (x ∷ xs, sym same)
   ends (x ∷ xs) (y ∷ ys) a b same = ends xs ys a b (ap tail_of same)
 
+  all_back : (IsSuch : Transaction Q P → Type 0) (later past : List (Transaction Q P))
+      → AllByRecursion IsSuch (later ++ past) → AllByRecursion IsSuch past
+  all_back IsSuch [] past all = all
+  all_back IsSuch (txn ∷ later) past all = all_back IsSuch later past all.1
+
   -- what was read stood at each moment at which its key's revision was the one that was read
+  pub stood_among :
+      {A : Type 0} (IsSuch : Transaction Q P → Type 0) (view : List (Transaction Q P) → A) (key : StoreKey)
+      → IsViewAmong IsSuch view key → (log : List (Transaction Q P)) (value : A) (revision : ℕ)
+      → AllByRecursion IsSuch log → IsTelling key revision
+      → WasFound view key log value revision → (later past : List (Transaction Q P)) → log ≡ later ++ past
+      → revision_of key past ≡ revision → view past ≡ value
+  stood_among IsSuch view key local log value revision all telling found later past is at =
+      ⊎_elim
+      (λ (longer : (more : List (Transaction Q P)) × (found.past ≡ more ++ past)).
+      let same : revision_of key (longer.0 ++ past) ≡ revision_of key past =
+      ap (revision_of key) (sym longer.1) ∙ found.at ∙ sym at in
+      let such_more : AllByRecursion IsSuch longer.0 =
+      all_front IsSuch longer.0 past (subst (AllByRecursion IsSuch) longer.1
+      (all_back IsSuch found.later found.past (subst (AllByRecursion IsSuch) found.is all))) in
+      sym (unwritten_among IsSuch view key local longer.0 past such_more
+      (subst (IsTelling key) (sym at) telling) same)
+      ∙ ap view (sym longer.1) ∙ found.was)
+      (λ (shorter : (more : List (Transaction Q P)) × (past ≡ more ++ found.past)).
+      let same : revision_of key (shorter.0 ++ found.past) ≡ revision_of key found.past =
+      ap (revision_of key) (sym shorter.1) ∙ at ∙ sym found.at in
+      let such_more : AllByRecursion IsSuch shorter.0 =
+      all_front IsSuch shorter.0 found.past (subst (AllByRecursion IsSuch) shorter.1
+      (all_back IsSuch later past (subst (AllByRecursion IsSuch) is all))) in
+      ap view shorter.1
+      ∙ unwritten_among IsSuch view key local shorter.0 found.past such_more
+      (subst (IsTelling key) (sym found.at) telling) same
+      ∙ found.was)
+      (ends found.later later found.past past (sym found.is ∙ is))
+
   pub stood_then : {A : Type 0} (view : List (Transaction Q P) → A) (key : StoreKey) → IsViewOf view key
       → (log : List (Transaction Q P)) (value : A) (revision : ℕ) → IsTelling key revision
       → WasFound view key log value revision → (later past : List (Transaction Q P)) → log ≡ later ++ past
       → revision_of key past ≡ revision → view past ≡ value
   stood_then view key local log value revision telling found later past is at =
-      ⊎_elim
-      (λ (longer : (more : List (Transaction Q P)) × (found.past ≡ more ++ past)).
-      let same : revision_of key (longer.0 ++ past) ≡ revision_of key past =
-      ap (revision_of key) (sym longer.1) ∙ found.at ∙ sym at in
-      sym (unwritten view key local longer.0 past (subst (IsTelling key) (sym at) telling) same)
-      ∙ ap view (sym longer.1) ∙ found.was)
-      (λ (shorter : (more : List (Transaction Q P)) × (past ≡ more ++ found.past)).
-      let same : revision_of key (shorter.0 ++ found.past) ≡ revision_of key found.past =
-      ap (revision_of key) (sym shorter.1) ∙ at ∙ sym found.at in
-      ap view shorter.1
-      ∙ unwritten view key local shorter.0 found.past (subst (IsTelling key) (sym found.at) telling) same
-      ∙ found.was)
-      (ends found.later later found.past past (sym found.is ∙ is))
+      stood_among (λ (txn : Transaction Q P). Unit {0}) view key (λ txn earlier any apart. local txn earlier apart)
+      log value revision (such log) telling found later past is at
 
   -- one compare of a transaction held, or both
   pub first_held : (log : List (Transaction Q P)) (a : StoreKey) (m : ℕ) (rest : List Compare)

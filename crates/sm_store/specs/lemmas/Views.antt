@@ -1,17 +1,22 @@
 -- Which key's writes change what is read of the store.
-use Rattle.std.proofs.Common.{◌≡◌, ℕ, false, List, [], ◌∷◌, ◌++◌, refl, ap, ◌∙◌, append-nil, Some, None}
+use Rattle.std.proofs.Common.{◌≡◌, ℕ, false, List, [], ◌∷◌, ◌++◌, refl, sym, subst, ap, ◌∙◌, append-nil, Some, None}
 use Rattle.std.specs.Prelude.{◌==◌, ◌&&◌}
+use Rattle.std.specs.List.{AllByRecursion}
 use Rattle.std.proofs.lemmas.Bool.{true≢false, cond-false}
 use Rattle.sm_store.specs.declared.head.Head.{Head}
 use Rattle.sm_store.specs.declared.item.Item.{Item}
 use Rattle.sm_store.specs.declared.store_key.PassingKey.TheVariants.{Leader, Batch, Part}
 use Rattle.sm_store.specs.declared.store_key.StoreKey.{StoreKey}
-use Rattle.sm_store.specs.Store.{Write, Leads, Stands, Heads, Executes, Bases, Follows, Deletes, Elsewhere, leader_key}
+use Rattle.sm_store.specs.Store.{Write, Leads, Stands, Heads, Executes, Bases, Enters, Commands, Settles, Follows}
+use Rattle.sm_store.specs.Store.{Deletes, Elsewhere, leader_key}
 use Rattle.sm_store.specs.Store.{record_key, head_key, batch_key, part_key, same_store_key, same_passing, written_key}
 use Rattle.sm_store.specs.Store.{left_by, view_from, touches, led, leader_of, stood, stored_record, headed, head_of}
 use Rattle.sm_store.specs.Store.{batched, batch_at, based_on, part_at, executed_by, made}
-use Rattle.sm_store.specs.Deeds.{shard_log}
-use Rattle.sm_store.specs.lemmas.Heart.{IsViewOf, apart_writes}
+use Rattle.sm_store.specs.Store.{placement_key, placement_of, settings_key, stored_settings, settled}
+use Rattle.sm_store.specs.Store.{Transaction}
+use Rattle.sm_store.specs.Deeds.{AreRight, Charter, Deed, Electing, Expiring, Changing, Restarting, Settling, Executing}
+use Rattle.sm_store.specs.Deeds.{Basing, Naming, Clearing, Following, Checking, Foreign, shard_log, transaction_of}
+use Rattle.sm_store.specs.lemmas.Heart.{IsViewAmong, IsViewOf, apart_writes}
 
 module _ {Q P : Type 0} where
   -- a write of another key leaves the value
@@ -38,6 +43,9 @@ module _ {Q P : Type 0} where
   led_local before (Heads shard head) apart = refl
   led_local before (Executes shard number server items) apart = refl
   led_local before (Bases shard number place part) apart = refl
+  led_local before (Enters process name state) apart = refl
+  led_local before (Commands process) apart = refl
+  led_local before (Settles settings) apart = refl
   led_local before (Follows server revision) apart = refl
   led_local before (Deletes key) apart = cond-false (same_passing key Leader) 0 before apart
   led_local before Elsewhere apart = refl
@@ -48,6 +56,9 @@ module _ {Q P : Type 0} where
   stood_local shard before (Heads at head) apart = refl
   stood_local shard before (Executes at number server items) apart = refl
   stood_local shard before (Bases at number place part) apart = refl
+  stood_local shard before (Enters process name state) apart = refl
+  stood_local shard before (Commands process) apart = refl
+  stood_local shard before (Settles settings) apart = refl
   stood_local shard before (Follows server revision) apart = refl
   stood_local shard before (Deletes key) apart = refl
   stood_local shard before Elsewhere apart = refl
@@ -58,6 +69,9 @@ module _ {Q P : Type 0} where
   headed_local shard before (Heads at head) apart = cond-false (at == shard) head before apart
   headed_local shard before (Executes at number server items) apart = refl
   headed_local shard before (Bases at number place part) apart = refl
+  headed_local shard before (Enters process name state) apart = refl
+  headed_local shard before (Commands process) apart = refl
+  headed_local shard before (Settles settings) apart = refl
   headed_local shard before (Follows server revision) apart = refl
   headed_local shard before (Deletes key) apart = refl
   headed_local shard before Elsewhere apart = refl
@@ -69,6 +83,9 @@ module _ {Q P : Type 0} where
   batched_local shard number before (Executes at n server items) apart =
       cond-false (at == shard && n == number) (Some items) before apart
   batched_local shard number before (Bases at n place part) apart = refl
+  batched_local shard number before (Enters process name state) apart = refl
+  batched_local shard number before (Commands process) apart = refl
+  batched_local shard number before (Settles settings) apart = refl
   batched_local shard number before (Follows server revision) apart = refl
   batched_local shard number before (Deletes key) apart = cond-false
       (same_passing key (Batch shard number)) None before apart
@@ -81,6 +98,9 @@ module _ {Q P : Type 0} where
   based_local shard number place before (Executes at n server items) apart = refl
   based_local shard number place before (Bases at n i part) apart =
       cond-false (at == shard && (n == number && i == place)) (Some part) before apart
+  based_local shard number place before (Enters process name state) apart = refl
+  based_local shard number place before (Commands process) apart = refl
+  based_local shard number place before (Settles settings) apart = refl
   based_local shard number place before (Follows server revision) apart = refl
   based_local shard number place before (Deletes key) apart =
       cond-false (same_passing key (Part shard number place)) None before apart
@@ -115,3 +135,54 @@ module _ {Q P : Type 0} where
       (head_view shard txn earlier apart)
       ∙ ap (λ (items : List (Item Q)). record { head = head_of shard earlier; items = items })
       (made_view shard txn earlier apart)
+
+  settled_local : IsLocal settled settings_key
+  settled_local before (Leads process) apart = refl
+  settled_local before (Stands process at change next) apart = refl
+  settled_local before (Enters process name state) apart = refl
+  settled_local before (Commands process) apart = refl
+  settled_local before (Settles settings) apart = absurd (true≢false apart)
+  settled_local before (Heads at head) apart = refl
+  settled_local before (Executes at number server items) apart = refl
+  settled_local before (Bases at number place part) apart = refl
+  settled_local before (Follows server revision) apart = refl
+  settled_local before (Deletes key) apart = refl
+  settled_local before Elsewhere apart = refl
+
+  pub settings_view : IsViewOf (stored_settings {Q = Q} {P = P}) settings_key
+  settings_view = local_view settled None settings_key settled_local
+
+  -- the transaction is that of a deed
+  abbrev pub IsOfDeed : Transaction Q P → Type 0
+  IsOfDeed txn = (deed : Deed Q P) × (txn ≡ transaction_of deed)
+
+  pub deeds_of_right : (charter : Charter Q P) (log : List (Transaction Q P)) → AreRight charter log
+      → AllByRecursion IsOfDeed log
+  deeds_of_right charter [] right = tt
+  deeds_of_right charter (txn ∷ earlier) right = (
+    (right.0.deed, right.0.is),
+    deeds_of_right charter earlier right.1,
+  )
+
+  placed_apart : (deed : Deed Q P) (earlier : List (Transaction Q P))
+      → touches placement_key (transaction_of deed).writes ≡ false
+      → placement_of (transaction_of deed ∷ earlier) ≡ placement_of earlier
+  placed_apart (Electing process) earlier apart = refl
+  placed_apart (Expiring key) earlier apart = refl
+  placed_apart (Changing process shard change next elected placed) earlier apart = absurd (true≢false apart)
+  placed_apart (Restarting process server state elected placed) earlier apart = absurd (true≢false apart)
+  placed_apart (Settling settings) earlier apart = refl
+  placed_apart (Executing shard server items head stood logged) earlier apart = refl
+  placed_apart (Basing shard number place part) earlier apart = refl
+  placed_apart (Naming shard head number parts logged) earlier apart = refl
+  placed_apart (Clearing key) earlier apart = refl
+  placed_apart (Following server revision) earlier apart = refl
+  placed_apart (Checking compares) earlier apart = refl
+  placed_apart Foreign earlier apart = refl
+
+  -- no deed changes a record or a state that doesn't write the placement's key
+  pub placement_view : IsViewAmong IsOfDeed placement_of placement_key
+  placement_view txn earlier of apart =
+      subst (λ (t : Transaction Q P). placement_of (t ∷ earlier) ≡ placement_of earlier) (sym of.1)
+      (placed_apart of.0 earlier
+      (subst (λ (t : Transaction Q P). touches placement_key t.writes ≡ false) of.1 apart))

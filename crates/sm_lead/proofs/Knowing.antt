@@ -1,0 +1,338 @@
+-- What a control knows of the store: once it has read, and once its command was made; and which commands it may send.
+use Rattle.std.proofs.Common.{◌≡◌, ◌≢◌, ℕ, ◌+◌, ◌<◌, Bool, true, false, List, [], ◌∷◌, ◌++◌, length, get_or, set}
+use Rattle.std.proofs.Common.{Option, Some, None, refl, sym, ap, subst, ◌∙◌, inl, ⊎_elim, arith}
+use Rattle.std.specs.Prelude.{IsTrue, is_none, ◌==◌, ◌↔◌, if◌then◌else◌}
+use Rattle.std.specs.Option.{option_map, option_or}
+use Rattle.std.specs.List.{AllByRecursion}
+use Rattle.std.proofs.lemmas.Bool.{cases_eq, eq-eqb, ne_eqb, ltb-true, cond-true, cond-false}
+use Rattle.std.proofs.lemmas.List.{get_or-set_same, get_or-set_other, length-map, length-set}
+use Rattle.sm_ownership.specs.declared.change.Change.{Change as AnyChange}
+use Rattle.sm_ownership.specs.declared.record.Record.{Record}
+use Rattle.sm_ownership.specs.History.{after_change, change_fits}
+use Rattle.sm_ownership.specs.Rules.{phase_fault}
+use Rattle.sm_ownership.specs.Tables.{record_fault}
+use Rattle.sm_place.specs.declared.server_state.ServerState.{ServerState}
+use Rattle.sm_place.specs.declared.server_state.ServerState.TheVariants as states
+use Rattle.sm_place.specs.Books.{BooksView, IsKnown, no_server, place_of, with_state}
+use Rattle.sm_place.specs.Sound.{AreSound}
+use Rattle.sm_place.specs.lemmas.Changed.{id-at_place, length-with_stand}
+use Rattle.sm_desk.specs.declared.command.Command.{Command}
+use Rattle.sm_desk.specs.declared.command.Command.TheVariants.{Change, Ask, Approve, Stopped, Back, Fail}
+use Rattle.sm_desk.specs.declared.command.CommandFault.{CommandFault}
+use Rattle.sm_desk.specs.declared.command.CommandFault.TheVariants.{Change as ChangeRefused, UnknownServer}
+use Rattle.sm_desk.specs.Desk.{DeskView, desk_fault, is_known}
+use Rattle.sm_desk.specs.lemmas.Changes.{let_through}
+use Rattle.sm_store.specs.declared.item.Item.{Item}
+use Rattle.sm_store.specs.Store.{Placement, Transaction, all_hold, leader_key, placement_key, placement_of, record_key}
+use Rattle.sm_store.specs.Store.{revision_of, stored_record, stored_state}
+use Rattle.sm_store.specs.Deeds.{Changing, Charter, Deed, HasLed, IsChanged, IsHonest, MaySend, Restarting}
+use Rattle.sm_store.specs.Deeds.{WasFound, at, transaction_of}
+use Rattle.sm_store.specs.lemmas.Heart.{first_held, stood_among}
+use Rattle.sm_store.specs.lemmas.Views.{IsOfDeed, placement_view}
+use Rattle.sm_lead.specs.declared.command_write.CommandWrite.TheVariants.{State as WritesState}
+use Rattle.sm_lead.specs.declared.leadership.Leadership.{Leadership}
+use Rattle.sm_lead.specs.declared.record_read.RecordRead.{RecordRead}
+use Rattle.sm_lead.specs.declared.store_control.StoreControl.{StoreControl}
+use Rattle.sm_lead.specs.Commands.{IsAfter, command_fault, read_at, unwritten, write_of}
+use Rattle.sm_lead.specs.Controls.{CommandWasMade, IsLoaded, IsReadOf, KnowsStore}
+use Rattle.sm_lead.specs.Placements.{Agrees, charter_of, desk_in, rows_of}
+use Rattle.sm_lead.specs.Sendings.{command_transaction, sending_of}
+use Rattle.sm_lead.proofs.Agreement.{agrees_changed, agrees_entered, same_books}
+
+pub none_both : {A : Type 0} (a b : Option A) → option_or a b ≡ None → (a ≡ None) × (b ≡ None)
+none_both None b is = (refl, is)
+none_both (Some x) b is = absurd cc
+
+unmapped : {A B : Type 0} (f : A → B) (a : Option A) → option_map f a ≡ None → a ≡ None
+unmapped f None is = refl
+unmapped f (Some x) is = absurd cc
+
+if_known : {A : Type 0} (b : Bool) (a : Option A) (x : A) → (if b then a else Some x) ≡ None → b ≡ true
+if_known true a x is = refl
+if_known false a x is = absurd cc
+
+pub none_is : {A : Type 0} (a : Option A) → a ≡ None → is_none a ≡ true
+none_is None is = refl
+none_is (Some x) is = absurd cc
+
+-- a step that isn't refused is of a server with a row
+pub known_of : (books : BooksView) (a : ℕ) (fault : Option CommandFault)
+    → (if is_known books.servers a then fault else Some UnknownServer) ≡ None → IsKnown books.servers a
+known_of books a fault none =
+    ltb-true (place_of books.servers a) (length books.servers)
+    (if_known (is_known books.servers a) fault UnknownServer none)
+
+module _ {Q P : Type 0} where
+  pub reading_known : (log : List (Transaction Q P)) (desk : DeskView) (lead : Leadership) (ceiling : ℕ)
+      (reads : List RecordRead) (entered : List ServerState) (placed : ℕ) (control : StoreControl)
+      → AreSound control.desk.books → IsLoaded desk lead ceiling reads entered placed control
+      → IsReadOf log desk lead reads entered placed → KnowsStore log control
+  reading_known log desk lead ceiling reads entered placed control sound loaded read =
+      let books = control.desk.books in
+      let count = loaded.stands.count in
+      let long = sound.states in
+      let servers : books.servers ≡ desk.books.servers = ap (λ rows. rows.servers) loaded.rows.rows in
+      record {
+        led = subst (λ (l : Leadership). HasLed log l.process l.elected) (sym loaded.lead_is) read.led;
+        read = placement_of read.past;
+        placement_was = record {
+          later = read.later;
+          past = read.past;
+          is = read.is;
+          at = read.at ∙ sym loaded.placed_is;
+          was = refl;
+        };
+        agrees = record {
+          stands = λ k below. loaded.stands.stands k (omega arith)
+              ∙ ap (λ (r : Record). r.stand) (read.records k (omega arith));
+          states = λ a known.
+              let place = place_of books.servers a in
+              let many = loaded.states_are.count in
+              loaded.states_are.each place (omega arith)
+              ∙ read.states_were place (omega arith)
+              ∙ ap (λ (id : ℕ). stored_state id read.past)
+              (ap (λ rows. (get_or rows place no_server).id) (sym servers) ∙ id-at_place books.servers a known);
+        };
+        records = λ k below.
+            ap (λ (rs : List RecordRead). (read_at rs k).state) loaded.reads_are ∙ read.records k (omega arith);
+        stood = λ k below.
+            subst (λ (rs : List RecordRead). WasFound (stored_record k) (record_key k) log (read_at rs k).state
+            (read_at rs k).stood) (sym loaded.reads_are)
+            (record {
+              later = read.later;
+              past = read.past;
+              is = read.is;
+              at = sym (read.stood k (omega arith));
+              was = sym (read.records k (omega arith));
+            });
+        count = ap length loaded.reads_are ∙ count;
+      }
+
+module _ {Q P : Type 0} (parts : List (Item Q) → List P) (log : List (Transaction Q P)) (control : StoreControl)
+    (sound : AreSound control.desk.books)
+    (knows : KnowsStore log control) where
+  same_desk : control.desk ≡ desk_in (rows_of control.desk.books) control.desk.ops knows.read
+  same_desk =
+      ap (λ (books : BooksView). record { books = books; ops = control.desk.ops })
+      (same_books control.desk.books knows.read sound knows.agrees)
+
+  allowed : (command : Command) → desk_fault control.desk command ≡ None
+      → is_none (desk_fault (desk_in (rows_of control.desk.books) control.desk.ops knows.read) command) ≡ true
+  allowed command none =
+      subst (λ (desk : DeskView). is_none (desk_fault desk command) ≡ true) same_desk (none_is _ none)
+
+  restart_may : (a : ℕ) (state : ServerState)
+      → is_none (desk_fault (desk_in (rows_of control.desk.books) control.desk.ops knows.read)
+      (Rattle.sm_lead.specs.Placements.step_to state a)) ≡ true
+      → MaySend (charter_of (rows_of control.desk.books) control.desk.ops control.ceiling parts) log
+      (command_transaction (sending_of control (WritesState a state)))
+  restart_may a state allows = record {
+    deed = Restarting control.lead.process a state control.lead.elected control.placed;
+    is = refl;
+    may = record {
+      led = knows.led;
+      read = knows.read;
+      placement_was = knows.placement_was;
+      allowed = allows;
+    };
+  }
+
+  pub may_be_sent : ((ceiling : ℕ) (state : Record) (change : AnyChange)
+      → IsTrue (change_fits ceiling state 0 change)
+      ↔ ((phase_fault state.stand change ≡ None) × (record_fault ceiling state ≡ None)))
+      → (command : Command) → command_fault control command ≡ None
+      → MaySend (charter_of (rows_of control.desk.books) control.desk.ops control.ceiling parts) log
+      (command_transaction (sending_of control (write_of control command)))
+  may_be_sent exactly (Change k change) none =
+      let both = none_both _ _ none in
+      let state = (read_at control.records.items k).state in
+      let within = (let_through control.desk.books k change both.0).within in
+      let rows_len = length-map control.desk.books.shards (λ shard. shard.row) in
+      let faults = none_both _ _ (unmapped ChangeRefused _ both.1) in
+      record {
+        deed = Changing control.lead.process k change (after_change state change) control.lead.elected control.placed;
+        is = refl;
+        may = record {
+          within = omega arith;
+          led = knows.led;
+          read = knows.read;
+          placement_was = knows.placement_was;
+          allowed = allowed (Change k change) both.0;
+          changed = subst (λ (r : Record). IsChanged control.ceiling r change (after_change state change))
+              (knows.records k within)
+              (record { fits = (exactly control.ceiling state change).1 faults; is = refl });
+        };
+      }
+  may_be_sent exactly (Ask a) none = restart_may a states.Asked (allowed (Ask a) (none_both _ _ none).0)
+  may_be_sent exactly (Approve a) none = restart_may a states.Approved (allowed (Approve a) (none_both _ _ none).0)
+  may_be_sent exactly (Stopped a) none = restart_may a states.Stopped (allowed (Stopped a) (none_both _ _ none).0)
+  may_be_sent exactly (Back a) none = restart_may a states.Up (allowed (Back a) (none_both _ _ none).0)
+  may_be_sent exactly (Fail a) none = restart_may a states.Failed (allowed (Fail a) (none_both _ _ none).0)
+
+module _ {Q P : Type 0} where
+  pub deeds_of : (charter : Charter Q P) (log : List (Transaction Q P)) → IsHonest charter log
+      → AllByRecursion IsOfDeed log
+  deeds_of charter [] honest = tt
+  deeds_of charter (txn ∷ earlier) honest =
+      ((honest.1.deed, honest.1.is), deeds_of charter earlier honest.2)
+
+  -- the records and states that were read stood when the command was made
+  stood_then : (log : List (Transaction Q P)) (control : StoreControl) → AllByRecursion IsOfDeed log
+      → (knows : KnowsStore log control) → (later past : List (Transaction Q P)) (txn : Transaction Q P)
+      → log ≡ later ++ txn ∷ past
+      → revision_of placement_key past ≡ control.placed → placement_of past ≡ knows.read
+  stood_then log control deeds knows later past txn is now =
+      stood_among IsOfDeed placement_of placement_key placement_view log knows.read control.placed deeds (inl refl)
+      knows.placement_was (later ++ txn ∷ []) past (is ∙ regroup later txn past) now
+    where
+      regroup : (xs : List (Transaction Q P)) (x : Transaction Q P) (ys : List (Transaction Q P))
+          → xs ++ x ∷ ys ≡ (xs ++ x ∷ []) ++ ys
+      regroup [] x ys = refl
+      regroup (z ∷ xs) x ys = ap (λ (rest : List (Transaction Q P)). z ∷ rest) (regroup xs x ys)
+
+  placed_held : (log : List (Transaction Q P)) (elected placed : ℕ)
+      → all_hold log (at leader_key elected ∷ at placement_key placed ∷ []) ≡ true
+      → revision_of placement_key log ≡ placed
+  placed_held log elected placed held =
+      (first_held log placement_key placed []
+      (first_held log leader_key elected (at placement_key placed ∷ []) held).1).0
+
+  entered_known : (log : List (Transaction Q P)) (control new : StoreControl) (command : Command) (a : ℕ)
+      (state : ServerState) (revision : ℕ)
+      → AllByRecursion IsOfDeed log → AreSound control.desk.books → KnowsStore log control
+      → IsKnown control.desk.books.servers a
+      → CommandWasMade log
+      (transaction_of (Restarting control.lead.process a state control.lead.elected control.placed))
+      revision
+      → new.desk.books ≡ with_state control.desk.books a state → new.records.items ≡ control.records.items
+      → new.lead ≡ control.lead → new.placed ≡ revision → KnowsStore log new
+  entered_known log control new command a state revision deeds sound knows known made books reads lead placed =
+      let past = made.past in
+      let deed : Deed Q P = Restarting control.lead.process a state control.lead.elected control.placed in
+      let now = placed_held past control.lead.elected control.placed made.held in
+      let was = stood_then log control deeds knows made.later past (transaction_of deed) made.is now in
+      let before : Agrees control.desk.books (placement_of past) = subst (Agrees control.desk.books) (sym was)
+      knows.agrees in
+      record {
+        led = subst (λ (l : Leadership). HasLed log l.process l.elected) (sym lead) knows.led;
+        read = placement_of (transaction_of deed ∷ past);
+        placement_was = record {
+          later = made.later;
+          past = transaction_of deed ∷ past;
+          is = made.is;
+          at = sym made.at ∙ sym placed;
+          was = refl;
+        };
+        agrees = subst (λ (b : BooksView). Agrees b (placement_of (transaction_of deed ∷ past))) (sym books)
+            (agrees_entered control.desk.books past control.lead.process a state control.lead.elected control.placed
+            sound.states known before);
+        records = λ k below.
+            ap (λ (rs : List RecordRead). (read_at rs k).state) reads
+            ∙ knows.records k (subst (λ (b : BooksView). k < length b.shards) books below)
+            ∙ ap (λ (p : Placement). p.records k) (sym was);
+        stood = λ k below.
+            subst (λ (rs : List RecordRead). WasFound (stored_record k) (record_key k) log (read_at rs k).state
+            (read_at rs k).stood) (sym reads)
+            (knows.stood k (subst (λ (b : BooksView). k < length b.shards) books below));
+        count = ap length reads ∙ knows.count ∙ ap (λ (b : BooksView). length b.shards) (sym books);
+      }
+
+  changed_known : (log : List (Transaction Q P)) (control new : StoreControl) (k : ℕ) (change : AnyChange)
+      (revision : ℕ) → AllByRecursion IsOfDeed log → KnowsStore log control → k < length control.desk.books.shards
+      → CommandWasMade log (command_transaction (sending_of control (write_of control (Change k change)))) revision
+      → IsAfter control (Change k change) (write_of control (Change k change)) revision new → KnowsStore log new
+  changed_known log control new k change revision deeds knows within made after =
+      let past = made.past in
+      let reads = control.records.items in
+      let state = (read_at reads k).state in
+      let next = after_change state change in
+      let one : RecordRead = record { state = next; stood = revision } in
+      let deed : Deed Q P = Changing control.lead.process k change next control.lead.elected control.placed in
+      let now = placed_held past control.lead.elected control.placed made.held in
+      let was = stood_then log control deeds knows made.later past (transaction_of deed) made.is now in
+      let before : Agrees control.desk.books (placement_of past) = subst (Agrees control.desk.books) (sym was)
+      knows.agrees in
+      let state_is : state ≡ stored_record k past = knows.records k within ∙ ap (λ (p : Placement). p.records k)
+      (sym was) in
+      let books = ap (λ (d : DeskView). d.books) after.desk in
+      let many : length new.desk.books.shards ≡ length control.desk.books.shards =
+      ap (λ (b : BooksView). length b.shards) books ∙ length-with_stand control.desk.books.shards k _ in
+      let count = knows.count in
+      let inside : k < length reads = omega arith in
+      record {
+        led = subst (λ (l : Leadership). HasLed log l.process l.elected) (sym after.lead) knows.led;
+        read = placement_of (transaction_of deed ∷ past);
+        placement_was = record {
+          later = made.later;
+          past = transaction_of deed ∷ past;
+          is = made.is;
+          at = sym made.at ∙ sym after.placed;
+          was = refl;
+        };
+        agrees = subst (λ (b : BooksView). Agrees b (placement_of (transaction_of deed ∷ past))) (sym books)
+            (agrees_changed control.desk.books past control.lead.process k change next control.lead.elected
+            control.placed within (ap (λ (r : Record). after_change r change) state_is) before);
+        records = λ j below.
+            ap (λ (rs : List RecordRead). (read_at rs j).state) after.records
+            ∙ ⊎_elim
+            (λ (same : j ≡ k).
+            subst (λ (i : ℕ). (read_at (set reads k one) i).state ≡ (if k == i then next else stored_record i past))
+            (sym same)
+            (ap (λ (r : RecordRead). r.state) (get_or-set_same reads k one unwritten inside)
+            ∙ sym (cond-true (k == k) next (stored_record k past) (eq-eqb k k refl))))
+            (λ (apart : j ≢ k).
+            ap (λ (r : RecordRead). r.state) (get_or-set_other reads k j one unwritten apart)
+            ∙ knows.records j (omega arith) ∙ ap (λ (p : Placement). p.records j) (sym was)
+            ∙ sym (cond-false (k == j) next (stored_record j past) (ne_eqb k j (λ same. apart (sym same)))))
+            (cases_eq j k);
+        stood = λ j below.
+            subst (λ (rs : List RecordRead). WasFound (stored_record j) (record_key j) log (read_at rs j).state
+            (read_at rs j).stood) (sym after.records)
+            (⊎_elim
+            (λ (same : j ≡ k).
+            subst (λ (r : RecordRead). WasFound (stored_record j) (record_key j) log r.state r.stood)
+            (sym (ap (λ (i : ℕ). read_at (set reads k one) i) same ∙ get_or-set_same reads k one unwritten inside))
+            (record {
+              later = made.later;
+              past = transaction_of deed ∷ past;
+              is = made.is;
+              at = cond-true (k == j) (length past + 1) (revision_of (record_key j) past) (eq-eqb k j (sym same))
+                  ∙ sym made.at;
+              was = cond-true (k == j) next (stored_record j past) (eq-eqb k j (sym same));
+            }))
+            (λ (apart : j ≢ k).
+            subst (λ (r : RecordRead). WasFound (stored_record j) (record_key j) log r.state r.stood)
+            (sym (get_or-set_other reads k j one unwritten apart))
+            (knows.stood j (omega arith)))
+            (cases_eq j k));
+        count = ap length after.records ∙ length-set reads k one ∙ count ∙ sym many;
+      }
+
+  pub outcome_known : (charter : Charter Q P) (log : List (Transaction Q P)) (control new : StoreControl)
+      (command : Command) (revision : ℕ) → IsHonest charter log → AreSound control.desk.books → KnowsStore log control
+      → command_fault control command ≡ None
+      → CommandWasMade log (command_transaction (sending_of control (write_of control command))) revision
+      → IsAfter control command (write_of control command) revision new → KnowsStore log new
+  outcome_known charter log control new (Change k change) revision honest sound knows none made after =
+      changed_known log control new k change revision (deeds_of charter log honest) knows
+      (let_through control.desk.books k change (none_both _ _ none).0).within made after
+  outcome_known charter log control new (Ask a) revision honest sound knows none made after =
+      entered_known log control new (Ask a) a states.Asked revision (deeds_of charter log honest) sound knows
+      (known_of control.desk.books a _ (none_both _ _ none).0) made (ap (λ (d : DeskView). d.books) after.desk)
+      after.records after.lead after.placed
+  outcome_known charter log control new (Approve a) revision honest sound knows none made after =
+      entered_known log control new (Approve a) a states.Approved revision (deeds_of charter log honest) sound knows
+      (known_of control.desk.books a _ (none_both _ _ none).0) made (ap (λ (d : DeskView). d.books) after.desk)
+      after.records after.lead after.placed
+  outcome_known charter log control new (Stopped a) revision honest sound knows none made after =
+      entered_known log control new (Stopped a) a states.Stopped revision (deeds_of charter log honest) sound knows
+      (known_of control.desk.books a _ (none_both _ _ none).0) made (ap (λ (d : DeskView). d.books) after.desk)
+      after.records after.lead after.placed
+  outcome_known charter log control new (Back a) revision honest sound knows none made after =
+      entered_known log control new (Back a) a states.Up revision (deeds_of charter log honest) sound knows
+      (known_of control.desk.books a _ (none_both _ _ none).0) made (ap (λ (d : DeskView). d.books) after.desk)
+      after.records after.lead after.placed
+  outcome_known charter log control new (Fail a) revision honest sound knows none made after =
+      entered_known log control new (Fail a) a states.Failed revision (deeds_of charter log honest) sound knows
+      (known_of control.desk.books a _ (none_both _ _ none).0) made (ap (λ (d : DeskView). d.books) after.desk)
+      after.records after.lead after.placed

@@ -1,0 +1,5 @@
+use Rattle.sm_lead.proofs.Knowing.{outcome_known}
+use Rattle.sm_lead.proofs.laws.outcomes_are_known.Goals as goal
+
+pub returns : goal.returns
+returns g c = outcome_known

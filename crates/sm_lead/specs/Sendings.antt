@@ -1,0 +1,39 @@
+-- What a control does with a command, and the transaction of one that is sent.
+use Rattle.std.specs.Prelude.{◌≡◌, Some, None}
+use Rattle.sm_desk.specs.declared.command.Command.{Command}
+use Rattle.sm_store.specs.Store.{Transaction}
+use Rattle.sm_store.specs.Deeds.{Changing, Deed, Restarting, transaction_of}
+use Rattle.sm_lead.specs.declared.command_sending.CommandSending.{CommandSending}
+use Rattle.sm_lead.specs.declared.command_write.CommandWrite.{CommandWrite}
+use Rattle.sm_lead.specs.declared.command_write.CommandWrite.TheVariants.{Record as WritesRecord, State as WritesState}
+use Rattle.sm_lead.specs.declared.sent_command.Judged.{Judged}
+use Rattle.sm_lead.specs.declared.sent_command.Judged.TheVariants.{Sent, Refused}
+use Rattle.sm_lead.specs.declared.store_control.StoreControl.{StoreControl}
+use Rattle.sm_lead.specs.Commands.{command_fault, write_of}
+
+-- a command that is refused leaves the control as it was; else the control has sent it
+abbrev pub IsJudged : StoreControl → Command → Judged → Type 0
+IsJudged control command (Sent sent) =
+    (command_fault control command ≡ None) × (sent.control ≡ control) × (sent.command ≡ command)
+    × (sent.write ≡ write_of control command)
+IsJudged control command (Refused kept fault) = (command_fault control command ≡ Some fault) × (kept ≡ control)
+
+-- what is sent for a command
+abbrev pub sending_of : StoreControl → CommandWrite → CommandSending
+sending_of control write =
+    record {
+      process = control.lead.process;
+      elected = control.lead.elected;
+      placed = control.placed;
+      write = write;
+    }
+
+-- the deed of what is sent
+abbrev pub deed_of : {Q P : Type 0} → CommandSending → CommandWrite → Deed Q P
+deed_of sending (WritesRecord shard change next) =
+    Changing sending.process shard change next sending.elected sending.placed
+deed_of sending (WritesState server state) = Restarting sending.process server state sending.elected sending.placed
+
+-- the transaction of what is sent
+abbrev pub command_transaction : {Q P : Type 0} → CommandSending → Transaction Q P
+command_transaction sending = transaction_of (deed_of sending sending.write)

@@ -1,0 +1,72 @@
+//! Laws of controls and the store together.
+
+ghost use Rattle.std.specs.Prelude.{◌≡◌, ℕ, List, None};
+ghost use Rattle.sm_rows.specs.declared.domain_row.DomainRow.{DomainRow};
+ghost use Rattle.sm_rows.specs.declared.group_row.GroupRow.{GroupRow};
+ghost use Rattle.sm_rows.specs.declared.server_row.ServerRow.{ServerRow};
+ghost use Rattle.sm_rows.specs.declared.shard_row.ShardRow.{ShardRow};
+ghost use Rattle.sm_place.specs.declared.server_state.ServerState.{ServerState};
+ghost use Rattle.sm_place.specs.Books.{new_books};
+ghost use Rattle.sm_place.specs.Sound.{AreSound};
+ghost use Rattle.sm_tasks.specs.Caps.{MeetsCaps};
+ghost use Rattle.sm_desk.specs.declared.command.Command.{Command};
+ghost use Rattle.sm_desk.specs.Desk.{DeskView};
+ghost use Rattle.sm_store.specs.declared.item.Item.{Item};
+ghost use Rattle.sm_store.specs.Store.{Transaction, placement_of};
+ghost use Rattle.sm_store.specs.Deeds.{AreRight, Charter, IsHonest, MaySend};
+ghost use Rattle.sm_lead.specs.declared.leadership.Leadership.{Leadership};
+ghost use Rattle.sm_lead.specs.declared.record_read.RecordRead.{RecordRead};
+ghost use Rattle.sm_lead.specs.declared.store_control.StoreControl.{StoreControl};
+ghost use Rattle.sm_lead.specs.Commands.{IsAfter, command_fault, write_of};
+ghost use Rattle.sm_lead.specs.Controls.{CommandWasMade, IsLoaded, IsReadOf, KnowsStore};
+ghost use Rattle.sm_lead.specs.Placements.{books_in, charter_of, rows_of};
+ghost use Rattle.sm_lead.specs.Sendings.{command_transaction, sending_of};
+
+use sm_desk::laws::{commands_keep_caps, commands_keep_soundness};
+use sm_ownership::laws::change_refused_exactly;
+use sm_tasks::laws::all_up_meets_caps;
+
+/// What was read at one moment is what the control knows that is made of it.
+pub fn reading_is_known<Q, P>()
+    ensures { (log : List (Transaction Q P)) (desk : DeskView) (lead : Leadership) (ceiling : ℕ)
+        (reads : List RecordRead) (states : List ServerState) (placed : ℕ) (control : StoreControl)
+        → AreSound control.desk.books → IsLoaded desk lead ceiling reads states placed control
+        → IsReadOf log desk lead reads states placed
+        → KnowsStore log control }
+{}
+
+/// A command that the control doesn't refuse may be sent.
+pub fn commands_may_be_sent<Q, P>()
+    ensures { (parts : List (Item Q) → List P) (log : List (Transaction Q P)) (control : StoreControl)
+        (command : Command) → AreSound control.desk.books → KnowsStore log control
+        → command_fault control command ≡ None
+        → MaySend (charter_of (rows_of control.desk.books) control.desk.ops control.ceiling parts) log
+        (command_transaction (sending_of control (write_of control command))) }
+{
+    change_refused_exactly();
+}
+
+/// What the control is after its command was made is so in the store, of which it then knows all records and states.
+pub fn outcomes_are_known<Q, P>()
+    ensures { (charter : Charter Q P) (log : List (Transaction Q P)) (control new : StoreControl) (command : Command)
+        (revision : ℕ) → IsHonest charter log → AreSound control.desk.books → KnowsStore log control
+        → command_fault control command ≡ None
+        → CommandWasMade log (command_transaction (sending_of control (write_of control command))) revision
+        → IsAfter control command (write_of control command) revision new → KnowsStore log new }
+{}
+
+/// Of the records and states in the store the caps of approved restarts hold at each moment, and there is room, whoever
+/// led and whatever was sent late, twice or never: wherever each transaction was right for the store before it, which
+/// is the law of the store in every run.
+pub fn controls_keep_caps<Q, P>()
+    ensures { (servers : List ServerRow) (groups : List GroupRow) (shards : List ShardRow) (domains : List DomainRow)
+        (ops ceiling : ℕ) (parts : List (Item Q) → List P) (log : List (Transaction Q P))
+        → let new = new_books servers groups shards domains in
+        AreSound new → AreRight (charter_of (rows_of new) ops ceiling parts) log
+        → let books = books_in (rows_of new) (placement_of log) in
+        AreSound books × MeetsCaps ops books }
+{
+    all_up_meets_caps();
+    commands_keep_caps();
+    commands_keep_soundness();
+}

@@ -1,0 +1,36 @@
+use sm_desk::CommandFault;
+use std::error::Error;
+use std::fmt;
+
+/// Why no control can be made of what was read. No store to which controls alone write their commands has that.
+#[derive(Clone, Copy, Debug, PartialEq, Eq, Drop)]
+pub enum LoadFault {
+    /// No commands lead to these stands and states: this is the first reason for which one is refused.
+    Unreached(CommandFault),
+    /// There are records or states of another number, or others than commands lead to.
+    Different,
+}
+
+impl From<CommandFault> for LoadFault {
+    ghost use Rattle.std.specs.Prelude.{◌≡◌};
+    ghost use Rattle.sm_lead.specs.declared.load_fault.LoadFault.TheVariants.{Unreached};
+
+    ghost from_gives = { λ fault refused. refused ≡ Unreached fault };
+
+    fn from(fault: CommandFault) -> LoadFault {
+        LoadFault::Unreached(fault)
+    }
+}
+
+impl fmt::Display for LoadFault {
+    fn fmt<W: fmt::Write>(&self, f: &mut fmt::Formatter<W>) -> fmt::Result {
+        match self {
+            LoadFault::Unreached(fault) => write!(f, "no commands lead to what was read: {fault}"),
+            LoadFault::Different => f.write_str(
+                "the records or states are others than commands lead to",
+            ),
+        }
+    }
+}
+
+impl Error for LoadFault {}

@@ -1,0 +1,228 @@
+//! A control is made of what was read: the desk makes the commands that lead to it.
+
+ghost use Rattle.std.specs.Prelude.{◌≡◌, IfOk, IsTrue};
+ghost use Rattle.sm_desk.specs.declared.command.Command.TheVariants.{Change as ChangeOf};
+ghost use Rattle.sm_desk.specs.Desk.{commanded};
+ghost use Rattle.sm_lead.specs.Controls.{AreStandsRead, AreStatesRead, IsLoaded};
+ghost use Rattle.sm_lead.specs.Placements.{HasRowsOf};
+
+use crate::leadership::Leadership;
+use crate::load_fault::LoadFault;
+use crate::record_read::RecordRead;
+use crate::store_control::StoreControl;
+use sm_desk::{Command, CommandFault, Desk};
+use sm_ownership::change::Change;
+use sm_ownership::change_fault::ChangeFault;
+use sm_place::{ServerState, Shard};
+use sm_ranges::limits::MAX_SHARD;
+use sm_ranges::server_id::ServerId;
+use sm_ranges::shard_id::ShardId;
+use sm_ranges::stand::Stand;
+
+impl StoreControl {
+    /// The control of what was read at one revision: by a desk of the settings on which nothing has happened, the
+    /// record of each shard by number, and the state of each server in the order of the rows. The desk makes the
+    /// commands that lead there, which those of a store are, and is compared.
+    pub fn read(
+        desk: Desk,
+        lead: Leadership,
+        ceiling: u64,
+        records: Vec<RecordRead>,
+        states: &[ServerState],
+        placed: u64,
+    ) -> Result<StoreControl, LoadFault>
+        ensures { IfOk result (λ control. IsLoaded desk lead ceiling records.items states.now placed control) }
+    {
+        let desk = stand_all(desk, &records)?;
+        let desk = enter_all(desk, states, false)?;
+        let desk = enter_all(desk, states, true)?;
+        if !are_stands_read(desk.books().shards(), &records)
+            || !are_states_read(desk.books().states(), states)
+        {
+            return Err(LoadFault::Different);
+        }
+        Ok(StoreControl {
+            desk,
+            records,
+            ceiling,
+            lead,
+            placed,
+        })
+    }
+}
+
+// The desk after the command, or why that is refused.
+fn make(desk: Desk, command: Command) -> Result<Desk, CommandFault>
+    ensures { IfOk result (λ new. HasRowsOf desk new) }
+{
+    let mut desk = desk;
+    match desk.check(&command) {
+        Ok(()) => {
+            desk.commit(command);
+            Ok(desk)
+        }
+        Err(fault) => Err(fault),
+    }
+}
+
+// Makes the changes of the shard, one after the other.
+fn change_all(desk: Desk, k: ShardId, changes: &[Change]) -> Result<Desk, CommandFault>
+    ensures { IfOk result (λ new. HasRowsOf desk new) }
+{
+    let mut after = desk;
+    for change in changes {
+        after = make(after, Command::Change(k, *change))?;
+    }
+    Ok(after)
+}
+
+// Makes the changes that lead a vacant shard to this stand.
+fn stand(desk: Desk, k: ShardId, stand: &Stand) -> Result<Desk, CommandFault>
+    ensures { IfOk result (λ new. HasRowsOf desk new) }
+{
+    match *stand {
+        Stand::Vacant => Ok(desk),
+        Stand::Serving(owner) => change_all(desk, k, &[Change::Assign(owner)]),
+        Stand::Paused(owner) => change_all(desk, k, &[Change::Assign(owner), Change::Pause]),
+        Stand::Prepared { owner, next } => change_all(
+            desk,
+            k,
+            &[Change::Assign(owner), Change::PrepareAddShard(next)],
+        ),
+        Stand::Forwarding { owner, next } => change_all(
+            desk,
+            k,
+            &[
+                Change::Assign(owner),
+                Change::PrepareAddShard(next),
+                Change::PrepareDropShard,
+            ],
+        ),
+        Stand::Taken { owner, previous } => change_all(
+            desk,
+            k,
+            &[
+                Change::Assign(previous),
+                Change::PrepareAddShard(owner),
+                Change::PrepareDropShard,
+                Change::AddShard,
+            ],
+        ),
+    }
+}
+
+// The shard of the number, where it is one.
+fn shard_id(number: usize) -> Option<ShardId> {
+    if number <= usize::from(MAX_SHARD) {
+        ShardId::new(number as u16)
+    } else {
+        None
+    }
+}
+
+// Leads each shard to the stand that was read.
+fn stand_all(desk: Desk, records: &[RecordRead]) -> Result<Desk, CommandFault>
+    ensures { IfOk result (λ new. HasRowsOf desk new) }
+{
+    let mut after = desk;
+    for (number, read) in records.iter().enumerate() {
+        let Some(k) = shard_id(number) else {
+            return Err(CommandFault::Change(ChangeFault::UnknownShard));
+        };
+        after = stand(after, k, &read.state.stand)?;
+    }
+    Ok(after)
+}
+
+// Leads the server to the state that was read.
+fn enter(desk: Desk, server: ServerId, state: ServerState) -> Result<Desk, CommandFault>
+    ensures { IfOk result (λ new. HasRowsOf desk new) }
+{
+    match state {
+        ServerState::Up => Ok(desk),
+        ServerState::Asked => make(desk, Command::Ask(server)),
+        ServerState::Approved => approve(desk, server),
+        ServerState::Stopped => stop(desk, server),
+        ServerState::Failed => make(desk, Command::Fail(server)),
+    }
+}
+
+// Asks for a restart of the server, and approves it.
+fn approve(desk: Desk, server: ServerId) -> Result<Desk, CommandFault>
+    ensures { IfOk result (λ new. HasRowsOf desk new) }
+{
+    let asked = make(desk, Command::Ask(server))?;
+    make(asked, Command::Approve(server))
+}
+
+// Does that, and notes that the server was stopped.
+fn stop(desk: Desk, server: ServerId) -> Result<Desk, CommandFault>
+    ensures { IfOk result (λ new. HasRowsOf desk new) }
+{
+    let approved = approve(desk, server)?;
+    make(approved, Command::Stopped(server))
+}
+
+// The server of a row, where there are so many.
+fn server_at(desk: &Desk, place: usize) -> Option<ServerId> {
+    desk.books().rows().get(place).map(|row| row.id)
+}
+
+// Leads the servers to their states: those that failed, once the others are there, as approvals count them.
+fn enter_all(desk: Desk, states: &[ServerState], failed: bool) -> Result<Desk, CommandFault>
+    ensures { IfOk result (λ new. HasRowsOf desk new) }
+{
+    let mut after = desk;
+    for (place, state) in states.iter().enumerate() {
+        after = enter_at(after, place, *state, failed)?;
+    }
+    Ok(after)
+}
+
+// Leads the server of a row to its state, if that is failed or not as is asked for.
+fn enter_at(
+    desk: Desk,
+    place: usize,
+    state: ServerState,
+    failed: bool,
+) -> Result<Desk, CommandFault>
+    ensures { IfOk result (λ new. HasRowsOf desk new) }
+{
+    if matches!(state, ServerState::Failed) != failed {
+        return Ok(desk);
+    }
+    match server_at(&desk, place) {
+        Some(server) => enter(desk, server, state),
+        None => Err(CommandFault::UnknownServer),
+    }
+}
+
+// Whether the shards are as many as the records, and stand as these say.
+fn are_stands_read(shards: &[Shard], reads: &[RecordRead]) -> bool
+    ensures { IsTrue result → AreStandsRead shards.now reads.now }
+{
+    if shards.len() != reads.len() {
+        return false;
+    }
+    for k in 0..reads.len() {
+        if shards[k].stand != reads[k].state.stand {
+            return false;
+        }
+    }
+    true
+}
+
+// Whether the states are those that were read.
+fn are_states_read(states: &[ServerState], reads: &[ServerState]) -> bool
+    ensures { IsTrue result → AreStatesRead states.now reads.now }
+{
+    if states.len() != reads.len() {
+        return false;
+    }
+    for i in 0..reads.len() {
+        if states[i] != reads[i] {
+            return false;
+        }
+    }
+    true
+}

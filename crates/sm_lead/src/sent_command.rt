@@ -1,0 +1,111 @@
+ghost use Rattle.std.specs.Prelude.{◌≡◌, ℕ, None, IfSome};
+ghost use Rattle.sm_desk.specs.Desk.{commanded, desk_fault};
+ghost use Rattle.sm_lead.specs.Commands.{IsAfter, command_fault, reads_after, write_of};
+
+use crate::command_sending::CommandSending;
+use crate::command_write::CommandWrite;
+use crate::record_read::RecordRead;
+use crate::store_control::StoreControl;
+use sm_desk::{Command, CommandFault};
+
+/// What became of a command that was sent.
+#[derive(Clone, Copy, Debug, PartialEq, Eq, Drop)]
+pub enum SendOutcome {
+    /// Its transaction was made, at this revision.
+    Made(u64),
+    /// One of its compares didn't hold.
+    Lost,
+    /// No answer came: it may have been made, or may still be.
+    Unknown,
+}
+
+/// A command that was sent, by the control that did so.
+#[derive(Drop)]
+pub struct SentCommand {
+    pub control: StoreControl,
+    pub command: Command,
+    pub write: CommandWrite,
+    ghost allowed: { command_fault control command ≡ None },
+}
+
+/// What a control does with a command.
+#[derive(Drop)]
+pub enum Judged {
+    /// It is to be sent.
+    Sent(SentCommand),
+    /// It is refused.
+    Refused(StoreControl, CommandFault),
+}
+
+impl SentCommand {
+    /// What is to be sent.
+    pub fn sending(&self) -> CommandSending
+        ensures process { result.process ≡ self.now.control.lead.process }
+        ensures elected { result.elected ≡ self.now.control.lead.elected }
+        ensures placed { result.placed ≡ self.now.control.placed }
+        ensures write { result.write ≡ self.now.write }
+    {
+        CommandSending {
+            process: self.control.lead.process,
+            elected: self.control.lead.elected,
+            placed: self.control.placed,
+            write: self.write,
+        }
+    }
+
+    /// The control once the outcome is known: as the command leaves it where it was made, and none where it wasn't or
+    /// may not have been. Then all is to be read again, and the command to be decided again.
+    pub fn outcome(self, outcome: SendOutcome) -> Option<StoreControl>
+        ensures made { (revision : ℕ) → outcome ≡ SendOutcome.Made revision
+            → IfSome result (λ new. IsAfter self.control self.command self.write revision new) }
+        ensures lost { outcome ≡ SendOutcome.Lost → result ≡ None }
+        ensures unknown { outcome ≡ SendOutcome.Unknown → result ≡ None }
+    {
+        match outcome {
+            SendOutcome::Made(revision) => Some(self.made(revision)),
+            SendOutcome::Lost | SendOutcome::Unknown => None,
+        }
+    }
+
+    // The control after its command was made.
+    fn made(self, revision: u64) -> StoreControl
+        ensures { IsAfter self.control self.command self.write revision result }
+    {
+        let SentCommand {
+            control,
+            command,
+            write,
+        } = self;
+        let StoreControl {
+            mut desk,
+            mut records,
+            ceiling,
+            lead,
+            ..
+        } = control;
+        desk.commit(command);
+        note(&mut records, &write, revision);
+        StoreControl {
+            desk,
+            records,
+            ceiling,
+            lead,
+            placed: revision,
+        }
+    }
+}
+
+// Notes what was written at this revision.
+fn note(records: &mut Vec<RecordRead>, write: &CommandWrite, revision: u64)
+    ensures { records.new.items ≡ reads_after records.old.items write.now revision }
+{
+    if let CommandWrite::Record { shard, next, .. } = write {
+        let at = shard.index();
+        if at < records.len() {
+            records[at] = RecordRead {
+                state: *next,
+                stood: revision,
+            };
+        }
+    }
+}

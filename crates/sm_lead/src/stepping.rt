@@ -1,0 +1,235 @@
+//! How a control goes on with what it has read, as it would if it had led before.
+
+ghost use Rattle.std.specs.Prelude.{◌≡◌, IfOk, None, Some, if◌then◌else◌, not, ◌&&◌};
+ghost use Rattle.sm_ownership.specs.declared.change.Change.TheVariants.{Cancel};
+ghost use Rattle.sm_place.specs.Books.{shard_at, state_of};
+ghost use Rattle.sm_place.specs.ServerState.{is_approved, is_failed, is_leaving, is_unreached};
+ghost use Rattle.sm_lead.specs.NextSteps.{IsAllowed, fallen, heir_of, is_following, lets_reassign, reassignment};
+ghost use Rattle.sm_lead.specs.NextSteps.{server_step, shard_step};
+ghost use Rattle.sm_lead.specs.NextSteps.{step_of_drain, step_of_moves, step_of_stand, step_of_state, unless_refused};
+ghost use Rattle.sm_lead.specs.NextSteps.{waits_for};
+
+use crate::follower::{Follower, all_follow, is_following};
+use crate::next_step::NextStep;
+use crate::record_read::read_at;
+use crate::store_control::StoreControl;
+use sm_desk::{Command, Desk};
+use sm_ownership::change::Change;
+use sm_place::{Plan, ServerState};
+use sm_ranges::server_id::ServerId;
+use sm_ranges::shard_id::ShardId;
+use sm_ranges::stand::Stand;
+use std::alloc::{AllocError, Global};
+
+impl StoreControl {
+    /// How it goes on with the shard: a migration takes its next step, and ends once each follower has read that the
+    /// shard is taken; one to a server that is leaving is given up; what a failed server owns goes to another.
+    pub fn next_of_shard(&self, shard: ShardId, followers: &[Follower]) -> NextStep
+        ensures exact { result ≡ shard_step self.now followers.now shard }
+        ensures allowed { IsAllowed self.now result }
+    {
+        let followed = all_follow(followers, read_at(&self.records, shard).stood);
+        let stand = stand_of(&self.desk, shard);
+        self.unless_refused(step_of_stand(&self.desk, followed, shard, &stand))
+    }
+
+    /// How it goes on with the server's restart: one that was asked for is approved as soon as the caps allow it, and
+    /// one that was approved stops as soon as nothing is served there.
+    pub fn next_of_server(&self, server: ServerId) -> NextStep
+        ensures exact { result ≡ server_step self.now server }
+        ensures allowed { IsAllowed self.now result }
+    {
+        self.unless_refused(step_of_state(state_of(&self.desk, server), server))
+    }
+
+    /// How it goes on with the drain of a server: the first move of its plan begins; where there is none and the
+    /// server's restart was approved, the first shard that fits nowhere pauses.
+    pub fn next_of_drain(&self, alloc: Global, server: ServerId) -> Result<NextStep, AllocError>
+        ensures exact { IfOk result (λ step. step ≡ unless_refused self.now
+            (step_of_drain self.now.desk.books server)) }
+        ensures allowed { IfOk result (λ step. IsAllowed self.now step) }
+    {
+        let plan = self.desk.books().plan_drain(alloc, server)?;
+        let approved = is_approved(state_of(&self.desk, server));
+        Ok(self.unless_refused(step_of_moves(&plan, approved)))
+    }
+
+    /// The first server whose key isn't there, as its lease ended, though the desk has requests go to it: it is to be
+    /// said to have failed.
+    pub fn fallen_server(&self, followers: &[Follower]) -> Option<ServerId>
+        ensures { result ≡ fallen self.now.desk.books followers.now }
+    {
+        let found = self
+            .desk
+            .books()
+            .rows()
+            .iter()
+            .find(|row| is_missing(&self.desk, followers, row.id));
+        match found {
+            Some(row) => Some(row.id),
+            None => None,
+        }
+    }
+
+    // The step, or to wait where its command is refused.
+    fn unless_refused(&self, step: NextStep) -> NextStep
+        ensures exact { result ≡ unless_refused self.now step }
+        ensures allowed { IsAllowed self.now result }
+    {
+        match step {
+            NextStep::Takes(command) => match self.judge(&command) {
+                Ok(_) => NextStep::Takes(command),
+                Err(_) => NextStep::Waits,
+            },
+            NextStep::Waits => NextStep::Waits,
+            NextStep::Nothing => NextStep::Nothing,
+        }
+    }
+}
+
+// The stand of the shard, vacant where there is no such shard.
+fn stand_of(desk: &Desk, shard: ShardId) -> Stand
+    ensures { result ≡ (shard_at desk.now.books.shards shard).stand }
+{
+    match desk.books().shards().get(shard.index()) {
+        Some(found) => found.stand,
+        None => Stand::Vacant,
+    }
+}
+
+// The state of the server, Up where there is no such server.
+fn state_of(desk: &Desk, server: ServerId) -> ServerState
+    ensures { result ≡ state_of desk.now.books server }
+{
+    desk.soundness();
+    if desk.books().knows(server) {
+        desk.books().state(server)
+    } else {
+        ServerState::Up
+    }
+}
+
+fn is_failed(state: ServerState) -> bool
+    ensures { result ≡ is_failed state }
+{
+    matches!(state, ServerState::Failed)
+}
+
+fn is_approved(state: ServerState) -> bool
+    ensures { result ≡ is_approved state }
+{
+    matches!(state, ServerState::Approved)
+}
+
+// The change, or `Cancel` where the server is leaving.
+fn or_cancel(desk: &Desk, next: ServerId, change: Change) -> Change
+    ensures { result ≡ (if is_leaving (state_of desk.now.books next) then Cancel else change) }
+{
+    if state_of(desk, next).is_leaving() {
+        Change::Cancel
+    } else {
+        change
+    }
+}
+
+// The step of a shard of this stand, of whose record all have read or not.
+fn step_of_stand(desk: &Desk, followed: bool, k: ShardId, stand: &Stand) -> NextStep
+    ensures { result ≡ step_of_stand desk.now followed k stand.now }
+{
+    match *stand {
+        Stand::Vacant => NextStep::Nothing,
+        Stand::Serving(owner) => if is_failed(state_of(desk, owner)) {
+            NextStep::Takes(Command::Change(k, Change::Pause))
+        } else {
+            NextStep::Nothing
+        },
+        Stand::Prepared { next, .. } => NextStep::Takes(Command::Change(
+            k,
+            or_cancel(desk, next, Change::PrepareDropShard),
+        )),
+        Stand::Forwarding { next, .. } => NextStep::Takes(Command::Change(
+            k,
+            or_cancel(desk, next, Change::AddShard),
+        )),
+        Stand::Taken { .. } => if followed {
+            NextStep::Takes(Command::Change(k, Change::DropShard))
+        } else {
+            NextStep::Waits
+        },
+        Stand::Paused(owner) => if is_failed(state_of(desk, owner)) {
+            step_of_reassignment(desk, k)
+        } else {
+            NextStep::Nothing
+        },
+    }
+}
+
+// Whether the desk lets the shard be reassigned to the server.
+#[tactic(auto, unfolding(crate::specs::NextSteps::lets_reassign))]
+fn lets_reassign(desk: &Desk, k: ShardId, server: ServerId) -> bool
+    ensures { result ≡ lets_reassign desk.now k server }
+{
+    desk.check(&Command::Change(k, Change::Reassign(server)))
+        .is_ok()
+}
+
+// The first server to which the desk lets the shard go.
+fn heir_of(desk: &Desk, k: ShardId) -> Option<ServerId>
+    ensures { result ≡ heir_of desk.now k }
+{
+    let found = desk
+        .books()
+        .rows()
+        .iter()
+        .find(|row| lets_reassign(desk, k, row.id));
+    match found {
+        Some(row) => Some(row.id),
+        None => None,
+    }
+}
+
+// The shard goes there, or waits.
+fn step_of_reassignment(desk: &Desk, k: ShardId) -> NextStep
+    ensures { result ≡ waits_for (reassignment desk.now k) }
+{
+    match heir_of(desk, k) {
+        Some(server) => NextStep::Takes(Command::Change(k, Change::Reassign(server))),
+        None => NextStep::Waits,
+    }
+}
+
+// The step of a server in this state.
+fn step_of_state(state: ServerState, server: ServerId) -> NextStep
+    ensures { result ≡ step_of_state state server }
+{
+    match state {
+        ServerState::Asked => NextStep::Takes(Command::Approve(server)),
+        ServerState::Approved => NextStep::Takes(Command::Stopped(server)),
+        ServerState::Up | ServerState::Stopped | ServerState::Failed => NextStep::Nothing,
+    }
+}
+
+// The first move of the plan begins, or a shard that is left pauses.
+fn step_of_moves(plan: &Plan, approved: bool) -> NextStep
+    ensures { result ≡ step_of_moves approved plan.now.moves plan.now.left }
+{
+    if let [first, ..] = plan.moves() {
+        return NextStep::Takes(Command::Change(first.shard, Change::PrepareAddShard(first.to)));
+    }
+    match plan.left() {
+        [k, ..] => if approved {
+            NextStep::Takes(Command::Change(*k, Change::Pause))
+        } else {
+            NextStep::Nothing
+        },
+        [] => NextStep::Nothing,
+    }
+}
+
+// Whether requests go to the server, and its key isn't there.
+fn is_missing(desk: &Desk, followers: &[Follower], server: ServerId) -> bool
+    ensures { result
+        ≡ (not (is_unreached (state_of desk.now.books server)) && not (is_following followers.now server)) }
+{
+    !state_of(desk, server).is_unreached() && !is_following(followers, server)
+}
