@@ -1,8 +1,5 @@
-mod Heads
 mod Histories
 mod HistoryRequests
 mod Once
-mod Parts
 mod Right
 mod Runs
-mod Whole

@@ -13,9 +13,9 @@ use Rattle.sm_store.specs.Deeds.{Charter, Deed, Electing, Expiring, Changing, Ex
 use Rattle.sm_store.specs.Deeds.{Following, Checking, Foreign, transaction_of, at, AreAccepted, IsChanged, ShardLog}
 use Rattle.sm_store.specs.Deeds.{shard_log, WasFound, MayDo, MayName, MayClear, IsHonest, IsBehind, IsRight}
 use Rattle.sm_store.specs.Deeds.{IsRightBase, AreRight}
-use Rattle.sm_store.proofs.Heads.{read_until, risen}
+use Rattle.sm_store.specs.lemmas.Heads.{read_until, risen}
 use Rattle.sm_store.specs.lemmas.Heart.{first_held, stands}
-use Rattle.sm_store.proofs.Parts.{part_is, part_stays}
+use Rattle.sm_store.specs.lemmas.Parts.{part_is, part_stays}
 use Rattle.sm_store.specs.lemmas.Views.{head_view, leader_view, log_view, record_view}
 
 module _ {Q P : Type 0} (charter : Charter Q P) where
