@@ -18,12 +18,14 @@ mod fields;
 mod reading;
 mod store_settings;
 mod stored_batch;
+mod stored_part;
 mod stored_record;
 mod writing;
 
 pub use fault::{Fault, ReadError};
-pub use reading::{read_batch, read_head, read_record, read_settings};
+pub use reading::{read_batch, read_head, read_part, read_record, read_settings};
 pub use store_settings::StoreSettings;
 pub use stored_batch::StoredBatch;
+pub use stored_part::StoredPart;
 pub use stored_record::StoredRecord;
-pub use writing::{write_batch, write_head, write_record, write_settings};
+pub use writing::{write_batch, write_head, write_part, write_record, write_settings};

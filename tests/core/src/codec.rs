@@ -1,6 +1,7 @@
 use sm_codec::{
-    Fault, ReadError, StoreSettings, StoredBatch, StoredRecord, read_batch, read_head, read_record,
-    read_settings, write_batch, write_head, write_record, write_settings,
+    Fault, ReadError, StoreSettings, StoredBatch, StoredPart, StoredRecord, read_batch, read_head,
+    read_part, read_record, read_settings, write_batch, write_head, write_part, write_record,
+    write_settings,
 };
 use sm_ownership::{Mode, Record};
 use sm_ranges::{ServerId, Stand};
@@ -73,4 +74,25 @@ fn lets_no_bytes_stand(rt: HostRuntime) {
     assert!(rt; read_settings(&bytes) == Ok(settings));
     assert!(rt; bytes.push(0).is_ok());
     assert!(rt; read_settings(&bytes) == Err(ReadError::Fault(Fault::Trailing)));
+}
+
+#[test]
+fn reads_a_part_again(rt: HostRuntime) {
+    let mut lasts = Vec::new(rt.alloc());
+    let request = Vec::from_slice(rt.alloc(), b"5").expect(&rt, "memory");
+    let last = Item {
+        client: 7,
+        number: 1,
+        mode: Mode::Direct,
+        request,
+    };
+    assert!(rt; lasts.push(last).is_ok());
+    let state = Vec::from_slice(rt.alloc(), b"sum 5").expect(&rt, "memory");
+    let bytes = write_part(rt.alloc(), &StoredPart { state, lasts }).expect(&rt, "memory");
+    let again = read_part(rt.alloc(), &bytes).ok().expect(&rt, "a part");
+    assert!(rt; again.state.as_slice() == b"sum 5".as_slice());
+    assert!(rt; again.lasts[0].client == 7);
+    assert!(rt; again.lasts[0].request.as_slice() == b"5".as_slice());
+    let short = read_part(rt.alloc(), &bytes[..9]).err();
+    assert!(rt; short == Some(ReadError::Fault(Fault::Short)));
 }
