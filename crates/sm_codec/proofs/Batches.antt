@@ -74,7 +74,7 @@ item_again item rest fits =
       string_again item.request rest fits.request,
     ) refl
 
-items_take : (n : ℕ) (bytes : List ℕ) (x : List (Item (List ℕ)) × List ℕ) → IsBytes bytes → items_in n bytes ≡ Ok x
+pub items_take : (n : ℕ) (bytes : List ℕ) (x : List (Item (List ℕ)) × List ℕ) → IsBytes bytes → items_in n bytes ≡ Ok x
     → Takes bytes (flat_map item_bytes x.0) x.1 × (length x.0 ≡ n) × AllByRecursion FitsItem x.0
 unfolding items_in
 items_take zero bytes x fits e =
@@ -92,7 +92,7 @@ items_take (suc n) bytes x fits e =
     × AllByRecursion FitsItem y.0) (ok_is made x b.2)
     (rw flat_map-cons both, ap suc second.1, (first.1, second.2))
 
-items_again : (items : List (Item (List ℕ))) (rest : List ℕ) → AllByRecursion FitsItem items
+pub items_again : (items : List (Item (List ℕ))) (rest : List ℕ) → AllByRecursion FitsItem items
     → items_in (length items) (flat_map item_bytes items ++ rest) ≡ Ok (items, rest)
 unfolding items_in
 items_again [] rest fits = refl

@@ -3,4 +3,5 @@ pub mod Controls
 pub mod FieldLemmas
 pub mod Heads
 pub mod Loop
+pub mod Parts
 pub mod Records

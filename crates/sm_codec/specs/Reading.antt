@@ -15,7 +15,7 @@ use Rattle.sm_codec.specs.declared.fault.ReadError.{ReadError}
 use Rattle.sm_codec.specs.declared.fault.ReadError.TheVariants as errors
 use Rattle.sm_codec.specs.declared.stored_server.TheConstants.{MAX_ADDRESS}
 use Rattle.sm_codec.specs.declared.stored_state.StoredState.{StoredState}
-use Rattle.sm_codec.specs.Spelling.{Batch, ServerKey}
+use Rattle.sm_codec.specs.Spelling.{Batch, PartText, ServerKey}
 use Rattle.sm_place.specs.declared.server_state.ServerState.{ServerState}
 use Rattle.sm_place.specs.declared.server_state.ServerState.TheVariants.{Up, Asked, Approved, Stopped, Failed}
 
@@ -165,3 +165,12 @@ batch_in bytes = do
   count ← number_in w32 server.1
   items ← items_in count.0 count.1
   all_read (record { server = server.0; items = items.0 }) items.1
+
+-- a part of a base
+unfoldable pub part_in : List ℕ → Result PartText Fault
+part_in bytes = do
+  rest ← version_in bytes
+  state ← string_in rest
+  count ← number_in w32 state.1
+  lasts ← items_in count.0 count.1
+  all_read (record { state = state.0; lasts = lasts.0 }) lasts.1

@@ -14,6 +14,7 @@ use Rattle.sm_place.specs.declared.server_state.ServerState.TheVariants.{Up, Ask
 use Rattle.sm_word.specs.Word.{word_of}
 use Rattle.sm_codec.specs.declared.store_settings.StoreSettings.{StoreSettings}
 use Rattle.sm_codec.specs.declared.stored_batch.StoredBatch.{StoredBatch}
+use Rattle.sm_codec.specs.declared.stored_part.StoredPart.{StoredPart}
 use Rattle.sm_codec.specs.declared.stored_record.StoredRecord.{StoredRecord}
 use Rattle.sm_codec.specs.declared.stored_server.StoredServer.{StoredServer}
 use Rattle.sm_codec.specs.declared.stored_server.TheConstants.{MAX_ADDRESS}
@@ -130,3 +131,23 @@ pub record FitsBatch (batch : Batch) : Type 0 where
   pub server : IsServer batch.server
   pub count : length batch.items < 2 ^ 32
   pub items : AllByRecursion FitsItem batch.items
+
+-- a part of a base without where it lies in memory: bytes of the machine, and last requests with their replies
+pub record PartText : Type 0 where
+  pub state : List ℕ
+  pub lasts : List (Item (List ℕ))
+
+-- such a part
+abbrev pub part_view : StoredPart → PartText
+part_view stored = record { state = stored.state.items; lasts = item_views stored.lasts.items }
+
+-- a part of a base
+abbrev pub part_bytes : PartText → List ℕ
+part_bytes part =
+    1 ∷ (string_bytes part.state ++ (to_be_bytes w32 (length part.lasts) ++ flat_map item_bytes part.lasts))
+
+-- a part that has bytes
+pub record FitsPart (part : PartText) : Type 0 where
+  pub state : length part.state < 2 ^ 32
+  pub count : length part.lasts < 2 ^ 32
+  pub lasts : AllByRecursion FitsItem part.lasts

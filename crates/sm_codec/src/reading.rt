@@ -3,9 +3,10 @@ ghost use Rattle.sm_codec.specs.declared.fault.Fault.{Fault as FaultValue};
 ghost use Rattle.sm_codec.specs.declared.fault.Fault.TheVariants.{Word};
 ghost use Rattle.sm_codec.specs.declared.store_settings.StoreSettings.{StoreSettings as SettingsValue};
 ghost use Rattle.sm_codec.specs.declared.stored_record.StoredRecord.{StoredRecord as StoredValue};
-ghost use Rattle.sm_codec.specs.Reading.{Decodes, batch_in, head_in, item_in, items_in, pair_in};
+ghost use Rattle.sm_codec.specs.Reading.{Decodes, batch_in, head_in, item_in, items_in, pair_in, part_in};
 ghost use Rattle.sm_codec.specs.Spelling.{Batch, FitsBatch, FitsHead, batch_bytes, batch_view, head_bytes, item_view};
-ghost use Rattle.sm_codec.specs.Spelling.{item_views, record_bytes, settings_bytes};
+ghost use Rattle.sm_codec.specs.Spelling.{FitsPart, PartText, item_views, part_bytes, part_view, record_bytes};
+ghost use Rattle.sm_codec.specs.Spelling.{settings_bytes};
 ghost use Rattle.sm_ownership.specs.declared.record.Record.{Record as RecordValue};
 ghost use Rattle.sm_store.specs.declared.head.Head.{Head as HeadValue};
 ghost use Rattle.sm_word.specs.Word.{IsWellFormed, word_of};
@@ -14,6 +15,7 @@ use crate::fault::{Fault, ReadError};
 use crate::fields::{mode_named, server_named, string_of, u32_at, u64_at, version_of};
 use crate::store_settings::StoreSettings;
 use crate::stored_batch::StoredBatch;
+use crate::stored_part::StoredPart;
 use crate::stored_record::StoredRecord;
 use sm_store::head::Head;
 use sm_store::item::Item;
@@ -171,4 +173,36 @@ pub fn read_batch(alloc: Global, bytes: &[u8]) -> Result<StoredBatch, ReadError>
     ensures exact { Decodes (λ stored. batch_view stored) result (batch_in bytes.now) }
 {
     batch_of(alloc, bytes)
+}
+
+#[tactic(auto, unfolding(crate::specs::Reading::part_in))]
+fn part_of(alloc: Global, bytes: &[u8]) -> Result<StoredPart, ReadError>
+    ensures { Decodes (λ stored. part_view stored) result (part_in bytes.now) }
+{
+    let rest = version_of(bytes)?;
+    let (state, rest) = string_of(alloc, rest)?;
+    let (count, rest) = u32_at(rest)?;
+    match items_of(alloc, count, rest) {
+        Ok((lasts, rest)) => {
+            if !rest.is_empty() {
+                return Err(ReadError::Fault(Fault::Trailing));
+            }
+            Ok(StoredPart { state, lasts })
+        }
+        Err(error) => Err(error),
+    }
+}
+
+/// The part of a base that the bytes spell, all of the bytes.
+pub fn read_part(alloc: Global, bytes: &[u8]) -> Result<StoredPart, ReadError>
+    // What is read is spelled so.
+    ensures found { IfOk result (λ stored. FitsPart (part_view stored)
+        × (bytes.now ≡ part_bytes (part_view stored))) }
+    // What is spelled so is read, unless memory is refused.
+    ensures only { (part : PartText) → FitsPart part → bytes.now ≡ part_bytes part
+        → Decodes (λ stored. part_view stored) result (Ok part) }
+    // Which fault it is.
+    ensures exact { Decodes (λ stored. part_view stored) result (part_in bytes.now) }
+{
+    part_of(alloc, bytes)
 }

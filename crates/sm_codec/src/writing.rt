@@ -3,11 +3,12 @@ ghost use Rattle.std.specs.Int.{w32, w64, to_be_bytes};
 ghost use Rattle.std.specs.List.{AllByRecursion, flat_map};
 ghost use Rattle.sm_codec.specs.Spelling.{FitsBatch, FitsItem, batch_bytes, batch_view, head_bytes, item_bytes};
 ghost use Rattle.sm_codec.specs.Spelling.{item_view, item_views, mode_number, pair_bytes, record_bytes};
-ghost use Rattle.sm_codec.specs.Spelling.{settings_bytes, string_bytes};
+ghost use Rattle.sm_codec.specs.Spelling.{FitsPart, part_bytes, part_view, settings_bytes, string_bytes};
 ghost use Rattle.sm_word.specs.Word.{IsWellFormed};
 
 use crate::store_settings::StoreSettings;
 use crate::stored_batch::StoredBatch;
+use crate::stored_part::StoredPart;
 use crate::stored_record::StoredRecord;
 use sm_ownership::mode::Mode;
 use sm_store::head::Head;
@@ -113,5 +114,19 @@ pub fn write_batch(alloc: Global, stored: &StoredBatch) -> Result<Vec<u8>, Alloc
     out.extend_from_slice(&u32::from(stored.server.number()).to_be_bytes())?;
     out.extend_from_slice(&(stored.items.len() as u32).to_be_bytes())?;
     put_items(&mut out, &stored.items)?;
+    Ok(out)
+}
+
+/// The bytes of a part of a base that has fewer than 2 ^ 32 bytes and last requests, each reply of fewer bytes than
+/// that.
+pub fn write_part(alloc: Global, stored: &StoredPart) -> Result<Vec<u8>, AllocError>
+    requires { FitsPart (part_view stored.now) }
+    ensures { IfOk result (λ bytes. bytes.items ≡ part_bytes (part_view stored.now)) }
+{
+    let mut out = Vec::new(alloc);
+    out.push(1)?;
+    put_string(&mut out, &stored.state)?;
+    out.extend_from_slice(&(stored.lasts.len() as u32).to_be_bytes())?;
+    put_items(&mut out, &stored.lasts)?;
     Ok(out)
 }

@@ -1,24 +1,24 @@
 -- Every run of a fleet is one of the store's events, and so lawful.
-use Rattle.std.proofs.Common.{◌≡◌, ◌≢◌, ◌<◌, ◌≤◌, ℕ, zero, suc, List, [], ◌∷◌, ◌++◌, length, map, refl, sym, ap, subst}
+use Rattle.std.proofs.Common.{◌≡◌, ◌≢◌, ◌<◌, ℕ, zero, suc, List, [], ◌∷◌, ◌++◌, length, map, refl, sym, ap, subst}
 use Rattle.std.proofs.Common.{◌∙◌}
-use Rattle.std.specs.Prelude.{Option, Some, None, IfSome, Result, slice_set}
+use Rattle.std.specs.Prelude.{Option, Some, None, IfSome, slice_set}
 use Rattle.std.specs.List.{AllByRecursion}
-use Rattle.sm_store.specs.declared.base_part.BasePart.{BasePart}
+use Rattle.sm_shard.specs.Bases.{Part, base_of}
 use Rattle.sm_store.specs.declared.item.Item.{Item}
+use Rattle.sm_store.specs.Clients.{Automaton}
 use Rattle.sm_store.specs.Store.{Transaction}
-use Rattle.sm_store.specs.Deeds.{Charter, MaySend}
+use Rattle.sm_store.specs.Deeds.{AreRight, Charter, MaySend}
 use Rattle.sm_store.specs.System.{Ask, Claim, Replies, Overtaken, Reads, Event, Sends, Claims, IsLawful, May, MayClaim}
 use Rattle.sm_store.specs.System.{MightHappen, System, happens, system_after}
 use Rattle.sm_store.specs.lemmas.Growth.{asked_grows, found_grows}
 use Rattle.sm_store.specs.lemmas.Logs.{all_map, asked_step, asks_within, at_place, log_step}
-use Rattle.sm_shard.specs.declared.replica.ReplayFault.{ReplayFault}
-use Rattle.sm_shard.specs.declared.shard_server.ShardServer.{ShardServer}
 use Rattle.sm_shard.specs.declared.shard_state.ShardState.{ShardState}
 use Rattle.sm_shard.specs.Fleet.{Act, Fleet, MayAct, MightAct, Otherwise, Running, Starts, Steps, fleet_acted}
 use Rattle.sm_shard.specs.Fleet.{fleet_after, sent_since}
 use Rattle.sm_shard.specs.ShardServers.{AreAsked, AreAskedOf, HasRead, IsAsked, IsAskedBy, IsStationed, IsTrueOf}
-use Rattle.sm_shard.specs.ShardServers.{StoreLog, StoreSystem}
+use Rattle.sm_shard.specs.ShardServers.{StoreLog}
 use Rattle.sm_shard.specs.Steps.{ArePast, IsSafe, since_after, step_claims, step_sends}
+use Rattle.sm_shard.proofs.Works.{base_grows}
 
 all_set : {A : Type 0} (F : A → Type 0) (xs : List A) (which : ℕ) (new : A) → AllByRecursion F xs → F new
     → AllByRecursion F (slice_set xs which new)
@@ -54,31 +54,32 @@ module _ {Q : Type 0} where
   asked_more (new ∷ more) asked since shard (Some ready) are =
       items_grow new (more ++ asked) since shard ready (asked_more more asked since shard (Some ready) are)
 
-module _ {M Q R : Type 0} (after : M → Q → M) (reply : M → Q → R) (start : M) where
-  knows_grows : (more log : StoreLog Q) (me shard : ℕ) (ready : ShardState M Q R)
-      → HasRead after reply start log me shard ready → HasRead after reply start (more ++ log) me shard ready
+module _ {M Q R : Type 0} (service : Automaton M Q R) where
+  knows_grows : (more log : StoreLog Q R) (me shard : ℕ) (ready : ShardState M Q R)
+      → HasRead service log me shard ready → HasRead service (more ++ log) me shard ready
   knows_grows more log me shard ready knows = record {
     stood = found_grows _ _ more log _ _ knows.stood;
     before = knows.before;
     logged = found_grows _ _ more log _ _ knows.logged;
     is = knows.is;
+    base = base_grows service more log shard ready.head ready.work knows.base;
   }
 
-  known_grows : (more log : StoreLog Q) (me shard : ℕ) (found : Option (ShardState M Q R))
-      → IfSome found (λ ready. HasRead after reply start log me shard ready)
-      → IfSome found (λ ready. HasRead after reply start (more ++ log) me shard ready)
+  known_grows : (more log : StoreLog Q R) (me shard : ℕ) (found : Option (ShardState M Q R))
+      → IfSome found (λ ready. HasRead service log me shard ready)
+      → IfSome found (λ ready. HasRead service (more ++ log) me shard ready)
   known_grows more log me shard None known = known
   known_grows more log me shard (Some ready) known = knows_grows more log me shard ready known
 
   -- a server of the store's shards, what it holds of which is so
-  pub record IsGoodServer (charter : Charter Q BasePart) (log : StoreLog Q) (asked : List (Ask Q))
+  pub record IsGoodServer (charter : Charter Q (Part R)) (log : StoreLog Q R) (asked : List (Ask Q))
       (running : Running M Q R) : Type 0 where
     pub placed : IsStationed running.server
     pub count : charter.count ≡ running.server.count
-    pub known : IsTrueOf after reply start log running.server
+    pub known : IsTrueOf service log running.server
     pub in_time : AreAsked asked running.since running.server
 
-  good_grows : (charter : Charter Q BasePart) (more log : StoreLog Q) (extra asked : List (Ask Q))
+  good_grows : (charter : Charter Q (Part R)) (more log : StoreLog Q R) (extra asked : List (Ask Q))
       (running : Running M Q R) → IsGoodServer charter log asked running
       → IsGoodServer charter (more ++ log) (extra ++ asked) running
   good_grows charter more log extra asked running good = record {
@@ -90,7 +91,7 @@ module _ {M Q R : Type 0} (after : M → Q → M) (reply : M → Q → R) (start
 
 module _ {Q R : Type 0} where
   -- the system with more transactions sent
-  abbrev with_sent : System Q BasePart R → List (Transaction Q BasePart) → System Q BasePart R
+  abbrev with_sent : System Q (Part R) R → List (Transaction Q (Part R)) → System Q (Part R) R
   with_sent system txns =
       record {
         log = system.log;
@@ -101,7 +102,7 @@ module _ {Q R : Type 0} where
       }
 
   -- the system with more claims
-  abbrev with_claims : System Q BasePart R → List (Claim Q R) → System Q BasePart R
+  abbrev with_claims : System Q (Part R) R → List (Claim Q R) → System Q (Part R) R
   with_claims system claims =
       record {
         log = system.log;
@@ -112,23 +113,23 @@ module _ {Q R : Type 0} where
       }
 
   -- sending and claiming are events
-  sent_after : (events : List (Event Q BasePart R)) (txns : List (Transaction Q BasePart))
+  sent_after : (events : List (Event Q (Part R) R)) (txns : List (Transaction Q (Part R)))
       → system_after (map Sends txns ++ events) ≡ with_sent (system_after events) txns
   sent_after events [] = refl
   sent_after events (txn ∷ txns) =
-      ap (λ (system : System Q BasePart R). happens system (Sends txn)) (sent_after events txns)
+      ap (λ (system : System Q (Part R) R). happens system (Sends txn)) (sent_after events txns)
 
-  claimed_after : (events : List (Event Q BasePart R)) (claims : List (Claim Q R))
+  claimed_after : (events : List (Event Q (Part R) R)) (claims : List (Claim Q R))
       → system_after (map Claims claims ++ events) ≡ with_claims (system_after events) claims
   claimed_after events [] = refl
   claimed_after events (claim ∷ claims) =
-      ap (λ (system : System Q BasePart R). happens system (Claims claim)) (claimed_after events claims)
+      ap (λ (system : System Q (Part R) R). happens system (Claims claim)) (claimed_after events claims)
 
-module _ {M Q R : Type 0} (after : M → Q → M) (reply : M → Q → R) (start : M) where
+module _ {M Q R : Type 0} (service : Automaton M Q R) where
   -- what may be claimed may be, whatever else is sent and claimed
-  may_still : (system : System Q BasePart R) (txns : List (Transaction Q BasePart)) (claims : List (Claim Q R))
-      (claim : Claim Q R) → MayClaim after reply start system claim
-      → MayClaim after reply start (with_claims (with_sent system txns) claims) claim
+  may_still : (system : System Q (Part R) R) (txns : List (Transaction Q (Part R))) (claims : List (Claim Q R))
+      (claim : Claim Q R) → MayClaim service system claim
+      → MayClaim service (with_claims (with_sent system txns) claims) claim
   may_still system txns claims (Replies shard client number answer) may = may
   may_still system txns claims (Overtaken shard client number) may = may
   may_still system txns claims (Reads shard client number answer) may = record {
@@ -144,40 +145,45 @@ module _ {M Q R : Type 0} (after : M → Q → M) (reply : M → Q → R) (start
     answer_is = may.answer_is;
   }
 
-module _ {M Q R : Type 0} (after : M → Q → M) (reply : M → Q → R) (start : M) (charter : Charter Q BasePart) where
-  sends_might : (events : List (Event Q BasePart R)) (txns : List (Transaction Q BasePart))
-      → AllByRecursion (MaySend charter (system_after events).log) txns → MightHappen after reply start charter events
-      → MightHappen after reply start charter (map Sends txns ++ events)
+module _ {M Q R : Type 0} (service : Automaton M Q R) (charter : Charter Q (Part R)) where
+  sends_might : (events : List (Event Q (Part R) R)) (txns : List (Transaction Q (Part R)))
+      → AllByRecursion (MaySend charter (system_after events).log) txns → MightHappen service charter events
+      → MightHappen service charter (map Sends txns ++ events)
   sends_might events [] all might = might
   sends_might events (txn ∷ txns) all might = (
-    subst (λ (system : System Q BasePart R). MaySend charter system.log txn) (sym (sent_after events txns)) all.0,
+    subst (λ (system : System Q (Part R) R). MaySend charter system.log txn) (sym (sent_after events txns)) all.0,
     sends_might events txns all.1 might,
   )
 
-  claims_might : (system : System Q BasePart R) (txns : List (Transaction Q BasePart))
-      (events : List (Event Q BasePart R)) → system_after events ≡ with_sent system txns → (claims : List (Claim Q R))
-      → AllByRecursion (MayClaim after reply start system) claims
-      → MightHappen after reply start charter events
-      → MightHappen after reply start charter (map Claims claims ++ events)
+  claims_might : (system : System Q (Part R) R) (txns : List (Transaction Q (Part R)))
+      (events : List (Event Q (Part R) R)) → system_after events ≡ with_sent system txns → (claims : List (Claim Q R))
+      → AllByRecursion (MayClaim service system) claims
+      → MightHappen service charter events
+      → MightHappen service charter (map Claims claims ++ events)
   claims_might system txns events is [] all might = might
   claims_might system txns events is (claim ∷ claims) all might = (
-    subst (λ (now : System Q BasePart R). MayClaim after reply start now claim)
+    subst (λ (now : System Q (Part R) R). MayClaim service now claim)
         (sym (claimed_after events claims
-        ∙ ap (λ (now : System Q BasePart R). with_claims now claims) is))
-        (may_still after reply start system txns claims claim all.0),
+        ∙ ap (λ (now : System Q (Part R) R). with_claims now claims) is))
+        (may_still service system txns claims claim all.0),
     claims_might system txns events is claims all.1 might,
   )
 
   -- the fleet's system is one after events that might happen, and what its servers hold is so
   record IsRun (fleet : Fleet M Q R) : Type 0 where
-    pub events : List (Event Q BasePart R)
-    pub might : MightHappen after reply start charter events
+    pub events : List (Event Q (Part R) R)
+    pub might : MightHappen service charter events
     pub is : fleet.system ≡ system_after events
-    pub good : AllByRecursion (IsGoodServer after reply start charter fleet.system.log fleet.system.asked) fleet.servers
+    pub good : AllByRecursion (IsGoodServer service charter fleet.system.log fleet.system.asked) fleet.servers
 
-  run_step : (fleet : Fleet M Q R) (act : Act M Q R) → IsRun fleet → MayAct after reply start charter fleet act
-      → IsRun (fleet_acted fleet act)
-  run_step fleet (Starts server) run may = record {
+  -- each run of events is lawful
+  abbrev Lawful : Type 0
+  Lawful = (events : List (Event Q (Part R) R)) → MightHappen service charter events
+      → IsLawful service charter (system_after events)
+
+  run_step : Lawful → charter.parts ≡ base_of service → (fleet : Fleet M Q R) (act : Act M Q R) → IsRun fleet
+      → MayAct service charter fleet act → IsRun (fleet_acted fleet act)
+  run_step law parts fleet (Starts server) run may = record {
     events = run.events;
     might = run.might;
     is = run.is;
@@ -185,7 +191,7 @@ module _ {M Q R : Type 0} (after : M → Q → M) (reply : M → Q → R) (start
       record {
         placed = may.0;
         count = may.2;
-        known = subst (λ (o : Option (ShardState M Q R)). IfSome o (λ ready. HasRead after reply start fleet.system.log
+        known = subst (λ (o : Option (ShardState M Q R)). IfSome o (λ ready. HasRead service fleet.system.log
             server.me server.shard ready)) (sym may.1) tt;
         in_time = subst (λ (o : Option (ShardState M Q R)). IfSome o (λ ready. AreAskedOf fleet.system.asked 0
             server.shard ready)) (sym may.1) tt;
@@ -193,33 +199,35 @@ module _ {M Q R : Type 0} (after : M → Q → M) (reply : M → Q → R) (start
       run.good,
     );
   }
-  run_step fleet (Steps which old input result new) run may =
+  run_step law parts fleet (Steps which old input result new) run may =
       let system = fleet.system in
       let log = system.log in
       let step = may.1 in
-      let was : IsGoodServer after reply start charter log system.asked old =
-      subst (λ (o : Option (Running M Q R)). IfSome o (IsGoodServer after reply start charter log system.asked)) may.0
-      (at_place (IsGoodServer after reply start charter log system.asked) fleet.servers which run.good) in
+      let was : IsGoodServer service charter log system.asked old =
+      subst (λ (o : Option (Running M Q R)). IfSome o (IsGoodServer service charter log system.asked)) may.0
+      (at_place (IsGoodServer service charter log system.asked) fleet.servers which run.good) in
       let past : ArePast system =
-      subst (λ (now : System Q BasePart R). ArePast now) (sym run.is) (asks_within run.events) in
-      let safe : IsSafe after reply start charter system old.since old.server.shard input result new =
-      step.call charter system old.since was.count was.placed past was.known was.in_time step.input_is in
-      let claims_may : AllByRecursion (MayClaim after reply start system) (step_claims new.shard input result) =
-      subst (λ (k : ℕ). AllByRecursion (MayClaim after reply start system) (step_claims k input result))
+      subst (λ (now : System Q (Part R) R). ArePast now) (sym run.is) (asks_within run.events) in
+      let right : AreRight charter log =
+      subst (λ (now : System Q (Part R) R). AreRight charter now.log) (sym run.is) (law run.events run.might).right in
+      let safe : IsSafe service charter system old.since old.server.shard input result new =
+      step.call charter system old.since was.count parts right was.placed past was.known was.in_time step.input_is in
+      let claims_may : AllByRecursion (MayClaim service system) (step_claims new.shard input result) =
+      subst (λ (k : ℕ). AllByRecursion (MayClaim service system) (step_claims k input result))
       (sym step.shard) safe.claims in
       let sends = step_sends result new in
       let claims = step_claims new.shard input result in
-      let first : List (Event Q BasePart R) = map Sends sends ++ run.events in
+      let first : List (Event Q (Part R) R) = map Sends sends ++ run.events in
       let sent : with_sent system sends ≡ system_after first =
-      ap (λ (now : System Q BasePart R). with_sent now sends) run.is ∙ sym (sent_after run.events sends) in
+      ap (λ (now : System Q (Part R) R). with_sent now sends) run.is ∙ sym (sent_after run.events sends) in
       record {
         events = map Claims claims ++ first;
         might = claims_might system sends first (sym sent) claims claims_may
             (sends_might run.events sends
-            (subst (λ (now : System Q BasePart R). AllByRecursion (MaySend charter now.log) sends) run.is safe.may)
+            (subst (λ (now : System Q (Part R) R). AllByRecursion (MaySend charter now.log) sends) run.is safe.may)
             run.might);
-        is = ap (λ (now : System Q BasePart R). with_claims now claims) sent ∙ sym (claimed_after first claims);
-        good = all_set (IsGoodServer after reply start charter log system.asked) fleet.servers which
+        is = ap (λ (now : System Q (Part R) R). with_claims now claims) sent ∙ sym (claimed_after first claims);
+        good = all_set (IsGoodServer service charter log system.asked) fleet.servers which
             (record { server = new; since = since_after result old.since (length log) }) run.good
             (record {
               placed = (
@@ -232,35 +240,35 @@ module _ {M Q R : Type 0} (after : M → Q → M) (reply : M → Q → R) (start
               in_time = safe.asked;
             });
       }
-  run_step fleet (Otherwise event) run may =
+  run_step law parts fleet (Otherwise event) run may =
       let grown = log_step fleet.system event in
       let asks = asked_step fleet.system event in
-      let old = IsGoodServer after reply start charter fleet.system.log fleet.system.asked in
-      let new = IsGoodServer after reply start charter (grown.0 ++ fleet.system.log) (asks.0 ++ fleet.system.asked) in
+      let old = IsGoodServer service charter fleet.system.log fleet.system.asked in
+      let new = IsGoodServer service charter (grown.0 ++ fleet.system.log) (asks.0 ++ fleet.system.asked) in
       record {
         events = event ∷ run.events;
         might = (
-          subst (λ (system : System Q BasePart R). May after reply start charter system event) run.is may,
+          subst (λ (system : System Q (Part R) R). May service charter system event) run.is may,
           run.might,
         );
-        is = ap (λ (system : System Q BasePart R). happens system event) run.is;
-        good = subst (λ (log : StoreLog Q). AllByRecursion (IsGoodServer after reply start charter log
+        is = ap (λ (system : System Q (Part R) R). happens system event) run.is;
+        good = subst (λ (log : StoreLog Q R). AllByRecursion (IsGoodServer service charter log
             (happens fleet.system event).asked) fleet.servers) (sym grown.1)
-            (subst (λ (asked : List (Ask Q)). AllByRecursion (IsGoodServer after reply start charter
+            (subst (λ (asked : List (Ask Q)). AllByRecursion (IsGoodServer service charter
             (grown.0 ++ fleet.system.log) asked) fleet.servers) (sym asks.1)
-            (all_map old new (good_grows after reply start charter grown.0 fleet.system.log asks.0 fleet.system.asked)
+            (all_map old new (good_grows service charter grown.0 fleet.system.log asks.0 fleet.system.asked)
             fleet.servers run.good));
       }
 
-  runs : (acts : List (Act M Q R)) → MightAct after reply start charter acts → IsRun (fleet_after acts)
-  runs [] might = record { events = []; might = tt; is = refl; good = tt }
-  runs (act ∷ earlier) might = run_step (fleet_after earlier) act (runs earlier might.1) might.0
+  runs : Lawful → charter.parts ≡ base_of service → (acts : List (Act M Q R)) → MightAct service charter acts
+      → IsRun (fleet_after acts)
+  runs law parts [] might = record { events = []; might = tt; is = refl; good = tt }
+  runs law parts (act ∷ earlier) might =
+      run_step law parts (fleet_after earlier) act (runs law parts earlier might.1) might.0
 
   -- what holds of all runs of events holds of a fleet's
-  pub lawful : ((events : List (Event Q BasePart R)) → MightHappen after reply start charter events
-      → IsLawful after reply start charter (system_after events))
-      → (acts : List (Act M Q R)) → MightAct after reply start charter acts
-      → IsLawful after reply start charter (fleet_after acts).system
-  lawful law acts might =
-      let run = runs acts might in
-      subst (IsLawful after reply start charter) (sym run.is) (law run.events run.might)
+  pub lawful : Lawful → (acts : List (Act M Q R)) → charter.parts ≡ base_of service
+      → MightAct service charter acts → IsLawful service charter (fleet_after acts).system
+  lawful law acts parts might =
+      let run = runs law parts acts might in
+      subst (IsLawful service charter) (sym run.is) (law run.events run.might)

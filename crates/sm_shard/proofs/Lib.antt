@@ -1,3 +1,8 @@
+mod Cuts
 mod Fleets
+pub mod Lasts
+pub mod LogReads
 pub mod Replicas
+pub mod Replies
 pub mod ShardServers
+pub mod Works

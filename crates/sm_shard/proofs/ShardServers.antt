@@ -1,22 +1,28 @@
 -- What a server knows goes on.
 use Rattle.std.proofs.Common.{◌≡◌, ◌≢◌, ℕ, ◌<◌, true, false, List, [], ◌∷◌, ◌++◌, refl, sym, ap, subst, ◌∙◌, arith}
-use Rattle.std.proofs.Common.{◌≤◌, length, append_assoc, append-nil, inl, inr, ◌+◌, ◌-◌, take, drop}
-use Rattle.std.specs.Prelude.{Bool, Option, Some, None, IfNone, IfSome, Result, Ok, Err, IfOk, ◌==◌, IsTrue}
+use Rattle.std.proofs.Common.{◌≤◌, length, map, append_assoc, append-nil, inl, inr, ◌+◌, ◌-◌, drop}
+use Rattle.std.specs.Prelude.{Bool, Option, Some, None, IfNone, IfSome, Result, Ok, Err, IfOk, OnErr, ◌==◌, IsTrue}
+use Rattle.std.specs.Prelude.{is_none, nat_lt}
 use Rattle.std.specs.Prelude.{if◌then◌else◌}
+use Rattle.std.specs.Global.{Vec}
 use Rattle.std.specs.List.{AllByRecursion}
-use Rattle.std.proofs.lemmas.Bool.{eq-eqb, ne_eqb, true≢false}
+use Rattle.sm_store.specs.declared.store_key.PassingKey.{PassingKey}
+use Rattle.std.proofs.lemmas.Bool.{and_parts, eq-eqb, ne_eqb, true≢false}
 use Rattle.std.proofs.lemmas.Bool.Decides.{nat_tests}
 use Rattle.std.proofs.lemmas.List.{take-append-drop}
 use Rattle.std.proofs.lemmas.Option.{none-some}
 use Rattle.sm_ownership.specs.declared.record.Record.{Record}
 use Rattle.sm_ownership.specs.Rules.{accepts}
-use Rattle.sm_store.specs.declared.base_part.BasePart.{BasePart}
+use Rattle.sm_shard.specs.Bases.{Part, base_of}
+use Rattle.sm_shard.specs.declared.base_work.BaseWork.{BaseWork}
+use Rattle.sm_shard.specs.declared.base_work.NamedBase.{NamedBase}
 use Rattle.sm_store.specs.declared.compare.Compare.{Compare}
 use Rattle.sm_store.specs.declared.head.Head.{Head}
 use Rattle.sm_store.specs.declared.item.Item.{Item}
-use Rattle.sm_store.specs.Clients.{last_of, reply_in, state_after}
+use Rattle.sm_store.specs.Clients.{Automaton, last_of, reply_in, state_after}
 use Rattle.sm_store.specs.Store.{Transaction, all_hold, head_key, made, record_key, revision_of, stored_record}
-use Rattle.sm_store.specs.Deeds.{AreAccepted, Charter, Checking, Executing, MayExecute, MaySend, ShardLog, WasFound}
+use Rattle.sm_store.specs.Deeds.{AreAccepted, Charter, Checking, Executing, Clearing, MayExecute, MayName, MaySend}
+use Rattle.sm_store.specs.Deeds.{Naming, ShardLog, WasFound}
 use Rattle.sm_store.specs.Deeds.{at, shard_log, transaction_of}
 use Rattle.sm_store.specs.System.{Ask, Claim, IsAmong, IsSo, MayClaim, Overtaken, Reads, Replies}
 use Rattle.sm_store.specs.lemmas.Growth.{so_grows, next_split}
@@ -31,14 +37,18 @@ use Rattle.sm_shard.specs.declared.shard_state.Decision.{Decision}
 use Rattle.sm_shard.specs.declared.shard_state.Decision.TheVariants.{Replied, Passed, Waits, Forwards, Refused}
 use Rattle.sm_shard.specs.declared.shard_state.Decision.TheVariants.{TooLarge, Busy}
 use Rattle.sm_shard.specs.declared.shard_state.ShardState.{ShardState}
-use Rattle.sm_shard.specs.Decisions.{batch_from, batch_length, decided_by_number, goes_with, client_number}
-use Rattle.sm_shard.specs.Replicas.{AreReadBy, IsReplica, replies_of}
-use Rattle.sm_shard.specs.Steps.{ArePast, transactions_of}
+use Rattle.sm_shard.specs.Decisions.{batch_from, batch_length, begins_base, decided_by_number, goes_with, client_number}
+use Rattle.sm_shard.specs.Decisions.{is_behind, named_by}
+use Rattle.sm_shard.specs.Replicas.{IsReplica, read_of, replies_of}
+use Rattle.sm_shard.specs.Steps.{ArePast, bases_of, transactions_of}
 use Rattle.sm_shard.specs.ShardServers.{AreAskedOf, DidHold, HasRead, IsAsked, IsAskedBy, IsDecided, IsFlushed}
-use Rattle.sm_shard.specs.ShardServers.{IsShardState, IsUnflushed}
+use Rattle.sm_shard.specs.ShardServers.{AreWritten, IsNewBase, IsButWork, IsShardState, IsUnflushed, IsWorkTrue}
+use Rattle.sm_shard.specs.ShardServers.{named_at, named_now, written_now}
 use Rattle.sm_shard.specs.ShardServers.{StoreLog, StoreSystem, WasMade, WereMade, claimed_all, claimed_by}
 use Rattle.sm_shard.specs.ShardServers.{claimed_read, claimed_reads, sent_transaction, transaction_for}
 use Rattle.sm_shard.proofs.Replicas.{answers_are}
+use Rattle.sm_shard.proofs.Works.{base_begun, base_later, base_written, bases_may, clear_may, head_found, lt_of}
+use Rattle.sm_shard.proofs.Works.{name_may}
 
 pub all-append : {A : Type 0} (P : A → Type 0) (xs ys : List A) → AllByRecursion P xs → AllByRecursion P ys
     → AllByRecursion P (xs ++ ys)
@@ -89,6 +99,10 @@ pub some_by_length : {A : Type 0} (xs : List A) (n : ℕ) → n ≡ length xs �
 some_by_length xs n len some none =
     let zero_long : n ≡ 0 = len ∙ ap length none in true≢false (sym (eq-eqb n 0 zero_long) ∙ some)
 
+pub none_by_length : {A : Type 0} (xs : List A) (n : ℕ) → n ≡ length xs → (n == 0) ≡ true → xs ≡ []
+none_by_length [] n len is = refl
+none_by_length (x ∷ xs) n len is = let zero_long : n ≡ 0 = grind (arith, nat_tests) in absurd (omega arith)
+
 -- a head is what its numbers are
 pub head_by_fields : (head : Head) (batches base parts : ℕ) → head.batches ≡ batches → head.base ≡ base → head.parts
     ≡ parts
@@ -97,6 +111,15 @@ head_by_fields head batches base parts a b c =
     subst (λ (n : ℕ). head ≡ record { batches = batches; base = base; parts = n }) c
     (subst (λ (n : ℕ). head ≡ record { batches = batches; base = n; parts = head.parts }) b
     (subst (λ (n : ℕ). head ≡ record { batches = n; base = head.base; parts = head.parts }) a refl))
+
+-- a value, where a test holds
+if_some : {A : Type 0} (b : Bool) (x : A) → IfSome (if b then Some x else None) (λ y. y ≡ x)
+if_some true x = refl
+if_some false x = tt
+
+-- something is written
+heads_some : {A : Type 0} (x : A) (xs : List A) → x ∷ xs ≢ []
+heads_some x xs none = cc
 
 module _ {Q : Type 0} where
   -- none of the client's is among one more of another client
@@ -149,21 +172,47 @@ module _ {Q : Type 0} where
         next_split before xs ys are.next;
   }
 
+pub head_compared :
+    {Q : Type 0} (R : Type 0) (shard me : ℕ) (base : Option NamedBase) (items : List (Item Q)) (head : Head)
+    (stood logged : ℕ) → IsAmong (at (head_key shard) logged)
+    (transaction_for {Q = Q} {R = R} shard me base items head stood logged).compares
+head_compared R shard me None [] head stood logged = inr (inl refl)
+head_compared R shard me (Some base) [] head stood logged = inl refl
+head_compared R shard me base (item ∷ items) head stood logged = inr (inl refl)
+
 -- what a transaction for a shard's requests compares
-abbrev pub both_compares : ℕ → ℕ → ℕ → List Compare
+abbrev both_compares : ℕ → ℕ → ℕ → List Compare
 both_compares shard stood logged = at (record_key shard) stood ∷ at (head_key shard) logged ∷ []
 
-module _ {Q : Type 0} where
-  pub compares_are : (shard me : ℕ) (items : List (Item Q)) (head : Head) (stood logged : ℕ)
-      → (transaction_for shard me items head stood logged).compares ≡ both_compares shard stood logged
-  compares_are shard me [] head stood logged = refl
-  compares_are shard me (item ∷ items) head stood logged = refl
+module _ {Q R : Type 0} where
+  both_hold : (past : StoreLog Q R) (shard stood logged : ℕ) → all_hold past (both_compares shard stood logged) ≡ true
+      → revision_of (head_key shard) past ≡ logged
+  both_hold past shard stood logged held =
+      let first = first_held past (record_key shard) stood (at (head_key shard) logged ∷ []) held in
+      (first_held past (head_key shard) logged [] first.1).0
 
-  pub executing : (shard me : ℕ) (items : List (Item Q)) (head : Head) (stood logged : ℕ) → items ≢ []
-      → transaction_for shard me items head stood logged
+  -- where the compares hold, the head is the one that was read
+  pub head_held : (past : StoreLog Q R) (shard me : ℕ) (base : Option NamedBase) (items : List (Item Q)) (head : Head)
+      (stood logged : ℕ)
+      → all_hold past (transaction_for {Q = Q} {R = R} shard me base items head stood logged).compares ≡ true
+      → revision_of (head_key shard) past ≡ logged
+  head_held past shard me None [] head stood logged held = both_hold past shard stood logged held
+  head_held past shard me (Some base) [] head stood logged held =
+      (first_held past (head_key shard) logged [] held).0
+  head_held past shard me base (item ∷ items) head stood logged held = both_hold past shard stood logged held
+
+  pub executing : (shard me : ℕ) (base : Option NamedBase) (items : List (Item Q)) (head : Head) (stood logged : ℕ)
+      → items ≢ [] → transaction_for {Q = Q} {R = R} shard me base items head stood logged
       ≡ transaction_of (Executing shard me items head stood logged)
-  executing shard me [] head stood logged some = absurd (some refl)
-  executing shard me (item ∷ items) head stood logged some = refl
+  executing shard me base [] head stood logged some = absurd (some refl)
+  executing shard me base (item ∷ items) head stood logged some = refl
+
+  -- where nothing is sent, the head comes to name the base
+  pub names : (shard me : ℕ) (base : NamedBase) (items : List (Item Q)) (head : Head) (stood logged : ℕ)
+      → items ≡ [] → transaction_for {Q = Q} {R = R} shard me (Some base) items head stood logged
+      ≡ transaction_of (Naming shard head base.number base.parts logged)
+  names shard me base [] head stood logged none = refl
+  names shard me base (item ∷ items) head stood logged none = absurd cc
 
 -- how many go into a batch, one more or none
 module _ {Q : Type 0} (limits : ShardLimits) (size : Q → ℕ) where
@@ -178,14 +227,14 @@ module _ {Q : Type 0} (limits : ShardLimits) (size : Q → ℕ) where
       → batch_from limits size count room (item ∷ items) ≡ 0
   batch_full count room item items full = rw full refl
 
-module _ {M Q R : Type 0} (after : M → Q → M) (reply : M → Q → R) (start : M) where
+module _ {M Q R : Type 0} (service : Automaton M Q R) where
   -- one more request waits
   pub ready_push : (me : ℕ) (before : List (Item Q)) (item : Item Q) (old new : ShardState M Q R) → new.state
       ≡ old.state → new.replica ≡ old.replica → new.sent.items ≡ old.sent.items → new.waiting.items
       ≡ old.waiting.items ++ item ∷ [] → IsTrue (accepts old.state me item.mode) → last_of item.client old.sent.items
-      ≡ 0 → last_of item.client old.waiting.items ≡ 0 → (IsReplica after reply start before old.replica
-      → last_of item.client before < item.number) → IsShardState after reply start me before old
-      → IsShardState after reply start me before new
+      ≡ 0 → last_of item.client old.waiting.items ≡ 0 → (IsReplica service before old.replica
+      → last_of item.client before < item.number) → IsShardState service me before old
+      → IsShardState service me before new
   ready_push me before item old new state_is book_is sent_is waiting_is accepted unsent unwaiting next ready =
       let both = last-append item.client old.sent.items old.waiting.items in
       let one : AreAccepted old.state me before ((old.sent.items ++ old.waiting.items) ++ item ∷ []) =
@@ -195,7 +244,7 @@ module _ {M Q R : Type 0} (after : M → Q → M) (reply : M → Q → R) (start
       append_assoc old.sent.items old.waiting.items (item ∷ []) ∙ ap (λ (list : List (Item Q)). old.sent.items ++ list)
       (sym waiting_is) ∙ ap (λ (list : List (Item Q)). list ++ new.waiting.items) (sym sent_is) in
       record {
-        replica = subst (IsReplica after reply start before) (sym book_is) ready.replica;
+        replica = subst (IsReplica service before) (sym book_is) ready.replica;
         accepted = subst (λ (state : Record). AreAccepted state me before (new.sent.items ++ new.waiting.items))
             (sym state_is) (subst (AreAccepted old.state me before) items_are one);
       }
@@ -203,28 +252,29 @@ module _ {M Q R : Type 0} (after : M → Q → M) (reply : M → Q → R) (start
   -- a reply among the requests that were read is so
   pub reply_so : (shard : ℕ) (system : StoreSystem Q R) (read : ShardLog Q) (revision client number : ℕ) (answer : R)
       → WasFound (shard_log shard) (head_key shard) system.log read revision
-      → reply_in after reply start read.items client number ≡ Some answer
-      → MayClaim after reply start system (Replies shard client number answer)
+      → reply_in service service.start read.items client number ≡ Some answer
+      → MayClaim service system (Replies shard client number answer)
   reply_so shard system read revision client number answer found is =
-      subst (λ (list : StoreLog Q). IsSo after reply start system.asked list (Replies shard client number answer))
+      subst (λ (list : StoreLog Q R). IsSo service system.asked list (Replies shard client number answer))
       (sym found.is)
-      (so_grows after reply start system.asked found.later found.past (Replies shard client number answer)
-      (subst (λ (l : ShardLog Q). reply_in after reply start l.items client number ≡ Some answer) (sym found.was) is))
+      (so_grows service system.asked found.later found.past (Replies shard client number answer)
+      (subst (λ (l : ShardLog Q). reply_in service service.start l.items client number ≡ Some answer)
+      (sym found.was) is))
 
   pub overtaken_so : (shard : ℕ) (system : StoreSystem Q R) (read : ShardLog Q) (revision client number : ℕ)
       → WasFound (shard_log shard) (head_key shard) system.log read revision → number < last_of client read.items
-      → MayClaim after reply start system (Overtaken shard client number)
+      → MayClaim service system (Overtaken shard client number)
   overtaken_so shard system read revision client number found is =
-      subst (λ (list : StoreLog Q). IsSo after reply start system.asked list (Overtaken shard client number))
+      subst (λ (list : StoreLog Q R). IsSo service system.asked list (Overtaken shard client number))
       (sym found.is)
-      (so_grows after reply start system.asked found.later found.past (Overtaken shard client number)
+      (so_grows service system.asked found.later found.past (Overtaken shard client number)
       (subst (λ (l : ShardLog Q). number < last_of client l.items) (sym found.was) is))
 
   pub answers_so : (shard : ℕ) (system : StoreSystem Q R) (read : ShardLog Q) (revision : ℕ)
       → WasFound (shard_log shard) (head_key shard) system.log read revision → (answers : List (MadeReply R))
-      → AllByRecursion (λ (answer : MadeReply R). reply_in after reply start read.items answer.client answer.number
+      → AllByRecursion (λ (answer : MadeReply R). reply_in service service.start read.items answer.client answer.number
       ≡ Some answer.reply) answers
-      → AllByRecursion (MayClaim after reply start system) (claimed_all shard answers)
+      → AllByRecursion (MayClaim service system) (claimed_all shard answers)
   answers_so shard system read revision found [] all = tt
   answers_so shard system read revision found (answer ∷ answers) all = (
     reply_so shard system read revision answer.client answer.number answer.reply found all.0,
@@ -234,8 +284,8 @@ module _ {M Q R : Type 0} (after : M → Q → M) (reply : M → Q → R) (start
   pub decided_so : (shard me : ℕ) (system : StoreSystem Q R) (state : Record) (read : ShardLog Q)
       (revision client number : ℕ)
       → WasFound (shard_log shard) (head_key shard) system.log read revision → (decision : Decision R)
-      → IsDecided after reply start state me read.items client number decision
-      → AllByRecursion (MayClaim after reply start system) (claimed_by shard client number decision)
+      → IsDecided service state me read.items client number decision
+      → AllByRecursion (MayClaim service system) (claimed_by shard client number decision)
   decided_so shard me system state read revision client number found (Replied answer) is =
       (reply_so shard system read revision client number answer found is, tt)
   decided_so shard me system state read revision client number found Passed is =
@@ -247,8 +297,8 @@ module _ {M Q R : Type 0} (after : M → Q → M) (reply : M → Q → R) (start
   decided_so shard me system state read revision client number found Busy is = tt
 
   -- what is sent may be sent
-  pub may_send : (charter : Charter Q BasePart) (log : StoreLog Q) (me shard : ℕ) (ready : ShardState M Q R)
-      → shard < charter.count → me ≢ 0 → HasRead after reply start log me shard ready
+  pub may_send : (charter : Charter Q (Part R)) (log : StoreLog Q R) (me shard : ℕ) (ready : ShardState M Q R)
+      → shard < charter.count → me ≢ 0 → HasRead service log me shard ready
       → MayExecute charter log shard me ready.sent.items ready.head ready.stood ready.logged
   may_send charter log me shard ready within named knows = record {
     within = within;
@@ -260,30 +310,21 @@ module _ {M Q R : Type 0} (after : M → Q → M) (reply : M → Q → R) (start
     accepted = accepted_front ready.state me knows.before ready.sent.items ready.waiting.items knows.is.accepted;
   }
 
-  -- both compares of a transaction held
-  both_held : (past : StoreLog Q) (me shard : ℕ) (ready : ShardState M Q R)
-      → all_hold past (sent_transaction me shard ready).compares ≡ true
-      → revision_of (head_key shard) past ≡ ready.logged
-  both_held past me shard ready held =
-      let both : all_hold past (both_compares shard ready.stood ready.logged) ≡ true =
-      ap (all_hold past) (sym (compares_are shard me ready.sent.items ready.head ready.stood ready.logged)) ∙ held in
-      let first = first_held past (record_key shard) ready.stood (at (head_key shard) ready.logged ∷ []) both in
-      (first_held past (head_key shard) ready.logged [] first.1).0
-
   -- what the server read of the log stood when its transaction was made
-  log_then : (log : StoreLog Q) (me shard : ℕ) (ready : ShardState M Q R)
-      → (knows : HasRead after reply start log me shard ready)
-      → (later past : StoreLog Q) → log ≡ later ++ past → all_hold past (sent_transaction me shard ready).compares
+  log_then : (log : StoreLog Q R) (me shard : ℕ) (ready : ShardState M Q R)
+      → (knows : HasRead service log me shard ready)
+      → (later past : StoreLog Q R) → log ≡ later ++ past → all_hold past (sent_transaction me shard ready).compares
       ≡ true
       → shard_log shard past ≡ record { head = ready.head; items = knows.before }
   log_then log me shard ready knows later past is held =
       stood_then (shard_log shard) (head_key shard) (log_view shard) log
       (record { head = ready.head; items = knows.before })
-      ready.logged (inl refl) knows.logged later past is (both_held past me shard ready held)
+      ready.logged (inl refl) knows.logged later past is
+      (head_held past shard me (named_by ready.work) ready.sent.items ready.head ready.stood ready.logged held)
 
   -- the log was so once the transaction was made
-  pub made_then : (log : StoreLog Q) (me shard revision : ℕ) (ready : ShardState M Q R)
-      → (knows : HasRead after reply start log me shard ready) → ready.sent.items ≢ []
+  pub made_then : (log : StoreLog Q R) (me shard revision : ℕ) (ready : ShardState M Q R)
+      → (knows : HasRead service log me shard ready) → ready.sent.items ≢ []
       → WereMade log me shard revision ready
       → WasFound (shard_log shard) (head_key shard) log
       (record {
@@ -291,14 +332,16 @@ module _ {M Q R : Type 0} (after : M → Q → M) (reply : M → Q → R) (start
         items = knows.before ++ ready.sent.items;
       }) revision
   made_then log me shard revision ready knows some were_made =
-      let txn : Transaction Q BasePart =
+      let txn : Transaction Q (Part R) =
       transaction_of (Executing shard me ready.sent.items ready.head ready.stood ready.logged) in
       let txn_is : sent_transaction me shard ready ≡ txn =
-      executing shard me ready.sent.items ready.head ready.stood ready.logged some in
+      executing shard me (named_by ready.work) ready.sent.items ready.head ready.stood ready.logged some in
+      let writes : (sent_transaction me shard ready).writes ≢ [] =
+      λ none. heads_some _ _ (sym (ap (λ (t : Transaction Q (Part R)). t.writes) txn_is) ∙ none) in
       let was_made : WasMade log txn revision =
-      subst (λ (t : Transaction Q BasePart). WasMade log t revision) txn_is (were_made some) in
+      subst (λ (t : Transaction Q (Part R)). WasMade log t revision) txn_is (were_made writes) in
       let held : all_hold was_made.past (sent_transaction me shard ready).compares ≡ true =
-      ap (λ (t : Transaction Q BasePart). all_hold was_made.past t.compares) txn_is ∙ was_made.held in
+      ap (λ (t : Transaction Q (Part R)). all_hold was_made.past t.compares) txn_is ∙ was_made.held in
       let was = log_then log me shard ready knows (was_made.later ++ txn ∷ []) was_made.past
       (was_made.is ∙ sym (append_assoc was_made.later (txn ∷ []) was_made.past)) held in
       let same : (shard == shard) ≡ true = eq-eqb shard shard refl in
@@ -315,17 +358,124 @@ module _ {M Q R : Type 0} (after : M → Q → M) (reply : M → Q → R) (start
         }) was));
       }
 
+  -- and so once the head named the base
+  named_then : (log : StoreLog Q R) (me shard revision : ℕ) (ready : ShardState M Q R) (base : NamedBase)
+      → (knows : HasRead service log me shard ready) → ready.sent.items ≡ [] → named_by ready.work ≡ Some base
+      → WereMade log me shard revision ready
+      → WasFound (shard_log shard) (head_key shard) log
+      (record {
+        head = record { batches = ready.head.batches; base = base.number; parts = base.parts };
+        items = knows.before;
+      }) revision
+  named_then log me shard revision ready base knows none is were_made =
+      let txn : Transaction Q (Part R) =
+      transaction_of (Naming shard ready.head base.number base.parts ready.logged) in
+      let txn_is : sent_transaction me shard ready ≡ txn =
+      ap (λ (b : Option NamedBase). transaction_for shard me b ready.sent.items ready.head ready.stood ready.logged) is
+      ∙ names shard me base ready.sent.items ready.head ready.stood ready.logged none in
+      let writes : (sent_transaction me shard ready).writes ≢ [] =
+      λ nothing. heads_some _ _ (sym (ap (λ (t : Transaction Q (Part R)). t.writes) txn_is) ∙ nothing) in
+      let was_made : WasMade log txn revision =
+      subst (λ (t : Transaction Q (Part R)). WasMade log t revision) txn_is (were_made writes) in
+      let held : all_hold was_made.past (sent_transaction me shard ready).compares ≡ true =
+      ap (λ (t : Transaction Q (Part R)). all_hold was_made.past t.compares) txn_is ∙ was_made.held in
+      let was = log_then log me shard ready knows (was_made.later ++ txn ∷ []) was_made.past
+      (was_made.is ∙ sym (append_assoc was_made.later (txn ∷ []) was_made.past)) held in
+      let same : (shard == shard) ≡ true = eq-eqb shard shard refl in
+      record {
+        later = was_made.later;
+        past = txn ∷ was_made.past;
+        is = was_made.is;
+        at = rw same (sym was_made.at);
+        was = rw same (rw (append-nil (made shard was_made.past)) (ap (λ (l : ShardLog Q). record {
+          head = record { batches = ready.head.batches; base = base.number; parts = base.parts };
+          items = l.items;
+        }) was));
+      }
+
+  knows_at : (log : StoreLog Q R) (me shard revision : ℕ) (ready : ShardState M Q R) (base : Option NamedBase)
+      → HasRead service log me shard ready → ready.sent.items ≡ [] → named_by ready.work ≡ base
+      → WereMade log me shard revision ready → HasRead service log me shard (named_at revision base ready)
+  knows_at log me shard revision ready None knows none is were_made = knows
+  knows_at log me shard revision ready (Some base) knows none is were_made = record {
+    stood = knows.stood;
+    before = knows.before;
+    logged = named_then log me shard revision ready base knows none is were_made;
+    is = record { replica = knows.is.replica; accepted = knows.is.accepted };
+    base = tt;
+  }
+
+  -- the server goes on from where the head names the base that was sent, if one was
+  pub knows_named : (log : StoreLog Q R) (me shard revision : ℕ) (ready : ShardState M Q R)
+      → HasRead service log me shard ready → ready.sent.items ≡ [] → WereMade log me shard revision ready
+      → HasRead service log me shard (named_now revision ready)
+  knows_named log me shard revision ready knows none were_made =
+      knows_at log me shard revision ready (named_by ready.work) knows none refl were_made
+
+  -- with other reads under way
+  abbrev pub carrying : ShardState M Q R → Vec (Item Q) → ShardState M Q R
+  carrying ready carried = record {
+    state = ready.state;
+    stood = ready.stood;
+    replica = ready.replica;
+    head = ready.head;
+    logged = ready.logged;
+    sent = ready.sent;
+    waiting = ready.waiting;
+    carried = carried;
+    asking = ready.asking;
+    work = ready.work;
+  }
+
+  pub knows_settled : (log : StoreLog Q R) (me shard revision : ℕ) (ready : ShardState M Q R) (carried : Vec (Item Q))
+      → HasRead service log me shard ready → ready.sent.items ≡ [] → WereMade log me shard revision ready
+      → HasRead service log me shard (named_now revision (carrying ready carried))
+  knows_settled log me shard revision ready carried knows none were_made =
+      knows_named log me shard revision (carrying ready carried)
+      (record {
+        stood = knows.stood;
+        before = knows.before;
+        logged = knows.logged;
+        is = record { replica = knows.is.replica; accepted = knows.is.accepted };
+        base = knows.base;
+      })
+      none were_made
+
+  pub none_made : (found : Option (ShardState M Q R)) (old : ShardState M Q R) → found ≡ Some old
+      → old.sent.items ≡ [] → (made : List (MadeReply R)) → made ≡ []
+      → IfSome found (λ ready. made ≡ replies_of service ready.replica.machine ready.sent.items)
+  none_made found old is none made made_is =
+      subst (λ (o : Option (ShardState M Q R)). IfSome o (λ ready. made
+      ≡ replies_of service ready.replica.machine ready.sent.items)) (sym is)
+      (made_is ∙ sym (ap (replies_of service old.replica.machine) none))
+
+  asked_at : (asked : List (Ask Q)) (since shard revision : ℕ) (ready : ShardState M Q R) (base : Option NamedBase)
+      → AreAskedOf asked since shard ready → AreAskedOf asked since shard (named_at revision base ready)
+  asked_at asked since shard revision ready None are = are
+  asked_at asked since shard revision ready (Some base) are =
+      record { asking = are.asking; carried = are.carried }
+
+  pub asked_named : (asked : List (Ask Q)) (since shard revision : ℕ) (ready : ShardState M Q R)
+      (carried : Vec (Item Q)) → carried.items ≡ [] → AreAskedOf asked since shard ready
+      → AreAskedOf asked since shard (named_now revision (carrying ready carried))
+  asked_named asked since shard revision ready carried none are =
+      asked_at asked since shard revision (carrying ready carried) (named_by ready.work)
+      (record {
+        asking = are.asking;
+        carried = subst (AllByRecursion (IsAskedBy asked shard since)) (sym none) tt;
+      })
+
   -- the server goes on from there
-  pub knows_made : (log : StoreLog Q) (me shard revision : ℕ) (old new : ShardState M Q R)
-      → (knows : HasRead after reply start log me shard old) → old.sent.items ≢ []
+  pub knows_made : (log : StoreLog Q R) (me shard revision : ℕ) (old new : ShardState M Q R)
+      → (knows : HasRead service log me shard old) → old.sent.items ≢ []
       → WereMade log me shard revision old
       → new.state ≡ old.state → new.stood ≡ old.stood
       → new.head ≡ record { batches = old.head.batches + 1; base = old.head.base; parts = old.head.parts }
       → new.logged ≡ revision → new.sent.items ≡ [] → new.waiting.items ≡ old.waiting.items
-      → IsReplica after reply start (knows.before ++ old.sent.items) new.replica
-      → HasRead after reply start log me shard new
+      → IsReplica service (knows.before ++ old.sent.items) new.replica → new.work ≡ old.work
+      → HasRead service log me shard new
   knows_made log me shard revision old new knows some were_made state_is stood_is head_is logged_is sent_is
-      waiting_is replica =
+      waiting_is replica work_is =
       let rest : AreAccepted old.state me (knows.before ++ old.sent.items) old.waiting.items =
       accepted_back old.state me knows.before old.sent.items old.waiting.items knows.is.accepted in
       let items_are : old.waiting.items ≡ new.sent.items ++ new.waiting.items =
@@ -346,16 +496,20 @@ module _ {M Q R : Type 0} (after : M → Q → M) (reply : M → Q → R) (start
               (new.sent.items ++ new.waiting.items)) (sym state_is)
               (subst (AreAccepted old.state me (knows.before ++ old.sent.items)) items_are rest);
         };
+        base = subst (λ (o : Option (BaseWork R)). IfSome o (IsWorkTrue service log shard new.head)) (sym work_is)
+            (base_later service log shard old.head new.head old.work (ap (λ (h : Head). h.base) head_is) knows.base);
       }
 
   -- nothing of what was read has changed
-  pub knows_same : (log : StoreLog Q) (me shard : ℕ) (old new : ShardState M Q R) → new.state ≡ old.state → new.stood
+  pub knows_same : (log : StoreLog Q R) (me shard : ℕ) (old new : ShardState M Q R) → new.state ≡ old.state → new.stood
       ≡ old.stood
       → new.head ≡ old.head → new.logged ≡ old.logged
-      → ((before : List (Item Q)) → IsShardState after reply start me before old
-      → IsShardState after reply start me before new)
-      → HasRead after reply start log me shard old → HasRead after reply start log me shard new
-  knows_same log me shard old new state_is stood_is head_is logged_is kept knows = record {
+      → ((before : List (Item Q)) → IsShardState service me before old
+      → IsShardState service me before new)
+      → (IfSome old.work (IsWorkTrue service log shard old.head)
+      → IfSome new.work (IsWorkTrue service log shard new.head))
+      → HasRead service log me shard old → HasRead service log me shard new
+  knows_same log me shard old new state_is stood_is head_is logged_is kept kept_base knows = record {
     stood = subst (λ (r : ℕ). WasFound (stored_record shard) (record_key shard) log new.state r) (sym stood_is)
         (subst (λ (s : Record). WasFound (stored_record shard) (record_key shard) log s old.stood)
         (sym state_is) knows.stood);
@@ -365,39 +519,47 @@ module _ {M Q R : Type 0} (after : M → Q → M) (reply : M → Q → R) (start
         (subst (λ (h : Head). WasFound (shard_log shard) (head_key shard) log
         (record { head = h; items = knows.before }) old.logged) (sym head_is) knows.logged);
     is = kept knows.before knows.is;
+    base = kept_base knows.base;
   }
+
+  -- the base is the same
+  pub same_base : (log : StoreLog Q R) (shard : ℕ) (old new : ShardState M Q R) → new.head ≡ old.head
+      → new.work ≡ old.work → IfSome old.work (IsWorkTrue service log shard old.head)
+      → IfSome new.work (IsWorkTrue service log shard new.head)
+  same_base log shard old new head_is work_is was =
+      subst (λ (h : Head). IfSome new.work (IsWorkTrue service log shard h)) (sym head_is)
+      (subst (λ (o : Option (BaseWork R)). IfSome o (IsWorkTrue service log shard old.head)) (sym work_is) was)
 
   -- what the replies claim is so
   pub told_made : (system : StoreSystem Q R) (me shard revision : ℕ) (ready : ShardState M Q R)
       (answers : List (MadeReply R))
-      → (knows : HasRead after reply start system.log me shard ready) → ready.sent.items ≢ []
+      → (knows : HasRead service system.log me shard ready) → ready.sent.items ≢ []
       → WereMade system.log me shard revision ready
-      → answers ≡ replies_of after reply ready.replica.machine ready.sent.items
-      → AllByRecursion (MayClaim after reply start system) (claimed_all shard answers)
+      → answers ≡ replies_of service ready.replica.machine ready.sent.items
+      → AllByRecursion (MayClaim service system) (claimed_all shard answers)
   told_made system me shard revision ready answers knows some were_made is =
       let items = knows.before ++ ready.sent.items in
       let next = (accepted_front ready.state me knows.before ready.sent.items ready.waiting.items
       knows.is.accepted).next in
-      let those : replies_of after reply (state_after after start knows.before) ready.sent.items ≡ answers =
-      ap (λ (m : M). replies_of after reply m ready.sent.items) (sym knows.is.replica.machine) ∙ sym is in
+      let those : replies_of service (state_after service service.start knows.before) ready.sent.items ≡ answers =
+      ap (λ (m : M). replies_of service m ready.sent.items) (sym knows.is.replica.machine) ∙ sym is in
       answers_so shard system _ revision (made_then system.log me shard revision ready knows some were_made) answers
-      (subst (AllByRecursion (λ (answer : MadeReply R). reply_in after reply start items answer.client answer.number
+      (subst (AllByRecursion (λ (answer : MadeReply R). reply_in service service.start items answer.client answer.number
       ≡ Some answer.reply)) those
-      (answers_are after reply start knows.before ready.sent.items next))
+      (answers_are service knows.before ready.sent.items next))
 
   -- a read that was carried may be claimed once its transaction held
   read_may : (system : StoreSystem Q R) (since me shard : ℕ) (ready : ShardState M Q R)
-      → HasRead after reply start system.log me shard ready
+      → HasRead service system.log me shard ready
       → DidHold system.held since (sent_transaction me shard ready)
       → (item : Item Q) → IsAskedBy system.asked shard since item → (answer : R)
-      → answer ≡ reply ready.replica.machine item.request
-      → MayClaim after reply start system (Reads shard item.client item.number answer)
+      → answer ≡ service.reply ready.replica.machine item.request
+      → MayClaim service system (Reads shard item.client item.number answer)
   read_may system since me shard ready knows did item asked answer is =
       let in_time = asked.3 in
       let sent_after = did.sent_after in
-      let those : both_compares shard ready.stood ready.logged ≡ did.one.txn.compares =
-      sym (ap (λ (t : Transaction Q BasePart). t.compares) did.txn_is
-      ∙ compares_are shard me ready.sent.items ready.head ready.stood ready.logged) in
+      let those : (sent_transaction me shard ready).compares ≡ did.one.txn.compares =
+      sym (ap (λ (t : Transaction Q (Part R)). t.compares) did.txn_is) in
       record {
         ask = asked.0;
         was_asked = asked.1;
@@ -413,66 +575,64 @@ module _ {M Q R : Type 0} (after : M → Q → M) (reply : M → Q → R) (start
           at = knows.logged.at;
           was = ap (λ (l : ShardLog Q). l.items) knows.logged.was;
         };
-        compared = subst (IsAmong (at (head_key shard) ready.logged)) those (inr (inl refl));
-        answer_is = is ∙ ap (λ (m : M). reply m item.request) knows.is.replica.machine
-            ∙ ap (reply (state_after after start knows.before)) (sym asked.2);
+        compared = subst (IsAmong (at (head_key shard) ready.logged)) those
+            (head_compared R shard me (named_by ready.work) ready.sent.items ready.head ready.stood ready.logged);
+        answer_is = is ∙ ap (λ (m : M). service.reply m item.request) knows.is.replica.machine
+            ∙ ap (service.reply (state_after service service.start knows.before)) (sym asked.2);
       }
 
   read_one : (system : StoreSystem Q R) (since me shard : ℕ) (ready : ShardState M Q R)
-      → HasRead after reply start system.log me shard ready
+      → HasRead service system.log me shard ready
       → DidHold system.held since (sent_transaction me shard ready)
-      → (item : Item Q) → IsAskedBy system.asked shard since item
-      → (client number : ℕ) → client ≡ item.client → number ≡ item.number → (read : ReadReply R)
-      → read.client ≡ client → read.number ≡ number → (found : Option R)
-      → IfSome found (λ answer. answer ≡ reply ready.replica.machine item.request) → (others : List (Claim Q R))
-      → AllByRecursion (MayClaim after reply start system) others
-      → AllByRecursion (MayClaim after reply start system) (claimed_read shard read found others)
-  read_one system since me shard ready knows did item asked client number c n read rc rn None is others all = all
-  read_one system since me shard ready knows did item asked client number c n read rc rn (Some answer) is others all = (
-    subst (λ (k : ℕ). MayClaim after reply start system (Reads shard k read.number answer)) (sym (rc ∙ c))
-        (subst (λ (k : ℕ). MayClaim after reply start system (Reads shard item.client k answer)) (sym (rn ∙ n))
-        (read_may system since me shard ready knows did item asked answer is)),
-    all,
-  )
+      → (item : Item Q) → IsAskedBy system.asked shard since item → (found : Option R)
+      → IfSome found (λ answer. answer ≡ service.reply ready.replica.machine item.request)
+      → (others : List (Claim Q R)) → AllByRecursion (MayClaim service system) others
+      → AllByRecursion (MayClaim service system)
+      (claimed_read shard (record { client = item.client; number = item.number; reply = found }) found others)
+  read_one system since me shard ready knows did item asked None is others all = all
+  read_one system since me shard ready knows did item asked (Some answer) is others all =
+      (read_may system since me shard ready knows did item asked answer is, all)
 
   -- what the reads of a transaction claim may be claimed once it held
-  pub reads_may : (system : StoreSystem Q R) (since me shard : ℕ) (ready : ShardState M Q R)
-      → HasRead after reply start system.log me shard ready
+  pub reads_may : (system : StoreSystem Q R) (reads : Q → Bool) (since me shard : ℕ) (ready : ShardState M Q R)
+      → HasRead service system.log me shard ready
       → DidHold system.held since (sent_transaction me shard ready)
       → (items : List (Item Q)) → AllByRecursion (IsAskedBy system.asked shard since) items
-      → (reads : List (ReadReply R)) → AreReadBy reply ready.replica.machine items reads
-      → AllByRecursion (MayClaim after reply start system) (claimed_reads shard reads)
-  reads_may system since me shard ready knows did [] asked [] are = tt
-  reads_may system since me shard ready knows did [] asked (read ∷ reads) are = absurd are
-  reads_may system since me shard ready knows did (item ∷ items) asked [] are = absurd are
-  reads_may system since me shard ready knows did (item ∷ items) asked (read ∷ reads) are =
-      read_one system since me shard ready knows did item asked.0 item.client item.number refl refl read
-      are.0.client are.0.number read.reply are.0.answer (claimed_reads shard reads)
-      (reads_may system since me shard ready knows did items asked.1 reads are.1)
+      → AllByRecursion (MayClaim service system)
+      (claimed_reads shard (map (read_of service reads ready.replica.machine) items))
+  reads_may system reads since me shard ready knows did [] asked = tt
+  reads_may system reads since me shard ready knows did (item ∷ items) asked =
+      read_one system since me shard ready knows did item asked.0
+      (if reads item.request then Some (service.reply ready.replica.machine item.request) else None)
+      (if_some (reads item.request) (service.reply ready.replica.machine item.request))
+      (claimed_reads shard (map (read_of service reads ready.replica.machine) items))
+      (reads_may system reads since me shard ready knows did items asked.1)
 
   -- the reads of a server that has read
-  pub reads_told : (system : StoreSystem Q R) (since me shard : ℕ) (found : Option (ShardState M Q R))
+  pub reads_told :
+      (system : StoreSystem Q R) (reads : Q → Bool) (since me shard : ℕ) (found : Option (ShardState M Q R))
       (ready : ShardState M Q R) → found ≡ Some ready
-      → IfSome found (λ r. HasRead after reply start system.log me shard r)
+      → IfSome found (λ r. HasRead service system.log me shard r)
       → IfSome found (λ r. AreAskedOf system.asked since shard r)
       → IfSome found (λ r. DidHold system.held since (sent_transaction me shard r))
-      → (items : List (Item Q)) → items ≡ ready.carried.items → (reads : List (ReadReply R))
-      → AreReadBy reply ready.replica.machine items reads
-      → AllByRecursion (MayClaim after reply start system) (claimed_reads shard reads)
-  reads_told system since me shard found ready is known asked held items items_are reads are =
-      let knows = subst (λ (o : Option (ShardState M Q R)). IfSome o (λ r. HasRead after reply start system.log me shard
+      → (items : List (Item Q)) → items ≡ ready.carried.items → (answers : List (ReadReply R))
+      → answers ≡ map (read_of service reads ready.replica.machine) items
+      → AllByRecursion (MayClaim service system) (claimed_reads shard answers)
+  reads_told system reads since me shard found ready is known asked held items items_are answers are =
+      let knows = subst (λ (o : Option (ShardState M Q R)). IfSome o (λ r. HasRead service system.log me shard
       r)) is known in
       let were = subst (λ (o : Option (ShardState M Q R)). IfSome o (λ r. AreAskedOf system.asked since shard r)) is
       asked in
       let did = subst (λ (o : Option (ShardState M Q R)). IfSome o (λ r. DidHold system.held since
       (sent_transaction me shard r))) is held in
-      reads_may system since me shard ready knows did ready.carried.items were.carried reads
-      (subst (λ (list : List (Item Q)). AreReadBy reply ready.replica.machine list reads) items_are are)
+      subst (λ (list : List (ReadReply R)). AllByRecursion (MayClaim service system) (claimed_reads shard list))
+      (sym (are ∙ ap (map (read_of service reads ready.replica.machine)) items_are))
+      (reads_may system reads since me shard ready knows did ready.carried.items were.carried)
 
   -- what waits goes in part, from where nothing was sent
   pub flushed : (limits : ShardLimits) (size : Q → ℕ) (me : ℕ) (before : List (Item Q)) (old new : ShardState M Q R)
       → new.state ≡ old.state → new.replica ≡ old.replica → old.sent.items ≡ [] → IsFlushed limits size old new
-      → IsShardState after reply start me before old → IsShardState after reply start me before new
+      → IsShardState service me before old → IsShardState service me before new
   flushed limits size me before old new state_is replica_is none flush ready =
       let count = batch_length limits size old in
       let items_are : old.sent.items ++ old.waiting.items ≡ new.sent.items ++ new.waiting.items =
@@ -480,7 +640,7 @@ module _ {M Q R : Type 0} (after : M → Q → M) (reply : M → Q → R) (start
       ∙ ap (λ (list : List (Item Q)). list ++ drop count old.waiting.items) (sym flush.sent)
       ∙ ap (λ (list : List (Item Q)). new.sent.items ++ list) (sym flush.waiting) in
       record {
-        replica = subst (IsReplica after reply start before) (sym replica_is) ready.replica;
+        replica = subst (IsReplica service before) (sym replica_is) ready.replica;
         accepted = subst (λ (state : Record). AreAccepted state me before (new.sent.items ++ new.waiting.items))
             (sym state_is) (subst (AreAccepted old.state me before) items_are ready.accepted);
       }
@@ -488,13 +648,13 @@ module _ {M Q R : Type 0} (after : M → Q → M) (reply : M → Q → R) (start
   -- and nothing of it changes where nothing goes
   pub unflushed : (me : ℕ) (before : List (Item Q)) (old new : ShardState M Q R)
       → new.state ≡ old.state → new.replica ≡ old.replica → IsUnflushed old new
-      → IsShardState after reply start me before old → IsShardState after reply start me before new
+      → IsShardState service me before old → IsShardState service me before new
   unflushed me before old new state_is replica_is same ready =
       let items_are : old.sent.items ++ old.waiting.items ≡ new.sent.items ++ new.waiting.items =
       ap (λ (list : List (Item Q)). list ++ old.waiting.items) (sym same.sent)
       ∙ ap (λ (list : List (Item Q)). new.sent.items ++ list) (sym same.waiting) in
       record {
-        replica = subst (IsReplica after reply start before) (sym replica_is) ready.replica;
+        replica = subst (IsReplica service before) (sym replica_is) ready.replica;
         accepted = subst (λ (state : Record). AreAccepted state me before (new.sent.items ++ new.waiting.items))
             (sym state_is) (subst (AreAccepted old.state me before) items_are ready.accepted);
       }
@@ -520,43 +680,110 @@ module _ {M Q R : Type 0} (after : M → Q → M) (reply : M → Q → R) (start
         (asked_now system shard past) old.asking.items asked.asking);
   }
 
-  pub known_of : (log : StoreLog Q) (me shard : ℕ) (found : Option (ShardState M Q R)) (ready : ShardState M Q R)
-      → found ≡ Some ready → IfSome found (λ r. HasRead after reply start log me shard r)
-      → HasRead after reply start log me shard ready
+  pub known_of : (log : StoreLog Q R) (me shard : ℕ) (found : Option (ShardState M Q R)) (ready : ShardState M Q R)
+      → found ≡ Some ready → IfSome found (λ r. HasRead service log me shard r)
+      → HasRead service log me shard ready
   known_of log me shard found ready is known =
-      subst (λ (o : Option (ShardState M Q R)). IfSome o (λ r. HasRead after reply start log me shard r)) is known
+      subst (λ (o : Option (ShardState M Q R)). IfSome o (λ r. HasRead service log me shard r)) is known
 
-  may_for : (charter : Charter Q BasePart) (log : StoreLog Q) (shard me : ℕ) (items : List (Item Q)) (head : Head)
-      (stood logged : ℕ) → MayExecute charter log shard me items head stood logged
-      → MaySend charter log (transaction_for shard me items head stood logged)
-  may_for charter log shard me [] head stood logged may =
+  may_for : (charter : Charter Q (Part R)) (log : StoreLog Q R) (shard me : ℕ) (base : Option NamedBase)
+      (items : List (Item Q)) (head : Head) (stood logged : ℕ)
+      → MayExecute charter log shard me items head stood logged
+      → ((b : NamedBase) → base ≡ Some b → MayName charter log shard head b.number b.parts logged)
+      → MaySend charter log (transaction_for shard me base items head stood logged)
+  may_for charter log shard me None [] head stood logged may name =
       record { deed = Checking (both_compares shard stood logged); is = refl; may = tt }
-  may_for charter log shard me (item ∷ items) head stood logged may =
+  may_for charter log shard me (Some base) [] head stood logged may name =
+      record { deed = Naming shard head base.number base.parts logged; is = refl; may = name base refl }
+  may_for charter log shard me base (item ∷ items) head stood logged may name =
       record { deed = Executing shard me (item ∷ items) head stood logged; is = refl; may = may }
 
   -- the transaction that was sent may be sent
-  pub sent_may : (charter : Charter Q BasePart) (log : StoreLog Q) (me shard : ℕ) (ready : ShardState M Q R)
-      → shard < charter.count → me ≢ 0 → HasRead after reply start log me shard ready
+  pub sent_may : (charter : Charter Q (Part R)) (log : StoreLog Q R) (me shard : ℕ) (ready : ShardState M Q R)
+      → charter.parts ≡ base_of service → shard < charter.count → me ≢ 0 → HasRead service log me shard ready
       → MaySend charter log (sent_transaction me shard ready)
-  sent_may charter log me shard ready within named knows =
-      may_for charter log shard me ready.sent.items ready.head ready.stood ready.logged
+  sent_may charter log me shard ready parts within named knows =
+      may_for charter log shard me (named_by ready.work) ready.sent.items ready.head ready.stood ready.logged
       (may_send charter log me shard ready within named knows)
+      (λ base is. name_may service charter log shard ready.logged ready.head ready.work base parts
+      (head_found log shard (record { head = ready.head; items = knows.before }) ready.logged knows.logged)
+      knows.base is)
 
-  pub transactions_may : (charter : Charter Q BasePart) (log : StoreLog Q) (me shard : ℕ)
-      (found : Option (ShardState M Q R))
-      → shard < charter.count → me ≢ 0 → IfSome found (λ r. HasRead after reply start log me shard r)
+  pub transactions_may : (charter : Charter Q (Part R)) (log : StoreLog Q R) (me shard : ℕ)
+      (found : Option (ShardState M Q R)) → charter.parts ≡ base_of service
+      → shard < charter.count → me ≢ 0 → IfSome found (λ r. HasRead service log me shard r)
       → AllByRecursion (MaySend charter log) (transactions_of me shard found)
-  transactions_may charter log me shard None within named known = tt
-  transactions_may charter log me shard (Some ready) within named known =
-      (sent_may charter log me shard ready within named known, tt)
+  transactions_may charter log me shard None parts within named known = tt
+  transactions_may charter log me shard (Some ready) parts within named known =
+      (sent_may charter log me shard ready parts within named known, tt)
 
-  -- the machine is that of the requests made at any moment at which both compares hold
-  pub machine_then : (log : StoreLog Q) (me shard : ℕ) (ready : ShardState M Q R)
-      → HasRead after reply start log me shard ready
-      → (later past : StoreLog Q) → log ≡ later ++ past → all_hold past (sent_transaction me shard ready).compares
-      ≡ true
-      → ready.replica.machine ≡ state_after after start (made shard past)
-  machine_then log me shard ready knows later past is held =
-      let was = log_then log me shard ready knows later past is held in
-      knows.is.replica.machine
-      ∙ ap (λ (l : ShardLog Q). state_after after start l.items) (sym was)
+  pub parts_may : (charter : Charter Q (Part R)) (log : StoreLog Q R) (me shard : ℕ)
+      (found : Option (ShardState M Q R)) → charter.parts ≡ base_of service
+      → IfSome found (λ r. HasRead service log me shard r)
+      → AllByRecursion (MaySend charter log) (bases_of shard found)
+  parts_may charter log me shard None parts known = tt
+  parts_may charter log me shard (Some ready) parts known =
+      bases_may service charter log shard ready.head ready.work parts known.base
+
+  -- all that was read is as it was but for the base
+  but_work : (log : StoreLog Q R) (me shard : ℕ) (old new : ShardState M Q R) → IsButWork old new
+      → IfSome new.work (IsWorkTrue service log shard new.head) → HasRead service log me shard old
+      → HasRead service log me shard new
+  but_work log me shard old new but base knows =
+      knows_same log me shard old new but.state but.stood but.head but.logged
+      (λ before is. record {
+        replica = subst (IsReplica service before) (sym but.replica) is.replica;
+        accepted = subst (λ (state : Record). AreAccepted state me before (new.sent.items ++ new.waiting.items))
+            (sym but.state)
+            (subst (λ (list : Vec (Item Q)). AreAccepted old.state me before (list.items ++ new.waiting.items))
+            (sym but.sent)
+            (subst (λ (list : Vec (Item Q)). AreAccepted old.state me before (old.sent.items ++ list.items))
+            (sym but.waiting) is.accepted));
+      })
+      (λ _. base) knows
+
+  begun_base : (log : StoreLog Q R) (me shard : ℕ) (old new : ShardState M Q R) → IsButWork old new
+      → begins_base old ≡ true
+      → ((items : List (Item Q)) → IsReplica service items old.replica
+      → IfSome new.work (IsNewBase service old.head.batches items))
+      → HasRead service log me shard old → IfSome new.work (IsWorkTrue service log shard new.head)
+  begun_base log me shard old new but holds begun knows =
+      let newer : old.head.base < old.head.batches = lt_of old.head.base old.head.batches
+      (and_parts (is_none old.work) (nat_lt old.head.base old.head.batches) holds).1 in
+      subst (λ (h : Head). IfSome new.work (IsWorkTrue service log shard h)) (sym but.head)
+      (base_begun service log shard old.logged old.head knows.before new.work knows.logged newer
+      (begun knows.before knows.is.replica))
+
+  -- a server that begins a base
+  pub begun_known : {E : Type 0} (log : StoreLog Q R) (me shard : ℕ) (old new : ShardState M Q R)
+      (result : Result Bool E) → IsButWork old new
+      → IfOk result (λ begun. begun ≡ begins_base old)
+      → IfOk result (λ begun. IsTrue begun → (items : List (Item Q)) → IsReplica service items old.replica
+      → IfSome new.work (IsNewBase service old.head.batches items))
+      → IfOk result (λ begun. begun ≡ false → new.work ≡ old.work)
+      → OnErr result (new.work ≡ old.work)
+      → HasRead service log me shard old → HasRead service log me shard new
+  begun_known log me shard old new (Ok true) but exact begun same err knows =
+      but_work log me shard old new but
+      (begun_base log me shard old new but (sym exact) (begun refl) knows) knows
+  begun_known log me shard old new (Ok false) but exact begun same err knows =
+      but_work log me shard old new but (same_base log shard old new but.head (same refl) knows.base) knows
+  begun_known log me shard old new (Err e) but exact begun same err knows =
+      but_work log me shard old new but (same_base log shard old new but.head err knows.base) knows
+
+  -- a server the parts of whose base were written
+  pub written_known : (log : StoreLog Q R) (me shard : ℕ) (old new : ShardState M Q R) → IsButWork old new
+      → new.work ≡ written_now old.work → HasRead service log me shard old → AreWritten log shard old
+      → HasRead service log me shard new
+  written_known log me shard old new but work knows written =
+      but_work log me shard old new but
+      (subst (λ (h : Head). IfSome new.work (IsWorkTrue service log shard h)) (sym but.head)
+      (subst (λ (o : Option (BaseWork R)). IfSome o (IsWorkTrue service log shard old.head)) (sym work)
+      (base_written service log shard old.head old.work knows.base written))) knows
+
+  pub clearing_may : (charter : Charter Q (Part R)) (log : StoreLog Q R) (me shard : ℕ) (ready : ShardState M Q R)
+      (key : PassingKey) → HasRead service log me shard ready → is_behind shard ready.head key ≡ true
+      → MaySend charter log (transaction_of (Clearing key))
+  clearing_may charter log me shard ready key knows behind =
+      clear_may charter log shard ready.logged ready.head key
+      (head_found log shard (record { head = ready.head; items = knows.before }) ready.logged knows.logged) behind

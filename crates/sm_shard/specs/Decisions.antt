@@ -1,17 +1,25 @@
 -- What a server decides on a request, and what it sends: exactly what, and when.
-use Rattle.std.specs.Prelude.{ℕ, Bool, false, not, is_none, nat_lt, nat_le, ◌==◌, ◌&&◌, ◌||◌, if◌then◌else◌, Option}
+use Rattle.std.specs.Prelude.{ℕ, Bool, true, false, not, is_none, is_some, nat_lt, nat_le, ◌==◌, ◌&&◌, ◌||◌}
+use Rattle.std.specs.Prelude.{if◌then◌else◌, Option}
 use Rattle.std.specs.Prelude.{Some}
 use Rattle.std.specs.Prelude.{None, ◌+◌, ◌-◌, List, [], ◌∷◌, ◌++◌, length}
 use Rattle.std.specs.Option.{option_or}
 use Rattle.std.specs.BTreeMap.{get}
 use Rattle.std.specs.Ordering.{nat_cmp}
 use Rattle.sm_ownership.specs.Rules.{accepts, forward_to}
+use Rattle.sm_store.specs.declared.head.Head.{Head}
 use Rattle.sm_store.specs.declared.item.Item.{Item}
+use Rattle.sm_store.specs.declared.store_key.PassingKey.{PassingKey}
+use Rattle.sm_store.specs.declared.store_key.PassingKey.TheVariants.{Batch, Part}
 use Rattle.sm_shard.specs.declared.shard_limits.ShardLimits.{ShardLimits}
 use Rattle.sm_shard.specs.declared.replica.LastRequest.{LastRequest}
 use Rattle.sm_shard.specs.declared.shard_state.Decision.{Decision}
 use Rattle.sm_shard.specs.declared.shard_state.Decision.TheVariants.{Replied, Passed, Waits, Forwards, Refused}
 use Rattle.sm_shard.specs.declared.shard_state.Decision.TheVariants.{TooLarge, Busy}
+use Rattle.sm_shard.specs.declared.base_work.BaseStage.{BaseStage}
+use Rattle.sm_shard.specs.declared.base_work.BaseStage.TheVariants.{Written, Naming}
+use Rattle.sm_shard.specs.declared.base_work.BaseWork.{BaseWork}
+use Rattle.sm_shard.specs.declared.base_work.NamedBase.{NamedBase}
 use Rattle.sm_shard.specs.declared.shard_state.ShardState.{ShardState}
 
 -- what is decided of a request by its client's last one, where that decides it
@@ -106,6 +114,16 @@ abbrev pub server_read_decision : {M Q R : Type 0} → ShardLimits → Option (S
 server_read_decision limits None me item = Refused
 server_read_decision limits (Some ready) me item = read_decision_of limits ready me item
 
+-- each part of the base is there, and no transaction that names it was sent
+abbrev pub is_written : BaseStage → Bool
+is_written Written = true
+is_written _ = false
+
+-- the transaction that names the base was sent
+abbrev pub is_naming : BaseStage → Bool
+is_naming Naming = true
+is_naming _ = false
+
 -- one more request of so many bytes goes into a batch that has so many, and has so much room: the first always does
 abbrev pub goes_with : ShardLimits → ℕ → ℕ → ℕ → Bool
 goes_with limits count room bytes = count == 0 || (nat_lt count limits.batch_requests && nat_le bytes room)
@@ -118,19 +136,54 @@ batch_from limits size count room (item ∷ items) =
     then batch_from limits size (count + 1) (room - size item.request) items + 1
     else 0
 
--- how many requests go next: the first, and as many after it as stay within the limits; none where the head can't count
--- one more batch
+-- a base is there, and is to be named
+abbrev pub is_named_next : {R : Type 0} → Option (BaseWork R) → Bool
+is_named_next None = false
+is_named_next (Some work) = is_written work.stage
+
+-- the base that the head comes to name by the transaction that was sent, if it does
+abbrev pub named_by : {R : Type 0} → Option (BaseWork R) → Option NamedBase
+named_by None = None
+named_by (Some work) =
+    if is_naming work.stage then Some (record { number = work.number; parts = length work.parts.items }) else None
+
+-- how many requests go next: none where a base is to be named, or the head can't count one more batch; else the first,
+-- and as many after it as stay within the limits
 abbrev pub batch_length : {M Q R : Type 0} → ShardLimits → (Q → ℕ) → ShardState M Q R → ℕ
 batch_length limits size ready =
-    if ready.head.batches == 18446744073709551615 then 0
+    if is_named_next ready.work || ready.head.batches == 18446744073709551615 then 0
     else batch_from limits size 0 limits.batch_bytes ready.waiting.items
+
+-- a transaction was sent
+abbrev pub is_under_way : {M Q R : Type 0} → ShardState M Q R → Bool
+is_under_way ready =
+    not (length ready.sent.items == 0) || (not (length ready.carried.items == 0) || is_some (named_by ready.work))
 
 -- nothing is under way, and something is to be sent
 abbrev pub sends_now : {M Q R : Type 0} → ShardLimits → (Q → ℕ) → ShardState M Q R → Bool
 sends_now limits size ready =
-    length ready.sent.items == 0
-    && (length ready.carried.items == 0
-    && not (batch_length limits size ready == 0 && length ready.asking.items == 0))
+    not (is_under_way ready)
+    && (is_named_next ready.work || not (batch_length limits size ready == 0 && length ready.asking.items == 0))
+
+-- no base is made, and there are batches that the last one doesn't stand for
+abbrev pub begins_base : {M Q R : Type 0} → ShardState M Q R → Bool
+begins_base ready = is_none ready.work && nat_lt ready.head.base ready.head.batches
+
+-- a base is begun
+abbrev pub server_begins : {M Q R : Type 0} → Option (ShardState M Q R) → Bool
+server_begins None = false
+server_begins (Some ready) = begins_base ready
+
+-- the base that a head names stands for what lies at this key, or is newer
+abbrev pub is_behind : ℕ → Head → PassingKey → Bool
+is_behind shard head (Batch at number) = at == shard && nat_le number head.base
+is_behind shard head (Part at number place) = at == shard && nat_lt number head.base
+is_behind shard head _ = false
+
+-- what lies at the key is behind the base of the server's head
+abbrev pub server_behind : {M Q R : Type 0} → ℕ → Option (ShardState M Q R) → PassingKey → Bool
+server_behind shard None key = false
+server_behind shard (Some ready) key = is_behind shard ready.head key
 
 -- the server has something to send
 abbrev pub server_sends : {M Q R : Type 0} → ShardLimits → (Q → ℕ) → Option (ShardState M Q R) → Bool

@@ -1,6 +1,7 @@
 -- Any number of servers and the store together: each step of a server is one of the code.
 use Rattle.std.specs.Prelude.{ℕ, Some, None, Result, ◌≡◌, List, [], ◌∷◌, ◌++◌, length, map, slice_get, slice_set}
-use Rattle.sm_store.specs.declared.base_part.BasePart.{BasePart}
+use Rattle.sm_shard.specs.Bases.{Part}
+use Rattle.sm_store.specs.Clients.{Automaton}
 use Rattle.sm_store.specs.Store.{Transaction}
 use Rattle.sm_store.specs.Deeds.{Charter}
 use Rattle.sm_store.specs.System.{Event, May, SentTransaction, System, happens}
@@ -18,7 +19,7 @@ pub record Running (M Q R : Type 0) : Type 0 where
 
 -- the system, and all servers that run in it
 pub record Fleet (M Q R : Type 0) : Type 0 where
-  pub system : System Q BasePart R
+  pub system : System Q (Part R) R
   pub servers : List (Running M Q R)
 
 -- what servers do, and the world around them
@@ -26,10 +27,10 @@ pub data Act (M Q R : Type 0) : Type 0 where
   -- a server starts, or starts again and has forgotten everything
   Starts : (server : ShardServer M Q R) → Act M Q R
   -- one of the servers makes a step
-  Steps : (which : ℕ) (old : Running M Q R) (input : ShardInput M Q R)
+  Steps : (which : ℕ) (old : Running M Q R) (input : ShardInput Q R)
       (result : Result (ShardOutput Q R) ReplayFault) (new : ShardServer M Q R) → Act M Q R
   -- anything else: a control sends, a message reaches the store, someone is elected
-  Otherwise : (event : Event Q BasePart R) → Act M Q R
+  Otherwise : (event : Event Q (Part R) R) → Act M Q R
 
 -- a transaction that is sent at a log of this length
 abbrev pub sent_since : {Q P : Type 0} → ℕ → Transaction Q P → SentTransaction Q P
@@ -56,23 +57,23 @@ fleet_acted fleet (Steps which old input result new) =
 fleet_acted fleet (Otherwise event) = record { system = happens fleet.system event; servers = fleet.servers }
 
 -- the step is one of the code, on an input that is so in the store
-pub record IsFleetStep {M Q R : Type 0} (after : M → Q → M) (reply : M → Q → R) (start : M) (fleet : Fleet M Q R)
-    (old : Running M Q R) (input : ShardInput M Q R) (result : Result (ShardOutput Q R) ReplayFault)
+pub record IsFleetStep {M Q R : Type 0} (service : Automaton M Q R) (fleet : Fleet M Q R)
+    (old : Running M Q R) (input : ShardInput Q R) (result : Result (ShardOutput Q R) ReplayFault)
     (new : ShardServer M Q R) : Type 0 where
-  pub call : IsStepOf after reply start old.server input result new
-  pub input_is : IsInput after reply start fleet.system old.since old.server input
+  pub call : IsStepOf service old.server input result new
+  pub input_is : IsInput service fleet.system old.since old.server input
   pub me : new.me ≡ old.server.me
   pub shard : new.shard ≡ old.server.shard
   pub count : new.count ≡ old.server.count
 
 -- an act may happen: a server starts with nothing read, or makes a step as its contract says, on what is so
-abbrev pub MayAct : {M Q R : Type 0} → (M → Q → M) → (M → Q → R) → M → Charter Q BasePart → Fleet M Q R → Act M Q R
+abbrev pub MayAct : {M Q R : Type 0} → Automaton M Q R → Charter Q (Part R) → Fleet M Q R → Act M Q R
     → Type 0
-MayAct after reply start charter fleet (Starts server) =
+MayAct service charter fleet (Starts server) =
     IsStationed server × (server.ready ≡ None) × (charter.count ≡ server.count)
-MayAct after reply start charter fleet (Steps which old input result new) =
-    (slice_get fleet.servers which ≡ Some old) × IsFleetStep after reply start fleet old input result new
-MayAct after reply start charter fleet (Otherwise event) = May after reply start charter fleet.system event
+MayAct service charter fleet (Steps which old input result new) =
+    (slice_get fleet.servers which ≡ Some old) × IsFleetStep service fleet old input result new
+MayAct service charter fleet (Otherwise event) = May service charter fleet.system event
 
 -- the fleet after these acts, the latest first
 abbrev pub fleet_after : {M Q R : Type 0} → List (Act M Q R) → Fleet M Q R
@@ -80,7 +81,7 @@ fleet_after [] = record { system = record { log = []; asked = []; sent = []; hel
 fleet_after (act ∷ earlier) = fleet_acted (fleet_after earlier) act
 
 -- each act was one that might be made
-abbrev pub MightAct : {M Q R : Type 0} → (M → Q → M) → (M → Q → R) → M → Charter Q BasePart → List (Act M Q R) → Type 0
-MightAct after reply start charter [] = Unit {0}
-MightAct after reply start charter (act ∷ earlier) =
-    MayAct after reply start charter (fleet_after earlier) act × MightAct after reply start charter earlier
+abbrev pub MightAct : {M Q R : Type 0} → Automaton M Q R → Charter Q (Part R) → List (Act M Q R) → Type 0
+MightAct service charter [] = Unit {0}
+MightAct service charter (act ∷ earlier) =
+    MayAct service charter (fleet_after earlier) act × MightAct service charter earlier

@@ -1,3 +1,4 @@
+pub mod Bases
 pub mod Decisions
 pub mod Fleet
 pub mod Replicas

@@ -1,57 +1,83 @@
 -- What a server knows of its shard, and what it may conclude.
-use Rattle.std.specs.Prelude.{ℕ, Option, Some, None, IfSome, ◌≡◌, ◌≢◌, ◌≤◌, ◌<◌, ◌+◌, IsTrue, List, [], ◌∷◌, ◌++◌}
-use Rattle.std.specs.Prelude.{length}
-use Rattle.std.specs.Prelude.{take, drop}
+use Rattle.std.specs.Prelude.{ℕ, Bool, true, false, not, if◌then◌else◌, Option, Some, None, IfSome, IsTrue, ◌≡◌, ◌≢◌}
+use Rattle.std.specs.Prelude.{◌≤◌, ◌<◌, ◌+◌, List, [], ◌∷◌, ◌++◌, length, take, drop}
 use Rattle.std.specs.List.{AllByRecursion}
 use Rattle.sm_ownership.specs.declared.record.Record.{Record}
 use Rattle.sm_ownership.specs.Rules.{forward_to}
-use Rattle.sm_store.specs.declared.base_part.BasePart.{BasePart}
+use Rattle.sm_shard.specs.Bases.{Part, base_of}
+use Rattle.sm_shard.specs.declared.base_work.BaseStage.{BaseStage}
+use Rattle.sm_shard.specs.declared.base_work.BaseStage.TheVariants.{Writing, Written, Naming}
+use Rattle.sm_shard.specs.declared.base_work.BaseWork.{BaseWork}
+use Rattle.sm_shard.specs.declared.base_work.NamedBase.{NamedBase}
 use Rattle.sm_store.specs.declared.head.Head.{Head}
 use Rattle.sm_store.specs.declared.item.Item.{Item}
-use Rattle.sm_store.specs.Clients.{last_of, reply_in}
-use Rattle.sm_store.specs.Store.{Transaction, all_hold, head_key, record_key, stored_record}
-use Rattle.sm_store.specs.Deeds.{AreAccepted, Checking, Executing, WasFound, at, shard_log, transaction_of}
+use Rattle.sm_store.specs.Clients.{Automaton, last_of, reply_in}
+use Rattle.sm_store.specs.Store.{Transaction, all_hold, head_key, part_at, part_key, record_key, stored_record}
+use Rattle.sm_store.specs.Deeds.{AreAccepted, Basing, Checking, Executing, HasRequests, Naming as Names, WasFound, at}
+use Rattle.sm_store.specs.Deeds.{shard_log, transaction_of}
 use Rattle.sm_store.specs.System.{Ask, Carried, Claim, IsAmong, Overtaken, Reads, Replies, System, WasAsked}
 use Rattle.sm_shard.specs.declared.replica.MadeReply.{MadeReply}
 use Rattle.sm_shard.specs.declared.replica.ReadReply.{ReadReply}
 use Rattle.sm_shard.specs.declared.shard_server.BatchSending.{BatchSending}
+use Rattle.sm_shard.specs.declared.shard_server.PartsSending.{PartsSending}
 use Rattle.sm_shard.specs.declared.shard_server.ShardServer.{ShardServer}
 use Rattle.sm_shard.specs.declared.shard_state.Decision.{Decision}
 use Rattle.sm_shard.specs.declared.shard_state.Decision.TheVariants.{Replied, Passed, Waits, Forwards, Refused}
 use Rattle.sm_shard.specs.declared.shard_state.Decision.TheVariants.{TooLarge, Busy}
 use Rattle.sm_shard.specs.declared.shard_state.ShardState.{ShardState}
 use Rattle.sm_shard.specs.declared.shard_limits.ShardLimits.{ShardLimits}
-use Rattle.sm_shard.specs.Decisions.{batch_length}
+use Rattle.sm_shard.specs.Decisions.{batch_length, is_written, named_by}
 use Rattle.sm_shard.specs.Replicas.{IsReplica}
 
 -- a store of requests
-abbrev pub StoreLog : Type 0 → Type 0
-StoreLog Q = List (Transaction Q BasePart)
+abbrev pub StoreLog : Type 0 → Type 0 → Type 0
+StoreLog Q R = List (Transaction Q (Part R))
 
 -- such a store, and all that was ever asked, sent, held and claimed
 abbrev pub StoreSystem : Type 0 → Type 0 → Type 0
-StoreSystem Q R = System Q BasePart R
+StoreSystem Q R = System Q (Part R) R
 
 -- the replica is that of these requests, and those that were sent to the store or wait are accepted and come next
-pub record IsShardState {M Q R : Type 0} (after : M → Q → M) (reply : M → Q → R) (start : M) (me : ℕ)
+pub record IsShardState {M Q R : Type 0} (service : Automaton M Q R) (me : ℕ)
     (before : List (Item Q)) (ready : ShardState M Q R) : Type 0 where
-  pub replica : IsReplica after reply start before ready.replica
+  pub replica : IsReplica service before ready.replica
   pub accepted : AreAccepted ready.state me before (ready.sent.items ++ ready.waiting.items)
 
+-- the parts of a base are being written
+abbrev pub is_writing : BaseStage → Bool
+is_writing Writing = true
+is_writing _ = false
+
+-- each part of a base was found at its place
+abbrev pub ArePlaced : {Q R : Type 0} → StoreLog Q R → ℕ → ℕ → ℕ → Type 0
+ArePlaced {R = R} log shard number count =
+    (place : ℕ) → place < count → (part : Part R) × (revision : ℕ)
+    × WasFound (part_at shard number place) (part_key shard number place) log (Some part) revision
+
+-- the base is that of so many batches, newer than the head's, and where it is written each part was found
+pub record IsWorkTrue {M Q R : Type 0} (service : Automaton M Q R) (log : StoreLog Q R) (shard : ℕ) (head : Head)
+    (work : BaseWork R) : Type 0 where
+  pub newer : head.base < work.number
+  pub items : List (Item Q)
+  pub requests : HasRequests log shard work.number items
+  pub parts : work.parts.items ≡ base_of service items
+  pub placed : IsTrue (not (is_writing work.stage)) → ArePlaced log shard work.number (length work.parts.items)
+
 -- the store had the record and the log that the server works on
-pub record HasRead {M Q R : Type 0} (after : M → Q → M) (reply : M → Q → R) (start : M) (log : StoreLog Q)
+pub record HasRead {M Q R : Type 0} (service : Automaton M Q R) (log : StoreLog Q R)
     (me shard : ℕ)
     (ready : ShardState M Q R) : Type 0 where
   pub stood : WasFound (stored_record shard) (record_key shard) log ready.state ready.stood
   pub before : List (Item Q)
   pub logged : WasFound (shard_log shard) (head_key shard) log
       (record { head = ready.head; items = before }) ready.logged
-  pub is : IsShardState after reply start me before ready
+  pub is : IsShardState service me before ready
+  pub base : IfSome ready.work (IsWorkTrue service log shard ready.head)
 
 -- what the server holds is so in the store
-abbrev pub IsTrueOf : {M Q R : Type 0} → (M → Q → M) → (M → Q → R) → M → StoreLog Q → ShardServer M Q R → Type 0
-IsTrueOf after reply start log server = IfSome server.ready
-    (λ ready. HasRead after reply start log server.me server.shard ready)
+abbrev pub IsTrueOf : {M Q R : Type 0} → Automaton M Q R → StoreLog Q R → ShardServer M Q R → Type 0
+IsTrueOf service log server = IfSome server.ready
+    (λ ready. HasRead service log server.me server.shard ready)
 
 -- the request was asked
 abbrev pub IsAsked : {Q : Type 0} → List (Ask Q) → ℕ → Item Q → Type 0
@@ -80,16 +106,43 @@ abbrev pub IsStationed : {M Q R : Type 0} → ShardServer M Q R → Type 0
 IsStationed server = (server.shard < server.count) × (server.me ≢ 0)
 
 -- what a decision says of a request is so, where the server knows these requests
-abbrev pub IsDecided : {M Q R : Type 0} → (M → Q → M) → (M → Q → R) → M → Record → ℕ → List (Item Q) → ℕ → ℕ
+abbrev pub IsDecided : {M Q R : Type 0} → Automaton M Q R → Record → ℕ → List (Item Q) → ℕ → ℕ
     → Decision R → Type 0
-IsDecided after reply start state me before client number (Replied answer) =
-    reply_in after reply start before client number ≡ Some answer
-IsDecided after reply start state me before client number Passed = number < last_of client before
-IsDecided after reply start state me before client number Waits = Unit {0}
-IsDecided after reply start state me before client number (Forwards to) = forward_to state me ≡ Some to
-IsDecided after reply start state me before client number Refused = Unit {0}
-IsDecided after reply start state me before client number TooLarge = Unit {0}
-IsDecided after reply start state me before client number Busy = Unit {0}
+IsDecided service state me before client number (Replied answer) =
+    reply_in service service.start before client number ≡ Some answer
+IsDecided service state me before client number Passed = number < last_of client before
+IsDecided service state me before client number Waits = Unit {0}
+IsDecided service state me before client number (Forwards to) = forward_to state me ≡ Some to
+IsDecided service state me before client number Refused = Unit {0}
+IsDecided service state me before client number TooLarge = Unit {0}
+IsDecided service state me before client number Busy = Unit {0}
+
+-- a base that is there is to be named now
+abbrev pub naming_next : {R : Type 0} → Option (BaseWork R) → Option (BaseWork R)
+naming_next None = None
+naming_next (Some work) =
+    if is_written work.stage then Some (record { number = work.number; parts = work.parts; stage = Naming })
+    else Some work
+
+-- a base whose parts were written is there
+abbrev pub written_now : {R : Type 0} → Option (BaseWork R) → Option (BaseWork R)
+written_now None = None
+written_now (Some work) =
+    if is_writing work.stage then Some (record { number = work.number; parts = work.parts; stage = Written })
+    else Some work
+
+-- the head names this base, if any, since this revision
+abbrev pub named_at : {M Q R : Type 0} → ℕ → Option NamedBase → ShardState M Q R → ShardState M Q R
+named_at revision None old = old
+named_at revision (Some base) old = record old {
+  head = record { batches = old.head.batches; base = base.number; parts = base.parts };
+  logged = revision;
+  work = None;
+}
+
+-- the head names the base by which it was sent to, if any, since this revision
+abbrev pub named_now : {M Q R : Type 0} → ℕ → ShardState M Q R → ShardState M Q R
+named_now revision old = named_at revision (named_by old.work) old
 
 -- the reads that waited are carried, and as many requests as go into one batch are sent
 pub record IsFlushed {M Q R : Type 0} (limits : ShardLimits) (size : Q → ℕ) (old new : ShardState M Q R) : Type 0 where
@@ -97,6 +150,26 @@ pub record IsFlushed {M Q R : Type 0} (limits : ShardLimits) (size : Q → ℕ) 
   pub waiting : new.waiting.items ≡ drop (batch_length limits size old) old.waiting.items
   pub carried : new.carried.items ≡ old.asking.items
   pub asking : new.asking.items ≡ []
+  pub work : new.work ≡ naming_next old.work
+
+-- a base of these requests was begun
+pub record IsNewBase {M Q R : Type 0} (service : Automaton M Q R) (number : ℕ) (items : List (Item Q))
+    (work : BaseWork R) : Type 0 where
+  pub number_is : work.number ≡ number
+  pub parts : work.parts.items ≡ base_of service items
+  pub stage : work.stage ≡ Writing
+
+-- all is as it was but for the base that is made
+pub record IsButWork {M Q R : Type 0} (old new : ShardState M Q R) : Type 0 where
+  pub state : new.state ≡ old.state
+  pub stood : new.stood ≡ old.stood
+  pub replica : new.replica ≡ old.replica
+  pub head : new.head ≡ old.head
+  pub logged : new.logged ≡ old.logged
+  pub sent : new.sent ≡ old.sent
+  pub waiting : new.waiting ≡ old.waiting
+  pub carried : new.carried ≡ old.carried
+  pub asking : new.asking ≡ old.asking
 
 -- nothing is sent, and nothing waits any less
 pub record IsUnflushed {M Q R : Type 0} (old new : ShardState M Q R) : Type 0 where
@@ -104,6 +177,7 @@ pub record IsUnflushed {M Q R : Type 0} (old new : ShardState M Q R) : Type 0 wh
   pub waiting : new.waiting.items ≡ old.waiting.items
   pub carried : new.carried.items ≡ old.carried.items
   pub asking : new.asking.items ≡ old.asking.items
+  pub work : new.work ≡ old.work
 
 -- what a decision claims to the client
 abbrev pub claimed_by : {Q R : Type 0} → ℕ → ℕ → ℕ → Decision R → List (Claim Q R)
@@ -126,39 +200,68 @@ abbrev pub claimed_reads : {Q R : Type 0} → ℕ → List (ReadReply R) → Lis
 claimed_reads shard [] = []
 claimed_reads shard (read ∷ reads) = claimed_read shard read read.reply (claimed_reads shard reads)
 
--- the transaction for these requests: where there are none, the compares alone
-abbrev pub transaction_for : {Q : Type 0} → ℕ → ℕ → List (Item Q) → Head → ℕ → ℕ → Transaction Q BasePart
-transaction_for shard server [] head stood logged =
+-- the transaction where there are no requests: the head comes to name a base, or there are compares alone
+abbrev pub transaction_without : {Q R : Type 0} → ℕ → Option NamedBase → Head → ℕ → ℕ → Transaction Q (Part R)
+transaction_without shard None head stood logged =
     transaction_of (Checking (at (record_key shard) stood ∷ at (head_key shard) logged ∷ []))
-transaction_for shard server (item ∷ items) head stood logged =
+transaction_without shard (Some base) head stood logged =
+    transaction_of (Names shard head base.number base.parts logged)
+
+-- the transaction for these requests
+abbrev pub transaction_for : {Q R : Type 0} → ℕ → ℕ → Option NamedBase → List (Item Q) → Head → ℕ → ℕ
+    → Transaction Q (Part R)
+transaction_for shard server base [] head stood logged = transaction_without shard base head stood logged
+transaction_for shard server base (item ∷ items) head stood logged =
     transaction_of (Executing shard server (item ∷ items) head stood logged)
 
 -- the transaction that a server sends
-abbrev pub sending_transaction : {Q : Type 0} → BatchSending Q → Transaction Q BasePart
+abbrev pub sending_transaction : {Q R : Type 0} → BatchSending Q → Transaction Q (Part R)
 sending_transaction sending =
-    transaction_for sending.shard sending.server sending.items.now sending.head sending.stood sending.logged
+    transaction_for sending.shard sending.server sending.base sending.items.now sending.head sending.stood
+    sending.logged
 
 -- the transaction of what a server sent
-abbrev pub sent_transaction : {M Q R : Type 0} → ℕ → ℕ → ShardState M Q R → Transaction Q BasePart
-sent_transaction me shard ready = transaction_for shard me ready.sent.items ready.head ready.stood ready.logged
+abbrev pub sent_transaction : {M Q R : Type 0} → ℕ → ℕ → ShardState M Q R → Transaction Q (Part R)
+sent_transaction me shard ready =
+    transaction_for shard me (named_by ready.work) ready.sent.items ready.head ready.stood ready.logged
+
+-- the transactions that write the parts of a base from a place on
+abbrev pub basing_from : {Q R : Type 0} → ℕ → ℕ → ℕ → List (Part R) → StoreLog Q R
+basing_from shard number place [] = []
+basing_from shard number place (part ∷ parts) =
+    transaction_of (Basing shard number place part) ∷ basing_from shard number (place + 1) parts
+
+-- the transactions that write the parts of the base that a server makes
+abbrev pub basing_by : {Q R : Type 0} → ℕ → Option (BaseWork R) → StoreLog Q R
+basing_by shard None = []
+basing_by shard (Some work) = basing_from shard work.number 0 work.parts.items
+
+-- the transactions that write these parts
+abbrev pub parts_transactions : {Q R : Type 0} → PartsSending R → StoreLog Q R
+parts_transactions sending = basing_from sending.shard sending.number 0 sending.parts.now
 
 -- the store made the transaction, at this revision
-pub record WasMade {Q : Type 0} (log : StoreLog Q) (txn : Transaction Q BasePart) (revision : ℕ) : Type 0 where
-  pub later : StoreLog Q
-  pub past : StoreLog Q
+pub record WasMade {Q R : Type 0} (log : StoreLog Q R) (txn : Transaction Q (Part R)) (revision : ℕ) : Type 0 where
+  pub later : StoreLog Q R
+  pub past : StoreLog Q R
   pub is : log ≡ later ++ txn ∷ past
   pub held : IsTrue (all_hold past txn.compares)
   pub at : revision ≡ length past + 1
 
--- the requests that a server sent were made; one that sent none has only compared
-abbrev pub WereMade : {M Q R : Type 0} → StoreLog Q → ℕ → ℕ → ℕ → ShardState M Q R → Type 0
+-- what a server sent was made, where it writes anything
+abbrev pub WereMade : {M Q R : Type 0} → StoreLog Q R → ℕ → ℕ → ℕ → ShardState M Q R → Type 0
 WereMade log me shard revision ready =
-    (ready.sent.items ≢ []) → WasMade log (sent_transaction me shard ready) revision
+    ((sent_transaction me shard ready).writes ≢ []) → WasMade log (sent_transaction me shard ready) revision
+
+-- each part of the base that a server makes was written
+abbrev pub AreWritten : {M Q R : Type 0} → StoreLog Q R → ℕ → ShardState M Q R → Type 0
+AreWritten log shard ready =
+    AllByRecursion (λ txn. (revision : ℕ) × WasMade log txn revision) (basing_by shard ready.work)
 
 -- the transaction's compares held, and it was sent at this length of the log, or later
-pub record DidHold {Q : Type 0} (held : List (Carried Q BasePart)) (since : ℕ)
-    (txn : Transaction Q BasePart) : Type 0 where
-  pub one : Carried Q BasePart
+pub record DidHold {Q R : Type 0} (held : List (Carried Q (Part R))) (since : ℕ)
+    (txn : Transaction Q (Part R)) : Type 0 where
+  pub one : Carried Q (Part R)
   pub among : IsAmong one held
   pub txn_is : one.txn ≡ txn
   pub sent_after : since ≤ one.since

@@ -1,54 +1,62 @@
 -- What a step of a server ensures, whatever the store is: if what the server holds is so there, and what comes to it
 -- is, then what it holds afterwards is so, what it sends may be sent, and what it claims is so.
 use Rattle.std.specs.Prelude.{ℕ, Option, Some, None, IfSome, Result, Ok, Err, ◌≡◌, ◌≤◌, List, [], ◌∷◌, ◌++◌, length}
+use Rattle.std.specs.Prelude.{map}
 use Rattle.std.specs.List.{AllByRecursion}
-use Rattle.sm_store.specs.declared.base_part.BasePart.{BasePart}
+use Rattle.sm_shard.specs.Bases.{Part, base_of}
 use Rattle.sm_store.specs.declared.head.Head.{Head}
 use Rattle.sm_store.specs.declared.item.Item.{Item}
-use Rattle.sm_store.specs.Store.{head_key, record_key, stored_record}
-use Rattle.sm_store.specs.Deeds.{Charter, MaySend, WasFound, shard_log}
-use Rattle.sm_store.specs.System.{Ask, Claim, MayClaim}
+use Rattle.sm_store.specs.Clients.{Automaton}
+use Rattle.sm_store.specs.Store.{head_key, head_of, record_key, stored_record}
+use Rattle.sm_store.specs.Deeds.{AreRight, Charter, Clearing, MaySend, WasFound, transaction_of}
+use Rattle.sm_store.specs.System.{Claim, MayClaim}
+use Rattle.sm_store.specs.Whole.{AreBatches, AreParts}
 use Rattle.sm_shard.specs.declared.replica.ReplayFault.{ReplayFault}
-use Rattle.sm_shard.specs.declared.replica.Replica.{Replica}
 use Rattle.sm_shard.specs.declared.shard_server.ShardServer.{ShardServer}
 use Rattle.sm_shard.specs.declared.shard_state.Decision.{Decision}
 use Rattle.sm_shard.specs.declared.shard_state.ShardState.{ShardState}
 use Rattle.sm_shard.specs.declared.steps.ShardInput.{ShardInput}
 use Rattle.sm_shard.specs.declared.steps.ShardInput.TheVariants.{Read, Record as RecordRead, Request, Flush, Made}
 use Rattle.sm_shard.specs.declared.steps.ShardInput.TheVariants.{Lost}
-use Rattle.sm_shard.specs.declared.steps.ShardInput.TheVariants.{Question}
+use Rattle.sm_shard.specs.declared.steps.ShardInput.TheVariants.{Question, Base, PartsMade, Clear}
 use Rattle.sm_shard.specs.declared.steps.ShardOutput.{ShardOutput}
-use Rattle.sm_shard.specs.declared.steps.ShardOutput.TheVariants.{Sends, Decided, Answers}
-use Rattle.sm_shard.specs.Replicas.{IsReplica}
-use Rattle.sm_shard.specs.ShardServers.{AreAsked, DidHold, IsAsked, IsStationed, IsTrueOf, StoreLog, StoreSystem}
-use Rattle.sm_shard.specs.ShardServers.{WereMade, claimed_all, claimed_by, claimed_reads, sent_transaction}
+use Rattle.sm_shard.specs.declared.steps.ShardOutput.TheVariants.{Sends, Decided, Answers, Bases, Clears}
+use Rattle.sm_shard.specs.ShardServers.{AreAsked, AreWritten, DidHold, IsAsked, IsStationed, IsTrueOf, StoreLog}
+use Rattle.sm_shard.specs.ShardServers.{StoreSystem}
+use Rattle.sm_shard.specs.ShardServers.{WereMade, basing_by, claimed_all, claimed_by, claimed_reads, sent_transaction}
 
 -- what a decision on what came claims to its client
-abbrev pub claimed_on : {M Q R : Type 0} → ℕ → ShardInput M Q R → Decision R → List (Claim Q R)
+abbrev pub claimed_on : {Q R : Type 0} → ℕ → ShardInput Q R → Decision R → List (Claim Q R)
 claimed_on shard (Request item) decision = claimed_by shard item.client item.number decision
 claimed_on shard input decision = []
 
 -- what an output claims to clients
-abbrev pub claimed_to : {M Q R : Type 0} → ℕ → ShardInput M Q R → ShardOutput Q R → List (Claim Q R)
+abbrev pub claimed_to : {Q R : Type 0} → ℕ → ShardInput Q R → ShardOutput Q R → List (Claim Q R)
 claimed_to shard input (Decided decision) = claimed_on shard input decision
 claimed_to shard input (Answers answers) =
     claimed_all shard answers.made.items ++ claimed_reads shard answers.read.items
 claimed_to shard input _ = []
 
 -- what a step claims
-abbrev pub step_claims : {M Q R : Type 0} → ℕ → ShardInput M Q R → Result (ShardOutput Q R) ReplayFault
-    → List (Claim Q R)
+abbrev pub step_claims : {Q R : Type 0} → ℕ → ShardInput Q R → Result (ShardOutput Q R) ReplayFault → List (Claim Q R)
 step_claims shard input (Ok output) = claimed_to shard input output
 step_claims shard input (Err fault) = []
 
 -- the transactions that a server is about to send
-abbrev pub transactions_of : {M Q R : Type 0} → ℕ → ℕ → Option (ShardState M Q R) → StoreLog Q
+abbrev pub transactions_of : {M Q R : Type 0} → ℕ → ℕ → Option (ShardState M Q R) → StoreLog Q R
 transactions_of me shard None = []
 transactions_of me shard (Some ready) = sent_transaction me shard ready ∷ []
 
+-- the transactions that write the base that a server makes
+abbrev pub bases_of : {M Q R : Type 0} → ℕ → Option (ShardState M Q R) → StoreLog Q R
+bases_of shard None = []
+bases_of shard (Some ready) = basing_by shard ready.work
+
 -- what a step sends
-abbrev pub step_sends : {M Q R : Type 0} → Result (ShardOutput Q R) ReplayFault → ShardServer M Q R → StoreLog Q
+abbrev pub step_sends : {M Q R : Type 0} → Result (ShardOutput Q R) ReplayFault → ShardServer M Q R → StoreLog Q R
 step_sends (Ok Sends) server = transactions_of server.me server.shard server.ready
+step_sends (Ok Bases) server = bases_of server.shard server.ready
+step_sends (Ok (Clears key)) server = transaction_of (Clearing key) ∷ []
 step_sends _ server = []
 
 -- the length of the log when the server last sent, after a step at this length
@@ -56,48 +64,52 @@ abbrev pub since_after : {Q R : Type 0} → Result (ShardOutput Q R) ReplayFault
 since_after (Ok Sends) since now = now
 since_after _ since now = since
 
--- the log was read: these are its requests from some first ones on, and the replica is that of the first ones
-pub record IsLogRead {M Q R : Type 0} (after : M → Q → M) (reply : M → Q → R) (start : M) (log : StoreLog Q) (shard : ℕ)
-    (head : Head) (base : Replica M R) (items : List (Item Q)) (logged : ℕ) : Type 0 where
-  pub first : List (Item Q)
-  pub read : WasFound (shard_log shard) (head_key shard) log (record { head = head; items = first ++ items }) logged
-  pub replica : IsReplica after reply start first base
+-- the log was read: the head, the parts of the base that it names, and the batches after it, each at some moment
+pub record IsLogRead {Q R : Type 0} (log : StoreLog Q R) (shard : ℕ) (head : Head) (logged : ℕ)
+    (parts : List (Part R)) (batches : List (List (Item Q))) : Type 0 where
+  pub read : WasFound (head_of shard) (head_key shard) log head logged
+  pub base : AreParts shard log head.base 0 parts
+  pub rest : AreBatches shard log head.base batches
 
 -- what comes to a server is so in the store, where the server last sent at this length of the log
-abbrev pub IsInput : {M Q R : Type 0} → (M → Q → M) → (M → Q → R) → M → StoreSystem Q R → ℕ → ShardServer M Q R
-    → ShardInput M Q R
+abbrev pub IsInput : {M Q R : Type 0} → Automaton M Q R → StoreSystem Q R → ℕ → ShardServer M Q R
+    → ShardInput Q R
     → Type 0
-IsInput after reply start system since server (Read state stood head base items logged) =
+IsInput service system since server (Read state stood head logged parts batches) =
     WasFound (stored_record server.shard) (record_key server.shard) system.log state stood
-    × IsLogRead after reply start system.log server.shard head base items.now logged
-IsInput after reply start system since server (RecordRead state stood) =
+    × IsLogRead system.log server.shard head logged parts.now (map (λ batch. batch.items) batches.now)
+IsInput service system since server (RecordRead state stood) =
     WasFound (stored_record server.shard) (record_key server.shard) system.log state stood
-IsInput after reply start system since server (Request item) = Unit {0}
-IsInput after reply start system since server (Question item) = IsAsked system.asked server.shard item
-IsInput after reply start system since server Flush = Unit {0}
-IsInput after reply start system since server (Made revision) =
+IsInput service system since server (Request item) = Unit {0}
+IsInput service system since server (Question item) = IsAsked system.asked server.shard item
+IsInput service system since server Flush = Unit {0}
+IsInput service system since server (Made revision) =
     IfSome server.ready (λ ready. DidHold system.held since (sent_transaction server.me server.shard ready)
     × WereMade system.log server.me server.shard revision ready)
-IsInput after reply start system since server Lost = Unit {0}
+IsInput service system since server Lost = Unit {0}
+IsInput service system since server Base = Unit {0}
+IsInput service system since server PartsMade =
+    IfSome server.ready (λ ready. AreWritten system.log server.shard ready)
+IsInput service system since server (Clear key) = Unit {0}
 
 -- each request was asked before now
 abbrev pub ArePast : {Q R : Type 0} → StoreSystem Q R → Type 0
 ArePast system = AllByRecursion (λ ask. ask.since ≤ length system.log) system.asked
 
 -- after the step the server knows what is so, what it sends may be sent, and what it claims may be claimed
-pub record IsSafe {M Q R : Type 0} (after : M → Q → M) (reply : M → Q → R) (start : M) (charter : Charter Q BasePart)
-    (system : StoreSystem Q R) (since shard : ℕ) (input : ShardInput M Q R)
+pub record IsSafe {M Q R : Type 0} (service : Automaton M Q R) (charter : Charter Q (Part R))
+    (system : StoreSystem Q R) (since shard : ℕ) (input : ShardInput Q R)
     (result : Result (ShardOutput Q R) ReplayFault) (new : ShardServer M Q R) : Type 0 where
-  pub known : IsTrueOf after reply start system.log new
+  pub known : IsTrueOf service system.log new
   pub asked : AreAsked system.asked (since_after result since (length system.log)) new
   pub may : AllByRecursion (MaySend charter system.log) (step_sends result new)
-  pub claims : AllByRecursion (MayClaim after reply start system) (step_claims shard input result)
+  pub claims : AllByRecursion (MayClaim service system) (step_claims shard input result)
 
--- for every store of so many shards, whenever the server last sent
-abbrev pub IsStepOf : {M Q R : Type 0} → (M → Q → M) → (M → Q → R) → M → ShardServer M Q R → ShardInput M Q R
+-- for every store of so many shards that was right until now, whenever the server last sent
+abbrev pub IsStepOf : {M Q R : Type 0} → Automaton M Q R → ShardServer M Q R → ShardInput Q R
     → Result (ShardOutput Q R) ReplayFault → ShardServer M Q R → Type 0
-IsStepOf {Q = Q} {R = R} after reply start old input result new =
-    (charter : Charter Q BasePart) (system : StoreSystem Q R) (since : ℕ) → charter.count ≡ old.count
-    → IsStationed old → ArePast system → IsTrueOf after reply start system.log old
-    → AreAsked system.asked since old → IsInput after reply start system since old input
-    → IsSafe after reply start charter system since old.shard input result new
+IsStepOf {Q = Q} {R = R} service old input result new =
+    (charter : Charter Q (Part R)) (system : StoreSystem Q R) (since : ℕ) → charter.count ≡ old.count
+    → charter.parts ≡ base_of service → AreRight charter system.log → IsStationed old → ArePast system
+    → IsTrueOf service system.log old → AreAsked system.asked since old → IsInput service system since old input
+    → IsSafe service charter system since old.shard input result new

@@ -1,21 +1,22 @@
 //! Laws of servers and the store together.
 
-ghost use Rattle.std.specs.Prelude.{List};
-ghost use Rattle.sm_store.specs.declared.base_part.BasePart.{BasePart as PartValue};
+ghost use Rattle.std.specs.Prelude.{◌≡◌, List};
+ghost use Rattle.sm_store.specs.Clients.{Automaton};
 ghost use Rattle.sm_store.specs.Deeds.{Charter};
 ghost use Rattle.sm_store.specs.System.{IsLawful};
+ghost use Rattle.sm_shard.specs.Bases.{Part, base_of};
 ghost use Rattle.sm_shard.specs.Fleet.{Act, MightAct, fleet_after};
 
-use sm_store::base_part::BasePart;
+use crate::base_part::BasePart;
 use sm_store::laws::runs_are_lawful;
 
 /// The law of the store holds in every run of any number of servers, each step of which is a step of the code, with
 /// any messages lost, late or twice, any process stopped, forgotten and started at any moment, and any control that
 /// sends only what it may.
 pub fn fleets_are_lawful<Q, R, M>()
-    ensures { (after : M → Q → M) (reply : M → Q → R) (start : M) (charter : Charter Q PartValue)
-        (acts : List (Act M Q R)) → MightAct after reply start charter acts
-        → IsLawful after reply start charter (fleet_after acts).system }
+    ensures { (service : Automaton M Q R) (charter : Charter Q (Part R))
+        (acts : List (Act M Q R)) → charter.parts ≡ base_of service → MightAct service charter acts
+        → IsLawful service charter (fleet_after acts).system }
 {
-    runs_are_lawful::<Q, BasePart, R, M>();
+    runs_are_lawful::<Q, BasePart<R>, R, M>();
 }

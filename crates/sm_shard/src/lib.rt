@@ -4,8 +4,7 @@
 //! ```rust
 //! let started = ShardServer::new(one, shard, 8, limits);
 //! let mut server: ShardServer<Sum, u64, u64> = started.expect(&rt, "one of 8 shards");
-//! let base = empty(rt.alloc());
-//! let read = server.on_read(rt.alloc(), state, 3, head, base, &[], 0);
+//! let read = server.on_read(rt.alloc(), state, 3, head, 0, &[], &[]);
 //! assert!(rt; read.is_ok());
 //! assert!(rt; matches!(server.on_request(item), Ok(Decision::Waits)));
 //! assert!(rt; matches!(server.on_question(question), Ok(Decision::Waits)));
@@ -16,7 +15,11 @@
 //! ```
 #![tactic(auto)]
 
+pub mod base;
+pub mod base_part;
+pub mod base_work;
 pub mod laws;
+pub mod log_replay;
 pub mod replica;
 pub mod shard_limits;
 pub mod shard_server;
@@ -24,9 +27,11 @@ pub mod shard_state;
 pub mod steps;
 pub mod store_machine;
 
+pub use base_part::{BasePart, PART_BYTES, PART_CLIENTS};
+pub use base_work::{BaseStage, BaseWork, NamedBase};
 pub use replica::{LastRequest, MadeReply, ReadReply, ReplayFault, Replica};
 pub use shard_limits::ShardLimits;
-pub use shard_server::{BatchSending, ShardServer, StoreAnswers, Undecided};
+pub use shard_server::{BatchSending, PartsSending, ShardServer, StoreAnswers, Undecided};
 pub use shard_state::{Decision, ShardState};
 pub use steps::{ShardInput, ShardOutput, step};
 pub use store_machine::StoreMachine;

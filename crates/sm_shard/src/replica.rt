@@ -1,9 +1,9 @@
-ghost use Rattle.std.specs.Prelude.{◌≡◌, ◌<◌, ◌++◌, List, [], ◌∷◌, IfOk, OnOk};
+ghost use Rattle.std.specs.Prelude.{◌≡◌, ◌<◌, ◌++◌, List, [], ◌∷◌, map, IfNone, IfOk, IfSome, OnOk};
 ghost use Rattle.std.specs.BTreeMap.{get};
 ghost use Rattle.std.specs.Ordering.{nat_cmp};
 ghost use Rattle.sm_store.specs.declared.item.Item.{Item as ItemValue};
-ghost use Rattle.sm_store.specs.Clients.{last_of, AreNext, state_after};
-ghost use Rattle.sm_shard.specs.Replicas.{AreReadBy, IsReplica, last_number, replies_of};
+ghost use Rattle.sm_store.specs.Clients.{last_of, AreNext, reply_in, state_after};
+ghost use Rattle.sm_shard.specs.Replicas.{IsReplica, last_number, read_of, replies_of};
 
 use crate::store_machine::StoreMachine;
 use sm_store::item::Item;
@@ -19,6 +19,10 @@ pub enum ReplayFault {
     OutOfOrder,
     /// There are as many batches as a head can count.
     TooMany,
+    /// A batch, or a part of the base, isn't there. The log is to be read again.
+    Missing,
+    /// The bytes of a base stand for no machine.
+    Unreadable,
 }
 
 impl From<AllocError> for ReplayFault {
@@ -73,7 +77,7 @@ pub struct Replica<M, R> {
 
 /// The replica of no requests.
 pub fn empty<Q: Drop, R: Copy + Drop, M: StoreMachine<Q, R>>(alloc: Global) -> Replica<M, R>
-    ensures { IsReplica M.after M.reply M.start [] result }
+    ensures { IsReplica M.service [] result }
 {
     Replica {
         machine: M::new(alloc),
@@ -81,8 +85,8 @@ pub fn empty<Q: Drop, R: Copy + Drop, M: StoreMachine<Q, R>>(alloc: Global) -> R
     }
 }
 
-/// The client's last request, if it has one.
-pub fn last_request<R: Copy + Drop>(
+// The client's last request in the table, if it has one.
+fn found_in<R: Copy + Drop>(
     lasts: &BTreeMap<u64, LastRequest<R>>,
     client: u64,
 ) -> Option<LastRequest<R>>
@@ -91,11 +95,30 @@ pub fn last_request<R: Copy + Drop>(
     lasts.get(&client).copied()
 }
 
-// The number of the client's last request, 0 where it has none.
-fn last_number<R: Copy + Drop>(lasts: &BTreeMap<u64, LastRequest<R>>, client: u64) -> u64
-    ensures { result ≡ last_number (get nat_cmp lasts.now client) }
+/// The client's last request, if it has one.
+pub fn last_request<Q: Drop, R: Copy + Drop, M: StoreMachine<Q, R>>(
+    replica: &Replica<M, R>,
+    client: u64,
+) -> Option<LastRequest<R>>
+    ensures exact { result ≡ get nat_cmp replica.now.lasts client }
+    ensures some { IfSome result (λ last. (before : List (ItemValue Q)) → IsReplica M.service before replica.now
+        → (last_of client before ≡ last.number)
+        × (reply_in M.service M.service.start before client last.number ≡ Some last.reply)) }
+    ensures none { IfNone result ((before : List (ItemValue Q)) → IsReplica M.service before replica.now
+        → last_of client before ≡ 0) }
 {
-    match last_request(lasts, client) {
+    let last = found_in(&replica.lasts, client);
+    last
+}
+
+// The number of the client's last request, 0 where it has none.
+fn last_number<Q: Drop, R: Copy + Drop, M: StoreMachine<Q, R>>(
+    replica: &Replica<M, R>,
+    client: u64,
+) -> u64
+    ensures { result ≡ last_number (get nat_cmp replica.now.lasts client) }
+{
+    match last_request::<Q, R, M>(replica, client) {
         Some(last) => last.number,
         None => 0,
     }
@@ -107,13 +130,13 @@ pub fn make<Q: Drop, R: Copy + Drop, M: StoreMachine<Q, R>>(
     replica: &mut Replica<M, R>,
     item: &Item<Q>,
 ) -> Result<R, ReplayFault>
-    ensures answer { IfOk result (λ answer. answer ≡ M.reply replica.old.machine item.now.request) }
-    ensures machine { OnOk result (replica.new.machine ≡ M.after replica.old.machine item.now.request) }
-    ensures replica { OnOk result ((before : List (ItemValue Q)) → IsReplica M.after M.reply M.start before replica.old
-        → IsReplica M.after M.reply M.start (before ++ item.now ∷ []) replica.new
+    ensures answer { IfOk result (λ answer. answer ≡ M.service.reply replica.old.machine item.now.request) }
+    ensures machine { OnOk result (replica.new.machine ≡ M.service.after replica.old.machine item.now.request) }
+    ensures replica { OnOk result ((before : List (ItemValue Q)) → IsReplica M.service before replica.old
+        → IsReplica M.service (before ++ item.now ∷ []) replica.new
         × (last_of item.now.client before < item.now.number)) }
 {
-    if item.number <= last_number(&replica.lasts, item.client) {
+    if item.number <= last_number::<Q, R, M>(replica, item.client) {
         return Err(ReplayFault::OutOfOrder);
     }
     let reply = replica.machine.answer(alloc, &item.request)?;
@@ -134,10 +157,10 @@ pub fn make_all<Q: Drop, R: Copy + Drop, M: StoreMachine<Q, R>>(
     items: &[Item<Q>],
 ) -> Result<Vec<MadeReply<R>>, ReplayFault>
     ensures answers { IfOk result (λ answers. answers.items
-        ≡ replies_of M.after M.reply replica.old.machine items.now) }
-    ensures machine { OnOk result (replica.new.machine ≡ state_after M.after replica.old.machine items.now) }
-    ensures replica { OnOk result ((before : List (ItemValue Q)) → IsReplica M.after M.reply M.start before replica.old
-        → IsReplica M.after M.reply M.start (before ++ items.now) replica.new × AreNext before items.now) }
+        ≡ replies_of M.service replica.old.machine items.now) }
+    ensures machine { OnOk result (replica.new.machine ≡ state_after M.service replica.old.machine items.now) }
+    ensures replica { OnOk result ((before : List (ItemValue Q)) → IsReplica M.service before replica.old
+        → IsReplica M.service (before ++ items.now) replica.new × AreNext before items.now) }
 {
     let mut answers = Vec::new(alloc);
     for item in items {
@@ -151,25 +174,13 @@ pub fn make_all<Q: Drop, R: Copy + Drop, M: StoreMachine<Q, R>>(
     Ok(answers)
 }
 
-/// The replica of a shard's requests, from the first one on.
-pub fn replay<Q: Drop, R: Copy + Drop, M: StoreMachine<Q, R>>(
-    alloc: Global,
-    items: &[Item<Q>],
-) -> Result<Replica<M, R>, ReplayFault>
-    ensures { IfOk result (λ replica. IsReplica M.after M.reply M.start items.now replica) }
-{
-    let mut replica = empty(alloc);
-    make_all(alloc, &mut replica, items)?;
-    Ok(replica)
-}
-
-/// Answers requests that only read, by the machine as it is.
+/// Answers the requests among these that only read, by the machine as it is.
 pub fn read_all<Q: Drop, R: Copy + Drop, M: StoreMachine<Q, R>>(
     alloc: Global,
     machine: &M,
     items: &[Item<Q>],
 ) -> Result<Vec<ReadReply<R>>, AllocError>
-    ensures { IfOk result (λ reads. AreReadBy M.reply machine.now items.now reads.items) }
+    ensures { IfOk result (λ reads. reads.items ≡ map (read_of M.service M.reads machine.now) items.now) }
 {
     let mut reads = Vec::new(alloc);
     for item in items {

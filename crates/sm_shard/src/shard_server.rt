@@ -1,30 +1,38 @@
 ghost use Rattle.std.specs.Prelude.{◌≡◌, ◌++◌, ◌+◌, List, ◌<◌, ◌≤◌, ◌↔◌, true, false, IsTrue, IsSome, IfOk, OnErr};
 ghost use Rattle.std.specs.Prelude.{IfSome};
-ghost use Rattle.std.specs.Prelude.{ℕ, length};
+ghost use Rattle.std.specs.Prelude.{ℕ, length, map};
 ghost use Rattle.std.specs.List.{AllByRecursion};
-ghost use Rattle.sm_store.specs.declared.base_part.BasePart.{BasePart as PartValue};
+ghost use Rattle.sm_shard.specs.Bases.{Part, base_of};
 ghost use Rattle.sm_store.specs.declared.item.Item.{Item as ItemValue};
-ghost use Rattle.sm_store.specs.Clients.{state_after};
-ghost use Rattle.sm_store.specs.Store.{all_hold, head_key, made, record_key, stored_record};
-ghost use Rattle.sm_store.specs.Deeds.{Charter, MaySend, WasFound, shard_log};
+ghost use Rattle.sm_store.specs.Store.{record_key, stored_record};
+ghost use Rattle.sm_store.specs.Deeds.{AreRight, Charter, Clearing, MaySend, WasFound, transaction_of};
 ghost use Rattle.sm_store.specs.System.{Ask, MayClaim};
-ghost use Rattle.sm_shard.specs.Decisions.{server_decision, server_read_decision, server_sends};
-ghost use Rattle.sm_shard.specs.Replicas.{AreReadBy, IsReplica, replies_of};
+ghost use Rattle.sm_shard.specs.Decisions.{server_begins, server_behind, server_decision, server_read_decision};
+ghost use Rattle.sm_shard.specs.Decisions.{server_sends};
+ghost use Rattle.sm_shard.specs.Replicas.{read_of, replies_of};
 ghost use Rattle.sm_shard.specs.ShardServers.{AreAsked, DidHold, IsAsked, IsStationed, IsTrueOf, StoreLog};
 ghost use Rattle.sm_shard.specs.ShardServers.{StoreSystem};
 ghost use Rattle.sm_shard.specs.ShardServers.{WereMade, claimed_all, claimed_by, claimed_reads};
-ghost use Rattle.sm_shard.specs.ShardServers.{sending_transaction, sent_transaction};
-ghost use Rattle.sm_shard.specs.Steps.{ArePast};
+ghost use Rattle.sm_shard.specs.ShardServers.{AreWritten, basing_by, parts_transactions, sending_transaction};
+ghost use Rattle.sm_shard.specs.ShardServers.{sent_transaction};
+ghost use Rattle.sm_shard.specs.Steps.{ArePast, IsLogRead};
 
-use crate::replica::{MadeReply, ReadReply, ReplayFault, Replica, make_all, read_all};
+use crate::base_part::BasePart;
+use crate::base_work::NamedBase;
+use crate::log_replay::replay;
+use crate::replica::{MadeReply, ReadReply, ReplayFault, read_all};
 use crate::shard_limits::ShardLimits;
-use crate::shard_state::{Decision, ShardState, ask, commit, flush, take};
+use crate::shard_state::{
+    Decision, ShardState, ask, begin_base, commit, flush, is_behind, is_under_way, name_base,
+    named, take, write_base,
+};
 use crate::store_machine::StoreMachine;
 use sm_ownership::record::Record;
 use sm_ranges::server_id::ServerId;
 use sm_ranges::shard_id::ShardId;
 use sm_store::head::Head;
 use sm_store::item::Item;
+use sm_store::store_key::PassingKey;
 use std::alloc::{AllocError, Global};
 
 /// What one server keeps of one shard: nothing, until it has read the store.
@@ -54,8 +62,9 @@ pub struct StoreAnswers<R> {
     pub read: Vec<ReadReply<R>>,
 }
 
-/// A transaction for the store: it compares both revisions, and adds the requests to the shard's log; where there are
-/// none it compares alone.
+/// A transaction for the store: it compares both revisions, and adds the requests to the shard's log. Where there are
+/// none, the head comes to name the base, and the head's revision is compared; where there is no base either, it
+/// compares both alone.
 #[derive(Drop)]
 pub struct BatchSending<'a, Q> {
     pub shard: ShardId,
@@ -65,6 +74,16 @@ pub struct BatchSending<'a, Q> {
     pub stood: u64,
     pub logged: u64,
     pub items: &'a [Item<Q>],
+    pub base: Option<NamedBase>,
+}
+
+/// The parts of the base that a server makes, of so many batches. Each is written at its place, by a transaction that
+/// compares nothing.
+#[derive(Drop)]
+pub struct PartsSending<'a, R> {
+    pub shard: ShardId,
+    pub number: u64,
+    pub parts: &'a [BasePart<R>],
 }
 
 impl<Q: Drop, R: Copy + Drop, M: StoreMachine<Q, R>> ShardServer<M, Q, R> {
@@ -79,7 +98,7 @@ impl<Q: Drop, R: Copy + Drop, M: StoreMachine<Q, R>> ShardServer<M, Q, R> {
         ensures values { IfSome result (λ server. (server.me ≡ me) × (server.shard ≡ shard) × (server.count ≡ count)
             × (server.limits ≡ limits)) }
         ensures exact { IsSome result ↔ shard < count }
-        ensures known { IfSome result (λ server. (log : StoreLog Q) → IsTrueOf M.after M.reply M.start log server) }
+        ensures known { IfSome result (λ server. (log : StoreLog Q R) → IsTrueOf M.service log server) }
         ensures asked { IfSome result (λ server. (asked : List (Ask Q)) (since : ℕ) → AreAsked asked since server) }
     {
         let _named = me.number();
@@ -96,33 +115,31 @@ impl<Q: Drop, R: Copy + Drop, M: StoreMachine<Q, R>> ShardServer<M, Q, R> {
         }
     }
 
-    /// The shard's record was read, and its log: a replica of its first requests, and the requests after them. It is
-    /// read where the server knows nothing, so nothing waits.
+    /// The shard's record was read, and its log: its head, the parts of the base that this names, and the batches after
+    /// it, each as it was at some moment. It is read where the server knows nothing, so nothing waits.
     pub fn on_read(
         &mut self,
         alloc: Global,
         state: Record,
         stood: u64,
         head: Head,
-        base: Replica<M, R>,
-        items: &[Item<Q>],
         logged: u64,
+        parts: &[BasePart<R>],
+        batches: &[Vec<Item<Q>>],
     ) -> Result<(), ReplayFault>
         ensures me { self.new.me ≡ self.old.me }
         ensures shard { self.new.shard ≡ self.old.shard }
         ensures count { self.new.count ≡ self.old.count }
         ensures limits { self.new.limits ≡ self.old.limits }
-        ensures known { (log : StoreLog Q) (first : List (ItemValue Q))
+        ensures known { (charter : Charter Q (Part R)) (log : StoreLog Q R)
+            → charter.parts ≡ base_of M.service → AreRight charter log
             → WasFound (stored_record self.old.shard) (record_key self.old.shard) log state stood
-            → WasFound (shard_log self.old.shard) (head_key self.old.shard) log
-            (record { head = head; items = first ++ items.now }) logged
-            → IsReplica M.after M.reply M.start first base
-            → IsTrueOf M.after M.reply M.start log self.new }
+            → IsLogRead log self.old.shard head logged parts.now (map (λ batch. batch.items) batches.now)
+            → IsTrueOf M.service log self.new }
         ensures asked { (asked : List (Ask Q)) (since : ℕ) → AreAsked asked since self.new }
     {
         self.ready = None;
-        let mut replica = base;
-        make_all(alloc, &mut replica, items)?;
+        let replica = replay::<Q, R, M>(alloc, &head, parts, batches)?;
         self.ready = Some(ShardState {
             state,
             stood,
@@ -133,6 +150,7 @@ impl<Q: Drop, R: Copy + Drop, M: StoreMachine<Q, R>> ShardServer<M, Q, R> {
             waiting: Vec::new(alloc),
             carried: Vec::new(alloc),
             asking: Vec::new(alloc),
+            work: None,
         });
         Ok(())
     }
@@ -143,15 +161,15 @@ impl<Q: Drop, R: Copy + Drop, M: StoreMachine<Q, R>> ShardServer<M, Q, R> {
         ensures shard { self.new.shard ≡ self.old.shard }
         ensures count { self.new.count ≡ self.old.count }
         ensures limits { self.new.limits ≡ self.old.limits }
-        ensures known { (log : StoreLog Q) → IsTrueOf M.after M.reply M.start log self.old
-            → IsTrueOf M.after M.reply M.start log self.new }
+        ensures known { (log : StoreLog Q R) → IsTrueOf M.service log self.old
+            → IsTrueOf M.service log self.new }
         ensures asked { (asked : List (Ask Q)) (since : ℕ) → AreAsked asked since self.old
             → AreAsked asked since self.new }
         ensures decision { IfOk result (λ decision. decision
             ≡ server_decision self.old.limits M.size self.old.ready self.old.me item) }
         ensures told { IfOk result (λ decision. (system : StoreSystem Q R)
-            → IsTrueOf M.after M.reply M.start system.log self.old
-            → AllByRecursion (MayClaim M.after M.reply M.start system)
+            → IsTrueOf M.service system.log self.old
+            → AllByRecursion (MayClaim M.service system)
             (claimed_by self.old.shard item.client item.number decision)) }
     {
         let (me, limits) = (self.me, self.limits);
@@ -167,8 +185,8 @@ impl<Q: Drop, R: Copy + Drop, M: StoreMachine<Q, R>> ShardServer<M, Q, R> {
         ensures shard { self.new.shard ≡ self.old.shard }
         ensures count { self.new.count ≡ self.old.count }
         ensures limits { self.new.limits ≡ self.old.limits }
-        ensures known { (log : StoreLog Q) → IsTrueOf M.after M.reply M.start log self.old
-            → IsTrueOf M.after M.reply M.start log self.new }
+        ensures known { (log : StoreLog Q R) → IsTrueOf M.service log self.old
+            → IsTrueOf M.service log self.new }
         ensures asked { (asked : List (Ask Q)) (since : ℕ) → AreAsked asked since self.old
             → IsAsked asked self.old.shard item → AreAsked asked since self.new }
         ensures decision { IfOk result (λ decision. decision
@@ -188,8 +206,8 @@ impl<Q: Drop, R: Copy + Drop, M: StoreMachine<Q, R>> ShardServer<M, Q, R> {
         ensures shard { self.new.shard ≡ self.old.shard }
         ensures count { self.new.count ≡ self.old.count }
         ensures limits { self.new.limits ≡ self.old.limits }
-        ensures known { (log : StoreLog Q) → IsTrueOf M.after M.reply M.start log self.old
-            → IsTrueOf M.after M.reply M.start log self.new }
+        ensures known { (log : StoreLog Q R) → IsTrueOf M.service log self.old
+            → IsTrueOf M.service log self.new }
         ensures exact { IfOk result (λ sends. sends ≡ server_sends self.old.limits M.size self.old.ready) }
         ensures sends { IfOk result (λ sends. IsTrue sends → (system : StoreSystem Q R) (since : ℕ) → ArePast system
             → AreAsked system.asked since self.old → AreAsked system.asked (length system.log) self.new) }
@@ -209,8 +227,9 @@ impl<Q: Drop, R: Copy + Drop, M: StoreMachine<Q, R>> ShardServer<M, Q, R> {
     pub fn sending(&self) -> Option<BatchSending<'_, Q>>
         ensures own { IfSome result (λ sending. IfSome self.now.ready (λ ready.
             sending_transaction sending ≡ sent_transaction self.now.me self.now.shard ready)) }
-        ensures may { IfSome result (λ sending. (charter : Charter Q PartValue) (log : StoreLog Q)
-            → charter.count ≡ self.now.count → IsStationed self.now → IsTrueOf M.after M.reply M.start log self.now
+        ensures may { IfSome result (λ sending. (charter : Charter Q (Part R)) (log : StoreLog Q R)
+            → charter.count ≡ self.now.count → charter.parts ≡ base_of M.service → IsStationed self.now
+            → IsTrueOf M.service log self.now
             → MaySend charter log (sending_transaction sending)) }
     {
         match &self.ready {
@@ -221,24 +240,9 @@ impl<Q: Drop, R: Copy + Drop, M: StoreMachine<Q, R>> ShardServer<M, Q, R> {
                 stood: ready.stood,
                 logged: ready.logged,
                 items: &ready.sent,
+                base: named(&ready.work),
             }),
             None => None,
-        }
-    }
-
-    /// The reply to a request that changes nothing. It is the reply of the requests that were made at any moment at
-    /// which the compares of the server's transaction hold: so a transaction that only compares, and was sent after the
-    /// request came, makes it the reply of a moment since.
-    pub fn look(&self, alloc: Global, request: &Q) -> Result<Option<R>, AllocError>
-        ensures { IfOk result (λ found. IfSome found (λ answer. (log later past : StoreLog Q)
-            → IsTrueOf M.after M.reply M.start log self.now → log ≡ later ++ past
-            → IfSome self.now.ready (λ ready.
-            IsTrue (all_hold past (sent_transaction self.now.me self.now.shard ready).compares))
-            → answer ≡ M.reply (state_after M.after M.start (made self.now.shard past)) request.now)) }
-    {
-        match &self.ready {
-            Some(ready) => ready.replica.machine.peek(alloc, request),
-            None => Ok(None),
         }
     }
 
@@ -248,25 +252,25 @@ impl<Q: Drop, R: Copy + Drop, M: StoreMachine<Q, R>> ShardServer<M, Q, R> {
         ensures shard { self.new.shard ≡ self.old.shard }
         ensures count { self.new.count ≡ self.old.count }
         ensures limits { self.new.limits ≡ self.old.limits }
-        ensures known { (log : StoreLog Q) → IsTrueOf M.after M.reply M.start log self.old
+        ensures known { (log : StoreLog Q R) → IsTrueOf M.service log self.old
             → IfSome self.old.ready (λ ready. WereMade log self.old.me self.old.shard revision ready)
-            → IsTrueOf M.after M.reply M.start log self.new }
+            → IsTrueOf M.service log self.new }
         ensures asked { (asked : List (Ask Q)) (since : ℕ) → AreAsked asked since self.old
             → AreAsked asked since self.new }
         ensures made { IfOk result (λ answers. IfSome self.old.ready (λ ready. answers.made.items
-            ≡ replies_of M.after M.reply ready.replica.machine ready.sent.items)) }
-        ensures answered { IfOk result (λ answers. IfSome self.old.ready (λ ready.
-            AreReadBy M.reply ready.replica.machine ready.carried.items answers.read.items)) }
+            ≡ replies_of M.service ready.replica.machine ready.sent.items)) }
+        ensures answered { IfOk result (λ answers. IfSome self.old.ready (λ ready. answers.read.items
+            ≡ map (read_of M.service M.reads ready.replica.machine) ready.carried.items)) }
         ensures told { IfOk result (λ answers. (system : StoreSystem Q R)
-            → IsTrueOf M.after M.reply M.start system.log self.old
+            → IsTrueOf M.service system.log self.old
             → IfSome self.old.ready (λ ready. WereMade system.log self.old.me self.old.shard revision ready)
-            → AllByRecursion (MayClaim M.after M.reply M.start system)
+            → AllByRecursion (MayClaim M.service system)
             (claimed_all self.old.shard answers.made.items)) }
         ensures read { IfOk result (λ answers. (system : StoreSystem Q R) (since : ℕ)
-            → IsTrueOf M.after M.reply M.start system.log self.old → AreAsked system.asked since self.old
+            → IsTrueOf M.service system.log self.old → AreAsked system.asked since self.old
             → IfSome self.old.ready (λ ready. DidHold system.held since
             (sent_transaction self.old.me self.old.shard ready))
-            → AllByRecursion (MayClaim M.after M.reply M.start system)
+            → AllByRecursion (MayClaim M.service system)
             (claimed_reads self.old.shard answers.read.items)) }
     {
         let Some(mut ready) = self.ready.take() else {
@@ -278,6 +282,7 @@ impl<Q: Drop, R: Copy + Drop, M: StoreMachine<Q, R>> ShardServer<M, Q, R> {
         let read = read_all(alloc, &ready.replica.machine, &ready.carried)?;
         ready.carried.clear();
         if ready.sent.is_empty() {
+            name_base(&mut ready, revision);
             self.ready = Some(ready);
             return Ok(StoreAnswers {
                 made: Vec::new(alloc),
@@ -300,15 +305,15 @@ impl<Q: Drop, R: Copy + Drop, M: StoreMachine<Q, R>> ShardServer<M, Q, R> {
             ≡ ready.sent.items ++ ready.waiting.items) }
         ensures questions { IfSome self.old.ready (λ ready. result.carried.items ++ result.asking.items
             ≡ ready.carried.items ++ ready.asking.items) }
-        ensures known { (log : StoreLog Q) → IsTrueOf M.after M.reply M.start log self.old
+        ensures known { (log : StoreLog Q R) → IsTrueOf M.service log self.old
             → WasFound (stored_record self.old.shard) (record_key self.old.shard) log state stood
-            → IsTrueOf M.after M.reply M.start log self.new }
+            → IsTrueOf M.service log self.new }
         ensures asked { (asked : List (Ask Q)) (since : ℕ) → AreAsked asked since self.new }
     {
         let Some(mut ready) = self.ready.take() else {
             return forgotten::<Q, R, M>(alloc, None);
         };
-        if !ready.sent.is_empty() || !ready.carried.is_empty() {
+        if is_under_way(&ready) {
             return forgotten(alloc, Some(ready));
         }
         let waiting = std::mem::replace(&mut ready.waiting, Vec::new(alloc));
@@ -324,6 +329,76 @@ impl<Q: Drop, R: Copy + Drop, M: StoreMachine<Q, R>> ShardServer<M, Q, R> {
         }
     }
 
+    /// Begins a base of all that is made, where none is made and there are batches that the last one doesn't stand for.
+    /// Whether its parts are to be written now.
+    pub fn begin_base(&mut self, alloc: Global) -> Result<bool, AllocError>
+        ensures me { self.new.me ≡ self.old.me }
+        ensures shard { self.new.shard ≡ self.old.shard }
+        ensures count { self.new.count ≡ self.old.count }
+        ensures limits { self.new.limits ≡ self.old.limits }
+        ensures known { (log : StoreLog Q R) → IsTrueOf M.service log self.old → IsTrueOf M.service log self.new }
+        ensures asked { (asked : List (Ask Q)) (since : ℕ) → AreAsked asked since self.old
+            → AreAsked asked since self.new }
+        ensures exact { IfOk result (λ begun. begun ≡ server_begins self.old.ready) }
+    {
+        match &mut self.ready {
+            Some(ready) => begin_base(alloc, ready),
+            None => Ok(false),
+        }
+    }
+
+    /// The parts of the base that the server makes, if it makes one.
+    pub fn parts(&self) -> Option<PartsSending<'_, R>>
+        ensures own { IfSome result (λ sending. IfSome self.now.ready (λ ready.
+            parts_transactions {Q = Q} sending ≡ basing_by self.now.shard ready.work)) }
+        ensures may { IfSome result (λ sending. (charter : Charter Q (Part R)) (log : StoreLog Q R)
+            → charter.parts ≡ base_of M.service → IsTrueOf M.service log self.now
+            → AllByRecursion (MaySend charter log) (parts_transactions sending)) }
+    {
+        match &self.ready {
+            Some(ready) => match &ready.work {
+                Some(work) => Some(PartsSending {
+                    shard: self.shard,
+                    number: work.number,
+                    parts: &work.parts,
+                }),
+                None => None,
+            },
+            None => None,
+        }
+    }
+
+    /// Each part of the base that the server makes was written, so the head may name it.
+    pub fn on_parts_made(&mut self)
+        ensures me { self.new.me ≡ self.old.me }
+        ensures shard { self.new.shard ≡ self.old.shard }
+        ensures count { self.new.count ≡ self.old.count }
+        ensures limits { self.new.limits ≡ self.old.limits }
+        ensures known { (log : StoreLog Q R) → IsTrueOf M.service log self.old
+            → IfSome self.old.ready (λ ready. AreWritten log self.old.shard ready)
+            → IsTrueOf M.service log self.new }
+        ensures asked { (asked : List (Ask Q)) (since : ℕ) → AreAsked asked since self.old
+            → AreAsked asked since self.new }
+    {
+        if let Some(ready) = &mut self.ready {
+            write_base(ready);
+        }
+    }
+
+    /// Whether what lies at the key is behind the base that the head names, and may be deleted: a batch that the base
+    /// stands for, or a part of an older base.
+    pub fn is_behind(&self, key: &PassingKey) -> bool
+        ensures exact { result ≡ server_behind self.now.shard self.now.ready key.now }
+        ensures may { IsTrue result → (charter : Charter Q (Part R)) (log : StoreLog Q R)
+            → IsTrueOf M.service log self.now
+            → MaySend charter log (transaction_of (Clearing key.now)) }
+    {
+        match &self.ready {
+            Some(ready) => is_behind(self.shard, &ready.head, key),
+            None => false,
+        }
+    }
+
     /// The transaction's compares didn't hold, or what became of it is unknown: the server forgets what it read, and
     /// what was sent or waits is to be decided again once it has read.
     pub fn on_lost(&mut self, alloc: Global) -> Undecided<Q>
@@ -335,7 +410,7 @@ impl<Q: Drop, R: Copy + Drop, M: StoreMachine<Q, R>> ShardServer<M, Q, R> {
             ≡ ready.sent.items ++ ready.waiting.items) }
         ensures questions { IfSome self.old.ready (λ ready. result.carried.items ++ result.asking.items
             ≡ ready.carried.items ++ ready.asking.items) }
-        ensures known { (log : StoreLog Q) → IsTrueOf M.after M.reply M.start log self.new }
+        ensures known { (log : StoreLog Q R) → IsTrueOf M.service log self.new }
         ensures asked { (asked : List (Ask Q)) (since : ℕ) → AreAsked asked since self.new }
     {
         let ready = self.ready.take();

@@ -7,21 +7,27 @@ ghost use Rattle.sm_ownership.specs.declared.record.Record.{Record as RecordValu
 ghost use Rattle.sm_ownership.specs.Rules.{forward_to};
 ghost use Rattle.sm_store.specs.declared.item.Item.{Item as ItemValue};
 ghost use Rattle.sm_store.specs.Clients.{last_of, AreNext};
-ghost use Rattle.sm_shard.specs.Decisions.{asking_after, batch_from, batch_length, decided_by_forward};
+ghost use Rattle.sm_shard.specs.Decisions.{asking_after, batch_from, batch_length, begins_base, decided_by_forward};
+ghost use Rattle.sm_shard.specs.Decisions.{is_behind, is_named_next, is_under_way, named_by};
 ghost use Rattle.sm_shard.specs.Decisions.{decided_by_last};
 ghost use Rattle.sm_shard.specs.Decisions.{decided_by_number, decision_of, goes_with, client_number, read_decision_of};
 ghost use Rattle.sm_shard.specs.Decisions.{sends_now};
 ghost use Rattle.sm_shard.specs.Decisions.{waiting_after};
 ghost use Rattle.sm_shard.specs.Replicas.{IsReplica, replies_of};
-ghost use Rattle.sm_shard.specs.ShardServers.{IsDecided, IsFlushed, IsShardState, IsUnflushed};
+ghost use Rattle.sm_shard.specs.ShardServers.{IsNewBase, IsButWork, IsDecided, IsFlushed, IsShardState, IsUnflushed};
+ghost use Rattle.sm_shard.specs.ShardServers.{IsWorkTrue, StoreLog, named_now, naming_next, written_now};
 
+use crate::base::base_of;
+use crate::base_work::{BaseStage, BaseWork, NamedBase};
 use crate::replica::{MadeReply, ReplayFault, Replica, last_request, make_all};
 use crate::shard_limits::ShardLimits;
 use crate::store_machine::StoreMachine;
 use sm_ownership::record::Record;
 use sm_ranges::server_id::ServerId;
+use sm_ranges::shard_id::ShardId;
 use sm_store::head::Head;
 use sm_store::item::Item;
+use sm_store::store_key::PassingKey;
 use std::alloc::{AllocError, Global};
 use std::collections::VecDeque;
 
@@ -62,6 +68,8 @@ pub struct ShardState<M, Q, R> {
     pub carried: Vec<Item<Q>>,
     /// The reads that wait for the next one.
     pub asking: Vec<Item<Q>>,
+    /// The base that is made.
+    pub work: Option<BaseWork<R>>,
 }
 
 // The number of the client's first request among these.
@@ -108,13 +116,13 @@ fn known<Q: Drop, R: Copy + Drop, M: StoreMachine<Q, R>>(
     number: u64,
 ) -> Option<Decision<R>>
     ensures known { IfSome result (λ decision. (state : RecordValue) (me : ℕ) (before : List (ItemValue Q))
-        → IsReplica M.after M.reply M.start before replica.now
-        → IsDecided M.after M.reply M.start state me before client number decision) }
+        → IsReplica M.service before replica.now
+        → IsDecided M.service state me before client number decision) }
     ensures exact { result ≡ decided_by_last number (get nat_cmp replica.now.lasts client) }
-    ensures next { IfNone result ((before : List (ItemValue Q)) → IsReplica M.after M.reply M.start before replica.now
+    ensures next { IfNone result ((before : List (ItemValue Q)) → IsReplica M.service before replica.now
         → last_of client before < number) }
 {
-    match last_request(&replica.lasts, client) {
+    match last_request::<Q, R, M>(replica, client) {
         Some(last) => if number == last.number {
             Some(Decision::Replied(last.reply))
         } else if number < last.number {
@@ -144,14 +152,15 @@ pub fn take<Q: Drop, R: Copy + Drop, M: StoreMachine<Q, R>>(
     ensures sent { ready.new.sent ≡ ready.old.sent }
     ensures carried { ready.new.carried ≡ ready.old.carried }
     ensures asking { ready.new.asking ≡ ready.old.asking }
+    ensures work { ready.new.work ≡ ready.old.work }
     ensures decision { IfOk result (λ decision. decision ≡ decision_of limits M.size ready.old me item) }
     ensures waiting { OnOk result (ready.new.waiting.items ≡ waiting_after limits M.size ready.old me item) }
     ensures err { OnErr result (ready.new.waiting.items ≡ ready.old.waiting.items) }
-    ensures kept { (before : List (ItemValue Q)) → IsShardState M.after M.reply M.start me before ready.old
-        → IsShardState M.after M.reply M.start me before ready.new }
+    ensures kept { (before : List (ItemValue Q)) → IsShardState M.service me before ready.old
+        → IsShardState M.service me before ready.new }
     ensures decided { IfOk result (λ decision. (before : List (ItemValue Q))
-        → IsShardState M.after M.reply M.start me before ready.old
-        → IsDecided M.after M.reply M.start ready.old.state me before item.client item.number decision) }
+        → IsShardState M.service me before ready.old
+        → IsDecided M.service ready.old.state me before item.client item.number decision) }
 {
     if let Some(decision) = known(&ready.replica, item.client, item.number) {
         return Ok(decision);
@@ -189,11 +198,12 @@ pub fn ask<Q: Drop, R: Copy + Drop, M: StoreMachine<Q, R>>(
     ensures sent { ready.new.sent ≡ ready.old.sent }
     ensures waiting { ready.new.waiting ≡ ready.old.waiting }
     ensures carried { ready.new.carried ≡ ready.old.carried }
+    ensures work { ready.new.work ≡ ready.old.work }
     ensures decision { IfOk result (λ decision. decision ≡ read_decision_of limits ready.old me item) }
     ensures asking { OnOk result (ready.new.asking.items ≡ asking_after limits ready.old me item) }
     ensures err { OnErr result (ready.new.asking.items ≡ ready.old.asking.items) }
-    ensures kept { (before : List (ItemValue Q)) → IsShardState M.after M.reply M.start me before ready.old
-        → IsShardState M.after M.reply M.start me before ready.new }
+    ensures kept { (before : List (ItemValue Q)) → IsShardState M.service me before ready.old
+        → IsShardState M.service me before ready.new }
 {
     let accepted = ready.state.accepts(me, item.mode);
     if !accepted {
@@ -234,6 +244,55 @@ fn count_of<Q: Drop, R: Copy + Drop, M: StoreMachine<Q, R>>(
     count
 }
 
+// Whether a base is there, and is to be named.
+fn is_named_next<R: Copy + Drop>(work: &Option<BaseWork<R>>) -> bool
+    ensures { result ≡ is_named_next work.now }
+{
+    match work {
+        Some(work) => match work.stage {
+            BaseStage::Written => true,
+            _ => false,
+        },
+        None => false,
+    }
+}
+
+/// The base that the head comes to name by the transaction that was sent, if it does.
+pub fn named<R: Copy + Drop>(work: &Option<BaseWork<R>>) -> Option<NamedBase>
+    ensures { result ≡ named_by work.now }
+{
+    match work {
+        Some(work) => match work.stage {
+            BaseStage::Naming => Some(NamedBase {
+                number: work.number,
+                parts: work.parts.len() as u64,
+            }),
+            _ => None,
+        },
+        None => None,
+    }
+}
+
+/// Whether a transaction was sent.
+pub fn is_under_way<Q: Drop, R: Copy + Drop, M: StoreMachine<Q, R>>(
+    ready: &ShardState<M, Q, R>,
+) -> bool
+    ensures { result ≡ is_under_way ready.now }
+{
+    !ready.sent.is_empty() || (!ready.carried.is_empty() || named(&ready.work).is_some())
+}
+
+// Lets the head name a base that is there.
+fn name_next<R: Copy + Drop>(work: &mut Option<BaseWork<R>>)
+    ensures { work.new ≡ naming_next work.old }
+{
+    if let Some(work) = work {
+        if let BaseStage::Written = work.stage {
+            work.stage = BaseStage::Naming;
+        }
+    }
+}
+
 // How many of the requests that wait go next.
 fn next_count<Q: Drop, R: Copy + Drop, M: StoreMachine<Q, R>>(
     limits: ShardLimits,
@@ -242,7 +301,7 @@ fn next_count<Q: Drop, R: Copy + Drop, M: StoreMachine<Q, R>>(
     ensures exact { result ≡ batch_length limits M.size ready.now }
     ensures within { result ≤ length ready.now.waiting.items }
 {
-    if ready.head.batches == u64::MAX {
+    if is_named_next(&ready.work) || ready.head.batches == u64::MAX {
         0
     } else {
         count_of::<Q, R, M>(limits, &ready.waiting)
@@ -269,7 +328,8 @@ fn take_front<T: Drop>(alloc: Global, items: &mut Vec<T>, at: usize) -> Result<V
     }
 }
 
-/// Lets the reads that wait be sent, and as many requests as go into one batch, where nothing is under way.
+/// Lets the reads that wait be sent, and as many requests as go into one batch, or the name of a base that is there,
+/// where nothing is under way.
 pub fn flush<Q: Drop, R: Copy + Drop, M: StoreMachine<Q, R>>(
     alloc: Global,
     ready: &mut ShardState<M, Q, R>,
@@ -279,22 +339,26 @@ pub fn flush<Q: Drop, R: Copy + Drop, M: StoreMachine<Q, R>>(
     ensures stood { ready.new.stood ≡ ready.old.stood }
     ensures head { ready.new.head ≡ ready.old.head }
     ensures logged { ready.new.logged ≡ ready.old.logged }
-    ensures kept { (me : ℕ) (before : List (ItemValue Q)) → IsShardState M.after M.reply M.start me before ready.old
-        → IsShardState M.after M.reply M.start me before ready.new }
+    ensures kept { (me : ℕ) (before : List (ItemValue Q)) → IsShardState M.service me before ready.old
+        → IsShardState M.service me before ready.new }
+    ensures base { (log : StoreLog Q R) (shard : ℕ)
+        → IfSome ready.old.work (IsWorkTrue M.service log shard ready.old.head)
+        → IfSome ready.new.work (IsWorkTrue M.service log shard ready.new.head) }
     ensures exact { IfOk result (λ sends. sends ≡ sends_now limits M.size ready.old) }
     ensures sends { IfOk result (λ sends. IsTrue sends → IsFlushed limits M.size ready.old ready.new) }
     ensures waits { IfOk result (λ sends. sends ≡ false → IsUnflushed ready.old ready.new) }
     ensures err { OnErr result (IsUnflushed ready.old ready.new) }
 {
-    if !ready.sent.is_empty() || !ready.carried.is_empty() {
+    if is_under_way(ready) {
         return Ok(false);
     }
     let count = next_count(limits, ready);
-    if count == 0 && ready.asking.is_empty() {
+    if !is_named_next(&ready.work) && (count == 0 && ready.asking.is_empty()) {
         return Ok(false);
     }
     ready.sent = take_front(alloc, &mut ready.waiting, count)?;
     std::mem::swap(&mut ready.carried, &mut ready.asking);
+    name_next(&mut ready.work);
     Ok(true)
 }
 
@@ -305,7 +369,7 @@ pub fn commit<Q: Drop, R: Copy + Drop, M: StoreMachine<Q, R>>(
     revision: u64,
 ) -> Result<Vec<MadeReply<R>>, ReplayFault>
     ensures answers { IfOk result (λ answers. answers.items
-        ≡ replies_of M.after M.reply ready.old.replica.machine ready.old.sent.items) }
+        ≡ replies_of M.service ready.old.replica.machine ready.old.sent.items) }
     ensures state { OnOk result (ready.new.state ≡ ready.old.state) }
     ensures stood { OnOk result (ready.new.stood ≡ ready.old.stood) }
     ensures batches { OnOk result (ready.new.head.batches ≡ ready.old.head.batches + 1) }
@@ -316,9 +380,10 @@ pub fn commit<Q: Drop, R: Copy + Drop, M: StoreMachine<Q, R>>(
     ensures waiting { OnOk result (ready.new.waiting.items ≡ ready.old.waiting.items) }
     ensures carried { OnOk result (ready.new.carried ≡ ready.old.carried) }
     ensures asking { OnOk result (ready.new.asking ≡ ready.old.asking) }
+    ensures work { OnOk result (ready.new.work ≡ ready.old.work) }
     ensures replica { OnOk result ((before : List (ItemValue Q))
-        → IsReplica M.after M.reply M.start before ready.old.replica
-        → IsReplica M.after M.reply M.start (before ++ ready.old.sent.items) ready.new.replica
+        → IsReplica M.service before ready.old.replica
+        → IsReplica M.service (before ++ ready.old.sent.items) ready.new.replica
         × AreNext before ready.old.sent.items) }
 {
     let Some(batches) = ready.head.batches.checked_add(1) else {
@@ -329,4 +394,68 @@ pub fn commit<Q: Drop, R: Copy + Drop, M: StoreMachine<Q, R>>(
     ready.head.batches = batches;
     ready.logged = revision;
     Ok(answers)
+}
+
+/// Begins a base of all that is made, where none is made and there are batches that the last one doesn't stand for.
+/// Whether it begins one.
+pub fn begin_base<Q: Drop, R: Copy + Drop, M: StoreMachine<Q, R>>(
+    alloc: Global,
+    ready: &mut ShardState<M, Q, R>,
+) -> Result<bool, AllocError>
+    ensures exact { IfOk result (λ begun. begun ≡ begins_base ready.old) }
+    ensures rest { IsButWork ready.old ready.new }
+    ensures begun { IfOk result (λ begun. IsTrue begun → (items : List (ItemValue Q))
+        → IsReplica M.service items ready.old.replica
+        → IfSome ready.new.work (IsNewBase M.service ready.old.head.batches items)) }
+    ensures same { IfOk result (λ begun. begun ≡ false → ready.new.work ≡ ready.old.work) }
+    ensures err { OnErr result (ready.new.work ≡ ready.old.work) }
+{
+    if ready.work.is_some() || ready.head.batches <= ready.head.base {
+        return Ok(false);
+    }
+    let parts = base_of::<Q, R, M>(alloc, &ready.replica)?;
+    ready.work = Some(BaseWork {
+        number: ready.head.batches,
+        parts,
+        stage: BaseStage::Writing,
+    });
+    Ok(true)
+}
+
+/// Each part of the base that is made was written.
+pub fn write_base<Q: Drop, R: Copy + Drop, M: StoreMachine<Q, R>>(ready: &mut ShardState<M, Q, R>)
+    ensures rest { IsButWork ready.old ready.new }
+    ensures work { ready.new.work ≡ written_now ready.old.work }
+{
+    if let Some(work) = &mut ready.work {
+        if let BaseStage::Writing = work.stage {
+            work.stage = BaseStage::Written;
+        }
+    }
+}
+
+/// Names the base by the head, at this revision, where the transaction that was sent did.
+pub fn name_base<Q: Drop, R: Copy + Drop, M: StoreMachine<Q, R>>(
+    ready: &mut ShardState<M, Q, R>,
+    revision: u64,
+)
+    ensures { ready.new ≡ named_now revision ready.old }
+{
+    if let Some(base) = named(&ready.work) {
+        ready.head.base = base.number;
+        ready.head.parts = base.parts;
+        ready.logged = revision;
+        ready.work = None;
+    }
+}
+
+/// Whether the base that the head names stands for what lies at the key, or is newer.
+pub fn is_behind(shard: ShardId, head: &Head, key: &PassingKey) -> bool
+    ensures { result ≡ is_behind shard head.now key.now }
+{
+    match key {
+        PassingKey::Batch(at, number) => *at == shard && *number <= head.base,
+        PassingKey::Part(at, number, _) => *at == shard && *number < head.base,
+        _ => false,
+    }
 }

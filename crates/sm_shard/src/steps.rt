@@ -1,27 +1,29 @@
 ghost use Rattle.std.specs.Prelude.{◌≡◌};
 ghost use Rattle.sm_shard.specs.Steps.{IsStepOf};
 
-use crate::replica::{ReplayFault, Replica};
+use crate::base_part::BasePart;
+use crate::replica::ReplayFault;
 use crate::shard_server::{ShardServer, StoreAnswers, Undecided};
 use crate::shard_state::Decision;
 use crate::store_machine::StoreMachine;
 use sm_ownership::record::Record;
 use sm_store::head::Head;
 use sm_store::item::Item;
+use sm_store::store_key::PassingKey;
 use std::alloc::Global;
 
 /// What comes to a server.
 #[derive(Drop)]
-pub enum ShardInput<'a, M, Q, R> {
-    /// The shard's record and its log were read, and the revision of each. Of the log a replica of its first requests,
-    /// which was kept, and the requests after them.
+pub enum ShardInput<'a, Q, R> {
+    /// The shard's record and the head of its log were read, and the revision of each; and the parts of the base that
+    /// the head names, and the batches after it, as far as they are there.
     Read {
         state: Record,
         stood: u64,
         head: Head,
-        base: Replica<M, R>,
-        items: &'a [Item<Q>],
         logged: u64,
+        parts: &'a [BasePart<R>],
+        batches: &'a [Vec<Item<Q>>],
     },
     /// The shard's record alone was read, or seen by the watch.
     Record {
@@ -38,6 +40,12 @@ pub enum ShardInput<'a, M, Q, R> {
     Made(u64),
     /// Its compares didn't hold, or what became of it isn't known.
     Lost,
+    /// It is time to make a base.
+    Base,
+    /// Each part of the base that is made was written.
+    PartsMade,
+    /// Something lies at this key, which may be behind the base.
+    Clear(PassingKey),
 }
 
 /// What a server does.
@@ -52,29 +60,33 @@ pub enum ShardOutput<Q, R> {
     Answers(StoreAnswers<R>),
     /// These requests are to be decided again.
     Decides(Undecided<Q>),
+    /// It writes the parts of a base.
+    Bases,
+    /// It deletes what lies at the key.
+    Clears(PassingKey),
 }
 
 /// One step of a server.
 pub fn step<Q: Drop, R: Copy + Drop, M: StoreMachine<Q, R>>(
     alloc: Global,
     server: &mut ShardServer<M, Q, R>,
-    input: ShardInput<'_, M, Q, R>,
+    input: ShardInput<'_, Q, R>,
 ) -> Result<ShardOutput<Q, R>, ReplayFault>
     ensures me { server.new.me ≡ server.old.me }
     ensures shard { server.new.shard ≡ server.old.shard }
     ensures count { server.new.count ≡ server.old.count }
-    ensures call { IsStepOf M.after M.reply M.start server.old input.entry result server.new }
+    ensures call { IsStepOf M.service server.old input.entry result server.new }
 {
     match input {
         ShardInput::Read {
             state,
             stood,
             head,
-            base,
-            items,
             logged,
+            parts,
+            batches,
         } => {
-            server.on_read(alloc, state, stood, head, base, items, logged)?;
+            server.on_read(alloc, state, stood, head, logged, parts, batches)?;
             Ok(ShardOutput::Nothing)
         }
         ShardInput::Record { state, stood } => {
@@ -101,6 +113,26 @@ pub fn step<Q: Drop, R: Copy + Drop, M: StoreMachine<Q, R>>(
         ShardInput::Lost => {
             let again = server.on_lost(alloc);
             Ok(ShardOutput::Decides(again))
+        }
+        ShardInput::Base => {
+            let begun = server.begin_base(alloc)?;
+            if begun {
+                Ok(ShardOutput::Bases)
+            } else {
+                Ok(ShardOutput::Nothing)
+            }
+        }
+        ShardInput::PartsMade => {
+            server.on_parts_made();
+            Ok(ShardOutput::Nothing)
+        }
+        ShardInput::Clear(key) => {
+            let behind = server.is_behind(&key);
+            if behind {
+                Ok(ShardOutput::Clears(key))
+            } else {
+                Ok(ShardOutput::Nothing)
+            }
         }
     }
 }

@@ -1,34 +1,44 @@
-ghost use Rattle.std.specs.Prelude.{◌≡◌, ℕ, IfOk, IfSome, OnOk};
+ghost use Rattle.std.specs.Prelude.{◌≡◌, ℕ, Bool, List, IfOk, OnOk, Some, None, if◌then◌else◌};
+ghost use Rattle.sm_store.specs.declared.item.Item.{Item as ItemValue};
+ghost use Rattle.sm_store.specs.Clients.{Automaton, state_after};
 
 use std::alloc::{AllocError, Global};
 
 /// A state that answers requests one at a time.
 pub trait StoreMachine<Q: Drop, R: Copy + Drop>: Drop {
-    /// The machine before any request.
-    ghost start: { Self };
+    /// The machine before any request, after a request, its reply to a request, and the bytes that stand for it.
+    ghost service: { Automaton Self Q R };
 
-    /// The machine after a request.
-    ghost after: { Self → Q → Self };
-
-    /// The reply of the machine to a request.
-    ghost reply: { Self → Q → R };
+    /// The requests that only read, and so are answered without being made.
+    ghost reads: { Q → Bool };
 
     /// The bytes that a request takes in a batch.
     ghost size: { Q → ℕ };
 
     fn new(alloc: Global) -> Self
-        ensures { result ≡ start };
+        ensures { result ≡ service.start };
 
     /// Answers the request. Where memory is refused nothing is said of the machine.
     fn answer(&mut self, alloc: Global, request: &Q) -> Result<R, AllocError>
-        ensures reply { IfOk result (λ made. made ≡ reply self.old request.now) }
-        ensures after { OnOk result (self.new ≡ after self.old request.now) };
+        ensures reply { IfOk result (λ made. made ≡ service.reply self.old request.now) }
+        ensures after { OnOk result (self.new ≡ service.after self.old request.now) };
 
-    /// The reply to a request that changes nothing, or none where it is another.
+    /// The reply to a request that only reads, and none to any other.
     fn peek(&self, alloc: Global, request: &Q) -> Result<Option<R>, AllocError>
-        ensures { IfOk result (λ found. IfSome found (λ made. made ≡ reply self.now request.now)) };
+        ensures { IfOk result (λ found. found
+            ≡ (if reads request.now then Some (service.reply self.now request.now) else None)) };
 
     /// The bytes that the request takes in a batch.
     fn size_of(request: &Q) -> u64
         ensures { result ≡ size request.now };
+
+    /// The bytes that stand for the machine.
+    fn save(&self, alloc: Global) -> Result<Vec<u8>, AllocError>
+        ensures { IfOk result (λ bytes. bytes.items ≡ service.spelled self.now) };
+
+    /// The machine after some requests, by the bytes that stand for it. None, or any machine, where the bytes stand for
+    /// none.
+    fn load(alloc: Global, bytes: &[u8]) -> Result<Option<Self>, AllocError>
+        ensures { (items : List (ItemValue Q)) → bytes.now ≡ service.spelled (state_after service service.start items)
+            → IfOk result (λ found. found ≡ Some (state_after service service.start items)) };
 }

@@ -1,9 +1,6 @@
-mod Heads
 mod Histories
 mod HistoryRequests
 mod Once
-mod Parts
 mod Right
 mod Runs
 mod Settings
-mod Whole

@@ -15,9 +15,9 @@ use Rattle.sm_store.specs.Deeds.{Following, Restarting, Settling, Checking, Fore
 use Rattle.sm_store.specs.Deeds.{IsChanged, ShardLog}
 use Rattle.sm_store.specs.Deeds.{shard_log, WasFound, MayDo, MayName, MayClear, IsHonest, IsBehind, IsRight}
 use Rattle.sm_store.specs.Deeds.{HasLed, IsRightBase, AreRight}
-use Rattle.sm_store.proofs.Heads.{read_until, risen}
+use Rattle.sm_store.specs.lemmas.Heads.{read_until, risen}
 use Rattle.sm_store.specs.lemmas.Heart.{first_held, stands, stands_among, unwritten}
-use Rattle.sm_store.proofs.Parts.{part_is, part_stays}
+use Rattle.sm_store.specs.lemmas.Parts.{part_is, part_stays}
 use Rattle.sm_store.specs.lemmas.Views.{IsOfDeed, deeds_of_right, head_view, leader_view, log_view, placement_view}
 use Rattle.sm_store.specs.lemmas.Views.{record_view, settings_view}
 

@@ -6,7 +6,7 @@ use Rattle.std.specs.List.{AllByRecursion}
 use Rattle.std.proofs.lemmas.Bool.{and_parts, cases_Bool, cond-true, cond-false, eqb-true}
 use Rattle.sm_store.specs.declared.compare.Compare.{Compare}
 use Rattle.sm_store.specs.declared.item.Item.{Item}
-use Rattle.sm_store.specs.Clients.{state_after, times}
+use Rattle.sm_store.specs.Clients.{Automaton, state_after, times}
 use Rattle.sm_store.specs.Store.{Transaction, Write, all_hold, head_key, made, revision_of}
 use Rattle.sm_store.specs.Deeds.{AreRight, Charter, IsHonest, MaySend, at}
 use Rattle.sm_store.specs.System.{Ask, Claim, Replies, Overtaken, Reads, Event, Comes, Sends, Reaches, Claims, Carried}
@@ -19,7 +19,7 @@ use Rattle.sm_store.specs.lemmas.Heart.{stood_then}
 use Rattle.sm_store.proofs.Once.{once, overtaken_grows}
 use Rattle.sm_store.proofs.Right.{honest_is_right}
 use Rattle.sm_store.specs.lemmas.Views.{made_view}
-use Rattle.sm_store.proofs.Whole.{whole}
+use Rattle.sm_store.specs.lemmas.Whole.{whole}
 
 module _ {Q P : Type 0} where
   -- each compare of those that hold
@@ -67,12 +67,12 @@ module _ {Q P : Type 0} where
   extended_grows charter txn [] log held may honest = ([], refl, honest)
   extended_grows charter txn (write ∷ writes) log held may honest = (txn ∷ [], refl, (held, may, honest))
 
-module _ {Q P R S : Type 0} (after : S → Q → S) (reply : S → Q → R) (start : S) (charter : Charter Q P) where
+module _ {Q P R S : Type 0} (service : Automaton S Q R) (charter : Charter Q P) where
   pub record IsSoundSystem (system : System Q P R) : Type 0 where
     pub honest : IsHonest charter system.log
     pub sent : AllByRecursion (IsSendable charter system.log) system.sent
     pub held : AllByRecursion (DidHold system.log) system.held
-    pub claims : AllByRecursion (IsSo after reply start system.asked system.log) system.claims
+    pub claims : AllByRecursion (IsSo service system.asked system.log) system.claims
 
   grown : (system : System Q P R) (new more : List (Transaction Q P)) → new ≡ more ++ system.log → IsHonest charter new
       → IsSoundSystem system
@@ -94,9 +94,9 @@ module _ {Q P R S : Type 0} (after : S → Q → S) (reply : S → Q → R) (sta
         (λ one was. subst (λ (log : List (Transaction Q P)). DidHold log one) (sym is)
         (held_grows more system.log one was))
         system.held sound.held;
-    claims = all_map (IsSo after reply start system.asked system.log) (IsSo after reply start system.asked new)
-        (λ one so. subst (λ (log : List (Transaction Q P)). IsSo after reply start system.asked log one) (sym is)
-        (so_grows after reply start system.asked more system.log one so))
+    claims = all_map (IsSo service system.asked system.log) (IsSo service system.asked new)
+        (λ one so. subst (λ (log : List (Transaction Q P)). IsSo service system.asked log one) (sym is)
+        (so_grows service system.asked more system.log one so))
         system.claims sound.claims;
   }
 
@@ -127,8 +127,8 @@ module _ {Q P R S : Type 0} (after : S → Q → S) (reply : S → Q → R) (sta
       (cases_Bool (all_hold system.log sent.txn.compares))
 
   read_so : (system : System Q P R) (shard client number : ℕ) (answer : R) → IsSoundSystem system
-      → MayRead after reply start system shard client number answer
-      → IsReadSince after reply start system.asked system.log shard client number answer
+      → MayRead service system shard client number answer
+      → IsReadSince service system.asked system.log shard client number answer
   read_so system shard client number answer sound may =
       let did : DidHold system.log may.held =
       all_among (DidHold system.log) system.held may.held sound.held may.was_held in
@@ -148,20 +148,21 @@ module _ {Q P R S : Type 0} (after : S → Q → S) (reply : S → Q → R) (sta
         past = may.held.moment;
         is = did.is;
         since = omega arith;
-        answer_is = may.answer_is ∙ ap (λ (items : List (Item Q)). reply (state_after after start items)
+        answer_is =
+            may.answer_is ∙ ap (λ (items : List (Item Q)). service.reply (state_after service service.start items)
             may.ask.request) (sym items_are);
       }
 
   claim_so : (system : System Q P R) (claim : Claim Q R) → IsSoundSystem system
-      → MayClaim after reply start system claim
-      → IsSo after reply start system.asked system.log claim
+      → MayClaim service system claim
+      → IsSo service system.asked system.log claim
   claim_so system (Replies shard client number answer) sound may = may
   claim_so system (Overtaken shard client number) sound may = may
   claim_so system (Reads shard client number answer) sound may =
       read_so system shard client number answer sound may
 
   pub sound_step : (system : System Q P R) (event : Event Q P R) → IsSoundSystem system
-      → May after reply start charter system event → IsSoundSystem (happens system event)
+      → May service charter system event → IsSoundSystem (happens system event)
   sound_step system (Comes shard client number request) sound may =
       let new : Ask Q = record {
         shard = shard;
@@ -174,9 +175,9 @@ module _ {Q P R S : Type 0} (after : S → Q → S) (reply : S → Q → R) (sta
         honest = sound.honest;
         sent = sound.sent;
         held = sound.held;
-        claims = all_map (IsSo after reply start system.asked system.log)
-            (IsSo after reply start (new ∷ system.asked) system.log)
-            (so_asked after reply start new system.asked system.log) system.claims sound.claims;
+        claims = all_map (IsSo service system.asked system.log)
+            (IsSo service (new ∷ system.asked) system.log)
+            (so_asked service new system.asked system.log) system.claims sound.claims;
       }
   sound_step system (Sends txn) sound may =
       record {
@@ -198,13 +199,13 @@ module _ {Q P R S : Type 0} (after : S → Q → S) (reply : S → Q → R) (sta
             (claim_so system claim sound may, sound.claims);
       }
 
-  pub sound : (events : List (Event Q P R)) → MightHappen after reply start charter events
+  pub sound : (events : List (Event Q P R)) → MightHappen service charter events
       → IsSoundSystem (system_after events)
   sound [] might = record { honest = tt; sent = tt; held = tt; claims = tt }
   sound (event ∷ earlier) might = sound_step (system_after earlier) event
       (sound earlier might.1) might.0
 
-  pub lawful_system : (system : System Q P R) → IsSoundSystem system → IsLawful after reply start charter system
+  pub lawful_system : (system : System Q P R) → IsSoundSystem system → IsLawful service charter system
   lawful_system system sound =
       let right = honest_is_right charter system.log sound.honest in
       record {
@@ -215,8 +216,8 @@ module _ {Q P R S : Type 0} (after : S → Q → S) (reply : S → Q → R) (sta
         claims = sound.claims;
       }
 
-  pub lawful : (events : List (Event Q P R)) → MightHappen after reply start charter events
-      → IsLawful after reply start charter (system_after events)
+  pub lawful : (events : List (Event Q P R)) → MightHappen service charter events
+      → IsLawful service charter (system_after events)
   lawful events might = lawful_system (system_after events) (sound events might)
 
   log_grows : (later earlier : List (Event Q P R))
@@ -231,13 +232,13 @@ module _ {Q P R S : Type 0} (after : S → Q → S) (reply : S → Q → R) (sta
             ∙ sym (append_assoc step.0 rest.0 (system_after earlier).log),
       )
 
-  did_earlier : (later earlier : List (Event Q P R)) → MightHappen after reply start charter (later ++ earlier)
-      → MightHappen after reply start charter earlier
+  did_earlier : (later earlier : List (Event Q P R)) → MightHappen service charter (later ++ earlier)
+      → MightHappen service charter earlier
   did_earlier [] earlier might = might
   did_earlier (event ∷ later) earlier might = did_earlier later earlier might.1
 
   stays_one : (before now : System Q P R) (more : List (Transaction Q P)) → now.log ≡ more ++ before.log
-      → AreRight charter now.log → (claim : Claim Q R) → IsSo after reply start before.asked before.log claim
+      → AreRight charter now.log → (claim : Claim Q R) → IsSo service before.asked before.log claim
       → StaysOvertaken before now claim
   stays_one before now more is right (Replies shard client number answer) so = tt
   stays_one before now more is right (Overtaken shard client number) so =
@@ -245,7 +246,7 @@ module _ {Q P R S : Type 0} (after : S → Q → S) (reply : S → Q → R) (sta
       ∙ overtaken_grows charter shard client number more before.log (subst (AreRight charter) is right) so
   stays_one before now more is right (Reads shard client number answer) so = tt
 
-  pub stays_overtaken : (later earlier : List (Event Q P R)) → MightHappen after reply start charter (later ++ earlier)
+  pub stays_overtaken : (later earlier : List (Event Q P R)) → MightHappen service charter (later ++ earlier)
       → AllByRecursion
       (StaysOvertaken (system_after earlier)
       (system_after (later ++ earlier)))
@@ -254,6 +255,6 @@ module _ {Q P R S : Type 0} (after : S → Q → S) (reply : S → Q → R) (sta
       let before = system_after earlier in
       let now = system_after (later ++ earlier) in
       let grows = log_grows later earlier in
-      all_map (IsSo after reply start before.asked before.log) (StaysOvertaken before now)
+      all_map (IsSo service before.asked before.log) (StaysOvertaken before now)
       (stays_one before now grows.0 grows.1 (lawful (later ++ earlier) might).right)
       before.claims (sound earlier (did_earlier later earlier might)).claims

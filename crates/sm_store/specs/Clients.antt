@@ -3,6 +3,14 @@ use Rattle.std.specs.Prelude.{ℕ, Bool, Option, Some, None, ◌==◌, ◌&&◌,
 use Rattle.std.specs.Prelude.{max}
 use Rattle.sm_store.specs.declared.item.Item.{Item}
 
+-- a service: the state that it starts from, the state after a request, the reply to it, and the bytes that stand for a
+-- state
+pub record Automaton (S Q R : Type 0) : Type 0 where
+  pub start : S
+  pub after : S → Q → S
+  pub reply : S → Q → R
+  pub spelled : S → List ℕ
+
 -- the greatest number of a client's requests among these, 0 where it has none
 abbrev pub last_of : {Q : Type 0} → ℕ → List (Item Q) → ℕ
 last_of client [] = 0
@@ -23,14 +31,14 @@ abbrev pub times : {Q : Type 0} → ℕ → ℕ → List (Item Q) → ℕ
 times client number [] = 0
 times client number (item ∷ items) = (if is_from client number item then 1 else 0) + times client number items
 
--- a machine after the requests, one after another
-abbrev pub state_after : {Q S : Type 0} → (S → Q → S) → S → List (Item Q) → S
-state_after after state [] = state
-state_after after state (item ∷ items) = state_after after (after state item.request) items
+-- its state after the requests, one after another
+abbrev pub state_after : {S Q R : Type 0} → Automaton S Q R → S → List (Item Q) → S
+state_after service state [] = state
+state_after service state (item ∷ items) = state_after service (service.after state item.request) items
 
 -- what it answers to the client's request of this number; none where it isn't made
-abbrev pub reply_in : {Q R S : Type 0} → (S → Q → S) → (S → Q → R) → S → List (Item Q) → ℕ → ℕ → Option R
-reply_in after reply state [] client number = None
-reply_in after reply state (item ∷ items) client number =
-    if is_from client number item then Some (reply state item.request)
-    else reply_in after reply (after state item.request) items client number
+abbrev pub reply_in : {S Q R : Type 0} → Automaton S Q R → S → List (Item Q) → ℕ → ℕ → Option R
+reply_in service state [] client number = None
+reply_in service state (item ∷ items) client number =
+    if is_from client number item then Some (service.reply state item.request)
+    else reply_in service (service.after state item.request) items client number

@@ -5,7 +5,7 @@ use Rattle.std.specs.Prelude.{ℕ, Option, Some, None, ◌≡◌, ◌≤◌, ◌
 use Rattle.std.specs.Prelude.{if◌then◌else◌}
 use Rattle.std.specs.List.{AllByRecursion}
 use Rattle.sm_store.specs.declared.item.Item.{Item}
-use Rattle.sm_store.specs.Clients.{last_of, reply_in, state_after, times}
+use Rattle.sm_store.specs.Clients.{Automaton, last_of, reply_in, state_after, times}
 use Rattle.sm_store.specs.Store.{Transaction, Write, all_hold, head_key, made}
 use Rattle.sm_store.specs.Deeds.{AreRight, Charter, MaySend, WasFound, at}
 use Rattle.sm_store.specs.Whole.{IsLogWhole}
@@ -90,7 +90,7 @@ pub record WasAsked {Q : Type 0} (asked : List (Ask Q)) (shard client number : �
   pub number_is : ask.number ≡ number
 
 -- the reply is that of a moment after the request came
-pub record IsReadSince {Q P R S : Type 0} (after : S → Q → S) (reply : S → Q → R) (start : S) (asked : List (Ask Q))
+pub record IsReadSince {Q P R S : Type 0} (service : Automaton S Q R) (asked : List (Ask Q))
     (log : List (Transaction Q P)) (shard client number : ℕ) (answer : R) : Type 0 where
   pub ask : Ask Q
   pub was_asked : WasAsked asked shard client number ask
@@ -98,20 +98,20 @@ pub record IsReadSince {Q P R S : Type 0} (after : S → Q → S) (reply : S →
   pub past : List (Transaction Q P)
   pub is : log ≡ later ++ past
   pub since : ask.since ≤ length past
-  pub answer_is : answer ≡ reply (state_after after start (made shard past)) ask.request
+  pub answer_is : answer ≡ service.reply (state_after service service.start (made shard past)) ask.request
 
 -- it is so: the reply is that of one thread's run over the requests that are made, in order; what won't be made is
 -- overtaken by a greater number of its client
-abbrev pub IsSo : {Q P R S : Type 0} → (S → Q → S) → (S → Q → R) → S → List (Ask Q) → List (Transaction Q P)
+abbrev pub IsSo : {Q P R S : Type 0} → Automaton S Q R → List (Ask Q) → List (Transaction Q P)
     → Claim Q R → Type 0
-IsSo after reply start asked log (Replies shard client number answer) =
-    reply_in after reply start (made shard log) client number ≡ Some answer
-IsSo after reply start asked log (Overtaken shard client number) = number < last_of client (made shard log)
-IsSo after reply start asked log (Reads shard client number answer) =
-    IsReadSince after reply start asked log shard client number answer
+IsSo service asked log (Replies shard client number answer) =
+    reply_in service service.start (made shard log) client number ≡ Some answer
+IsSo service asked log (Overtaken shard client number) = number < last_of client (made shard log)
+IsSo service asked log (Reads shard client number answer) =
+    IsReadSince service asked log shard client number answer
 
 -- one who has read the requests, and sent after the request came a transaction that compares their revision, which held
-pub record MayRead {Q P R S : Type 0} (after : S → Q → S) (reply : S → Q → R) (start : S) (system : System Q P R)
+pub record MayRead {Q P R S : Type 0} (service : Automaton S Q R) (system : System Q P R)
     (shard client number : ℕ) (answer : R) : Type 0 where
   pub ask : Ask Q
   pub was_asked : WasAsked system.asked shard client number ask
@@ -122,23 +122,23 @@ pub record MayRead {Q P R S : Type 0} (after : S → Q → S) (reply : S → Q �
   pub revision : ℕ
   pub items_were : WasFound (made shard) (head_key shard) system.log items revision
   pub compared : IsAmong (at (head_key shard) revision) held.txn.compares
-  pub answer_is : answer ≡ reply (state_after after start items) ask.request
+  pub answer_is : answer ≡ service.reply (state_after service service.start items) ask.request
 
 -- what a process may claim: what is so in the store that it has read, and a read by `MayRead`
-abbrev pub MayClaim : {Q P R S : Type 0} → (S → Q → S) → (S → Q → R) → S → System Q P R → Claim Q R → Type 0
-MayClaim after reply start system (Replies shard client number answer) =
-    IsSo after reply start system.asked system.log (Replies shard client number answer)
-MayClaim after reply start system (Overtaken shard client number) =
-    IsSo after reply start system.asked system.log (Overtaken shard client number)
-MayClaim after reply start system (Reads shard client number answer) =
-    MayRead after reply start system shard client number answer
+abbrev pub MayClaim : {Q P R S : Type 0} → Automaton S Q R → System Q P R → Claim Q R → Type 0
+MayClaim service system (Replies shard client number answer) =
+    IsSo service system.asked system.log (Replies shard client number answer)
+MayClaim service system (Overtaken shard client number) =
+    IsSo service system.asked system.log (Overtaken shard client number)
+MayClaim service system (Reads shard client number answer) =
+    MayRead service system shard client number answer
 
 -- what may happen: a process sends what it may, and claims what it knows
-abbrev pub May : {Q P R S : Type 0} → (S → Q → S) → (S → Q → R) → S → Charter Q P → System Q P R → Event Q P R → Type 0
-May after reply start charter system (Comes shard client number request) = Unit {0}
-May after reply start charter system (Sends txn) = MaySend charter system.log txn
-May after reply start charter system (Reaches which) = Unit {0}
-May after reply start charter system (Claims claim) = MayClaim after reply start system claim
+abbrev pub May : {Q P R S : Type 0} → Automaton S Q R → Charter Q P → System Q P R → Event Q P R → Type 0
+May service charter system (Comes shard client number request) = Unit {0}
+May service charter system (Sends txn) = MaySend charter system.log txn
+May service charter system (Reaches which) = Unit {0}
+May service charter system (Claims claim) = MayClaim service system claim
 
 -- the system after an event
 abbrev pub happens : {Q P R : Type 0} → System Q P R → Event Q P R → System Q P R
@@ -180,13 +180,13 @@ system_after [] = record { log = []; asked = []; sent = []; held = []; claims = 
 system_after (event ∷ earlier) = happens (system_after earlier) event
 
 -- each event was one that might happen
-abbrev pub MightHappen : {Q P R S : Type 0} → (S → Q → S) → (S → Q → R) → S → Charter Q P → List (Event Q P R) → Type 0
-MightHappen after reply start charter [] = Unit {0}
-MightHappen after reply start charter (event ∷ earlier) = May after reply start charter (system_after earlier) event
-    × MightHappen after reply start charter earlier
+abbrev pub MightHappen : {Q P R S : Type 0} → Automaton S Q R → Charter Q P → List (Event Q P R) → Type 0
+MightHappen service charter [] = Unit {0}
+MightHappen service charter (event ∷ earlier) = May service charter (system_after earlier) event
+    × MightHappen service charter earlier
 
 -- the law, at each moment of each run
-pub record IsLawful {Q P R S : Type 0} (after : S → Q → S) (reply : S → Q → R) (start : S) (charter : Charter Q P)
+pub record IsLawful {Q P R S : Type 0} (service : Automaton S Q R) (charter : Charter Q P)
     (system : System Q P R) : Type 0 where
   -- each change was one that the rule allows, by who led; each batch was the accepted server's, and next in the log
   pub right : AreRight charter system.log
@@ -195,7 +195,7 @@ pub record IsLawful {Q P R S : Type 0} (after : S → Q → S) (reply : S → Q 
   -- nothing is made twice
   pub once : (shard client number : ℕ) → times client number (made shard system.log) ≤ 1
   -- whatever was claimed is so, now as when it was claimed
-  pub claims : AllByRecursion (IsSo after reply start system.asked system.log) system.claims
+  pub claims : AllByRecursion (IsSo service system.asked system.log) system.claims
 
 -- what was overtaken is not made from then on
 abbrev pub StaysOvertaken : {Q P R : Type 0} → System Q P R → System Q P R → Claim Q R → Type 0

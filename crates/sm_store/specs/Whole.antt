@@ -1,5 +1,5 @@
 -- What lies at a shard's keys is all that is made: the base that the head names, and the batches after it.
-use Rattle.std.specs.Prelude.{ℕ, Some, ◌≡◌, ◌<◌, ◌≤◌, ◌+◌, List, [], ◌++◌, length, slice_get}
+use Rattle.std.specs.Prelude.{ℕ, Some, ◌≡◌, ◌<◌, ◌≤◌, ◌+◌, List, [], ◌∷◌, ◌++◌, length, slice_get}
 use Rattle.sm_store.specs.declared.head.Head.{Head}
 use Rattle.sm_store.specs.declared.item.Item.{Item}
 use Rattle.sm_store.specs.Store.{Transaction, batch_at, head_of, made, made_until, part_at}
@@ -33,3 +33,28 @@ pub record IsLogWhole {Q P : Type 0} (charter : Charter Q P) (shard : ℕ) (log 
   pub based : IsBased charter shard log (head_of shard log)
   pub batches : AreThere shard log (head_of shard log)
   pub all : made_until shard (head_of shard log).batches log ≡ made shard log
+
+-- at some moment the view had this value
+pub record WasSeen {Q P A : Type 0} (view : List (Transaction Q P) → A) (log : List (Transaction Q P))
+    (value : A) : Type 0 where
+  pub later : List (Transaction Q P)
+  pub past : List (Transaction Q P)
+  pub is : log ≡ later ++ past
+  pub was : view past ≡ value
+
+-- these are the shard's batches after so many, each as it was at some moment
+abbrev pub AreBatches : {Q P : Type 0} → ℕ → List (Transaction Q P) → ℕ → List (List (Item Q)) → Type 0
+AreBatches shard log number [] = Unit {0}
+AreBatches shard log number (items ∷ others) =
+    WasSeen (batch_at shard (number + 1)) log (Some items) × AreBatches shard log (number + 1) others
+
+-- these are the parts of a base from a place on, each as it was at some moment
+abbrev pub AreParts : {Q P : Type 0} → ℕ → List (Transaction Q P) → ℕ → ℕ → List P → Type 0
+AreParts shard log number place [] = Unit {0}
+AreParts shard log number place (part ∷ others) =
+    WasSeen (part_at shard number place) log (Some part) × AreParts shard log number (place + 1) others
+
+-- the requests of batches, one after the other
+abbrev pub all_items : {Q : Type 0} → List (List (Item Q)) → List (Item Q)
+all_items [] = []
+all_items (items ∷ others) = items ++ all_items others

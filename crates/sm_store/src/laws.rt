@@ -4,6 +4,7 @@ ghost use Rattle.std.specs.Prelude.{◌≡◌, ◌<◌, ◌≤◌, ◌++◌, ℕ
 ghost use Rattle.std.specs.List.{AllByRecursion};
 ghost use Rattle.sm_ownership.specs.declared.record.Record.{Record};
 ghost use Rattle.sm_ownership.specs.History.{IsLegal, all_of, record_at, table_of};
+ghost use Rattle.sm_store.specs.Clients.{Automaton};
 ghost use Rattle.sm_store.specs.Histories.{history_of};
 ghost use Rattle.sm_store.specs.Store.{Transaction, made, head_key, leader_key, leader_of, record_key, revision_of};
 ghost use Rattle.sm_store.specs.Store.{stored_record, stored_settings};
@@ -49,11 +50,11 @@ pub fn keys_are_whole<Q, P>()
 /// The law of the store, over every run of all processes, each of which sends only what it may and claims only what it
 /// knows. What was claimed to be overtaken is never made later.
 pub fn runs_are_lawful<Q, P, R, S>()
-    ensures lawful { (after : S → Q → S) (reply : S → Q → R) (start : S) (charter : Charter Q P)
-        (events : List (Event Q P R)) → MightHappen after reply start charter events
-        → IsLawful after reply start charter (system_after events) }
-    ensures overtaken { (after : S → Q → S) (reply : S → Q → R) (start : S) (charter : Charter Q P)
-        (later earlier : List (Event Q P R)) → MightHappen after reply start charter (later ++ earlier)
+    ensures lawful { (service : Automaton S Q R) (charter : Charter Q P)
+        (events : List (Event Q P R)) → MightHappen service charter events
+        → IsLawful service charter (system_after events) }
+    ensures overtaken { (service : Automaton S Q R) (charter : Charter Q P)
+        (later earlier : List (Event Q P R)) → MightHappen service charter (later ++ earlier)
         → let before = system_after earlier in
         let now = system_after (later ++ earlier) in
         AllByRecursion (StaysOvertaken before now) before.claims }

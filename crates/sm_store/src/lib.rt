@@ -16,14 +16,12 @@
 //! ```
 #![tactic(auto)]
 
-pub mod base_part;
 pub mod compare;
 pub mod head;
 pub mod item;
 pub mod laws;
 pub mod store_key;
 
-pub use base_part::BasePart;
 pub use compare::Compare;
 pub use head::Head;
 pub use item::Item;

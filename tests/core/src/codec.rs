@@ -1,8 +1,8 @@
 use sm_codec::{
-    Fault, MAX_ADDRESS, ReadError, StoreSettings, StoredBatch, StoredRecord, StoredServer,
-    StoredState, read_batch, read_head, read_process, read_record, read_server, read_settings,
-    read_state, write_batch, write_head, write_process, write_record, write_server, write_settings,
-    write_state,
+    Fault, MAX_ADDRESS, ReadError, StoreSettings, StoredBatch, StoredPart, StoredRecord,
+    StoredServer, StoredState, read_batch, read_head, read_part, read_process, read_record,
+    read_server, read_settings, read_state, write_batch, write_head, write_part, write_process,
+    write_record, write_server, write_settings, write_state,
 };
 use sm_ownership::{Mode, Record};
 use sm_place::ServerState;
@@ -109,4 +109,25 @@ fn reads_no_address_that_is_too_long(rt: HostRuntime) {
     let bytes = write_server(rt.alloc(), &stored).expect(&rt, "memory");
     let read = read_server(rt.alloc(), &bytes);
     assert!(rt; matches!(read, Err(ReadError::Fault(Fault::Address))));
+}
+
+#[test]
+fn reads_a_part_again(rt: HostRuntime) {
+    let mut lasts = Vec::new(rt.alloc());
+    let request = Vec::from_slice(rt.alloc(), b"5").expect(&rt, "memory");
+    let last = Item {
+        client: 7,
+        number: 1,
+        mode: Mode::Direct,
+        request,
+    };
+    assert!(rt; lasts.push(last).is_ok());
+    let state = Vec::from_slice(rt.alloc(), b"sum 5").expect(&rt, "memory");
+    let bytes = write_part(rt.alloc(), &StoredPart { state, lasts }).expect(&rt, "memory");
+    let again = read_part(rt.alloc(), &bytes).ok().expect(&rt, "a part");
+    assert!(rt; again.state.as_slice() == b"sum 5".as_slice());
+    assert!(rt; again.lasts[0].client == 7);
+    assert!(rt; again.lasts[0].request.as_slice() == b"5".as_slice());
+    let short = read_part(rt.alloc(), &bytes[..9]).err();
+    assert!(rt; short == Some(ReadError::Fault(Fault::Short)));
 }

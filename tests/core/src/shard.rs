@@ -1,9 +1,11 @@
 use crate::sum::Sum;
 use sm_ownership::{Mode, Record};
 use sm_ranges::{ServerId, ShardId, Stand};
-use sm_shard::replica::empty;
-use sm_shard::{Decision, ShardLimits, ShardServer};
-use sm_store::{Head, Item};
+use sm_shard::{
+    BasePart, Decision, NamedBase, ReplayFault, ShardInput, ShardLimits, ShardOutput, ShardServer,
+    step,
+};
+use sm_store::{Head, Item, PassingKey};
 use std::alloc::Global;
 use std::process::Abort;
 
@@ -42,7 +44,7 @@ fn ready(rt: &impl Abort, alloc: Global) -> ShardServer<Sum, u64, u64> {
     let (one, shard) = (ServerId::of(1), ShardId::new(0).expect(rt, "a shard"));
     let started = ShardServer::new(one, shard, 8, LIMITS);
     let mut server: ShardServer<Sum, u64, u64> = started.expect(rt, "one of 8 shards");
-    let read = server.on_read(alloc, serving(one), 3, HEAD, empty(alloc), &[], 0);
+    let read = server.on_read(alloc, serving(one), 3, HEAD, 0, &[], &[]);
     assert!(rt; read.is_ok());
     server
 }
@@ -55,8 +57,7 @@ fn executes_a_batch(rt: HostRuntime) {
     let (item, question) = (item(7, 5), item(8, 0));
     let started = ShardServer::new(one, shard, 8, limits);
     let mut server: ShardServer<Sum, u64, u64> = started.expect(&rt, "one of 8 shards");
-    let base = empty(rt.alloc());
-    let read = server.on_read(rt.alloc(), state, 3, head, base, &[], 0);
+    let read = server.on_read(rt.alloc(), state, 3, head, 0, &[], &[]);
     assert!(rt; read.is_ok());
     assert!(rt; matches!(server.on_request(item), Ok(Decision::Waits)));
     assert!(rt; matches!(server.on_question(question), Ok(Decision::Waits)));
@@ -97,4 +98,121 @@ fn reads_by_compares_alone(rt: HostRuntime) {
     assert!(rt; told.read[0].reply == Some(0));
     assert!(rt; told.read[1].reply.is_none());
     assert!(rt; matches!(server.flush(rt.alloc()), Ok(true)));
+}
+
+// A batch of the client's request.
+fn batch(rt: &impl Abort, alloc: Global, client: u64, request: u64) -> Vec<Item<u64>> {
+    let mut items = Vec::new(alloc);
+    assert!(rt; items.push(item(client, request)).is_ok());
+    items
+}
+
+fn executes(
+    rt: &impl Abort,
+    alloc: Global,
+    server: &mut ShardServer<Sum, u64, u64>,
+    client: u64,
+    request: u64,
+    at: u64,
+) {
+    assert!(rt;
+        matches!(
+            server.on_request(item(client, request)),
+            Ok(Decision::Waits)
+        )
+    );
+    assert!(rt; matches!(server.flush(alloc), Ok(true)));
+    assert!(rt; server.on_made(alloc, at).is_ok());
+}
+
+#[test]
+fn starts_from_a_base(rt: HostRuntime) {
+    let (alloc, shard) = (rt.alloc(), ShardId::new(0).expect(&rt, "a shard"));
+    let mut server = ready(&rt, alloc);
+    assert!(rt; matches!(server.begin_base(alloc), Ok(false)));
+    executes(&rt, alloc, &mut server, 7, 5, 4);
+    assert!(rt; matches!(server.begin_base(alloc), Ok(true)));
+    executes(&rt, alloc, &mut server, 8, 6, 5);
+    let sending = server.parts().expect(&rt, "parts");
+    assert!(rt; (sending.number, sending.parts.len()) == (1, 1));
+    let state = Vec::from_slice(alloc, sending.parts[0].state()).expect(&rt, "memory");
+    let lasts = Vec::from_slice(alloc, sending.parts[0].lasts()).expect(&rt, "memory");
+    let mut parts = Vec::new(alloc);
+    assert!(rt; parts.push(BasePart::new(state, lasts)).is_ok());
+    server.on_parts_made();
+    assert!(rt; matches!(server.flush(alloc), Ok(true)));
+    let named = NamedBase {
+        number: 1,
+        parts: 1,
+    };
+    assert!(rt; server.sending().expect(&rt, "a transaction").base == Some(named));
+    assert!(rt; server.on_made(alloc, 6).is_ok());
+    assert!(rt; server.is_behind(&PassingKey::Batch(shard, 1)));
+    assert!(rt; !server.is_behind(&PassingKey::Batch(shard, 2)));
+    let head = Head {
+        batches: 2,
+        base: 1,
+        parts: 1,
+    };
+    let mut batches = Vec::new(alloc);
+    assert!(rt; batches.push(batch(&rt, alloc, 8, 6)).is_ok());
+    let one = ServerId::of(1);
+    let mut other = ready(&rt, alloc);
+    let missing = other.on_read(alloc, serving(one), 3, head, 6, &[], &batches);
+    assert!(rt; missing == Err(ReplayFault::Missing));
+    assert!(rt;
+        other
+            .on_read(alloc, serving(one), 3, head, 6, &parts, &batches)
+            .is_ok()
+    );
+    assert!(rt; matches!(other.on_request(item(7, 5)), Ok(Decision::Replied(5))));
+    assert!(rt; matches!(other.on_question(item(9, 0)), Ok(Decision::Waits)));
+    assert!(rt; matches!(other.flush(alloc), Ok(true)));
+    let told = other.on_made(alloc, 6).ok().expect(&rt, "answers");
+    assert!(rt; told.read[0].reply == Some(11));
+}
+
+#[test]
+fn steps_write_and_clear(rt: HostRuntime) {
+    let (alloc, shard) = (rt.alloc(), ShardId::new(0).expect(&rt, "a shard"));
+    let mut server = ready(&rt, alloc);
+    executes(&rt, alloc, &mut server, 7, 5, 4);
+    assert!(rt;
+        matches!(
+            step(alloc, &mut server, ShardInput::Base),
+            Ok(ShardOutput::Bases)
+        )
+    );
+    assert!(rt;
+        matches!(
+            step(alloc, &mut server, ShardInput::PartsMade),
+            Ok(ShardOutput::Nothing)
+        )
+    );
+    assert!(rt;
+        matches!(
+            step(alloc, &mut server, ShardInput::Flush),
+            Ok(ShardOutput::Sends)
+        )
+    );
+    assert!(rt;
+        matches!(
+            step(alloc, &mut server, ShardInput::Made(5)),
+            Ok(ShardOutput::Answers(_))
+        )
+    );
+    let key = PassingKey::Batch(shard, 1);
+    assert!(rt;
+        matches!(
+            step(alloc, &mut server, ShardInput::Clear(key)),
+            Ok(ShardOutput::Clears(_))
+        )
+    );
+    let part = PassingKey::Part(shard, 1, 0);
+    assert!(rt;
+        matches!(
+            step(alloc, &mut server, ShardInput::Clear(part)),
+            Ok(ShardOutput::Nothing)
+        )
+    );
 }

@@ -1,4 +1,5 @@
-ghost use Rattle.std.specs.Prelude.{◌+◌, ◌%◌, ◌^◌};
+ghost use Rattle.std.specs.Prelude.{◌+◌, ◌%◌, ◌^◌, ◌==◌};
+ghost use Rattle.std.specs.Int.{to_be_bytes, w64};
 
 use sm_shard::StoreMachine;
 use std::alloc::{AllocError, Global};
@@ -10,11 +11,14 @@ pub struct Sum {
 }
 
 impl StoreMachine<u64, u64> for Sum {
-    ghost start = { record { total = 0 } };
+    ghost service = { record {
+      start = record { total = 0 };
+      after = λ sum amount. record { total = (sum.total + amount) % 2 ^ 64 };
+      reply = λ sum amount. (sum.total + amount) % 2 ^ 64;
+      spelled = λ sum. to_be_bytes w64 sum.total;
+    } };
 
-    ghost after = { λ sum amount. record { total = (sum.total + amount) % 2 ^ 64 } };
-
-    ghost reply = { λ sum amount. (sum.total + amount) % 2 ^ 64 };
+    ghost reads = { λ amount. amount == 0 };
 
     ghost size = { λ amount. 8 };
 
@@ -37,5 +41,20 @@ impl StoreMachine<u64, u64> for Sum {
 
     fn size_of(_: &u64) -> u64 {
         8
+    }
+
+    fn save(&self, alloc: Global) -> Result<Vec<u8>, AllocError> {
+        Vec::from_slice(alloc, &self.total.to_be_bytes())
+    }
+
+    fn load(_: Global, bytes: &[u8]) -> Result<Option<Sum>, AllocError> {
+        if bytes.len() != 8 {
+            return Ok(None);
+        }
+        Ok(Some(Sum {
+            total: u64::from_be_bytes([
+                bytes[0], bytes[1], bytes[2], bytes[3], bytes[4], bytes[5], bytes[6], bytes[7],
+            ]),
+        }))
     }
 }

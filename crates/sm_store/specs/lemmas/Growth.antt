@@ -7,7 +7,7 @@ use Rattle.sm_store.specs.declared.item.Item.{Item}
 use Rattle.sm_store.specs.declared.store_key.PassingKey.{PassingKey}
 use Rattle.sm_store.specs.declared.store_key.PassingKey.TheVariants.{Leader, Server, Batch, Part, Other}
 use Rattle.sm_store.specs.declared.store_key.StoreKey.{StoreKey}
-use Rattle.sm_store.specs.Clients.{last_of, AreNext, reply_in}
+use Rattle.sm_store.specs.Clients.{Automaton, last_of, AreNext, reply_in}
 use Rattle.sm_store.specs.Store.{Transaction, head_key, made, made_by, touches}
 use Rattle.sm_store.specs.Deeds.{AreRight, Charter, Deed, Electing, Expiring, Changing, Executing, Basing, Naming}
 use Rattle.sm_store.specs.Deeds.{Clearing, Following, Restarting, Settling, Checking, Foreign, HasLed, HasRequests}
@@ -167,14 +167,14 @@ asked_grows new asked shard client number ask was = record {
   number_is = was.number_is;
 }
 
-module _ {Q P R S : Type 0} (after : S → Q → S) (reply : S → Q → R) (start : S) where
+module _ {Q P R S : Type 0} (service : Automaton S Q R) where
   -- what is so stays so as the store goes on
   pub so_grows : (asked : List (Ask Q)) (more log : List (Transaction Q P)) (claim : Claim Q R)
-      → IsSo after reply start asked log claim → IsSo after reply start asked (more ++ log) claim
+      → IsSo service asked log claim → IsSo service asked (more ++ log) claim
   so_grows asked more log (Replies shard client number answer) so =
       let grown = made_grows shard more log in
-      ap (λ (items : List (Item Q)). reply_in after reply start items client number) grown.1
-      ∙ reply-append after reply start (made shard log) grown.0 client number answer so
+      ap (λ (items : List (Item Q)). reply_in service service.start items client number) grown.1
+      ∙ reply-append service service.start (made shard log) grown.0 client number answer so
   so_grows asked more log (Overtaken shard client number) so =
       let grown = made_grows shard more log in
       let longer : last_of client (made shard (more ++ log)) ≡ max (last_of client (made shard log))
@@ -193,7 +193,7 @@ module _ {Q P R S : Type 0} (after : S → Q → S) (reply : S → Q → R) (sta
 
   -- and as more is asked
   pub so_asked : (new : Ask Q) (asked : List (Ask Q)) (log : List (Transaction Q P)) (claim : Claim Q R)
-      → IsSo after reply start asked log claim → IsSo after reply start (new ∷ asked) log claim
+      → IsSo service asked log claim → IsSo service (new ∷ asked) log claim
   so_asked new asked log (Replies shard client number answer) so = so
   so_asked new asked log (Overtaken shard client number) so = so
   so_asked new asked log (Reads shard client number answer) so = record {

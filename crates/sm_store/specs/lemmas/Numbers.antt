@@ -4,7 +4,7 @@ use Rattle.std.proofs.Common.{append_assoc, append-nil}
 use Rattle.std.specs.Prelude.{Option, Some, ◌==◌, ◌&&◌, if◌then◌else◌, max}
 use Rattle.std.proofs.lemmas.Bool.{eqb-true}
 use Rattle.sm_store.specs.declared.item.Item.{Item}
-use Rattle.sm_store.specs.Clients.{last_of, AreNext, is_from, times, reply_in}
+use Rattle.sm_store.specs.Clients.{Automaton, last_of, AreNext, is_from, times, reply_in}
 
 last_step : (b : Bool) (n x y z : ℕ) → z ≡ max x y → (if b then max n z else z) ≡ max (if b then max n x else x) y
 last_step true n x y z is = omega arith
@@ -50,7 +50,7 @@ module _ {Q : Type 0} where
       (item.number == number) item.number number (last_of client items) (times client number items) below
       (eqb-true item.number number) (unused client number items)
 
-module _ {Q R S : Type 0} (after : S → Q → S) (reply : S → Q → R) where
+module _ {Q R S : Type 0} (service : Automaton S Q R) where
   reply_step : (b : Bool) (found : R) (rest longer : Option R) (r : R) → (rest ≡ Some r → longer ≡ Some r)
       → (if b then Some found else rest) ≡ Some r → (if b then Some found else longer) ≡ Some r
   reply_step true found rest longer r goes is = is
@@ -58,11 +58,11 @@ module _ {Q R S : Type 0} (after : S → Q → S) (reply : S → Q → R) where
 
   -- a reply stays what it was
   pub reply-append : (state : S) (xs ys : List (Item Q)) (client number : ℕ) (r : R)
-      → reply_in after reply state xs client number ≡ Some r → reply_in after reply state (xs ++ ys) client number
+      → reply_in service state xs client number ≡ Some r → reply_in service state (xs ++ ys) client number
       ≡ Some r
   reply-append state [] ys client number r is = absurd cc
   reply-append state (item ∷ items) ys client number r is =
-      reply_step (is_from client number item) (reply state item.request)
-      (reply_in after reply (after state item.request) items client number)
-      (reply_in after reply (after state item.request) (items ++ ys) client number) r
-      (reply-append (after state item.request) items ys client number r) is
+      reply_step (is_from client number item) (service.reply state item.request)
+      (reply_in service (service.after state item.request) items client number)
+      (reply_in service (service.after state item.request) (items ++ ys) client number) r
+      (reply-append (service.after state item.request) items ys client number r) is

@@ -7,13 +7,11 @@ use Rattle.sm_shard.proofs.replica.make_all.Given as goal
 
 abbrev pub invariant-loop-item : goal.invariant-loop-item
 invariant-loop-item g l =
-    let after = g.M.StoreMachine.after in
-    let reply = g.M.StoreMachine.reply in
-    let start = g.M.StoreMachine.start in
+    let service = g.M.StoreMachine.service in
     let items = take l.item-index l.items in
     record {
-      answers : l.answers.items ≡ replies_of after reply l.fn.replica.machine items;
-      machine : l.replica.machine ≡ state_after after l.fn.replica.machine items;
-      replica : (before : List (Item g.row.Q.Denot)) → IsReplica after reply start before l.fn.replica
-          → IsReplica after reply start (before ++ items) l.replica × AreNext before items;
+      answers : l.answers.items ≡ replies_of service l.fn.replica.machine items;
+      machine : l.replica.machine ≡ state_after service l.fn.replica.machine items;
+      replica : (before : List (Item g.row.Q.Denot)) → IsReplica service before l.fn.replica
+          → IsReplica service (before ++ items) l.replica × AreNext before items;
     }

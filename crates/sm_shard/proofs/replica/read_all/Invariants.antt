@@ -1,7 +1,8 @@
-use Rattle.std.proofs.Common.{take}
-use Rattle.sm_shard.specs.Replicas.{AreReadBy}
+use Rattle.std.proofs.Common.{◌≡◌, map, take}
+use Rattle.sm_shard.specs.Replicas.{read_of}
 use Rattle.sm_shard.proofs.replica.read_all.Given as goal
 
 abbrev pub invariant-loop-item : goal.invariant-loop-item
 invariant-loop-item g l =
-    AreReadBy g.M.StoreMachine.reply l.machine (take l.item-index l.items) l.reads.items
+    let machine = g.M.StoreMachine in
+    l.reads.items ≡ map (read_of machine.service machine.reads l.machine) (take l.item-index l.items)

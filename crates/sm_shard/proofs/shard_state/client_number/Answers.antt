@@ -1,9 +1,9 @@
-use Rattle.std.proofs.Common.{◌≡◌, false, ◌++◌, ◌∷◌, [], ◌+◌, take, drop, ap, sym, subst, ◌∙◌, List}
+use Rattle.std.proofs.Common.{◌≡◌, ◌++◌, ◌∷◌, [], ◌+◌, take, drop, ap, sym, subst, ◌∙◌, List}
 use Rattle.std.proofs.lemmas.List.{drop_more, take_more}
 use Rattle.sm_store.specs.declared.item.Item.{Item}
 use Rattle.sm_store.specs.Clients.{last_of}
 use Rattle.sm_shard.specs.Decisions.{client_number}
-use Rattle.sm_shard.proofs.ShardServers.{last_none_push, number_here, number_later}
+use Rattle.sm_shard.proofs.ShardServers.{last_none_push, number_later}
 use Rattle.sm_shard.proofs.shard_state.client_number.Goals as goal
 
 pub loop-item-preserved : goal.loop-item-preserved

@@ -9,7 +9,7 @@ returns-in-Some-clause-decided g c = λ before ready. c.in-Some.ensures.known c.
 
 pub returns-clause-kept : goal.returns-clause-kept
 returns-clause-kept g c = λ before ready.
-    ready_push g.M.StoreMachine.after g.M.StoreMachine.reply g.M.StoreMachine.start c.args.me before c.args.item
+    ready_push g.M.StoreMachine.service c.args.me before c.args.item
     c.args.ready.now
     (record {
       state = c.args.ready.now.state;
@@ -21,6 +21,7 @@ returns-clause-kept g c = λ before ready.
       waiting = c.push.new.self;
       carried = c.args.ready.now.carried;
       asking = c.args.ready.now.asking;
+      work = c.args.ready.now.work;
     })
     refl refl refl c.in_ok-push.ensures.items
     (sym c.accepts.ensures ∙ c.if-not-accepts.false)

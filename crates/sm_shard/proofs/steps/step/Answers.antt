@@ -1,78 +1,120 @@
-use Rattle.std.proofs.Common.{rules, Ok, ◌<◌, ◌≢◌, length, sym, subst}
+use Rattle.std.proofs.Common.{rules, Ok, ◌<◌, ◌≢◌, sym, subst}
 use Rattle.std.specs.List.{AllByRecursion}
 use Rattle.sm_store.specs.System.{MayClaim}
 use Rattle.sm_shard.specs.declared.steps.ShardInput.{ShardInput}
 use Rattle.sm_shard.specs.declared.steps.ShardOutput.{ShardOutput}
-use Rattle.sm_shard.specs.declared.steps.ShardOutput.TheVariants.{Nothing, Answers, Sends}
+use Rattle.sm_shard.specs.declared.steps.ShardOutput.TheVariants.{Nothing, Answers, Sends, Bases, Clears}
 use Rattle.sm_shard.specs.Steps.{IsInput, step_claims}
 use Rattle.sm_shard.specs.declared.shard_state.ShardState.{ShardState}
 use Rattle.sm_shard.specs.ShardServers.{DidHold, WereMade, claimed_all, claimed_reads, sent_transaction}
-use Rattle.sm_shard.proofs.ShardServers.{all-append, both_of, transactions_may}
+use Rattle.sm_shard.proofs.ShardServers.{all-append, both_of, parts_may, transactions_may}
 use Rattle.sm_shard.proofs.steps.step.Goals as goal
 
 pub returns-then-branch-clause-call : goal.returns-then-branch-clause-call
-returns-then-branch-clause-call g c = λ charter system since count placed past known asked input.
+returns-then-branch-clause-call g c = λ charter system since count parts right placed past known asked input.
     let done = c.in_ok-flush-in-Flush.ensures in
     let now = done.known system.log known in
     record {
       known = now;
       asked = done.sends c.if-branch.true system since past asked;
-      may = transactions_may g.M.StoreMachine.after g.M.StoreMachine.reply g.M.StoreMachine.start charter system.log
-          c.flush.new.self.me c.flush.new.self.shard c.flush.new.self.ready
+      may = transactions_may g.M.StoreMachine.service charter system.log
+          c.flush.new.self.me c.flush.new.self.shard c.flush.new.self.ready parts
           (subst (λ k. k < charter.count) (sym done.shard)
           (subst (λ n. c.args.server.now.shard < n) (sym count) placed.0))
           (subst (λ k. k ≢ 0) (sym done.me) placed.1) now;
       claims = let out : ShardOutput g.row.Q.Denot g.row.R.Denot = Sends in
-          subst (λ (i : ShardInput g.row.M.Denot g.row.Q.Denot g.row.R.Denot). AllByRecursion
-          (MayClaim g.M.StoreMachine.after g.M.StoreMachine.reply g.M.StoreMachine.start system)
+          subst (λ (i : ShardInput g.row.Q.Denot g.row.R.Denot). AllByRecursion
+          (MayClaim g.M.StoreMachine.service system)
           (step_claims c.args.server.now.shard i (Ok out))) (sym c.in-Flush.is) tt;
     }
 
 pub returns-in_ok-answers-in-Made-clause-call : goal.returns-in_ok-answers-in-Made-clause-call
-returns-in_ok-answers-in-Made-clause-call g c = λ charter system since count placed past known asked input.
-    let made = subst (λ (i : ShardInput g.row.M.Denot g.row.Q.Denot g.row.R.Denot). IsInput g.M.StoreMachine.after
-    g.M.StoreMachine.reply g.M.StoreMachine.start system since c.args.server.now i) c.in-Made.is input in
+returns-in_ok-answers-in-Made-clause-call g c = λ charter system since count parts right placed past known asked input.
+    let made = subst (λ (i : ShardInput g.row.Q.Denot g.row.R.Denot). IsInput g.M.StoreMachine.service system since
+    c.args.server.now i) c.in-Made.is input in
     let done = c.in_ok-answers-in-Made.ensures in
     let shard = c.args.server.now.shard in
     let answers = c.in_ok-answers-in-Made.answers in
-    let parts = both_of c.args.server.now.ready
+    let both = both_of c.args.server.now.ready
     (λ (ready : ShardState g.row.M.Denot g.row.Q.Denot g.row.R.Denot). DidHold system.held since
     (sent_transaction c.args.server.now.me shard ready))
     (λ (ready : ShardState g.row.M.Denot g.row.Q.Denot g.row.R.Denot). WereMade system.log c.args.server.now.me shard
     c.in-Made.revision ready) made in
     record {
-      known = done.known system.log known parts.1;
+      known = done.known system.log known both.1;
       asked = done.asked system.asked since asked;
       may = tt;
-      claims = subst (λ (i : ShardInput g.row.M.Denot g.row.Q.Denot g.row.R.Denot). AllByRecursion
-          (MayClaim g.M.StoreMachine.after g.M.StoreMachine.reply g.M.StoreMachine.start system)
+      claims = subst (λ (i : ShardInput g.row.Q.Denot g.row.R.Denot). AllByRecursion
+          (MayClaim g.M.StoreMachine.service system)
           (step_claims shard i (Ok (Answers answers)))) (sym c.in-Made.is)
-          (all-append (MayClaim g.M.StoreMachine.after g.M.StoreMachine.reply g.M.StoreMachine.start system)
+          (all-append (MayClaim g.M.StoreMachine.service system)
           (claimed_all shard answers.made.items) (claimed_reads shard answers.read.items)
-          (done.told system known parts.1) (done.read system since known asked parts.0));
+          (done.told system known both.1) (done.read system since known asked both.0));
     }
 
 pub returns-in_ok-on_read-in-Read-clause-call : goal.returns-in_ok-on_read-in-Read-clause-call
-returns-in_ok-on_read-in-Read-clause-call g c = λ charter system since count placed past known asked input.
-    let read = subst (λ (i : ShardInput g.row.M.Denot g.row.Q.Denot g.row.R.Denot). IsInput g.M.StoreMachine.after
-    g.M.StoreMachine.reply g.M.StoreMachine.start system since c.args.server.now i) c.in-Read.is input in
+returns-in_ok-on_read-in-Read-clause-call g c = λ charter system since count parts right placed past known asked input.
+    let read = subst (λ (i : ShardInput g.row.Q.Denot g.row.R.Denot). IsInput g.M.StoreMachine.service system since
+    c.args.server.now i) c.in-Read.is input in
     let out : ShardOutput g.row.Q.Denot g.row.R.Denot = Nothing in
     record {
-      known = c.in_ok-on_read-in-Read.ensures.known system.log read.1.first read.0 read.1.read read.1.replica;
+      known = c.in_ok-on_read-in-Read.ensures.known charter system.log parts right read.0 read.1;
       asked = c.in_ok-on_read-in-Read.ensures.asked system.asked since;
       may = tt;
-      claims = subst (λ (i : ShardInput g.row.M.Denot g.row.Q.Denot g.row.R.Denot). AllByRecursion
-          (MayClaim g.M.StoreMachine.after g.M.StoreMachine.reply g.M.StoreMachine.start system)
+      claims = subst (λ (i : ShardInput g.row.Q.Denot g.row.R.Denot). AllByRecursion
+          (MayClaim g.M.StoreMachine.service system)
           (step_claims c.args.server.now.shard i (Ok out))) (sym c.in-Read.is) tt;
     }
 
 pub returns-in_err-on_read-in-Read-clause-call : goal.returns-in_err-on_read-in-Read-clause-call
-returns-in_err-on_read-in-Read-clause-call g c = λ charter system since count placed past known asked input.
-    let read = subst (λ (i : ShardInput g.row.M.Denot g.row.Q.Denot g.row.R.Denot). IsInput g.M.StoreMachine.after
-    g.M.StoreMachine.reply g.M.StoreMachine.start system since c.args.server.now i) c.in-Read.is input in
+returns-in_err-on_read-in-Read-clause-call g c = λ charter system since count parts right placed past known asked input.
+    let read = subst (λ (i : ShardInput g.row.Q.Denot g.row.R.Denot). IsInput g.M.StoreMachine.service system since
+    c.args.server.now i) c.in-Read.is input in
     record {
-      known = c.in_err-on_read-in-Read.ensures.known system.log read.1.first read.0 read.1.read read.1.replica;
+      known = c.in_err-on_read-in-Read.ensures.known charter system.log parts right read.0 read.1;
       asked = search rules;
       may = search rules;
       claims = search rules;
+    }
+
+pub returns-then-begun-clause-call : goal.returns-then-begun-clause-call
+returns-then-begun-clause-call g c = λ charter system since count parts right placed past known asked input.
+    let done = c.in_ok-begun-in-Base.ensures in
+    let now = done.known system.log known in
+    record {
+      known = now;
+      asked = done.asked system.asked since asked;
+      may = parts_may g.M.StoreMachine.service charter system.log
+          c.begin_base.new.self.me c.begin_base.new.self.shard c.begin_base.new.self.ready parts now;
+      claims = let out : ShardOutput g.row.Q.Denot g.row.R.Denot = Bases in
+          subst (λ (i : ShardInput g.row.Q.Denot g.row.R.Denot). AllByRecursion
+          (MayClaim g.M.StoreMachine.service system)
+          (step_claims c.args.server.now.shard i (Ok out))) (sym c.in-Base.is) tt;
+    }
+
+pub returns-then-behind-clause-call : goal.returns-then-behind-clause-call
+returns-then-behind-clause-call g c = λ charter system since count parts right placed past known asked input.
+    record {
+      known = known;
+      asked = asked;
+      may = (c.is_behind-behind.ensures.may c.if-behind.true charter system.log known, tt);
+      claims = let out : ShardOutput g.row.Q.Denot g.row.R.Denot = Clears c.in-Clear.key in
+          subst (λ (i : ShardInput g.row.Q.Denot g.row.R.Denot). AllByRecursion
+          (MayClaim g.M.StoreMachine.service system)
+          (step_claims c.args.server.now.shard i (Ok out))) (sym c.in-Clear.is) tt;
+    }
+
+pub returns-in-PartsMade-clause-call : goal.returns-in-PartsMade-clause-call
+returns-in-PartsMade-clause-call g c = λ charter system since count parts right placed past known asked input.
+    let made = subst (λ (i : ShardInput g.row.Q.Denot g.row.R.Denot). IsInput g.M.StoreMachine.service system since
+    c.args.server.now i) c.in-PartsMade.is input in
+    let done = c.on_parts_made.ensures in
+    let out : ShardOutput g.row.Q.Denot g.row.R.Denot = Nothing in
+    record {
+      known = done.known system.log known made;
+      asked = done.asked system.asked since asked;
+      may = tt;
+      claims = subst (λ (i : ShardInput g.row.Q.Denot g.row.R.Denot). AllByRecursion
+          (MayClaim g.M.StoreMachine.service system)
+          (step_claims c.args.server.now.shard i (Ok out))) (sym c.in-PartsMade.is) tt;
     }

@@ -1,5 +1,5 @@
 use Rattle.sm_store.proofs.Right.{honest_is_right}
-use Rattle.sm_store.proofs.Whole.{whole}
+use Rattle.sm_store.specs.lemmas.Whole.{whole}
 use Rattle.sm_store.proofs.laws.keys_are_whole.Goals as goal
 
 pub returns : goal.returns

@@ -8,20 +8,17 @@ use Rattle.sm_shard.proofs.shard_server.ShardServer.flush.Goals as goal
 
 pub returns-in-Some-clause-known : goal.returns-in-Some-clause-known
 returns-in-Some-clause-known g c = λ log known.
-    let after = g.M.StoreMachine.after in
-    let reply = g.M.StoreMachine.reply in
-    let start = g.M.StoreMachine.start in
+    let service = g.M.StoreMachine.service in
     let me = c.args.self.now.me in
     let shard = c.args.self.now.shard in
-    knows_same after reply start log me shard c.in-Some.ready c.flush.new.ready c.flush.ensures.state
+    knows_same service log me shard c.in-Some.ready c.flush.new.ready c.flush.ensures.state
     c.flush.ensures.stood c.flush.ensures.head c.flush.ensures.logged (c.flush.ensures.kept me)
-    (known_of after reply start log me shard c.args.self.now.ready c.in-Some.ready c.in-Some.is known)
+    (c.flush.ensures.base log shard)
+    (known_of service log me shard c.args.self.now.ready c.in-Some.ready c.in-Some.is known)
 
 pub returns-in-Some-clause-sends : goal.returns-in-Some-clause-sends
 returns-in-Some-clause-sends g c =
-    let after = g.M.StoreMachine.after in
-    let reply = g.M.StoreMachine.reply in
-    let start = g.M.StoreMachine.start in
+    let service = g.M.StoreMachine.service in
     let size = g.M.StoreMachine.size in
     let shard = c.args.self.now.shard in
     let limits = c.args.self.now.limits in
@@ -33,7 +30,7 @@ returns-in-Some-clause-sends g c =
     → AreAskedOf system.asked (length system.log) shard new)
     c.flush.result
     (λ sends flush yes system since past asked.
-    asked_flushed after reply start limits size system since shard ready new past (flush yes)
+    asked_flushed service limits size system since shard ready new past (flush yes)
     (some_of (λ (r : ShardState g.row.M.Denot g.row.Q.Denot g.row.R.Denot). AreAskedOf system.asked since shard r)
     c.args.self.now.ready ready c.in-Some.is asked))
     c.flush.ensures.sends

@@ -5,28 +5,37 @@ use Rattle.sm_store.specs.System.{MayClaim}
 use Rattle.sm_shard.specs.declared.shard_state.Decision.{Decision}
 use Rattle.sm_shard.specs.declared.shard_state.ShardState.{ShardState}
 use Rattle.sm_shard.specs.ShardServers.{IsShardState, IsDecided, IsTrueOf, HasRead, StoreSystem, claimed_by}
-use Rattle.sm_shard.proofs.ShardServers.{ok_map, some_of, decided_so}
+use Rattle.sm_shard.proofs.ShardServers.{ok_map, some_of, decided_so, known_of, knows_same, same_base}
 use Rattle.sm_shard.proofs.shard_server.ShardServer.on_request.Goals as goal
 
 pub returns-in-Some-clause-told : goal.returns-in-Some-clause-told
 returns-in-Some-clause-told g c =
-    let after = g.M.StoreMachine.after in
-    let reply = g.M.StoreMachine.reply in
-    let start = g.M.StoreMachine.start in
+    let service = g.M.StoreMachine.service in
     let me = c.args.self.now.me in
     let shard = c.args.self.now.shard in
     let ready = c.in-Some.ready in
     ok_map
     (λ (decision : Decision g.row.R.Denot). (before : List (Item g.row.Q.Denot))
-    → IsShardState after reply start me before ready → IsDecided after reply start ready.state me before
+    → IsShardState service me before ready → IsDecided service ready.state me before
     c.args.item.client c.args.item.number decision)
     (λ (decision : Decision g.row.R.Denot). (system : StoreSystem g.row.Q.Denot g.row.R.Denot)
-    → IsTrueOf after reply start system.log c.args.self.now → AllByRecursion (MayClaim after reply start system)
+    → IsTrueOf service system.log c.args.self.now → AllByRecursion (MayClaim service system)
     (claimed_by shard c.args.item.client c.args.item.number decision))
     c.take.result
     (λ decision decided system known.
-    let knows = some_of (λ (r : ShardState g.row.M.Denot g.row.Q.Denot g.row.R.Denot). HasRead after reply start
+    let knows = some_of (λ (r : ShardState g.row.M.Denot g.row.Q.Denot g.row.R.Denot). HasRead service
     system.log me shard r) c.args.self.now.ready ready c.in-Some.is known in
-    decided_so after reply start shard me system ready.state (record { head = ready.head; items = knows.before })
+    decided_so service shard me system ready.state (record { head = ready.head; items = knows.before })
     ready.logged c.args.item.client c.args.item.number knows.logged decision (decided knows.before knows.is))
     c.take.ensures.decided
+
+pub returns-in-Some-clause-known : goal.returns-in-Some-clause-known
+returns-in-Some-clause-known g c = λ log known.
+    let service = g.M.StoreMachine.service in
+    let shard = c.args.self.now.shard in
+    let ready = c.in-Some.ready in
+    let new = c.take.new.ready in
+    let done = c.take.ensures in
+    knows_same service log c.args.self.now.me shard ready new done.state done.stood done.head done.logged done.kept
+    (same_base service log shard ready new done.head done.work)
+    (known_of service log c.args.self.now.me shard c.args.self.now.ready ready c.in-Some.is known)

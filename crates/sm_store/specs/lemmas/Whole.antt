@@ -13,8 +13,8 @@ use Rattle.sm_store.specs.Deeds.{Charter, Deed, Electing, Expiring, Changing, Ex
 use Rattle.sm_store.specs.Deeds.{Following, Restarting, Settling, Checking, Foreign, transaction_of, is_leased}
 use Rattle.sm_store.specs.Deeds.{IsBehind, IsRight, AreRight}
 use Rattle.sm_store.specs.Whole.{AreThere, IsBased, IsBatchThere, IsLogWhole, base_parts}
-use Rattle.sm_store.proofs.Heads.{until_all, until_there}
-use Rattle.sm_store.proofs.Parts.{part_is, part_stays_one}
+use Rattle.sm_store.specs.lemmas.Heads.{until_all, until_there}
+use Rattle.sm_store.specs.lemmas.Parts.{part_is, part_stays_one}
 
 below_next : (a b : ℕ) → a < b + 1 → (a < b) ⊎ (a ≡ b)
 below_next a b below =
@@ -270,7 +270,7 @@ module _ {Q P : Type 0} (charter : Charter Q P) (shard : ℕ) where
       subst (λ (t : Transaction Q P). AreThere shard (t ∷ log) (head_of shard (t ∷ log))) (sym right.0.is)
       (there_one log right.0.deed right.0.right right.1 (there log right.1))
 
-  none : (log : List (Transaction Q P)) → made_until shard 0 log ≡ []
+  pub none : (log : List (Transaction Q P)) → made_until shard 0 log ≡ []
   none [] = refl
   none (txn ∷ log) =
       cond-false (nat_lt (head_of shard log).batches 0) (made_until shard 0 log ++ made_by shard txn.writes)

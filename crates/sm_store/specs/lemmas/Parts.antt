@@ -11,14 +11,14 @@ use Rattle.sm_store.specs.Store.{Transaction, head_of, made_until, part_at, same
 use Rattle.sm_store.specs.Deeds.{Charter, Deed, Electing, Expiring, Changing, Executing, Basing, Naming, Clearing}
 use Rattle.sm_store.specs.Deeds.{Following, Restarting, Settling, Checking, Foreign, transaction_of, is_leased}
 use Rattle.sm_store.specs.Deeds.{IsBehind, IsRight, AreRight}
-use Rattle.sm_store.proofs.Heads.{risen_by, until_there}
+use Rattle.sm_store.specs.lemmas.Heads.{risen_by, until_there}
 
-some_or : {A : Type 0} (b : Bool) (x y : A) (o : Option A) → (if b then Some x else o) ≡ Some y
+pub some_or : {A : Type 0} (b : Bool) (x y : A) (o : Option A) → (if b then Some x else o) ≡ Some y
     → ((b ≡ true) × (x ≡ y)) ⊎ (o ≡ Some y)
 some_or {A = A} true x y o is = inl (refl, ap (λ (q : Option A). unwrap_or q x) is)
 some_or false x y o is = inr is
 
-none_or : {A : Type 0} (b : Bool) (y : A) (o : Option A) → (if b then None else o) ≡ Some y → o ≡ Some y
+pub none_or : {A : Type 0} (b : Bool) (y : A) (o : Option A) → (if b then None else o) ≡ Some y → o ≡ Some y
 none_or true y o is = absurd (none-some _ is)
 none_or false y o is = is
 

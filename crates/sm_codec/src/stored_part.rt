@@ -1,0 +1,9 @@
+use sm_store::item::Item;
+
+/// What lies at a part of a base: bytes of the machine, and last requests of clients, each with its reply as the
+/// request.
+#[derive(Drop)]
+pub struct StoredPart {
+    pub state: Vec<u8>,
+    pub lasts: Vec<Item<Vec<u8>>>,
+}

@@ -1,0 +1,6 @@
+use Rattle.std.proofs.Common.{◌≡◌, ◌++◌, ◌-◌}
+use Rattle.sm_shard.specs.Bases.{cut}
+use Rattle.sm_shard.proofs.base.cut.Given as goal
+
+abbrev pub invariant-loop : goal.invariant-loop
+invariant-loop g l = l.parts.items ++ cut (l.count - l.counter) l.state l.lasts ≡ cut l.count l.fn.state l.fn.lasts

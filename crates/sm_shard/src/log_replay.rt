@@ -1,0 +1,74 @@
+ghost use Rattle.std.specs.Prelude.{◌≡◌, ◌<◌, ◌+◌, ◌++◌, List, [], length, map, IfOk, OnOk};
+ghost use Rattle.sm_store.specs.declared.item.Item.{Item as ItemValue};
+ghost use Rattle.sm_store.specs.Clients.{AreNext};
+ghost use Rattle.sm_store.specs.Whole.{all_items};
+ghost use Rattle.sm_shard.specs.Bases.{base_of};
+ghost use Rattle.sm_shard.specs.Replicas.{IsReplica};
+
+use crate::base::replica_of;
+use crate::base_part::BasePart;
+use crate::replica::{ReplayFault, Replica, empty, make_all};
+use crate::store_machine::StoreMachine;
+use sm_store::head::Head;
+use sm_store::item::Item;
+use std::alloc::Global;
+
+// The replica of the requests for which the base that the head names stands, or of none.
+fn based<Q: Drop, R: Copy + Drop, M: StoreMachine<Q, R>>(
+    alloc: Global,
+    head: &Head,
+    parts: &[BasePart<R>],
+) -> Result<Replica<M, R>, ReplayFault>
+    ensures replica { (first : List (ItemValue Q)) → AreNext [] first → (head.now.base ≡ 0 → first ≡ [])
+        → (0 < head.now.base → parts.now ≡ base_of M.service first)
+        → IfOk result (λ replica. IsReplica M.service first replica) }
+    ensures parts { OnOk result (0 < head.now.base → length parts.now ≡ head.now.parts) }
+{
+    if head.base == 0 {
+        return Ok(empty::<Q, R, M>(alloc));
+    }
+    if parts.len() as u64 != head.parts {
+        return Err(ReplayFault::Missing);
+    }
+    replica_of::<Q, R, M>(alloc, parts)
+}
+
+// Makes the requests of batches, one after the other.
+fn make_batches<Q: Drop, R: Copy + Drop, M: StoreMachine<Q, R>>(
+    alloc: Global,
+    replica: &mut Replica<M, R>,
+    batches: &[Vec<Item<Q>>],
+) -> Result<(), ReplayFault>
+    ensures { OnOk result ((before : List (ItemValue Q)) → IsReplica M.service before replica.old
+        → IsReplica M.service (before ++ all_items (map (λ batch. batch.items) batches.now)) replica.new) }
+{
+    for batch in batches {
+        make_all(alloc, replica, batch)?;
+    }
+    Ok(())
+}
+
+/// The replica of a shard's log, by the head, the parts of the base that it names, and the batches after it. `Missing`
+/// where those aren't as many as the head says, and it is to be read again.
+pub fn replay<Q: Drop, R: Copy + Drop, M: StoreMachine<Q, R>>(
+    alloc: Global,
+    head: &Head,
+    parts: &[BasePart<R>],
+    batches: &[Vec<Item<Q>>],
+) -> Result<Replica<M, R>, ReplayFault>
+    ensures replica { (first : List (ItemValue Q)) → AreNext [] first → (head.now.base ≡ 0 → first ≡ [])
+        → (0 < head.now.base → parts.now ≡ base_of M.service first) → IfOk result (λ replica.
+        IsReplica M.service (first ++ all_items (map (λ batch. batch.items) batches.now)) replica) }
+    ensures parts { OnOk result (0 < head.now.base → length parts.now ≡ head.now.parts) }
+    ensures batches { OnOk result (head.now.base + length batches.now ≡ head.now.batches) }
+{
+    let Some(count) = head.base.checked_add(batches.len() as u64) else {
+        return Err(ReplayFault::Missing);
+    };
+    if count != head.batches {
+        return Err(ReplayFault::Missing);
+    }
+    let mut replica = based::<Q, R, M>(alloc, head, parts)?;
+    make_batches(alloc, &mut replica, batches)?;
+    Ok(replica)
+}
