@@ -13,7 +13,8 @@ use Rattle.sm_store.specs.Clients.{AreNext}
 use Rattle.sm_store.specs.Store.{Transaction, batch_at, head_key, head_of, made, made_by, made_until, part_at}
 use Rattle.sm_store.specs.Store.{same_passing}
 use Rattle.sm_store.specs.Deeds.{Charter, Deed, Electing, Expiring, Changing, Executing, Basing, Naming, Clearing}
-use Rattle.sm_store.specs.Deeds.{Following, Checking, Foreign, transaction_of, IsRight, AreRight, WasFound, shard_log}
+use Rattle.sm_store.specs.Deeds.{Following, Restarting, Settling, Checking, Foreign, transaction_of, IsRight, AreRight}
+use Rattle.sm_store.specs.Deeds.{WasFound, shard_log}
 use Rattle.sm_store.specs.Whole.{AreBatches, AreParts, WasSeen, all_items, base_parts}
 use Rattle.sm_store.specs.lemmas.Growth.{made_next}
 use Rattle.sm_store.specs.lemmas.Heads.{right_past, risen, until_all, until_stays, until_there}
@@ -92,6 +93,8 @@ module _ {Q P : Type 0} (charter : Charter Q P) (shard : ℕ) where
   written log (Clearing key) number items right rights is =
       inl (none_or (same_passing key (Batch shard (number + 1))) items _ is)
   written log (Following server revision) number items right rights is = inl is
+  written log (Restarting process server state elected placed) number items right rights is = inl is
+  written log (Settling settings) number items right rights is = inl is
   written log (Checking compares) number items right rights is = inl is
   written log Foreign number items right rights is = inl is
 
