@@ -15,4 +15,4 @@ foreign_of numbers = map (λ number. record { number = number }) numbers
 -- the desk of these rows, under this cap of restarts: all servers are up, and all shards vacant
 abbrev pub desk_of_rows : List ServerRow → List GroupRow → List ShardRow → List DomainRow → ℕ → DeskView
 desk_of_rows servers groups shards domains ops =
-    record { books = new_books servers groups shards domains; ops = ops }
+    record { books = new_books servers groups shards domains; caps = record { ops = ops } }
