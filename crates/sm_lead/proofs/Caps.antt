@@ -14,7 +14,7 @@ use Rattle.sm_place.specs.declared.server_state.ServerState.TheVariants as state
 use Rattle.sm_place.specs.declared.shard.Shard.{Shard}
 use Rattle.sm_place.specs.Books.{BooksView, IsKnown, new_books, no_shard, place_of, vacant_shard, with_state}
 use Rattle.sm_place.specs.Sound.{AreSound}
-use Rattle.sm_tasks.specs.Caps.{MeetsCaps}
+use Rattle.sm_tasks.specs.Caps.{MeetsCaps, RestartCaps}
 use Rattle.sm_desk.specs.declared.command.Command.{Command}
 use Rattle.sm_desk.specs.declared.command.Command.TheVariants.{Change}
 use Rattle.sm_desk.specs.Desk.{DeskView, books_commanded, commanded, desk_fault}
@@ -40,40 +40,40 @@ stated books a states.Approved = refl
 stated books a states.Stopped = refl
 stated books a states.Failed = refl
 
-stated_known : (books : BooksView) (ops a : ℕ) (state : ServerState)
-    → desk_fault (record { books = books; ops = ops }) (step_to state a) ≡ None → IsKnown books.servers a
-stated_known books ops a states.Up none = known_of books a _ none
-stated_known books ops a states.Asked none = known_of books a _ none
-stated_known books ops a states.Approved none = known_of books a _ none
-stated_known books ops a states.Stopped none = known_of books a _ none
-stated_known books ops a states.Failed none = known_of books a _ none
+stated_known : (books : BooksView) (caps : RestartCaps) (a : ℕ) (state : ServerState)
+    → desk_fault (record { books = books; caps = caps }) (step_to state a) ≡ None → IsKnown books.servers a
+stated_known books caps a states.Up none = known_of books a _ none
+stated_known books caps a states.Asked none = known_of books a _ none
+stated_known books caps a states.Approved none = known_of books a _ none
+stated_known books caps a states.Stopped none = known_of books a _ none
+stated_known books caps a states.Failed none = known_of books a _ none
 
-module _ (rows : SettingsRows) (ops : ℕ)
-    (keep_caps : (desk : DeskView) (command : Command) → AreSound desk.books → MeetsCaps desk.ops desk.books
-    → desk_fault desk command ≡ None → MeetsCaps desk.ops (books_commanded desk.books command))
+module _ (rows : SettingsRows) (caps : RestartCaps)
+    (keep_caps : (desk : DeskView) (command : Command) → AreSound desk.books → MeetsCaps desk.caps desk.books
+    → desk_fault desk command ≡ None → MeetsCaps desk.caps (books_commanded desk.books command))
     (keep_sound : (desk : DeskView) (command : Command) → AreSound desk.books → desk_fault desk command ≡ None
     → AreSound (commanded desk command).books) where
   -- the books of the records and states are sound, and meet the caps
   abbrev pub Keeps : Placement → Type 0
-  Keeps placement = AreSound (books_in rows placement) × MeetsCaps ops (books_in rows placement)
+  Keeps placement = AreSound (books_in rows placement) × MeetsCaps caps (books_in rows placement)
 
   step : (before after : Placement) (command : Command) → Keeps before
-      → desk_fault (desk_in rows ops before) command ≡ None
+      → desk_fault (desk_in rows caps before) command ≡ None
       → Agrees (books_commanded (books_in rows before) command) after → Keeps after
   step before after command keeps none agrees =
-      let desk = desk_in rows ops before in
+      let desk = desk_in rows caps before in
       let new = books_commanded (books_in rows before) command in
       let sound : AreSound new = keep_sound desk command keeps.0 none in
-      let caps : MeetsCaps ops new = keep_caps desk command keeps.0 keeps.1 none in
+      let kept : MeetsCaps caps new = keep_caps desk command keeps.0 keeps.1 none in
       let is : new ≡ books_in rows after =
       same_books new after sound agrees
       ∙ ap (λ (r : SettingsRows). books_in r after)
       (rows_commanded (books_in rows before) command ∙ rows_in rows before) in
-      (subst AreSound is sound, subst (MeetsCaps ops) is caps)
+      (subst AreSound is sound, subst (MeetsCaps caps) is kept)
 
   module _ {Q P : Type 0} (ceiling : ℕ) (parts : List (Item Q) → List P) where
     deed_step : (log : List (Transaction Q P)) (deed : Deed Q P)
-        → IsRight (charter_of rows ops ceiling parts) log deed → Keeps (placement_of log)
+        → IsRight (charter_of rows caps ceiling parts) log deed → Keeps (placement_of log)
         → Keeps (placement_of (transaction_of deed ∷ log))
     deed_step log (Electing process) right keeps = keeps
     deed_step log (Expiring key) right keeps = keeps
@@ -90,7 +90,7 @@ module _ (rows : SettingsRows) (ops : ℕ)
         let after = placement_of (transaction_of {Q = Q} {P = P} (Restarting process a state elected placed) ∷ log) in
         step (placement_of log) after (step_to state a) keeps none
         (subst (λ (b : BooksView). Agrees b after) (sym (stated books a state))
-        (agrees_entered books log process a state elected placed keeps.0.states (stated_known books ops a state none)
+        (agrees_entered books log process a state elected placed keeps.0.states (stated_known books caps a state none)
         (agrees_in rows (placement_of log))))
     deed_step log (Settling settings) right keeps = keeps
     deed_step log (Executing shard server items head stood logged) right keeps = keeps
@@ -103,7 +103,7 @@ module _ (rows : SettingsRows) (ops : ℕ)
 
     pub keeps_all : Keeps (record { records = λ shard. vacant; states = λ server. states.Up })
         → (log : List (Transaction Q P))
-        → AreRight (charter_of rows ops ceiling parts) log → Keeps (placement_of log)
+        → AreRight (charter_of rows caps ceiling parts) log → Keeps (placement_of log)
     keeps_all first [] right = first
     keeps_all first (txn ∷ earlier) right =
         subst (λ (t : Transaction Q P). Keeps (placement_of (t ∷ earlier))) (sym right.0.is)

@@ -111,20 +111,20 @@ module _ {Q P : Type 0} where
 module _ {Q P : Type 0} (parts : List (Item Q) → List P) (log : List (Transaction Q P)) (control : StoreControl)
     (sound : AreSound control.desk.books)
     (knows : KnowsStore log control) where
-  same_desk : control.desk ≡ desk_in (rows_of control.desk.books) control.desk.ops knows.read
+  same_desk : control.desk ≡ desk_in (rows_of control.desk.books) control.desk.caps knows.read
   same_desk =
-      ap (λ (books : BooksView). record { books = books; ops = control.desk.ops })
+      ap (λ (books : BooksView). record { books = books; caps = control.desk.caps })
       (same_books control.desk.books knows.read sound knows.agrees)
 
   allowed : (command : Command) → desk_fault control.desk command ≡ None
-      → is_none (desk_fault (desk_in (rows_of control.desk.books) control.desk.ops knows.read) command) ≡ true
+      → is_none (desk_fault (desk_in (rows_of control.desk.books) control.desk.caps knows.read) command) ≡ true
   allowed command none =
       subst (λ (desk : DeskView). is_none (desk_fault desk command) ≡ true) same_desk (none_is _ none)
 
   restart_may : (a : ℕ) (state : ServerState)
-      → is_none (desk_fault (desk_in (rows_of control.desk.books) control.desk.ops knows.read)
+      → is_none (desk_fault (desk_in (rows_of control.desk.books) control.desk.caps knows.read)
       (Rattle.sm_lead.specs.Placements.step_to state a)) ≡ true
-      → MaySend (charter_of (rows_of control.desk.books) control.desk.ops control.ceiling parts) log
+      → MaySend (charter_of (rows_of control.desk.books) control.desk.caps control.ceiling parts) log
       (command_transaction (sending_of control (WritesState a state)))
   restart_may a state allows = record {
     deed = Restarting control.lead.process a state control.lead.elected control.placed;
@@ -141,7 +141,7 @@ module _ {Q P : Type 0} (parts : List (Item Q) → List P) (log : List (Transact
       → IsTrue (change_fits ceiling state 0 change)
       ↔ ((phase_fault state.stand change ≡ None) × (record_fault ceiling state ≡ None)))
       → (command : Command) → command_fault control command ≡ None
-      → MaySend (charter_of (rows_of control.desk.books) control.desk.ops control.ceiling parts) log
+      → MaySend (charter_of (rows_of control.desk.books) control.desk.caps control.ceiling parts) log
       (command_transaction (sending_of control (write_of control command)))
   may_be_sent exactly (Change k change) none =
       let both = none_both _ _ none in

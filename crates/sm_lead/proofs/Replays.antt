@@ -6,14 +6,14 @@ use Rattle.sm_lead.specs.Placements.{HasRowsOf, rows_of}
 use Rattle.sm_lead.proofs.Agreement.{rows_commanded}
 
 pub same_rows : (desk : DeskView) → HasRowsOf desk desk
-same_rows desk = record { rows = refl; ops = refl }
+same_rows desk = record { rows = refl; caps = refl }
 
 pub rows_after : (old mid new : DeskView) → HasRowsOf old mid → HasRowsOf mid new → HasRowsOf old new
 rows_after old mid new first second =
-    record { rows = second.rows ∙ first.rows; ops = second.ops ∙ first.ops }
+    record { rows = second.rows ∙ first.rows; caps = second.caps ∙ first.caps }
 
 pub rows_made : (old new : DeskView) (command : Command) → new ≡ commanded old command → HasRowsOf old new
 rows_made old new command is = record {
   rows = ap (λ (d : DeskView). rows_of d.books) is ∙ rows_commanded old.books command;
-  ops = ap (λ (d : DeskView). d.ops) is;
+  caps = ap (λ (d : DeskView). d.caps) is;
 }

@@ -8,6 +8,7 @@ use Rattle.sm_rows.specs.declared.server_row.ServerRow.{ServerRow}
 use Rattle.sm_rows.specs.declared.group_row.GroupRow.{GroupRow}
 use Rattle.sm_rows.specs.declared.shard_row.ShardRow.{ShardRow}
 use Rattle.sm_rows.specs.declared.domain_row.DomainRow.{DomainRow}
+use Rattle.sm_tasks.specs.Caps.{RestartCaps}
 use Rattle.sm_desk.specs.declared.command.Command.{Command}
 use Rattle.sm_desk.specs.declared.command.Command.TheVariants.{Change, Ask, Approve, Stopped, Back, Fail}
 use Rattle.sm_desk.specs.Desk.{DeskView, desk_fault}
@@ -35,7 +36,7 @@ rows_of books =
 -- the desk has the rows of the other one, and approves as it
 pub record HasRowsOf (old new : DeskView) : Type 0 where
   pub rows : rows_of new.books ≡ rows_of old.books
-  pub ops : new.ops ≡ old.ops
+  pub caps : new.caps ≡ old.caps
 
 -- the books of these rows, where each shard stands as its record says, and each server is in its state
 abbrev pub books_in : SettingsRows → Placement → BooksView
@@ -64,18 +65,18 @@ step_to states.Approved server = Approve server
 step_to states.Stopped server = Stopped server
 step_to states.Failed server = Fail server
 
--- the desk of these rows, records and states, where at most `ops` servers may be leaving for an approval
-abbrev pub desk_in : SettingsRows → ℕ → Placement → DeskView
-desk_in rows ops placement = record { books = books_in rows placement; ops = ops }
+-- the desk of these rows, records and states, under these caps of restarts
+abbrev pub desk_in : SettingsRows → RestartCaps → Placement → DeskView
+desk_in rows caps placement = record { books = books_in rows placement; caps = caps }
 
 -- the charter of a store whose control has these rows: a command is allowed that the desk refuses by no fault
-abbrev pub charter_of : {Q P : Type 0} → SettingsRows → ℕ → ℕ → (List (Item Q) → List P) → Charter Q P
-charter_of rows ops ceiling parts =
+abbrev pub charter_of : {Q P : Type 0} → SettingsRows → RestartCaps → ℕ → (List (Item Q) → List P) → Charter Q P
+charter_of rows caps ceiling parts =
     record {
       count = length rows.shards;
       ceiling = ceiling;
-      allows_change = λ placement shard change. is_none (desk_fault (desk_in rows ops placement) (Change shard change));
-      allows_state = λ placement server state. is_none (desk_fault (desk_in rows ops placement)
+      allows_change = λ placement shard change. is_none (desk_fault (desk_in rows caps placement) (Change shard change));
+      allows_state = λ placement server state. is_none (desk_fault (desk_in rows caps placement)
           (step_to state server));
       parts = parts;
     }

@@ -8,7 +8,7 @@ ghost use Rattle.sm_rows.specs.declared.shard_row.ShardRow.{ShardRow};
 ghost use Rattle.sm_place.specs.declared.server_state.ServerState.{ServerState};
 ghost use Rattle.sm_place.specs.Books.{new_books};
 ghost use Rattle.sm_place.specs.Sound.{AreSound};
-ghost use Rattle.sm_tasks.specs.Caps.{MeetsCaps};
+ghost use Rattle.sm_tasks.specs.Caps.{MeetsCaps, RestartCaps};
 ghost use Rattle.sm_desk.specs.declared.command.Command.{Command};
 ghost use Rattle.sm_desk.specs.Desk.{DeskView};
 ghost use Rattle.sm_store.specs.declared.item.Item.{Item};
@@ -40,7 +40,7 @@ pub fn commands_may_be_sent<Q, P>()
     ensures { (parts : List (Item Q) → List P) (log : List (Transaction Q P)) (control : StoreControl)
         (command : Command) → AreSound control.desk.books → KnowsStore log control
         → command_fault control command ≡ None
-        → MaySend (charter_of (rows_of control.desk.books) control.desk.ops control.ceiling parts) log
+        → MaySend (charter_of (rows_of control.desk.books) control.desk.caps control.ceiling parts) log
         (command_transaction (sending_of control (write_of control command))) }
 {
     change_refused_exactly();
@@ -60,11 +60,11 @@ pub fn outcomes_are_known<Q, P>()
 /// is the law of the store in every run.
 pub fn controls_keep_caps<Q, P>()
     ensures { (servers : List ServerRow) (groups : List GroupRow) (shards : List ShardRow) (domains : List DomainRow)
-        (ops ceiling : ℕ) (parts : List (Item Q) → List P) (log : List (Transaction Q P))
+        (caps : RestartCaps) (ceiling : ℕ) (parts : List (Item Q) → List P) (log : List (Transaction Q P))
         → let new = new_books servers groups shards domains in
-        AreSound new → AreRight (charter_of (rows_of new) ops ceiling parts) log
+        AreSound new → AreRight (charter_of (rows_of new) caps ceiling parts) log
         → let books = books_in (rows_of new) (placement_of log) in
-        AreSound books × MeetsCaps ops books }
+        AreSound books × MeetsCaps caps books }
 {
     all_up_meets_caps();
     commands_keep_caps();
