@@ -75,7 +75,8 @@ charter_of rows caps ceiling parts =
     record {
       count = length rows.shards;
       ceiling = ceiling;
-      allows_change = λ placement shard change. is_none (desk_fault (desk_in rows caps placement) (Change shard change));
+      allows_change = λ placement shard change. is_none (desk_fault (desk_in rows caps placement)
+          (Change shard change));
       allows_state = λ placement server state. is_none (desk_fault (desk_in rows caps placement)
           (step_to state server));
       parts = parts;
