@@ -1,5 +1,5 @@
 //! A board of foreign bodies.
-use sm_foreign::{Chief, Foreign};
+use sm_foreign::{Chief, Foreign, ForeignPass};
 use sm_ranges::ServerId;
 use std::test::Fail;
 
@@ -10,7 +10,9 @@ fn makes_a_pass(rt: HostRuntime) -> Result<(), Fail> {
     let Ok(mut chief) = Chief::make(alloc, bodies, 2, 1, 100) else {
         return Err("no board".into());
     };
-    let pass = chief.foreign_pass(Some(one))?;
-    assert_eq!(rt; pass.count(), 2);
+    let pass = ForeignPass {
+        held: chief.foreign_pass(Some(one))?,
+    };
+    assert_eq!(rt; pass.held.count(), 2);
     Ok(())
 }
