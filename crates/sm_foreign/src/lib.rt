@@ -6,8 +6,10 @@
 //! let Ok(mut chief) = Chief::make(alloc, bodies, 2, 1, 100) else {
 //!     return Err("no board".into());
 //! };
-//! let pass = chief.foreign_pass(Some(one))?;
-//! assert_eq!(rt; pass.count(), 2);
+//! let pass = ForeignPass {
+//!     held: chief.foreign_pass(Some(one))?,
+//! };
+//! assert_eq!(rt; pass.held.count(), 2);
 //! ```
 #![tactic(auto)]
 
