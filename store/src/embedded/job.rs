@@ -1,0 +1,42 @@
+use crate::{
+    Done, LeaseError, LeaseId, Outcome, ReadError, Reading, Transaction, Watcher, WriteError,
+};
+use std::sync::mpsc::Sender;
+use std::time::Duration;
+
+/// What the store's thread is asked for.
+pub(super) enum Job {
+    Make(Transaction, Ticket),
+    Read(Vec<Vec<u8>>, Sender<Result<Reading, ReadError>>),
+    ReadAll(Vec<u8>, Sender<Result<Reading, ReadError>>),
+    Watch(u64, Vec<u8>, Watcher, Sender<Result<(), ReadError>>),
+    Unwatch(u64),
+    Grant(Duration, Sender<LeaseId>),
+    Keep(LeaseId, Sender<Result<(), LeaseError>>),
+    Revoke(LeaseId, Sender<Result<(), LeaseError>>),
+    /// Ends the thread, after all that was asked before.
+    End,
+}
+
+/// Who is told what became of a transaction: once, also where its job is dropped.
+pub(super) struct Ticket(Option<Done>);
+
+impl Ticket {
+    pub(super) fn new(done: Done) -> Ticket {
+        Ticket(Some(done))
+    }
+
+    pub(super) fn tell(mut self, outcome: Result<Outcome, WriteError>) {
+        if let Some(done) = self.0.take() {
+            done(outcome);
+        }
+    }
+}
+
+impl Drop for Ticket {
+    fn drop(&mut self) {
+        if let Some(done) = self.0.take() {
+            done(Err(WriteError::Stopped));
+        }
+    }
+}

@@ -1,0 +1,67 @@
+use super::tables::{Failure, Tables};
+use crate::{LeaseId, Pair, Revision};
+use std::collections::BTreeMap;
+
+/// Tables in memory, where nothing fails.
+#[derive(Default)]
+pub(super) struct Memory {
+    moment: Revision,
+    entries: BTreeMap<Vec<u8>, (Vec<u8>, Revision)>,
+}
+
+fn pair((key, (value, revision)): (&Vec<u8>, &(Vec<u8>, Revision))) -> Pair {
+    Pair {
+        key: key.clone(),
+        value: value.clone(),
+        revision: *revision,
+    }
+}
+
+impl Tables for Memory {
+    fn moment(&self) -> Revision {
+        self.moment
+    }
+
+    fn revision_of(&self, key: &[u8]) -> Result<Revision, Failure> {
+        Ok(self
+            .entries
+            .get(key)
+            .map_or(Revision::NEVER, |(_, revision)| *revision))
+    }
+
+    fn pair_of(&self, key: &[u8]) -> Result<Option<Pair>, Failure> {
+        Ok(self.entries.get_key_value(key).map(pair))
+    }
+
+    fn pairs(&self, prefix: &[u8]) -> Result<Vec<Pair>, Failure> {
+        let from = self.entries.range(prefix.to_vec()..);
+        Ok(from
+            .take_while(|(key, _)| key.starts_with(prefix))
+            .map(pair)
+            .collect())
+    }
+
+    fn begin(&mut self) -> Result<(), Failure> {
+        Ok(())
+    }
+
+    fn put(&mut self, pair: &Pair, _lease: Option<LeaseId>) -> Result<(), Failure> {
+        self.entries
+            .insert(pair.key.clone(), (pair.value.clone(), pair.revision));
+        Ok(())
+    }
+
+    fn delete(&mut self, key: &[u8]) -> Result<bool, Failure> {
+        Ok(self.entries.remove(key).is_some())
+    }
+
+    fn commit(&mut self, moment: Revision) -> Result<(), Failure> {
+        self.moment = moment;
+        Ok(())
+    }
+
+    fn rollback(&mut self) -> Result<(), Failure> {
+        // Nothing fails, so nothing is taken back but nothing.
+        Ok(())
+    }
+}

@@ -1,0 +1,90 @@
+use crate::{LeaseError, LeaseId, ReadError, WriteError};
+use serde::Deserialize;
+
+/// Why a call of etcd gave nothing.
+#[derive(Clone, Debug)]
+pub(super) enum CallError {
+    /// No member got it.
+    Unreachable(String),
+    /// A member may have done it.
+    Unknown(String),
+    /// A member refused it.
+    Refused(Refusal),
+}
+
+/// What a member says where it refuses a call.
+#[derive(Clone, Debug, Default, Deserialize)]
+#[serde(default)]
+pub(super) struct Refusal {
+    /// A code of gRPC.
+    code: u32,
+    message: String,
+}
+
+impl Refusal {
+    const INVALID: u32 = 3;
+    const NOT_FOUND: u32 = 5;
+    const DENIED: u32 = 7;
+    const EXHAUSTED: u32 = 8;
+    const UNAUTHENTICATED: u32 = 16;
+
+    /// Whether there is no token of a user, or it has ended.
+    pub(super) fn is_of_token(&self) -> bool {
+        self.code == Refusal::UNAUTHENTICATED || self.message.contains("user name is empty")
+    }
+
+    fn is_of_size(&self) -> bool {
+        self.message.contains("too large")
+            || self.message.contains("too many operations")
+            || self.message.contains("larger than max")
+    }
+
+    fn is_of_user(&self) -> bool {
+        matches!(self.code, Refusal::DENIED | Refusal::UNAUTHENTICATED)
+            || self.message.contains("authentication")
+            || self.message.contains("user name is empty")
+    }
+}
+
+impl CallError {
+    /// What it means for a transaction. Only what a member refuses before it proposes it isn't made.
+    pub(super) fn of_write(self) -> WriteError {
+        match self {
+            CallError::Unreachable(reason) => WriteError::Unreachable(reason),
+            CallError::Unknown(reason) => WriteError::Unknown(reason),
+            CallError::Refused(it) if it.is_of_user() => WriteError::Denied(it.message),
+            CallError::Refused(it) if it.is_of_size() => WriteError::TooLarge(it.message),
+            CallError::Refused(it) => match it.code {
+                Refusal::EXHAUSTED if it.message.contains("space exceeded") => {
+                    WriteError::Full(it.message)
+                }
+                Refusal::EXHAUSTED => WriteError::Unreachable(it.message),
+                Refusal::NOT_FOUND => WriteError::LeaseEnded,
+                Refusal::INVALID => WriteError::Unreachable(it.message),
+                _ => WriteError::Unknown(it.message),
+            },
+        }
+    }
+
+    /// What it means for a reading.
+    pub(super) fn of_read(self) -> ReadError {
+        match self {
+            CallError::Unreachable(reason) | CallError::Unknown(reason) => {
+                ReadError::Unavailable(reason)
+            }
+            CallError::Refused(it) if it.is_of_user() => ReadError::Denied(it.message),
+            CallError::Refused(it) => ReadError::Unavailable(it.message),
+        }
+    }
+
+    /// What it means for a lease.
+    pub(super) fn of_lease(self, lease: LeaseId) -> LeaseError {
+        match self {
+            CallError::Unreachable(reason) | CallError::Unknown(reason) => {
+                LeaseError::Unavailable(reason)
+            }
+            CallError::Refused(it) if it.code == Refusal::NOT_FOUND => LeaseError::Ended(lease),
+            CallError::Refused(it) => LeaseError::Unavailable(it.message),
+        }
+    }
+}

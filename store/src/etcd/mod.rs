@@ -1,0 +1,195 @@
+//! A store on the members of a cluster of etcd, reached by their JSON gateway.
+mod access;
+mod call_error;
+mod gateway;
+mod stream;
+mod watching;
+mod wire;
+
+pub use access::{Access, StartError};
+
+use crate::{
+    Done, LeaseError, LeaseId, Pair, ReadError, Reading, Revision, Store, Transaction, Watch,
+    Watcher,
+};
+use call_error::CallError;
+use gateway::Gateway;
+use std::fmt;
+use std::future::Future;
+use std::sync::mpsc;
+use std::sync::Arc;
+use std::time::Duration;
+use tokio::runtime::{Builder, Runtime};
+use watching::watch;
+use wire::{
+    Granted, Kept, Lease, Range, RangeResult, Streamed, TransactionRequest, TransactionResult,
+};
+
+/// How many keys etcd reads by one transaction.
+const MOST_OPERATIONS: usize = 128;
+
+/// How many pairs are asked for at a time.
+const PAGE: usize = 512;
+
+/// A store on etcd, of version 3.4 or later.
+///
+/// A member that can't be reached is passed over for the next one. A transaction that a member may have got is never
+/// sent again: its outcome is then [`WriteError::Unknown`](crate::WriteError::Unknown).
+pub struct Etcd {
+    gateway: Arc<Gateway>,
+    runtime: Runtime,
+}
+
+impl Etcd {
+    /// One on these members; none is asked yet.
+    ///
+    /// # Errors
+    ///
+    /// Where an address can't be read or asks for TLS, or the system gives no thread.
+    pub fn new(access: Access) -> Result<Etcd, StartError> {
+        let gateway = Arc::new(Gateway::new(access)?);
+        let runtime = Builder::new_multi_thread()
+            .worker_threads(2)
+            .thread_name("etcd")
+            .enable_all()
+            .build()?;
+        Ok(Etcd { gateway, runtime })
+    }
+
+    /// Runs this on the store's threads, and waits for what it gives; none where they have ended.
+    fn wait_for<A: Send + 'static>(
+        &self,
+        work: impl Future<Output = A> + Send + 'static,
+    ) -> Option<A> {
+        let (tell, told) = mpsc::sync_channel(1);
+        self.runtime.spawn(async move {
+            // Who asked waits until it is told.
+            let _ = tell.send(work.await);
+        });
+        told.recv().ok()
+    }
+}
+
+impl Store for Etcd {
+    fn submit(&self, transaction: Transaction, done: Done) {
+        let gateway = Arc::clone(&self.gateway);
+        self.runtime.spawn(async move {
+            let request = TransactionRequest::of(&transaction);
+            let found = gateway
+                .once::<TransactionResult>("/v3/kv/txn", &request)
+                .await;
+            done(
+                found
+                    .map(TransactionResult::outcome)
+                    .map_err(CallError::of_write),
+            );
+        });
+    }
+
+    fn read(&self, keys: &[&[u8]]) -> Result<Reading, ReadError> {
+        let keys: Vec<_> = keys.iter().map(|it| it.to_vec()).collect();
+        let gateway = Arc::clone(&self.gateway);
+        self.wait_for(async move { read(&gateway, &keys).await })
+            .unwrap_or(Err(ReadError::Stopped))
+    }
+
+    fn read_all(&self, prefix: &[u8]) -> Result<Reading, ReadError> {
+        let (gateway, prefix) = (Arc::clone(&self.gateway), prefix.to_vec());
+        self.wait_for(async move { read_all(&gateway, &prefix).await })
+            .unwrap_or(Err(ReadError::Stopped))
+    }
+
+    fn watch(&self, prefix: &[u8], watcher: Watcher) -> Result<Watch, ReadError> {
+        let (gateway, prefix) = (Arc::clone(&self.gateway), prefix.to_vec());
+        let reading = self.read_all(&prefix)?;
+        let task = self.runtime.spawn(watch(gateway, prefix, reading, watcher));
+        Ok(Watch::ended_by(move || task.abort()))
+    }
+
+    fn grant(&self, length: Duration) -> Result<LeaseId, LeaseError> {
+        let (gateway, asked) = (Arc::clone(&self.gateway), Lease::of_length(length));
+        self.wait_for(async move { gateway.again::<Granted>("/v3/lease/grant", &asked).await })
+            .ok_or(LeaseError::Stopped)?
+            .map(|it| LeaseId(it.id))
+            .map_err(|error| error.of_lease(LeaseId(0)))
+    }
+
+    fn keep(&self, lease: LeaseId) -> Result<(), LeaseError> {
+        let gateway = Arc::clone(&self.gateway);
+        let work = async move {
+            gateway
+                .first::<Streamed<Kept>>("/v3/lease/keepalive", &Lease::of(lease))
+                .await
+        };
+        let found = self
+            .wait_for(work)
+            .ok_or(LeaseError::Stopped)?
+            .map_err(|error| error.of_lease(lease))?;
+        match found.result.is_some_and(|it| it.length > 0) {
+            true => Ok(()),
+            false => Err(LeaseError::Ended(lease)),
+        }
+    }
+
+    fn revoke(&self, lease: LeaseId) -> Result<(), LeaseError> {
+        let gateway = Arc::clone(&self.gateway);
+        let work = async move {
+            gateway
+                .again::<serde::de::IgnoredAny>("/v3/lease/revoke", &Lease::of(lease))
+                .await
+        };
+        self.wait_for(work)
+            .ok_or(LeaseError::Stopped)?
+            .map(drop)
+            .map_err(|error| error.of_lease(lease))
+    }
+}
+
+impl fmt::Debug for Etcd {
+    fn fmt(&self, f: &mut fmt::Formatter<'_>) -> fmt::Result {
+        f.debug_struct("Etcd").finish_non_exhaustive()
+    }
+}
+
+/// Reads these keys at one moment: that of the first transaction, at which later ones read too.
+async fn read(gateway: &Gateway, keys: &[Vec<u8>]) -> Result<Reading, ReadError> {
+    let mut found = Reading::default();
+    let none: &[Vec<u8>] = &[];
+    for part in keys
+        .chunks(MOST_OPERATIONS)
+        .chain(keys.is_empty().then_some(none))
+    {
+        let request = TransactionRequest::reading(part, found.revision);
+        let result = gateway
+            .again::<TransactionResult>("/v3/kv/txn", &request)
+            .await
+            .map_err(CallError::of_read)?;
+        if found.revision == Revision::NEVER {
+            found.revision = result.revision();
+        }
+        found.pairs.extend(result.pairs());
+    }
+    Ok(found)
+}
+
+/// Reads all keys that begin so, page by page, at the moment of the first page.
+async fn read_all(gateway: &Gateway, prefix: &[u8]) -> Result<Reading, ReadError> {
+    let mut found = Reading::default();
+    let mut from = prefix.to_vec();
+    loop {
+        let asked = Range::page(&from, prefix, PAGE, found.revision);
+        let page = gateway
+            .again::<RangeResult>("/v3/kv/range", &asked)
+            .await
+            .map_err(CallError::of_read)?;
+        if found.revision == Revision::NEVER {
+            found.revision = page.revision();
+        }
+        let has_more = page.more;
+        found.pairs.extend(page.pairs.into_iter().map(Pair::from));
+        match found.pairs.last().filter(|_| has_more) {
+            Some(last) => from = [&last.key[..], b"\0"].concat(),
+            None => return Ok(found),
+        }
+    }
+}

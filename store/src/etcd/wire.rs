@@ -1,0 +1,354 @@
+//! What crosses to etcd's gateway and back: JSON with keys and values in base64, and numbers as texts.
+use crate::{LeaseId, Outcome, Pair, Reading, Revision, Transaction};
+use serde::{Deserialize, Deserializer, Serialize, Serializer};
+use std::time::Duration;
+
+mod bytes {
+    use super::*;
+
+    pub(super) fn serialize<S: Serializer>(bytes: &[u8], to: S) -> Result<S::Ok, S::Error> {
+        to.collect_str(&base64::display::Base64Display::with_config(
+            bytes,
+            base64::STANDARD,
+        ))
+    }
+
+    pub(super) fn deserialize<'de, D: Deserializer<'de>>(from: D) -> Result<Vec<u8>, D::Error> {
+        let text = String::deserialize(from)?;
+        base64::decode(text).map_err(serde::de::Error::custom)
+    }
+}
+
+mod number {
+    use super::*;
+    use std::fmt::Display;
+    use std::str::FromStr;
+
+    pub(super) fn serialize<T: Display, S: Serializer>(
+        number: &T,
+        to: S,
+    ) -> Result<S::Ok, S::Error> {
+        to.collect_str(number)
+    }
+
+    pub(super) fn deserialize<'de, T, D: Deserializer<'de>>(from: D) -> Result<T, D::Error>
+    where
+        T: FromStr,
+        T::Err: Display,
+    {
+        let text = String::deserialize(from)?;
+        text.parse().map_err(serde::de::Error::custom)
+    }
+}
+
+#[derive(Serialize)]
+struct Compared {
+    #[serde(with = "bytes")]
+    key: Vec<u8>,
+    target: &'static str,
+    result: &'static str,
+    #[serde(with = "number")]
+    mod_revision: u64,
+}
+
+/// A read, a write or a deletion within a transaction.
+#[derive(Serialize)]
+enum Operation {
+    #[serde(rename = "request_range")]
+    Read(Range),
+    #[serde(rename = "request_put")]
+    Put {
+        #[serde(with = "bytes")]
+        key: Vec<u8>,
+        #[serde(with = "bytes")]
+        value: Vec<u8>,
+        #[serde(with = "number")]
+        lease: i64,
+    },
+    #[serde(rename = "request_delete_range")]
+    Delete {
+        #[serde(with = "bytes")]
+        key: Vec<u8>,
+    },
+}
+
+impl Operation {
+    /// Reads a key at this moment; at the present where it is `NEVER`.
+    fn read(key: &[u8], moment: Revision) -> Operation {
+        Operation::Read(Range {
+            key: key.to_vec(),
+            range_end: Vec::new(),
+            limit: 0,
+            revision: moment.0,
+        })
+    }
+}
+
+/// A range of keys: one, or all up to an end.
+#[derive(Serialize)]
+pub(super) struct Range {
+    #[serde(with = "bytes")]
+    key: Vec<u8>,
+    #[serde(with = "bytes")]
+    range_end: Vec<u8>,
+    #[serde(with = "number")]
+    limit: usize,
+    #[serde(with = "number")]
+    revision: u64,
+}
+
+impl Range {
+    /// Keys from this one on that begin so.
+    pub(super) fn page(from: &[u8], prefix: &[u8], limit: usize, moment: Revision) -> Range {
+        Range {
+            key: from.to_vec(),
+            range_end: end_of(prefix),
+            limit,
+            revision: moment.0,
+        }
+    }
+}
+
+/// The first key after all that begin so; for etcd, a zero where there is none.
+fn end_of(prefix: &[u8]) -> Vec<u8> {
+    match prefix.iter().rposition(|it| *it < u8::MAX) {
+        Some(at) => [&prefix[..at], &[prefix[at] + 1]].concat(),
+        None => vec![0],
+    }
+}
+
+/// A transaction.
+#[derive(Serialize)]
+pub(super) struct TransactionRequest {
+    compare: Vec<Compared>,
+    success: Vec<Operation>,
+    failure: Vec<Operation>,
+}
+
+impl TransactionRequest {
+    /// Reads these keys at this moment; at the present where it is `NEVER`.
+    pub(super) fn reading(keys: &[Vec<u8>], moment: Revision) -> TransactionRequest {
+        let reads = keys
+            .iter()
+            .map(|key| Operation::read(key, moment))
+            .collect();
+        TransactionRequest {
+            compare: Vec::new(),
+            success: reads,
+            failure: Vec::new(),
+        }
+    }
+
+    pub(super) fn of(transaction: &Transaction) -> TransactionRequest {
+        let compare = transaction.compares.iter().map(|it| Compared {
+            key: it.key.clone(),
+            target: "MOD",
+            result: "EQUAL",
+            mod_revision: it.revision.0,
+        });
+        let deletes = transaction
+            .deletes
+            .iter()
+            .map(|key| Operation::Delete { key: key.clone() });
+        let puts = transaction.puts.iter().map(|it| Operation::Put {
+            key: it.key.clone(),
+            value: it.value.clone(),
+            lease: it.lease.map_or(0, |id| id.0),
+        });
+        let reads = transaction
+            .reads
+            .iter()
+            .map(|key| Operation::read(key, Revision::NEVER));
+        TransactionRequest {
+            compare: compare.collect(),
+            success: deletes.chain(puts).collect(),
+            failure: reads.collect(),
+        }
+    }
+}
+
+#[derive(Default, Deserialize)]
+#[serde(default)]
+pub(super) struct Header {
+    #[serde(deserialize_with = "number::deserialize")]
+    pub(super) revision: u64,
+}
+
+/// A key that lies there.
+#[derive(Default, Deserialize)]
+#[serde(default)]
+pub(super) struct Stored {
+    #[serde(deserialize_with = "bytes::deserialize")]
+    key: Vec<u8>,
+    #[serde(deserialize_with = "bytes::deserialize")]
+    value: Vec<u8>,
+    #[serde(deserialize_with = "number::deserialize")]
+    mod_revision: u64,
+}
+
+impl From<Stored> for Pair {
+    fn from(it: Stored) -> Pair {
+        Pair {
+            key: it.key,
+            value: it.value,
+            revision: Revision(it.mod_revision),
+        }
+    }
+}
+
+#[derive(Default, Deserialize)]
+#[serde(default)]
+pub(super) struct RangeResult {
+    header: Header,
+    #[serde(rename = "kvs")]
+    pub(super) pairs: Vec<Stored>,
+    pub(super) more: bool,
+}
+
+impl RangeResult {
+    pub(super) fn revision(&self) -> Revision {
+        Revision(self.header.revision)
+    }
+}
+
+#[derive(Default, Deserialize)]
+#[serde(default)]
+struct OperationResult {
+    response_range: Option<RangeResult>,
+}
+
+/// What became of a transaction.
+#[derive(Default, Deserialize)]
+#[serde(default)]
+pub(super) struct TransactionResult {
+    header: Header,
+    succeeded: bool,
+    responses: Vec<OperationResult>,
+}
+
+impl TransactionResult {
+    pub(super) fn revision(&self) -> Revision {
+        Revision(self.header.revision)
+    }
+
+    pub(super) fn pairs(self) -> impl Iterator<Item = Pair> {
+        self.responses
+            .into_iter()
+            .filter_map(|it| it.response_range)
+            .flat_map(|it| it.pairs)
+            .map(Pair::from)
+    }
+
+    pub(super) fn outcome(self) -> Outcome {
+        let revision = self.revision();
+        match self.succeeded {
+            true => Outcome::Made(revision),
+            false => Outcome::Lost(Reading {
+                revision,
+                pairs: self.pairs().collect(),
+            }),
+        }
+    }
+}
+
+/// A lease that is asked for, or named.
+#[derive(Default, Serialize)]
+pub(super) struct Lease {
+    #[serde(rename = "TTL", with = "number")]
+    length: u64,
+    #[serde(rename = "ID", with = "number")]
+    id: i64,
+}
+
+impl Lease {
+    pub(super) fn of_length(length: Duration) -> Lease {
+        Lease {
+            length: length.as_secs().max(1),
+            id: 0,
+        }
+    }
+
+    pub(super) fn of(lease: LeaseId) -> Lease {
+        Lease {
+            length: 0,
+            id: lease.0,
+        }
+    }
+}
+
+#[derive(Deserialize)]
+pub(super) struct Granted {
+    #[serde(rename = "ID", deserialize_with = "number::deserialize")]
+    pub(super) id: i64,
+}
+
+/// What a stream gives at a time.
+#[derive(Deserialize)]
+pub(super) struct Streamed<T> {
+    pub(super) result: Option<T>,
+}
+
+#[derive(Deserialize)]
+pub(super) struct Kept {
+    #[serde(rename = "TTL", default, deserialize_with = "number::deserialize")]
+    pub(super) length: i64,
+}
+
+/// A watch that is asked for.
+#[derive(Serialize)]
+pub(super) struct WatchRequest {
+    create_request: WatchCreate,
+}
+
+#[derive(Serialize)]
+struct WatchCreate {
+    #[serde(with = "bytes")]
+    key: Vec<u8>,
+    #[serde(with = "bytes")]
+    range_end: Vec<u8>,
+    #[serde(with = "number")]
+    start_revision: u64,
+}
+
+impl WatchRequest {
+    /// Of all keys that begin so, after this moment.
+    pub(super) fn after(prefix: &[u8], moment: Revision) -> WatchRequest {
+        let (key, range_end) = (prefix.to_vec(), end_of(prefix));
+        WatchRequest {
+            create_request: WatchCreate {
+                key,
+                range_end,
+                start_revision: moment.next().0,
+            },
+        }
+    }
+}
+
+/// What a watch tells.
+#[derive(Default, Deserialize)]
+#[serde(default)]
+pub(super) struct WatchResult {
+    pub(super) header: Header,
+    pub(super) canceled: bool,
+    pub(super) events: Vec<WatchEvent>,
+}
+
+#[derive(Default, Deserialize)]
+#[serde(default)]
+pub(super) struct WatchEvent {
+    #[serde(rename = "type")]
+    kind: String,
+    kv: Stored,
+}
+
+impl From<WatchEvent> for crate::Change {
+    fn from(it: WatchEvent) -> crate::Change {
+        let pair = Pair::from(it.kv);
+        let value = (it.kind != "DELETE").then_some(pair.value);
+        crate::Change {
+            key: pair.key,
+            value,
+            revision: pair.revision,
+        }
+    }
+}

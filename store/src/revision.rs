@@ -1,0 +1,21 @@
+use std::fmt;
+
+/// A moment of a store: how many transactions had written something by then, as the store counts them.
+#[derive(Clone, Copy, Debug, Default, PartialEq, Eq, PartialOrd, Ord, Hash)]
+pub struct Revision(pub u64);
+
+impl Revision {
+    /// The revision of a key that lies nowhere.
+    pub const NEVER: Revision = Revision(0);
+
+    /// The next one.
+    pub(crate) fn next(self) -> Revision {
+        Revision(self.0 + 1)
+    }
+}
+
+impl fmt::Display for Revision {
+    fn fmt(&self, f: &mut fmt::Formatter<'_>) -> fmt::Result {
+        self.0.fmt(f)
+    }
+}

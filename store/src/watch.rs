@@ -1,0 +1,54 @@
+use crate::{Reading, Revision};
+use std::fmt;
+
+/// A key that was written or deleted.
+#[derive(Clone, Debug, PartialEq, Eq)]
+pub struct Change {
+    /// The key.
+    pub key: Vec<u8>,
+    /// Its new value; none where it was deleted.
+    pub value: Option<Vec<u8>>,
+    /// The revision that did it.
+    pub revision: Revision,
+}
+
+/// What a watch tells.
+#[derive(Clone, Debug, PartialEq, Eq)]
+pub enum Seen {
+    /// All keys that begin so, as they lay at a moment: first, and again where changes may have been missed.
+    All(Reading),
+    /// Changes after all that was told before, in the order of their revisions, up to this revision.
+    Changes(Revision, Vec<Change>),
+}
+
+/// Who is told what a watch sees, one call after another. It must not wait for the store.
+pub type Watcher = Box<dyn FnMut(Seen) + Send>;
+
+/// A watch that goes on until it is dropped.
+#[must_use = "it ends when it is dropped"]
+pub struct Watch {
+    end: Option<Box<dyn FnOnce() + Send>>,
+}
+
+impl Watch {
+    /// One that is ended so.
+    pub(crate) fn ended_by(end: impl FnOnce() + Send + 'static) -> Watch {
+        Watch {
+            end: Some(Box::new(end)),
+        }
+    }
+}
+
+impl Drop for Watch {
+    fn drop(&mut self) {
+        if let Some(end) = self.end.take() {
+            end();
+        }
+    }
+}
+
+impl fmt::Debug for Watch {
+    fn fmt(&self, f: &mut fmt::Formatter<'_>) -> fmt::Result {
+        f.debug_struct("Watch").finish_non_exhaustive()
+    }
+}

@@ -1,0 +1,168 @@
+//! What the tests of stores share.
+#![allow(dead_code)]
+use durkenzo_store::{Access, Embedded, Etcd, ReadError, Store, Sync};
+use std::env;
+use std::fs;
+use std::io::{Read, Write};
+use std::net::{TcpListener, TcpStream};
+use std::path::{Path, PathBuf};
+use std::process::{Child, Command, Stdio};
+use std::sync::atomic::{AtomicU32, Ordering};
+use std::thread;
+use std::time::{Duration, Instant};
+
+/// A folder that is gone when it is dropped.
+pub struct Folder(PathBuf);
+
+impl Folder {
+    pub fn new() -> Folder {
+        static NEXT: AtomicU32 = AtomicU32::new(0);
+        let name = format!(
+            "durkenzo-store-{}-{}",
+            std::process::id(),
+            NEXT.fetch_add(1, Ordering::Relaxed)
+        );
+        let path = env::temp_dir().join(name);
+        fs::create_dir_all(&path).expect("a folder");
+        Folder(path)
+    }
+
+    pub fn path(&self) -> &Path {
+        &self.0
+    }
+
+    pub fn open(&self) -> Embedded {
+        Embedded::in_folder(self.path(), Sync::No).expect("a folder of our own")
+    }
+}
+
+impl Drop for Folder {
+    fn drop(&mut self) {
+        let _ = fs::remove_dir_all(&self.0);
+    }
+}
+
+/// A member of etcd of our own, on loopback, in a folder.
+pub struct Member {
+    process: Child,
+    folder: Folder,
+    options: Vec<String>,
+    pub endpoint: String,
+    peer: String,
+}
+
+impl Member {
+    /// One, where etcd is installed.
+    pub fn start(options: &[&str]) -> Option<Member> {
+        let folder = Folder::new();
+        let options: Vec<_> = options.iter().map(|it| it.to_string()).collect();
+        let [endpoint, peer] = [(); 2].map(|()| format!("http://127.0.0.1:{}", free_port()));
+        let process = run(&folder, &endpoint, &peer, &options)?;
+        let member = Member {
+            process,
+            folder,
+            options,
+            endpoint,
+            peer,
+        };
+        member.wait_until_up();
+        Some(member)
+    }
+
+    /// Kills it, and has it begin again over the same folder.
+    pub fn begin_again(&mut self) {
+        self.kill();
+        self.process =
+            run(&self.folder, &self.endpoint, &self.peer, &self.options).expect("it began once");
+        self.wait_until_up();
+    }
+
+    pub fn kill(&mut self) {
+        let _ = self.process.kill();
+        let _ = self.process.wait();
+    }
+
+    fn wait_until_up(&self) {
+        let end = Instant::now() + Duration::from_secs(30);
+        while let Err(ReadError::Unavailable(reason)) = self.store().read(&[b"up"]) {
+            assert!(Instant::now() < end, "etcd doesn't begin: {reason}");
+            thread::sleep(Duration::from_millis(100));
+        }
+    }
+
+    pub fn store(&self) -> Etcd {
+        Etcd::new(Access::new([self.endpoint.as_str()])).expect("an address")
+    }
+
+    /// Calls its gateway.
+    pub fn post(&self, path: &str, asked: &str) -> String {
+        let mut stream =
+            TcpStream::connect(self.endpoint.trim_start_matches("http://")).expect("it listens");
+        let length = asked.len();
+        write!(
+            stream,
+            "POST {path} HTTP/1.0\r\nContent-Length: {length}\r\n\r\n{asked}"
+        )
+        .expect("it hears");
+        let mut answer = String::new();
+        stream.read_to_string(&mut answer).expect("it answers");
+        answer
+    }
+}
+
+fn run(folder: &Folder, endpoint: &str, peer: &str, options: &[String]) -> Option<Child> {
+    Command::new("etcd")
+        .args(["--data-dir".as_ref(), folder.path().as_os_str()])
+        .args([
+            "--listen-client-urls",
+            endpoint,
+            "--advertise-client-urls",
+            endpoint,
+        ])
+        .args([
+            "--listen-peer-urls",
+            peer,
+            "--initial-advertise-peer-urls",
+            peer,
+        ])
+        .args(["--initial-cluster", &format!("default={peer}")])
+        .args(options)
+        .stdout(Stdio::null())
+        .stderr(Stdio::null())
+        .spawn()
+        .ok()
+}
+
+impl Drop for Member {
+    fn drop(&mut self) {
+        self.kill();
+    }
+}
+
+pub fn free_port() -> u16 {
+    let listener = TcpListener::bind(("127.0.0.1", 0)).expect("a port");
+    listener.local_addr().expect("its address").port()
+}
+
+/// A stream of numbers that a seed gives.
+pub struct Chance(pub u64);
+
+impl Chance {
+    pub fn below(&mut self, bound: u64) -> u64 {
+        self.0 = self.0.wrapping_add(0x9e37_79b9_7f4a_7c15);
+        let mut mixed = (self.0 ^ (self.0 >> 30)).wrapping_mul(0xbf58_476d_1ce4_e5b9);
+        mixed = (mixed ^ (mixed >> 27)).wrapping_mul(0x94d0_49bb_1331_11eb);
+        (mixed ^ (mixed >> 31)) % bound
+    }
+}
+
+/// Has a test run over each store: in memory, in a folder, and on etcd where that is installed.
+pub fn over_each(test: impl Fn(&dyn Store)) {
+    test(&Embedded::in_memory());
+    let folder = Folder::new();
+    test(&folder.open());
+    match Member::start(&[]) {
+        Some(member) => test(&member.store()),
+        None => eprintln!("etcd isn't installed: the test isn't run over it"),
+    }
+}

@@ -1,0 +1,272 @@
+//! What a folder has, after a process was killed too, and what it refuses.
+mod beside;
+
+use beside::{Chance, Folder};
+use durkenzo_store::{Embedded, OpenError, Outcome, Store, Sync, Transaction, WriteError};
+use std::env;
+use std::fs;
+use std::io::{BufRead, BufReader, Write};
+use std::path::Path;
+use std::process::{Command, Stdio};
+use std::thread;
+use std::time::Duration;
+
+/// How often a process is killed, where nothing else is said.
+const KILLED: u64 = 20;
+
+fn file(folder: &Folder) -> std::path::PathBuf {
+    folder.path().join("durkenzo.sqlite")
+}
+
+#[test]
+fn keeps_what_was_made() {
+    let folder = Folder::new();
+    let Outcome::Made(first) = folder
+        .open()
+        .make(Transaction::new().put("a", "1"))
+        .expect("made")
+    else {
+        panic!()
+    };
+    let store = folder.open();
+    let reading = store.read(&[b"a"]).expect("a reading");
+    assert_eq!(
+        (reading.revision, &reading.pairs[0].value[..]),
+        (first, &b"1"[..])
+    );
+    let again = store
+        .make(Transaction::new().compare("a", first).put("a", "2"))
+        .expect("made");
+    assert!(matches!(again, Outcome::Made(second) if second > first));
+}
+
+#[test]
+fn forgets_keys_under_leases() {
+    let folder = Folder::new();
+    let store = folder.open();
+    let lease = store.grant(Duration::from_secs(60)).expect("a lease");
+    store
+        .make(
+            Transaction::new()
+                .put_under("a", "1", Some(lease))
+                .put("b", "2"),
+        )
+        .expect("made");
+    let before = store.read(&[]).expect("a moment").revision;
+    drop(store);
+    let reading = folder.open().read(&[b"a", b"b"]).expect("a reading");
+    assert_eq!(reading.pairs.len(), 1);
+    assert!(reading.revision > before);
+}
+
+#[test]
+fn has_one_process_at_a_time() {
+    let folder = Folder::new();
+    let store = folder.open();
+    let second = Embedded::in_folder(folder.path(), Sync::Always);
+    assert!(matches!(second, Err(OpenError::InUse(_))), "{second:?}");
+    drop(store);
+    folder.open();
+}
+
+#[test]
+fn refuses_what_is_not_its_own() {
+    let folder = Folder::new();
+    fs::write(
+        file(&folder),
+        b"this is a text, and no file of SQLite, of some length, so that it could be one",
+    )
+    .expect("it");
+    let opened = Embedded::in_folder(folder.path(), Sync::Always);
+    assert!(matches!(opened, Err(OpenError::Foreign(_))), "{opened:?}");
+
+    let other = Folder::new();
+    let database = rusqlite::Connection::open(file(&other)).expect("a file");
+    database
+        .execute_batch("CREATE TABLE theirs (it)")
+        .expect("a table");
+    drop(database);
+    let bytes = fs::read(file(&other)).expect("a file");
+    let opened = Embedded::in_folder(other.path(), Sync::Always);
+    assert!(matches!(opened, Err(OpenError::Foreign(_))), "{opened:?}");
+    assert_eq!(fs::read(file(&other)).expect("a file"), bytes);
+}
+
+#[test]
+fn refuses_another_version() {
+    let folder = Folder::new();
+    drop(folder.open());
+    rusqlite::Connection::open(file(&folder))
+        .expect("it")
+        .execute_batch("PRAGMA user_version = 7")
+        .expect("it");
+    let opened = Embedded::in_folder(folder.path(), Sync::Always);
+    assert!(
+        matches!(
+            opened,
+            Err(OpenError::OtherVersion {
+                found: 7,
+                known: 1,
+                ..
+            })
+        ),
+        "{opened:?}"
+    );
+}
+
+#[test]
+fn refuses_a_torn_file() {
+    let folder = Folder::new();
+    let store = folder.open();
+    for at in 0..200 {
+        store
+            .make(Transaction::new().put(format!("key/{at}"), vec![7; 2_000]))
+            .expect("made");
+    }
+    drop(store);
+    let bytes = fs::read(file(&folder)).expect("it");
+    fs::write(file(&folder), &bytes[..bytes.len() / 2]).expect("it");
+    let opened = Embedded::in_folder(folder.path(), Sync::Always);
+    assert!(matches!(opened, Err(OpenError::Damaged(..))), "{opened:?}");
+}
+
+/// A file system of one megabyte, where this may be mounted.
+#[test]
+fn reads_go_on_where_the_disk_is_full() {
+    let folder = Folder::new();
+    let mount = Command::new("mount")
+        .args(["-t", "tmpfs", "-o", "size=1m", "none"])
+        .arg(folder.path())
+        .output();
+    if !mount.is_ok_and(|it| it.status.success()) {
+        eprintln!("nothing can be mounted here: no disk is full");
+        return;
+    }
+    let ended = std::panic::catch_unwind(|| fill(folder.path()));
+    let _ = Command::new("umount").arg(folder.path()).output();
+    ended.expect("the disk was full as it should be");
+}
+
+fn fill(folder: &Path) {
+    let store = Embedded::in_folder(folder, Sync::Always).expect("a folder of our own");
+    let refused = (0..1_000).find_map(|at| {
+        let outcome = store.make(Transaction::new().put(format!("key/{at}"), vec![7; 50_000]));
+        outcome.err().map(|error| (at, error))
+    });
+    let Some((at, WriteError::Full(_))) = refused else {
+        panic!("{refused:?}")
+    };
+    assert!(at > 2);
+    assert_eq!(store.read_all(b"key/").expect("a reading").pairs.len(), at);
+    let compares = Transaction::new().compare("nowhere", durkenzo_store::Revision::NEVER);
+    assert!(matches!(store.make(compares), Ok(Outcome::Made(_))));
+    drop(store);
+    let store = Embedded::in_folder(folder, Sync::Always).expect("a folder of our own");
+    assert_eq!(store.read_all(b"key/").expect("a reading").pairs.len(), at);
+}
+
+/// The process that is killed: four threads raise a counter each, and tell what was made.
+#[test]
+#[ignore = "run by the test below"]
+fn writes_until_it_is_killed() {
+    let Some(folder) = env::var_os("DURKENZO_KILLED") else {
+        return;
+    };
+    let sync = env::var("DURKENZO_SYNC")
+        .ok()
+        .and_then(|it| it.parse().ok())
+        .expect("always, second or no");
+    let store = Embedded::in_folder(Path::new(&folder), sync).expect("a folder of our own");
+    thread::scope(|threads| {
+        for thread in 0..4 {
+            let store = &store;
+            threads.spawn(move || raise_for_ever(store, &format!("counter/{thread}")));
+        }
+    });
+}
+
+fn raise_for_ever(store: &dyn Store, key: &str) {
+    let reading = store.read(&[key.as_bytes()]).expect("a reading");
+    let first = reading.pairs.first().map_or(0, |it| number(&it.value));
+    for next in first + 1.. {
+        let put = Transaction::new()
+            .put(key, next.to_string())
+            .put(format!("twin/{key}"), next.to_string());
+        store.make(put).expect("made");
+        writeln!(std::io::stdout(), "\nmade {key} {next}").expect("it is heard");
+    }
+}
+
+fn number(value: &[u8]) -> u64 {
+    String::from_utf8_lossy(value).parse().expect("a number")
+}
+
+/// DURKENZO_KILLS says how often, where not as often as here. The system writes what a killed process left to it.
+#[test]
+fn loses_nothing_that_was_told_as_made() {
+    let times = env::var("DURKENZO_KILLS")
+        .ok()
+        .and_then(|it| it.parse().ok())
+        .unwrap_or(KILLED);
+    let (folder, mut chance) = (Folder::new(), Chance(3));
+    for time in 0..times {
+        let sync = ["always", "second", "no"][time as usize % 3];
+        let told = told_before_killed(&folder, sync, Duration::from_millis(50 + chance.below(200)));
+        let store = folder.open();
+        for (thread, last) in told.iter().enumerate() {
+            let (key, twin) = (
+                format!("counter/{thread}"),
+                format!("twin/counter/{thread}"),
+            );
+            let reading = store
+                .read(&[key.as_bytes(), twin.as_bytes()])
+                .expect("a reading");
+            let found = reading
+                .get(key.as_bytes())
+                .map_or(0, |it| number(&it.value));
+            assert!(
+                found >= *last,
+                "after {time} kills {key} is {found}, and {last} was told"
+            );
+            let of_twin = reading
+                .get(twin.as_bytes())
+                .map_or(0, |it| number(&it.value));
+            assert_eq!(found, of_twin, "half of a transaction");
+        }
+    }
+}
+
+/// What each thread of a process told last before it was killed.
+fn told_before_killed(folder: &Folder, sync: &str, lives: Duration) -> [u64; 4] {
+    let mut process = Command::new(env::current_exe().expect("this test"))
+        .args([
+            "writes_until_it_is_killed",
+            "--exact",
+            "--ignored",
+            "--nocapture",
+        ])
+        .env("DURKENZO_KILLED", folder.path())
+        .env("DURKENZO_SYNC", sync)
+        .stdout(Stdio::piped())
+        .stderr(Stdio::null())
+        .spawn()
+        .expect("a process");
+    let output = BufReader::new(process.stdout.take().expect("its output"));
+    let listener = thread::spawn(move || {
+        let mut told = [0; 4];
+        for line in output.lines().map_while(Result::ok) {
+            let Some(("counter", rest)) =
+                line.strip_prefix("made ").and_then(|it| it.split_once('/'))
+            else {
+                continue;
+            };
+            let (thread, value) = rest.split_once(' ').expect("a number");
+            told[thread.parse::<usize>().expect("a thread")] = value.parse().unwrap_or(0);
+        }
+        told
+    });
+    thread::sleep(lives);
+    process.kill().expect("it runs");
+    process.wait().expect("it has ended");
+    listener.join().expect("it listens")
+}

@@ -1,0 +1,202 @@
+//! What a store on etcd says where members don't answer, or refuse. Nothing is tried where etcd isn't installed.
+mod beside;
+
+use beside::{free_port, Member};
+use durkenzo_store::{
+    Access, Etcd, Outcome, ReadError, Revision, Seen, StartError, Store, Transaction, WriteError,
+};
+use std::io::Read;
+use std::net::TcpListener;
+use std::sync::mpsc;
+use std::thread;
+use std::time::{Duration, Instant};
+
+const ASIDE: Duration = Duration::from_secs(20);
+
+fn on(endpoints: &[&str]) -> Etcd {
+    let access = Access {
+        patience: Duration::from_secs(2),
+        ..Access::new(endpoints.iter().copied())
+    };
+    Etcd::new(access).expect("addresses")
+}
+
+fn nobody() -> String {
+    format!("http://127.0.0.1:{}", free_port())
+}
+
+#[test]
+fn reads_addresses() {
+    let of = |it: &str| Etcd::new(Access::new([it])).map(drop);
+    assert!(of("http://127.0.0.1:2379").is_ok() && of("http://etcd.example:2379/").is_ok());
+    assert!(matches!(
+        of("https://127.0.0.1:2379"),
+        Err(StartError::NoTls(_))
+    ));
+    for wrong in [
+        "127.0.0.1:2379",
+        "unix:///tmp/it",
+        "http://",
+        "http://a:1/v3",
+        "a b",
+    ] {
+        assert!(
+            matches!(of(wrong), Err(StartError::BadEndpoint(it)) if it == wrong),
+            "{wrong}"
+        );
+    }
+    assert!(matches!(
+        Etcd::new(Access::new::<String>([])),
+        Err(StartError::NoEndpoint)
+    ));
+}
+
+#[test]
+fn says_that_no_member_got_it() {
+    let store = on(&[&nobody(), &nobody()]);
+    let made = store.make(Transaction::new().put("a", "1"));
+    assert!(matches!(made, Err(WriteError::Unreachable(_))), "{made:?}");
+    assert!(matches!(
+        store.read(&[b"a"]),
+        Err(ReadError::Unavailable(_))
+    ));
+}
+
+/// A member that takes a call and falls silent, or hangs up: it may have made it.
+#[test]
+fn says_that_an_outcome_is_not_known() {
+    for hangs_up in [true, false] {
+        let listener = TcpListener::bind(("127.0.0.1", 0)).expect("a port");
+        let endpoint = format!("http://{}", listener.local_addr().expect("its address"));
+        thread::spawn(move || {
+            let mut streams = Vec::new();
+            for stream in listener.incoming() {
+                let mut stream = stream.expect("a caller");
+                let _ = stream.read(&mut [0; 4_096]);
+                if !hangs_up {
+                    streams.push(stream);
+                }
+            }
+        });
+        let made = on(&[&endpoint, &nobody()]).make(Transaction::new().put("a", "1"));
+        assert!(matches!(made, Err(WriteError::Unknown(_))), "{made:?}");
+    }
+}
+
+#[test]
+fn passes_over_members_that_are_not_there() {
+    let Some(member) = Member::start(&[]) else {
+        return;
+    };
+    let store = on(&[&nobody(), &member.endpoint, &nobody()]);
+    for _ in 0..4 {
+        store
+            .make(Transaction::new().put("a", "1"))
+            .expect("the second one has it");
+    }
+    assert_eq!(store.read(&[b"a"]).expect("a reading").pairs.len(), 1);
+}
+
+#[test]
+fn says_that_the_quota_is_reached() {
+    let Some(member) = Member::start(&["--quota-backend-bytes", "4000000"]) else {
+        return;
+    };
+    let store = member.store();
+    let refused = (0..100).find_map(|at| {
+        store
+            .make(Transaction::new().put(format!("{at}"), vec![7; 200_000]))
+            .err()
+    });
+    assert!(matches!(refused, Some(WriteError::Full(_))), "{refused:?}");
+    assert_eq!(store.read(&[b"0"]).expect("reads go on").pairs.len(), 1);
+}
+
+#[test]
+fn says_that_it_is_too_large() {
+    let Some(member) = Member::start(&[]) else {
+        return;
+    };
+    let made = member
+        .store()
+        .make(Transaction::new().put("a", vec![7; 3_000_000]));
+    assert!(matches!(made, Err(WriteError::TooLarge(_))), "{made:?}");
+    let many = (0..200).fold(Transaction::new(), |it, at| it.put(format!("{at}"), "1"));
+    let made = member.store().make(many);
+    assert!(matches!(made, Err(WriteError::TooLarge(_))), "{made:?}");
+}
+
+/// A member that is killed and begins again, and then one whose past is forgotten meanwhile.
+#[test]
+fn watches_on_after_a_member_was_away() {
+    let Some(mut member) = Member::start(&[]) else {
+        return;
+    };
+    let (store, (tell, told)) = (member.store(), mpsc::channel());
+    let _watch = store
+        .watch(b"a", Box::new(move |seen| drop(tell.send(seen))))
+        .expect("a watch");
+    assert!(matches!(told.recv_timeout(ASIDE), Ok(Seen::All(it)) if it.pairs.is_empty()));
+    member.begin_again();
+    store
+        .make(Transaction::new().put("a", "1"))
+        .expect("it is there again");
+    assert!(matches!(told.recv_timeout(ASIDE), Ok(Seen::Changes(_, it)) if it.len() == 1));
+
+    member.kill();
+    member.begin_again();
+    let beside = member.store();
+    let last = (0..5)
+        .map(|it| made(beside.make(Transaction::new().put("a", it.to_string()))))
+        .last();
+    let revision = last.expect("five were made");
+    member.post(
+        "/v3/kv/compaction",
+        &format!("{{\"revision\":\"{revision}\"}}"),
+    );
+    let end = Instant::now() + ASIDE;
+    let mut value = Vec::new();
+    while value != b"4" {
+        assert!(Instant::now() < end, "the last change isn't told");
+        value = match told.recv_timeout(ASIDE).expect("the watch goes on") {
+            Seen::All(reading) => reading.pairs[0].value.clone(),
+            Seen::Changes(_, changes) => changes[changes.len() - 1]
+                .value
+                .clone()
+                .expect("nothing is deleted"),
+        };
+    }
+}
+
+fn made(found: Result<Outcome, WriteError>) -> Revision {
+    match found {
+        Ok(Outcome::Made(revision)) => revision,
+        other => panic!("{other:?}"),
+    }
+}
+
+#[test]
+fn gives_its_name_and_password() {
+    let Some(member) = Member::start(&[]) else {
+        return;
+    };
+    member.post("/v3/auth/user/add", r#"{"name":"root","password":"open"}"#);
+    member.post("/v3/auth/role/add", r#"{"name":"root"}"#);
+    member.post("/v3/auth/user/grant", r#"{"user":"root","role":"root"}"#);
+    member.post("/v3/auth/enable", "{}");
+    let as_user = |password: &str| {
+        let user = Some(("root".to_owned(), password.to_owned()));
+        Etcd::new(Access {
+            user,
+            ..Access::new([member.endpoint.as_str()])
+        })
+        .expect("an address")
+    };
+    let put = || Transaction::new().put("a", "1");
+    as_user("open").make(put()).expect("it is let in");
+    for stranger in [as_user("shut"), member.store()] {
+        let made = stranger.make(put());
+        assert!(matches!(made, Err(WriteError::Denied(_))), "{made:?}");
+        assert!(matches!(stranger.read(&[b"a"]), Err(ReadError::Denied(_))));
+    }
+}

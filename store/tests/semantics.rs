@@ -1,0 +1,287 @@
+//! Each store does what the simplest one would do.
+mod beside;
+
+use beside::{over_each, Chance};
+use durkenzo_store::{
+    Change, LeaseError, Outcome, Pair, Reading, Revision, Seen, Store, Transaction, WriteError,
+};
+use std::collections::BTreeMap;
+use std::sync::mpsc;
+use std::sync::Arc;
+use std::thread;
+use std::time::Duration;
+
+/// What a store should hold: the simplest one that there is.
+#[derive(Default)]
+struct Simplest(BTreeMap<Vec<u8>, Pair>);
+
+impl Simplest {
+    fn revision_of(&self, key: &[u8]) -> Revision {
+        self.0.get(key).map_or(Revision::NEVER, |it| it.revision)
+    }
+
+    fn holds(&self, transaction: &Transaction) -> bool {
+        transaction
+            .compares
+            .iter()
+            .all(|it| self.revision_of(&it.key) == it.revision)
+    }
+
+    fn make(&mut self, transaction: &Transaction, revision: Revision) {
+        for key in &transaction.deletes {
+            self.0.remove(key);
+        }
+        for it in &transaction.puts {
+            let pair = Pair {
+                key: it.key.clone(),
+                value: it.value.clone(),
+                revision,
+            };
+            self.0.insert(it.key.clone(), pair);
+        }
+    }
+
+    fn pairs(&self, prefix: &[u8]) -> Vec<Pair> {
+        self.0
+            .values()
+            .filter(|it| it.key.starts_with(prefix))
+            .cloned()
+            .collect()
+    }
+}
+
+fn key(number: u64) -> Vec<u8> {
+    format!("key/{number}").into_bytes()
+}
+
+/// A transaction over few keys: half of its compares hold.
+fn by_chance(chance: &mut Chance, simplest: &Simplest) -> Transaction {
+    let mut found = Transaction::new();
+    for _ in 0..chance.below(3) {
+        let key = key(chance.below(8));
+        let wrong = chance.below(4) == 0;
+        let revision = if wrong {
+            Revision(chance.below(40))
+        } else {
+            simplest.revision_of(&key)
+        };
+        found = found.compare(key, revision);
+    }
+    let first = chance.below(8);
+    for at in 0..chance.below(4) {
+        let key = key((first + at) % 8);
+        found = match chance.below(4) {
+            0 => found.delete(key),
+            _ => found.put(key, chance.below(1_000).to_string()),
+        };
+    }
+    for _ in 0..chance.below(3) {
+        found = found.or_read(key(chance.below(8)));
+    }
+    found
+}
+
+#[test]
+fn answers_as_the_simplest_store_does() {
+    over_each(|store| {
+        let (mut chance, mut simplest) = (Chance(7), Simplest::default());
+        let mut last = store.read(&[]).expect("a moment").revision;
+        for _ in 0..2_000 {
+            let transaction = by_chance(&mut chance, &simplest);
+            match store.make(transaction.clone()).expect("an outcome") {
+                Outcome::Made(revision) => {
+                    assert!(simplest.holds(&transaction), "{transaction:?} was made");
+                    assert!(revision >= last && (transaction.puts.is_empty() || revision > last));
+                    simplest.make(&transaction, revision);
+                    last = revision;
+                }
+                Outcome::Lost(reading) => {
+                    assert!(!simplest.holds(&transaction), "{transaction:?} was lost");
+                    let there = transaction
+                        .reads
+                        .iter()
+                        .filter_map(|it| simplest.0.get(it))
+                        .cloned();
+                    assert_eq!(
+                        reading,
+                        Reading {
+                            revision: last,
+                            pairs: there.collect()
+                        }
+                    );
+                }
+            }
+        }
+        assert_eq!(
+            store.read_all(b"key/").expect("a reading").pairs,
+            simplest.pairs(b"key/")
+        );
+        let asked = [&b"key/7"[..], b"nowhere", b"key/1"];
+        let there = asked
+            .iter()
+            .filter_map(|it| simplest.0.get(*it))
+            .cloned()
+            .collect::<Vec<_>>();
+        assert_eq!(store.read(&asked).expect("a reading").pairs, there);
+    });
+}
+
+#[test]
+fn reads_more_than_a_page() {
+    over_each(|store| {
+        for part in 0..30 {
+            let puts = (0..60).fold(Transaction::new(), |it, at| {
+                it.put(key(part * 60 + at), vec![b'x'; 100])
+            });
+            store.make(puts).expect("an outcome");
+        }
+        let keys: Vec<_> = (0..1_800).map(key).collect();
+        let asked: Vec<&[u8]> = keys.iter().map(Vec::as_slice).collect();
+        assert_eq!(store.read(&asked).expect("a reading").pairs.len(), 1_800);
+        let all = store.read_all(b"key/").expect("a reading").pairs;
+        assert_eq!(all.len(), 1_800);
+        assert!(all.windows(2).all(|it| it[0].key < it[1].key));
+        assert_eq!(store.read_all(b"kez").expect("a reading").pairs, []);
+    });
+}
+
+#[test]
+fn tells_a_watch_all_changes_in_order() {
+    over_each(|store| {
+        store
+            .make(Transaction::new().put("seen/1", "a").put("other", "b"))
+            .expect("an outcome");
+        let (tell, told) = mpsc::channel();
+        let watcher = Box::new(move |seen| drop(tell.send(seen)));
+        let watch = store.watch(b"seen/", watcher).expect("a watch");
+        let next = || {
+            told.recv_timeout(Duration::from_secs(10))
+                .expect("the watch tells")
+        };
+        let Seen::All(reading) = next() else {
+            panic!("the reading comes first")
+        };
+        assert_eq!(
+            reading
+                .pairs
+                .iter()
+                .map(|it| &it.key[..])
+                .collect::<Vec<_>>(),
+            [b"seen/1"]
+        );
+
+        store
+            .make(Transaction::new().put("other", "c"))
+            .expect("an outcome");
+        let Outcome::Made(second) = store
+            .make(Transaction::new().put("seen/2", "d").delete("seen/1"))
+            .expect("made")
+        else {
+            panic!("nothing is compared")
+        };
+        let Seen::Changes(moment, changes) = next() else {
+            panic!("nothing was missed")
+        };
+        let deleted = Change {
+            key: b"seen/1".to_vec(),
+            value: None,
+            revision: second,
+        };
+        let written = Change {
+            key: b"seen/2".to_vec(),
+            value: Some(b"d".to_vec()),
+            revision: second,
+        };
+        assert_eq!((moment, changes), (second, vec![deleted, written]));
+
+        drop(watch);
+        store
+            .make(Transaction::new().put("seen/3", "e"))
+            .expect("an outcome");
+        assert!(told.recv_timeout(Duration::from_millis(300)).is_err());
+    });
+}
+
+#[test]
+fn ends_leases_with_their_keys() {
+    over_each(|store| {
+        let lease = store.grant(Duration::from_secs(2)).expect("a lease");
+        let other = store.grant(Duration::from_secs(60)).expect("a lease");
+        let puts = Transaction::new()
+            .put_under("mine", "1", Some(lease))
+            .put_under("kept", "2", Some(other));
+        store.make(puts).expect("an outcome");
+        for _ in 0..4 {
+            thread::sleep(Duration::from_secs(1));
+            store.keep(lease).expect("it goes on");
+        }
+        assert_eq!(
+            store
+                .read(&[b"mine", b"kept"])
+                .expect("a reading")
+                .pairs
+                .len(),
+            2
+        );
+        thread::sleep(Duration::from_secs(5));
+        assert!(matches!(store.keep(lease), Err(LeaseError::Ended(it)) if it == lease));
+        assert_eq!(
+            store
+                .read(&[b"mine", b"kept"])
+                .expect("a reading")
+                .pairs
+                .len(),
+            1
+        );
+        let late = store.make(Transaction::new().put_under("late", "3", Some(lease)));
+        assert!(matches!(late, Err(WriteError::LeaseEnded)), "{late:?}");
+        store.revoke(other).expect("it goes on");
+        thread::sleep(Duration::from_millis(200));
+        assert_eq!(store.read(&[b"kept"]).expect("a reading").pairs, []);
+    });
+}
+
+/// Threads that raise counters by transactions that compare them.
+#[test]
+fn loses_no_rise_of_a_counter() {
+    let raise = |store: &dyn Store, key: &[u8]| loop {
+        let reading = store.read(&[key]).expect("a reading");
+        let (value, revision) = match reading.get(key) {
+            Some(it) => (
+                String::from_utf8_lossy(&it.value)
+                    .parse::<u64>()
+                    .expect("a number"),
+                it.revision,
+            ),
+            None => (0, Revision::NEVER),
+        };
+        let next = Transaction::new()
+            .compare(key, revision)
+            .put(key, (value + 1).to_string());
+        if let Outcome::Made(_) = store.make(next).expect("an outcome") {
+            return;
+        }
+    };
+    over_each(|store| {
+        thread::scope(|threads| {
+            for _ in 0..4 {
+                threads.spawn(|| (0..100).for_each(|at| raise(store, &key(at % 2))));
+            }
+        });
+        let all = store.read_all(b"key/").expect("a reading").pairs;
+        assert!(all.iter().all(|it| it.value == b"200"), "{all:?}");
+    });
+}
+
+#[test]
+fn tells_who_waits_that_it_ended() {
+    let store = Arc::new(durkenzo_store::Embedded::in_memory());
+    let (tell, told) = mpsc::channel();
+    for _ in 0..10_000 {
+        let tell = tell.clone();
+        let done = move |it: Result<_, _>| tell.send(it.is_ok()).expect("it is heard");
+        store.submit(Transaction::new().put("key", "value"), Box::new(done));
+    }
+    drop((store, tell));
+    assert_eq!(told.iter().count(), 10_000);
+}

@@ -1,0 +1,38 @@
+"""Other people's crates for what cargo builds here: Debian's packages where all are installed, which needs no network,
+and else crates.io's. tools/setup installs the packages."""
+import os
+import pathlib
+import re
+import subprocess
+import tempfile
+
+# Where Debian's packages put them.
+DEBIAN = pathlib.Path("/usr/share/cargo/registry")
+REPLACED = f'[source.crates-io]\nreplace-with = "debian"\n[source.debian]\ndirectory = "{DEBIAN}"\n'
+
+
+def named(folder):
+    """The crates that the manifest of this folder names, but for our own."""
+    part = (folder / "Cargo.toml").read_text(encoding="utf-8").partition("[dependencies]")[2].partition("\n[")[0]
+    return [name for name, of in re.findall(r"(?m)^([\w-]+) = (.*)", part) if "path =" not in of]
+
+
+def is_debian(folder):
+    """Whether Debian's packages have all crates that the manifest names."""
+    return all(any(DEBIAN.glob(f"{it}-[0-9]*")) for it in named(folder))
+
+
+def cargo(folder, target, *words):
+    """Runs cargo in this folder, with the crates that are there, and builds into `target`; returns the finished run."""
+    with tempfile.NamedTemporaryFile("w", suffix=".toml", encoding="utf-8") as replaced:
+        replaced.write(REPLACED)
+        replaced.flush()
+        crates = ["--config", replaced.name, "--offline"] if is_debian(folder) else []
+        env = {"CARGO_TARGET_DIR": str(target), **os.environ}
+        command = ["cargo", words[0], *crates, *words[1:]]
+        return subprocess.run(command, cwd=folder, env=env, stdin=subprocess.DEVNULL, capture_output=True, text=True)
+
+
+def has_crates(folder, target):
+    """Whether cargo has them: Debian's, or those that crates.io gives it now or gave it before."""
+    return is_debian(folder) or cargo(folder, target, "fetch").returncode == 0
