@@ -6,6 +6,7 @@ import re
 import subprocess
 import tempfile
 
+TOP = pathlib.Path(__file__).resolve().parent.parent
 # Where Debian's packages put them.
 DEBIAN = pathlib.Path("/usr/share/cargo/registry")
 REPLACED = f'[source.crates-io]\nreplace-with = "debian"\n[source.debian]\ndirectory = "{DEBIAN}"\n'
@@ -22,17 +23,22 @@ def is_debian(folder):
     return all(any(DEBIAN.glob(f"{it}-[0-9]*")) for it in named(folder))
 
 
-def cargo(folder, target, *words):
-    """Runs cargo in this folder, with the crates that are there, and builds into `target`; returns the finished run."""
+def target(folder):
+    """Where cargo builds what is of this folder."""
+    return pathlib.Path(os.environ.get("CARGO_TARGET_DIR") or TOP / "out" / folder.name / "target")
+
+
+def cargo(folder, *words):
+    """Runs cargo in this folder, with the crates that are there; returns the finished run."""
     with tempfile.NamedTemporaryFile("w", suffix=".toml", encoding="utf-8") as replaced:
         replaced.write(REPLACED)
         replaced.flush()
         crates = ["--config", replaced.name, "--offline"] if is_debian(folder) else []
-        env = {"CARGO_TARGET_DIR": str(target), **os.environ}
+        env = {**os.environ, "CARGO_TARGET_DIR": str(target(folder))}
         command = ["cargo", words[0], *crates, *words[1:]]
         return subprocess.run(command, cwd=folder, env=env, stdin=subprocess.DEVNULL, capture_output=True, text=True)
 
 
-def has_crates(folder, target):
+def has_crates(folder):
     """Whether cargo has them: Debian's, or those that crates.io gives it now or gave it before."""
-    return is_debian(folder) or cargo(folder, target, "fetch").returncode == 0
+    return is_debian(folder) or cargo(folder, "fetch").returncode == 0

@@ -4,10 +4,12 @@ import shutil
 import subprocess
 import sys
 
+import other_crates
 import runs
 import sources
 from testing.library import PROVED
 from testing.part import Verdict, verdict
+from testing.program import tool
 
 FOLDER = sources.TOP / "server"
 SCRIPTS = ("commands", "moves", "dumps", "hostile", "scripts", "site")
@@ -87,6 +89,8 @@ def passed(_room):
         yield by_cargo(serve, "clippy of the server", "clippy", "--release", "--all-targets", "--", "-D", "warnings")
     told = subprocess.run([sources.TOP / "sm", "serve", "--help"], capture_output=True, text=True).stdout
     yield verdict("./sm serve --help", all(it in told for it in HEADINGS), told)
+    if other_crates.has_crates(sources.TOP / "trial"):
+        yield tool("trial", "--seconds", 5, program)
     if not lacking():
         for script in SCRIPTS:
             yield from said_by(script, python_with_redis(), program)

@@ -4,7 +4,7 @@ import shutil
 
 import beside
 import sources
-from testing import front, layout, library, server, store, tests
+from testing import alone, front, layout, library, server, tests
 from testing.part import Part, verdict
 from testing.program import EXAMPLES, Program, opens_nothing, tool
 
@@ -77,7 +77,7 @@ def without_proof(room, names, is_proved):
     with_proof = lambda _room: [tool("run-tests", "--proved", *names)]
     proved = [Part("tests, proved", with_proof)] if is_proved else []
     programs = [built("sm_cli", f"{room}/sm_cli"), Part("a cluster by chance, unproved", soaked)]
-    return [Part("tests", tests.work(names)), Part("stores", store.passed), *programs, *proved, *pages()]
+    return [Part("tests", tests.work(names)), Part("ordinary Rust", alone.passed), *programs, *proved, *pages()]
 
 
 def unproved_program(room):
@@ -160,7 +160,7 @@ def proved(say):
     if not library.wheel_maker():
         say("no python3 has pip, setuptools and wheel: the library's wheel isn't tried")
     server.skipped(say)
-    store.skipped(say)
+    alone.skipped(say)
     parts = [
         Part("pictures, proved", program.pictures),
         Part("the shell, proved", program.shell),
