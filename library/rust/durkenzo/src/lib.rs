@@ -112,3 +112,6 @@ pub use routes::{Route, Routes};
 pub use service::{Service, ServiceBuilder, Texts};
 pub use service_pass::{ServeRefused, Served, ServicePass};
 pub use settings_fault::SettingsFault;
+
+/// Whether the library under this crate was proved; one that `tools/unproved --library` built wasn't.
+pub const IS_PROVED: bool = option_env!("DURKENZO_UNPROVED").is_none();
