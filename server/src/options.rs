@@ -8,6 +8,8 @@ const SHARDS: &str = "Servers and shards";
 const DATA: &str = "Data";
 const THREADS: &str = "Threads and waiting";
 const LOG: &str = "Log";
+const PROVED: &str =
+    "./sm serve takes --proved too: it proves the library first, where that wasn't done.";
 
 /// A server that Redis clients talk to. Its data lies in memory alone.
 ///
@@ -19,7 +21,8 @@ const LOG: &str = "Log";
     name = "sm serve",
     version,
     args_override_self = true,
-    verbatim_doc_comment
+    verbatim_doc_comment,
+    after_help = PROVED
 )]
 pub struct Options {
     /// Address to listen at
