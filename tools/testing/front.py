@@ -41,7 +41,7 @@ def strict():
         yield Verdict(f"./sm {script} --strict", fault_of([SM, "model", given, "--strict"], status, output, complaint))
     given, output = EXAMPLES / "malformed.in", (EXAMPLES / "malformed.out").read_bytes()
     yield Verdict(
-        "./sm with --explain behind the file", fault_of([SM, "model", given, "--explain"], 3, output, "refused")
+        "./sm with --explain behind the file", fault_of([SM, "model", given, "--explain"], 3, output, "./sm check")
     )
 
 

@@ -244,7 +244,14 @@ class Program:
             is_well = all(it in said and it in f"\n{again}" for it in wanted) and "\nserver 1 is back" in said
             yield verdict(f"the shell on {engine}", is_well, (said + again)[-2000:])
         yield from self.shell_explains()
+        yield from self.shell_goes_on()
         yield from self.shell_spreads()
+
+    def shell_goes_on(self):
+        """A restart that couldn't be approved goes on once it can be."""
+        said = self.shell_said(["assign 0 2", "fail 1", "restart 2", "back 1", "restart 2"])
+        wanted = ("stopped at 'approve 2'. `restart 2` goes on", "\nserver 2 is back, with 1 shard\n")
+        yield verdict("the shell's restart goes on", all(it in said for it in wanted), said)
 
     def shell_explains(self):
         """After a line that is refused the shell tells why, how the shard stands and what to do."""
