@@ -130,8 +130,8 @@ pub struct Options {
     pub threads: Option<u16>,
 
     /// How long a thread polls for requests before it sleeps, where they came soon lately: it answers sooner, and uses
-    /// its processor meanwhile
-    #[arg(long, value_name = "MICROSECONDS", default_value_t = 0, help_heading = THREADS)]
+    /// its processor meanwhile, unless others want that
+    #[arg(long, value_name = "MICROSECONDS", default_value_t = 50, help_heading = THREADS)]
     pub busy_poll: u64,
 
     /// Tries of a shard that another thread has, before other connections have their turn
