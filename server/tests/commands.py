@@ -118,7 +118,7 @@ OWN = [
     ("SM LOOK 0", "Serving"),
     ("SM LOOK 64", "REFUSED UnknownShard"),
     ("SM LOOK x", "REFUSED BadLine: it is written SM LOOK k"),
-    ("SM NOSUCH", "REFUSED BadLine"),
+    ("SM NOSUCH", "REFUSED UnknownWord"),
     ("SM ADD 0", "REFUSED WrongPhase"),
     ("SM MIGRATE 0 9", "REFUSED UnknownServer"),
     ("SM MIGRATE 0 1", "REFUSED SameServer"),

@@ -31,8 +31,8 @@ pub const WORDS: [(&str, &str); 29] = [
     ("HELP", "these lines"),
 ];
 
-/// How the word is written.
-pub fn usage(word: &str) -> &'static str {
-    let found = WORDS.iter().find(|it| it.0.split(' ').next() == Some(word));
-    found.map_or("HELP", |it| it.0)
+/// How the word is written; none where it is no word.
+pub fn usage(word: &str) -> Option<&'static str> {
+    let mut words = WORDS.iter().map(|it| it.0);
+    words.find(|it| it.split(' ').next() == Some(word))
 }

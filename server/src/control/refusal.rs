@@ -26,13 +26,13 @@ impl Refusal {
         }
     }
 
-    /// That a word or a number isn't as it has to be.
-    pub fn usage(wanted: &str) -> Refusal {
-        Refusal::new(
-            "BadLine",
-            format!("it is written SM {wanted}"),
-            "SM HELP lists all words",
-        )
+    /// That there is no such word, or that what follows it isn't as it has to be, which is written so.
+    pub fn usage(wanted: Option<&str>) -> Refusal {
+        let advice = "SM HELP lists all words";
+        match wanted {
+            Some(wanted) => Refusal::new("BadLine", format!("it is written SM {wanted}"), advice),
+            None => Refusal::new("UnknownWord", "SM has no such word", advice),
+        }
     }
 
     /// That there is no such server.
