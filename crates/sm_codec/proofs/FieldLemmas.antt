@@ -16,7 +16,8 @@ use Rattle.sm_ownership.specs.declared.mode.Mode.{Mode}
 use Rattle.sm_ownership.specs.declared.mode.Mode.TheVariants.{Direct, Forwarded}
 use Rattle.sm_ranges.specs.ServerId.{IsServer}
 use Rattle.sm_codec.specs.Spelling.{FitsMode, mode_number, string_bytes}
-use Rattle.sm_codec.specs.Reading.{◌>>=◌, all_read, mode_in, mode_named, named_in, number_in, server_in, server_named}
+use Rattle.sm_codec.specs.Reading.{◌>>=◌, all_read, byte_in, mode_in, mode_named, named_in, number_in, server_in}
+use Rattle.sm_codec.specs.Reading.{server_named}
 use Rattle.sm_codec.specs.Reading.{string_in, version_in}
 
 abbrev pub IsBytes : List ℕ → Type 0
@@ -191,6 +192,14 @@ version_takes (b ∷ bytes) rest fits e =
     let g = guard_ended (eqb b 1) Version bytes rest e in
     subst (λ (x : List ℕ). Takes (b ∷ bytes) (1 ∷ []) x) g.1
     (record { parts = ap (λ (k : ℕ). k ∷ bytes) (eqb-true b 1 g.0); rest_fits = IsBytes-rest b bytes fits })
+
+pub byte_takes : (bytes : List ℕ) (x : ℕ × List ℕ) → IsBytes bytes → byte_in bytes ≡ Ok x
+    → Takes bytes (x.0 ∷ []) x.1
+byte_takes [] x fits e = absurd cc
+byte_takes (b ∷ bytes) x fits e =
+    let here : ℕ × List ℕ = (b, bytes) in
+    subst (λ (y : ℕ × List ℕ). Takes (b ∷ bytes) (y.0 ∷ []) y.1) (ok_is here x e)
+    (record { parts = refl; rest_fits = IsBytes-rest b bytes fits })
 
 pub version_again : (rest : List ℕ) → version_in (1 ∷ rest) ≡ Ok rest
 unfolding version_in

@@ -44,6 +44,11 @@ unfoldable pub version_in : List ℕ → Result (List ℕ) Fault
 version_in [] = Err Short
 version_in (byte ∷ rest) = if byte == 1 then Ok rest else Err Version
 
+-- one byte, and those after it
+abbrev pub byte_in : List ℕ → Result (ℕ × List ℕ) Fault
+byte_in [] = Err Short
+byte_in (byte ∷ rest) = Ok (byte, rest)
+
 -- a number, and the bytes after it
 abbrev pub number_in : Width → List ℕ → Result (ℕ × List ℕ) Fault
 number_in w bytes =
@@ -146,8 +151,18 @@ item_in bytes = do
   client ← number_in w64 bytes
   number ← number_in w64 client.1
   mode ← mode_in number.1
-  request ← string_in mode.1
-  Ok (record { client = client.0; number = number.0; mode = mode.0; request = request.0 }, request.1)
+  hops ← byte_in mode.1
+  request ← string_in hops.1
+  Ok (
+    record {
+      client = client.0;
+      number = number.0;
+      mode = mode.0;
+      hops = hops.0;
+      request = request.0;
+    },
+    request.1,
+  )
 
 -- so many requests, one after the other
 unfoldable pub items_in : ℕ → List ℕ → Result (List (Item (List ℕ)) × List ℕ) Fault

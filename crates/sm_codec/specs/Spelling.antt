@@ -89,7 +89,8 @@ mode_number (Forwarded from) = from
 abbrev pub item_bytes : Item (List ℕ) → List ℕ
 item_bytes item =
     to_be_bytes w64 item.client
-    ++ (to_be_bytes w64 item.number ++ (to_be_bytes w32 (mode_number item.mode) ++ string_bytes item.request))
+    ++ (to_be_bytes w64 item.number
+    ++ (to_be_bytes w32 (mode_number item.mode) ++ (item.hops ∷ string_bytes item.request)))
 
 -- a batch without where it lies in memory: the server that executed it, and its requests
 pub record Batch : Type 0 where
@@ -99,7 +100,13 @@ pub record Batch : Type 0 where
 -- a request without where its bytes lie
 abbrev pub item_view : Item (Vec ℕ) → Item (List ℕ)
 item_view item =
-    record { client = item.client; number = item.number; mode = item.mode; request = item.request.items }
+    record {
+      client = item.client;
+      number = item.number;
+      mode = item.mode;
+      hops = item.hops;
+      request = item.request.items;
+    }
 
 -- such requests
 abbrev pub item_views : List (Item (Vec ℕ)) → List (Item (List ℕ))

@@ -1,6 +1,6 @@
 ghost use Rattle.std.specs.Prelude.{◌≡◌, List, length};
 ghost use Rattle.std.specs.Int.{w32, w64};
-ghost use Rattle.sm_codec.specs.Reading.{Decodes, mode_named, number_in, server_named, string_in, version_in};
+ghost use Rattle.sm_codec.specs.Reading.{Decodes, byte_in, mode_named, number_in, server_named, string_in, version_in};
 
 use crate::fault::{Fault, ReadError};
 use sm_ownership::mode::Mode;
@@ -16,6 +16,16 @@ pub fn version_of(bytes: &[u8]) -> Result<&[u8], ReadError>
         [] => Err(ReadError::Fault(Fault::Short)),
         [1, rest @ ..] => Ok(rest),
         [_, ..] => Err(ReadError::Fault(Fault::Version)),
+    }
+}
+
+/// One byte, and those after it.
+pub fn byte_at(bytes: &[u8]) -> Result<(u8, &[u8]), ReadError>
+    ensures { Decodes (λ x. (x.0, x.1.now)) result (byte_in bytes.now) }
+{
+    match bytes {
+        [] => Err(ReadError::Fault(Fault::Short)),
+        [byte, rest @ ..] => Ok((*byte, rest)),
     }
 }
 

@@ -12,7 +12,7 @@ ghost use Rattle.sm_store.specs.declared.head.Head.{Head as HeadValue};
 ghost use Rattle.sm_word.specs.Word.{IsWellFormed, word_of};
 
 use crate::fault::{Fault, ReadError};
-use crate::fields::{mode_named, server_named, string_of, u32_at, u64_at, version_of};
+use crate::fields::{byte_at, mode_named, server_named, string_of, u32_at, u64_at, version_of};
 use crate::store_settings::StoreSettings;
 use crate::stored_batch::StoredBatch;
 use crate::stored_part::StoredPart;
@@ -109,11 +109,13 @@ fn item_of(alloc: Global, bytes: &[u8]) -> Result<(Item<Vec<u8>>, &[u8]), ReadEr
     let Some(mode) = mode_named(code) else {
         return Err(ReadError::Fault(Fault::Server));
     };
+    let (hops, rest) = byte_at(rest)?;
     let (request, rest) = string_of(alloc, rest)?;
     let item = Item {
         client,
         number,
         mode,
+        hops,
         request,
     };
     Ok((item, rest))

@@ -90,6 +90,7 @@ fn put_item(out: &mut Vec<u8>, item: &Item<Vec<u8>>) -> Result<(), AllocError>
 {
     let code = mode_code(&item.mode);
     put_front(out, item.client, item.number, code)?;
+    out.push(item.hops)?;
     put_string(out, &item.request)?;
     Ok(())
 }

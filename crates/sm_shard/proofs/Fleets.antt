@@ -1,5 +1,5 @@
 -- Every run of a fleet is one of the store's events, and so lawful.
-use Rattle.std.proofs.Common.{◌≡◌, ◌≢◌, ◌<◌, ℕ, zero, suc, List, [], ◌∷◌, ◌++◌, length, map, refl, sym, ap, subst}
+use Rattle.std.proofs.Common.{◌≡◌, ℕ, zero, suc, List, [], ◌∷◌, ◌++◌, length, map, refl, sym, ap, subst}
 use Rattle.std.proofs.Common.{◌∙◌}
 use Rattle.std.specs.Prelude.{Option, Some, None, IfSome, slice_set}
 use Rattle.std.specs.List.{AllByRecursion}
@@ -15,7 +15,7 @@ use Rattle.sm_store.specs.lemmas.Logs.{all_map, asked_step, asks_within, at_plac
 use Rattle.sm_shard.specs.declared.shard_state.ShardState.{ShardState}
 use Rattle.sm_shard.specs.Fleet.{Act, Fleet, MayAct, MightAct, Otherwise, Running, Starts, Steps, fleet_acted}
 use Rattle.sm_shard.specs.Fleet.{fleet_after, sent_since}
-use Rattle.sm_shard.specs.ShardServers.{AreAsked, AreAskedOf, HasRead, IsAsked, IsAskedBy, IsStationed, IsTrueOf}
+use Rattle.sm_shard.specs.ShardServers.{AreAsked, AreAskedOf, HasRead, IsAsked, IsAskedBy, IsTrueOf}
 use Rattle.sm_shard.specs.ShardServers.{StoreLog}
 use Rattle.sm_shard.specs.Steps.{ArePast, IsSafe, since_after, step_claims, step_sends}
 use Rattle.sm_shard.proofs.Works.{base_grows}
@@ -74,7 +74,6 @@ module _ {M Q R : Type 0} (service : Automaton M Q R) where
   -- a server of the store's shards, what it holds of which is so
   pub record IsGoodServer (charter : Charter Q (Part R)) (log : StoreLog Q R) (asked : List (Ask Q))
       (running : Running M Q R) : Type 0 where
-    pub placed : IsStationed running.server
     pub count : charter.count ≡ running.server.count
     pub known : IsTrueOf service log running.server
     pub in_time : AreAsked asked running.since running.server
@@ -83,7 +82,6 @@ module _ {M Q R : Type 0} (service : Automaton M Q R) where
       (running : Running M Q R) → IsGoodServer charter log asked running
       → IsGoodServer charter (more ++ log) (extra ++ asked) running
   good_grows charter more log extra asked running good = record {
-    placed = good.placed;
     count = good.count;
     known = known_grows more log running.server.me running.server.shard running.server.ready good.known;
     in_time = asked_more extra asked running.since running.server.shard running.server.ready good.in_time;
@@ -189,12 +187,11 @@ module _ {M Q R : Type 0} (service : Automaton M Q R) (charter : Charter Q (Part
     is = run.is;
     good = (
       record {
-        placed = may.0;
-        count = may.2;
+        count = may.1;
         known = subst (λ (o : Option (ShardState M Q R)). IfSome o (λ ready. HasRead service fleet.system.log
-            server.me server.shard ready)) (sym may.1) tt;
+            server.me server.shard ready)) (sym may.0) tt;
         in_time = subst (λ (o : Option (ShardState M Q R)). IfSome o (λ ready. AreAskedOf fleet.system.asked 0
-            server.shard ready)) (sym may.1) tt;
+            server.shard ready)) (sym may.0) tt;
       },
       run.good,
     );
@@ -211,7 +208,7 @@ module _ {M Q R : Type 0} (service : Automaton M Q R) (charter : Charter Q (Part
       let right : AreRight charter log =
       subst (λ (now : System Q (Part R) R). AreRight charter now.log) (sym run.is) (law run.events run.might).right in
       let safe : IsSafe service charter system old.since old.server.shard input result new =
-      step.call charter system old.since was.count parts right was.placed past was.known was.in_time step.input_is in
+      step.call charter system old.since was.count parts right past was.known was.in_time step.input_is in
       let claims_may : AllByRecursion (MayClaim service system) (step_claims new.shard input result) =
       subst (λ (k : ℕ). AllByRecursion (MayClaim service system) (step_claims k input result))
       (sym step.shard) safe.claims in
@@ -230,11 +227,6 @@ module _ {M Q R : Type 0} (service : Automaton M Q R) (charter : Charter Q (Part
         good = all_set (IsGoodServer service charter log system.asked) fleet.servers which
             (record { server = new; since = since_after result old.since (length log) }) run.good
             (record {
-              placed = (
-                subst (λ (k : ℕ). k < new.count) (sym step.shard)
-                    (subst (λ (n : ℕ). old.server.shard < n) (sym step.count) was.placed.0),
-                subst (λ (k : ℕ). k ≢ 0) (sym step.me) was.placed.1,
-              );
               count = was.count ∙ sym step.count;
               known = safe.known;
               in_time = safe.asked;

@@ -5,4 +5,5 @@ pub mod LogReads
 pub mod Replicas
 pub mod Replies
 pub mod ShardServers
+pub mod StoreServers
 pub mod Works

@@ -2,7 +2,7 @@
 use Rattle.std.proofs.Common.{◌≡◌, ◌≢◌, ℕ, ◌<◌, true, false, List, [], ◌∷◌, ◌++◌, refl, sym, ap, subst, ◌∙◌, arith}
 use Rattle.std.proofs.Common.{◌≤◌, length, map, append_assoc, append-nil, inl, inr, ◌+◌, ◌-◌, drop}
 use Rattle.std.specs.Prelude.{Bool, Option, Some, None, IfNone, IfSome, Result, Ok, Err, IfOk, OnErr, ◌==◌, IsTrue}
-use Rattle.std.specs.Prelude.{is_none, nat_lt}
+use Rattle.std.specs.Prelude.{OnOk, is_none, nat_le, nat_lt, not, ◌&&◌}
 use Rattle.std.specs.Prelude.{if◌then◌else◌}
 use Rattle.std.specs.Global.{Vec}
 use Rattle.std.specs.List.{AllByRecursion}
@@ -35,10 +35,10 @@ use Rattle.sm_shard.specs.declared.replica.MadeReply.{MadeReply}
 use Rattle.sm_shard.specs.declared.replica.ReadReply.{ReadReply}
 use Rattle.sm_shard.specs.declared.shard_state.Decision.{Decision}
 use Rattle.sm_shard.specs.declared.shard_state.Decision.TheVariants.{Replied, Passed, Waits, Forwards, Refused}
-use Rattle.sm_shard.specs.declared.shard_state.Decision.TheVariants.{TooLarge, Busy}
+use Rattle.sm_shard.specs.declared.shard_state.Decision.TheVariants.{NotRead, TooFar, TooLarge, Busy}
 use Rattle.sm_shard.specs.declared.shard_state.ShardState.{ShardState}
 use Rattle.sm_shard.specs.Decisions.{batch_from, batch_length, begins_base, decided_by_number, goes_with, client_number}
-use Rattle.sm_shard.specs.Decisions.{is_behind, named_by}
+use Rattle.sm_shard.specs.Decisions.{asking_after, is_behind, named_by}
 use Rattle.sm_shard.specs.Replicas.{IsReplica, read_of, replies_of}
 use Rattle.sm_shard.specs.Steps.{ArePast, bases_of, transactions_of}
 use Rattle.sm_shard.specs.ShardServers.{AreAskedOf, DidHold, HasRead, IsAsked, IsAskedBy, IsDecided, IsFlushed}
@@ -291,8 +291,10 @@ module _ {M Q R : Type 0} (service : Automaton M Q R) where
   decided_so shard me system state read revision client number found Passed is =
       (overtaken_so shard system read revision client number found is, tt)
   decided_so shard me system state read revision client number found Waits is = tt
-  decided_so shard me system state read revision client number found (Forwards to) is = tt
+  decided_so shard me system state read revision client number found (Forwards to hops) is = tt
+  decided_so shard me system state read revision client number found TooFar is = tt
   decided_so shard me system state read revision client number found Refused is = tt
+  decided_so shard me system state read revision client number found NotRead is = tt
   decided_so shard me system state read revision client number found TooLarge is = tt
   decided_so shard me system state read revision client number found Busy is = tt
 
@@ -678,6 +680,36 @@ module _ {M Q R : Type 0} (service : Automaton M Q R) where
     carried = subst (AllByRecursion (IsAskedBy system.asked shard (length system.log))) (sym flush.carried)
         (all_map (IsAsked system.asked shard) (IsAskedBy system.asked shard (length system.log))
         (asked_now system shard past) old.asking.items asked.asking);
+  }
+
+  asked_if : (asked : List (Ask Q)) (shard : ℕ) (waits : Bool) (items : List (Item Q)) (item : Item Q)
+      → AllByRecursion (IsAsked asked shard) items → IsAsked asked shard item
+      → AllByRecursion (IsAsked asked shard) (if waits then items ++ item ∷ [] else items)
+  asked_if asked shard true items item all one = all-append (IsAsked asked shard) items (item ∷ []) all (one, tt)
+  asked_if asked shard false items item all one = all
+
+  asking_of : {E : Type 0} (asked : List (Ask Q)) (shard me : ℕ) (limits : ShardLimits) (old new : ShardState M Q R)
+      (item : Item Q) (result : Result (Decision R) E)
+      → OnOk result (new.asking.items ≡ asking_after limits old me item)
+      → OnErr result (new.asking.items ≡ old.asking.items) → AllByRecursion (IsAsked asked shard) old.asking.items
+      → IsAsked asked shard item → AllByRecursion (IsAsked asked shard) new.asking.items
+  asking_of asked shard me limits old new item (Ok decision) ok err all one =
+      subst (AllByRecursion (IsAsked asked shard)) (sym ok)
+      (asked_if asked shard (accepts old.state me item.mode && not (nat_le limits.waiting (length old.asking.items)))
+      old.asking.items item all one)
+  asking_of asked shard me limits old new item (Err error) ok err all one =
+      subst (AllByRecursion (IsAsked asked shard)) (sym err) all
+
+  -- one more read, which was asked, waits
+  pub asked_one : {E : Type 0} (asked : List (Ask Q)) (since shard me : ℕ) (limits : ShardLimits)
+      (old new : ShardState M Q R) (item : Item Q) (result : Result (Decision R) E) → new.carried ≡ old.carried
+      → OnOk result (new.asking.items ≡ asking_after limits old me item)
+      → OnErr result (new.asking.items ≡ old.asking.items) → AreAskedOf asked since shard old
+      → IsAsked asked shard item → AreAskedOf asked since shard new
+  asked_one asked since shard me limits old new item result carried ok err all one = record {
+    asking = asking_of asked shard me limits old new item result ok err all.asking one;
+    carried = subst (λ (list : Vec (Item Q)). AllByRecursion (IsAskedBy asked shard since) list.items) (sym carried)
+        all.carried;
   }
 
   pub known_of : (log : StoreLog Q R) (me shard : ℕ) (found : Option (ShardState M Q R)) (ready : ShardState M Q R)

@@ -6,6 +6,7 @@ use Rattle.std.specs.Prelude.{None, ◌+◌, ◌-◌, List, [], ◌∷◌, ◌++
 use Rattle.std.specs.Option.{option_or}
 use Rattle.std.specs.BTreeMap.{get}
 use Rattle.std.specs.Ordering.{nat_cmp}
+use Rattle.sm_envelope.specs.declared.envelope.TheConstants.{MOST_HOPS}
 use Rattle.sm_ownership.specs.Rules.{accepts, forward_to}
 use Rattle.sm_store.specs.declared.head.Head.{Head}
 use Rattle.sm_store.specs.declared.item.Item.{Item}
@@ -15,6 +16,7 @@ use Rattle.sm_shard.specs.declared.shard_limits.ShardLimits.{ShardLimits}
 use Rattle.sm_shard.specs.declared.replica.LastRequest.{LastRequest}
 use Rattle.sm_shard.specs.declared.shard_state.Decision.{Decision}
 use Rattle.sm_shard.specs.declared.shard_state.Decision.TheVariants.{Replied, Passed, Waits, Forwards, Refused}
+use Rattle.sm_shard.specs.declared.shard_state.Decision.TheVariants.{NotRead, TooFar}
 use Rattle.sm_shard.specs.declared.shard_state.Decision.TheVariants.{TooLarge, Busy}
 use Rattle.sm_shard.specs.declared.base_work.BaseStage.{BaseStage}
 use Rattle.sm_shard.specs.declared.base_work.BaseStage.TheVariants.{Written, Naming}
@@ -30,10 +32,10 @@ decided_by_last number (Some last) =
     else if nat_lt number last.number then Some Passed
     else None
 
--- what is decided of one that its record doesn't accept
-abbrev pub decided_by_forward : {R : Type 0} → Option ℕ → Decision R
-decided_by_forward None = Refused
-decided_by_forward (Some to) = Forwards to
+-- what is decided of one that was forwarded so often, and that its record doesn't accept
+abbrev pub decided_by_forward : {R : Type 0} → ℕ → Option ℕ → Decision R
+decided_by_forward hops None = Refused
+decided_by_forward hops (Some to) = if nat_lt hops MOST_HOPS then Forwards to (hops + 1) else TooFar
 
 -- a decision, or else another
 abbrev pub decided_or : {R : Type 0} → Option (Decision R) → Decision R → Decision R
@@ -66,14 +68,15 @@ by_waiting ready item =
     (decided_by_number item.number (client_number item.client ready.waiting.items))
 
 -- the decision on a request: by its client's last one; else where the record accepts it here, by what was sent or waits
--- of its client, and by the room that is left; else it goes to whom the record forwards it, or is refused
+-- of its client, and by the room that is left; else it goes to whom the record forwards it, if it may go that far, or
+-- is refused
 abbrev pub decision_of : {M Q R : Type 0} → ShardLimits → (Q → ℕ) → ShardState M Q R → ℕ → Item Q → Decision R
 decision_of limits size ready me item =
     decided_or (by_last ready item)
     (if accepts ready.state me item.mode
     then decided_or (by_waiting ready item)
     (decided_by_room limits (size item.request) (length ready.waiting.items))
-    else decided_by_forward (forward_to ready.state me))
+    else decided_by_forward item.hops (forward_to ready.state me))
 
 -- it is new, and there is room for it
 abbrev pub is_taken : {M Q R : Type 0} → ShardLimits → (Q → ℕ) → ShardState M Q R → ℕ → Item Q → Bool
@@ -91,16 +94,16 @@ waiting_after limits size ready me item =
 -- what is decided where the server has read, and where it hasn't
 abbrev pub server_decision : {M Q R : Type 0} → ShardLimits → (Q → ℕ) → Option (ShardState M Q R) → ℕ → Item Q
     → Decision R
-server_decision limits size None me item = Refused
+server_decision limits size None me item = NotRead
 server_decision limits size (Some ready) me item = decision_of limits size ready me item
 
 -- the decision on a request that only reads: it waits where the record accepts it here and there is room, goes to whom
--- the record forwards it, or is refused
+-- the record forwards it, if it may go that far, or is refused
 abbrev pub read_decision_of : {M Q R : Type 0} → ShardLimits → ShardState M Q R → ℕ → Item Q → Decision R
 read_decision_of limits ready me item =
     if accepts ready.state me item.mode
     then (if nat_le limits.waiting (length ready.asking.items) then Busy else Waits)
-    else decided_by_forward (forward_to ready.state me)
+    else decided_by_forward item.hops (forward_to ready.state me)
 
 -- which reads wait after the decision
 abbrev pub asking_after : {M Q R : Type 0} → ShardLimits → ShardState M Q R → ℕ → Item Q → List (Item Q)
@@ -111,7 +114,7 @@ asking_after limits ready me item =
 
 -- what is decided of one that only reads, where the server has read, and where it hasn't
 abbrev pub server_read_decision : {M Q R : Type 0} → ShardLimits → Option (ShardState M Q R) → ℕ → Item Q → Decision R
-server_read_decision limits None me item = Refused
+server_read_decision limits None me item = NotRead
 server_read_decision limits (Some ready) me item = read_decision_of limits ready me item
 
 -- each part of the base is there, and no transaction that names it was sent

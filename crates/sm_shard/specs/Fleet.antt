@@ -9,7 +9,6 @@ use Rattle.sm_shard.specs.declared.replica.ReplayFault.{ReplayFault}
 use Rattle.sm_shard.specs.declared.shard_server.ShardServer.{ShardServer}
 use Rattle.sm_shard.specs.declared.steps.ShardInput.{ShardInput}
 use Rattle.sm_shard.specs.declared.steps.ShardOutput.{ShardOutput}
-use Rattle.sm_shard.specs.ShardServers.{IsStationed}
 use Rattle.sm_shard.specs.Steps.{IsInput, IsStepOf, since_after, step_claims, step_sends}
 
 -- a server, and the length of the log when it last sent
@@ -70,7 +69,7 @@ pub record IsFleetStep {M Q R : Type 0} (service : Automaton M Q R) (fleet : Fle
 abbrev pub MayAct : {M Q R : Type 0} → Automaton M Q R → Charter Q (Part R) → Fleet M Q R → Act M Q R
     → Type 0
 MayAct service charter fleet (Starts server) =
-    IsStationed server × (server.ready ≡ None) × (charter.count ≡ server.count)
+    (server.ready ≡ None) × (charter.count ≡ server.count)
 MayAct service charter fleet (Steps which old input result new) =
     (slice_get fleet.servers which ≡ Some old) × IsFleetStep service fleet old input result new
 MayAct service charter fleet (Otherwise event) = May service charter fleet.system event

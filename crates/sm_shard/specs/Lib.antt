@@ -4,3 +4,4 @@ pub mod Fleet
 pub mod Replicas
 pub mod ShardServers
 pub mod Steps
+pub mod StoreServers

@@ -23,6 +23,7 @@ use Rattle.sm_shard.specs.declared.shard_server.PartsSending.{PartsSending}
 use Rattle.sm_shard.specs.declared.shard_server.ShardServer.{ShardServer}
 use Rattle.sm_shard.specs.declared.shard_state.Decision.{Decision}
 use Rattle.sm_shard.specs.declared.shard_state.Decision.TheVariants.{Replied, Passed, Waits, Forwards, Refused}
+use Rattle.sm_shard.specs.declared.shard_state.Decision.TheVariants.{NotRead, TooFar}
 use Rattle.sm_shard.specs.declared.shard_state.Decision.TheVariants.{TooLarge, Busy}
 use Rattle.sm_shard.specs.declared.shard_state.ShardState.{ShardState}
 use Rattle.sm_shard.specs.declared.shard_limits.ShardLimits.{ShardLimits}
@@ -101,10 +102,6 @@ pub record AreAskedOf {M Q R : Type 0} (asked : List (Ask Q)) (since shard : ℕ
 abbrev pub AreAsked : {M Q R : Type 0} → List (Ask Q) → ℕ → ShardServer M Q R → Type 0
 AreAsked asked since server = IfSome server.ready (λ ready. AreAskedOf asked since server.shard ready)
 
--- it is a server of one of the store's shards
-abbrev pub IsStationed : {M Q R : Type 0} → ShardServer M Q R → Type 0
-IsStationed server = (server.shard < server.count) × (server.me ≢ 0)
-
 -- what a decision says of a request is so, where the server knows these requests
 abbrev pub IsDecided : {M Q R : Type 0} → Automaton M Q R → Record → ℕ → List (Item Q) → ℕ → ℕ
     → Decision R → Type 0
@@ -112,8 +109,10 @@ IsDecided service state me before client number (Replied answer) =
     reply_in service service.start before client number ≡ Some answer
 IsDecided service state me before client number Passed = number < last_of client before
 IsDecided service state me before client number Waits = Unit {0}
-IsDecided service state me before client number (Forwards to) = forward_to state me ≡ Some to
+IsDecided service state me before client number (Forwards to hops) = forward_to state me ≡ Some to
 IsDecided service state me before client number Refused = Unit {0}
+IsDecided service state me before client number NotRead = Unit {0}
+IsDecided service state me before client number TooFar = Unit {0}
 IsDecided service state me before client number TooLarge = Unit {0}
 IsDecided service state me before client number Busy = Unit {0}
 

@@ -21,7 +21,7 @@ use Rattle.sm_shard.specs.declared.steps.ShardInput.TheVariants.{Lost}
 use Rattle.sm_shard.specs.declared.steps.ShardInput.TheVariants.{Question, Base, PartsMade, Clear}
 use Rattle.sm_shard.specs.declared.steps.ShardOutput.{ShardOutput}
 use Rattle.sm_shard.specs.declared.steps.ShardOutput.TheVariants.{Sends, Decided, Answers, Bases, Clears}
-use Rattle.sm_shard.specs.ShardServers.{AreAsked, AreWritten, DidHold, IsAsked, IsStationed, IsTrueOf, StoreLog}
+use Rattle.sm_shard.specs.ShardServers.{AreAsked, AreWritten, DidHold, IsAsked, IsTrueOf, StoreLog}
 use Rattle.sm_shard.specs.ShardServers.{StoreSystem}
 use Rattle.sm_shard.specs.ShardServers.{WereMade, basing_by, claimed_all, claimed_by, claimed_reads, sent_transaction}
 
@@ -110,6 +110,6 @@ abbrev pub IsStepOf : {M Q R : Type 0} → Automaton M Q R → ShardServer M Q R
     → Result (ShardOutput Q R) ReplayFault → ShardServer M Q R → Type 0
 IsStepOf {Q = Q} {R = R} service old input result new =
     (charter : Charter Q (Part R)) (system : StoreSystem Q R) (since : ℕ) → charter.count ≡ old.count
-    → charter.parts ≡ base_of service → AreRight charter system.log → IsStationed old → ArePast system
+    → charter.parts ≡ base_of service → AreRight charter system.log → ArePast system
     → IsTrueOf service system.log old → AreAsked system.asked since old → IsInput service system since old input
     → IsSafe service charter system since old.shard input result new

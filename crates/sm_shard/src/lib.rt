@@ -26,6 +26,7 @@ pub mod shard_server;
 pub mod shard_state;
 pub mod steps;
 pub mod store_machine;
+pub mod store_server;
 
 pub use base_part::{BasePart, PART_BYTES, PART_CLIENTS};
 pub use base_work::{BaseStage, BaseWork, NamedBase};
@@ -35,3 +36,4 @@ pub use shard_server::{BatchSending, PartsSending, ShardServer, StoreAnswers, Un
 pub use shard_state::{Decision, ShardState};
 pub use steps::{ShardInput, ShardOutput, step};
 pub use store_machine::StoreMachine;
+pub use store_server::StoreServer;

@@ -23,6 +23,8 @@ pub enum ReplayFault {
     Missing,
     /// The bytes of a base stand for no machine.
     Unreadable,
+    /// The store hasn't so many shards.
+    UnknownShard,
 }
 
 impl From<AllocError> for ReplayFault {

@@ -1,21 +1,4 @@
-ghost use Rattle.std.specs.Prelude.{◌≡◌, ◌++◌, ◌+◌, List, ◌<◌, ◌≤◌, ◌↔◌, true, false, IsTrue, IsSome, IfOk, OnErr};
-ghost use Rattle.std.specs.Prelude.{IfSome};
-ghost use Rattle.std.specs.Prelude.{ℕ, length, map};
-ghost use Rattle.std.specs.List.{AllByRecursion};
-ghost use Rattle.sm_shard.specs.Bases.{Part, base_of};
-ghost use Rattle.sm_store.specs.declared.item.Item.{Item as ItemValue};
-ghost use Rattle.sm_store.specs.Store.{record_key, stored_record};
-ghost use Rattle.sm_store.specs.Deeds.{AreRight, Charter, Clearing, MaySend, WasFound, transaction_of};
-ghost use Rattle.sm_store.specs.System.{Ask, MayClaim};
-ghost use Rattle.sm_shard.specs.Decisions.{server_begins, server_behind, server_decision, server_read_decision};
-ghost use Rattle.sm_shard.specs.Decisions.{server_sends};
-ghost use Rattle.sm_shard.specs.Replicas.{read_of, replies_of};
-ghost use Rattle.sm_shard.specs.ShardServers.{AreAsked, DidHold, IsAsked, IsStationed, IsTrueOf, StoreLog};
-ghost use Rattle.sm_shard.specs.ShardServers.{StoreSystem};
-ghost use Rattle.sm_shard.specs.ShardServers.{WereMade, claimed_all, claimed_by, claimed_reads};
-ghost use Rattle.sm_shard.specs.ShardServers.{AreWritten, basing_by, parts_transactions, sending_transaction};
-ghost use Rattle.sm_shard.specs.ShardServers.{sent_transaction};
-ghost use Rattle.sm_shard.specs.Steps.{ArePast, IsLogRead};
+ghost use Rattle.std.specs.Prelude.{◌≢◌, ◌<◌, ◌≡◌, IfSome};
 
 use crate::base_part::BasePart;
 use crate::base_work::NamedBase;
@@ -44,6 +27,9 @@ pub struct ShardServer<M, Q, R> {
     pub count: u64,
     pub limits: ShardLimits,
     pub ready: Option<ShardState<M, Q, R>>,
+    // It is one of the store's shards.
+    pub ghost within: { shard < count },
+    pub ghost named: { me ≢ 0 },
 }
 
 /// Requests that are to be decided again, and those that only read.
@@ -87,6 +73,24 @@ pub struct PartsSending<'a, R> {
 }
 
 impl<Q: Drop, R: Copy + Drop, M: StoreMachine<Q, R>> ShardServer<M, Q, R> {
+    ghost use Rattle.std.specs.Prelude.{◌++◌, ◌+◌, List, ◌≤◌, ◌↔◌, true, false, IsTrue, IsSome, IfOk, OnErr};
+    ghost use Rattle.std.specs.Prelude.{ℕ, length, map};
+    ghost use Rattle.std.specs.List.{AllByRecursion};
+    ghost use Rattle.sm_shard.specs.Bases.{Part, base_of};
+    ghost use Rattle.sm_store.specs.declared.item.Item.{Item as ItemValue};
+    ghost use Rattle.sm_store.specs.Store.{record_key, stored_record};
+    ghost use Rattle.sm_store.specs.Deeds.{AreRight, Charter, Clearing, MaySend, WasFound, transaction_of};
+    ghost use Rattle.sm_store.specs.System.{Ask, MayClaim};
+    ghost use Rattle.sm_shard.specs.Decisions.{server_begins, server_behind, server_decision, server_read_decision};
+    ghost use Rattle.sm_shard.specs.Decisions.{server_sends};
+    ghost use Rattle.sm_shard.specs.Replicas.{read_of, replies_of};
+    ghost use Rattle.sm_shard.specs.ShardServers.{AreAsked, DidHold, IsAsked, IsTrueOf, StoreLog};
+    ghost use Rattle.sm_shard.specs.ShardServers.{StoreSystem};
+    ghost use Rattle.sm_shard.specs.ShardServers.{WereMade, claimed_all, claimed_by, claimed_reads};
+    ghost use Rattle.sm_shard.specs.ShardServers.{AreWritten, basing_by, parts_transactions, sending_transaction};
+    ghost use Rattle.sm_shard.specs.ShardServers.{sent_transaction};
+    ghost use Rattle.sm_shard.specs.Steps.{ArePast, IsLogRead};
+
     /// A server that has just started knows nothing. None where the store hasn't so many shards.
     pub fn new(
         me: ServerId,
@@ -94,7 +98,6 @@ impl<Q: Drop, R: Copy + Drop, M: StoreMachine<Q, R>> ShardServer<M, Q, R> {
         count: u64,
         limits: ShardLimits,
     ) -> Option<ShardServer<M, Q, R>>
-        ensures placed { IfSome result (λ server. IsStationed server) }
         ensures values { IfSome result (λ server. (server.me ≡ me) × (server.shard ≡ shard) × (server.count ≡ count)
             × (server.limits ≡ limits)) }
         ensures exact { IsSome result ↔ shard < count }
@@ -175,7 +178,7 @@ impl<Q: Drop, R: Copy + Drop, M: StoreMachine<Q, R>> ShardServer<M, Q, R> {
         let (me, limits) = (self.me, self.limits);
         match &mut self.ready {
             Some(ready) => take(ready, limits, me, item),
-            None => Ok(Decision::Refused),
+            None => Ok(Decision::NotRead),
         }
     }
 
@@ -195,7 +198,7 @@ impl<Q: Drop, R: Copy + Drop, M: StoreMachine<Q, R>> ShardServer<M, Q, R> {
         let (me, limits) = (self.me, self.limits);
         match &mut self.ready {
             Some(ready) => ask(ready, limits, me, item),
-            None => Ok(Decision::Refused),
+            None => Ok(Decision::NotRead),
         }
     }
 
@@ -228,7 +231,7 @@ impl<Q: Drop, R: Copy + Drop, M: StoreMachine<Q, R>> ShardServer<M, Q, R> {
         ensures own { IfSome result (λ sending. IfSome self.now.ready (λ ready.
             sending_transaction sending ≡ sent_transaction self.now.me self.now.shard ready)) }
         ensures may { IfSome result (λ sending. (charter : Charter Q (Part R)) (log : StoreLog Q R)
-            → charter.count ≡ self.now.count → charter.parts ≡ base_of M.service → IsStationed self.now
+            → charter.count ≡ self.now.count → charter.parts ≡ base_of M.service
             → IsTrueOf M.service log self.now
             → MaySend charter log (sending_transaction sending)) }
     {

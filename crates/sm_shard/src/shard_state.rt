@@ -22,6 +22,7 @@ use crate::base_work::{BaseStage, BaseWork, NamedBase};
 use crate::replica::{MadeReply, ReplayFault, Replica, last_request, make_all};
 use crate::shard_limits::ShardLimits;
 use crate::store_machine::StoreMachine;
+use sm_envelope::envelope::MOST_HOPS;
 use sm_ownership::record::Record;
 use sm_ranges::server_id::ServerId;
 use sm_ranges::shard_id::ShardId;
@@ -40,10 +41,14 @@ pub enum Decision<R> {
     Passed,
     /// It waits for the next transaction, or is in one.
     Waits,
-    /// This server executes it.
-    Forwards(ServerId),
+    /// This server executes it, to which it was then forwarded so often.
+    Forwards(ServerId, u8),
+    /// Another server executes it, but it was forwarded as often as it may be: [`MOST_HOPS`] times.
+    TooFar,
     /// Not here and now, or another number of its client waits here. This isn't final.
     Refused,
+    /// The server hasn't read the shard. This isn't final.
+    NotRead,
     /// It takes more bytes than a batch may.
     TooLarge,
     /// As many wait as may. This isn't final.
@@ -99,12 +104,16 @@ fn repeated<R: Copy + Drop>(number: u64, other: Option<u64>) -> Option<Decision<
     }
 }
 
-// What is decided of a request that the record doesn't accept here.
-fn forwarded<R: Copy + Drop>(state: &Record, me: ServerId) -> Decision<R>
-    ensures { result ≡ decided_by_forward (forward_to state.now me) }
+// What is decided of a request that was forwarded so often, and that the record doesn't accept here.
+fn forwarded<R: Copy + Drop>(state: &Record, me: ServerId, hops: u8) -> Decision<R>
+    ensures { result ≡ decided_by_forward hops (forward_to state.now me) }
 {
     match state.forward_to(me) {
-        Some(to) => Decision::Forwards(to),
+        Some(to) => if hops < MOST_HOPS {
+            Decision::Forwards(to, hops + 1)
+        } else {
+            Decision::TooFar
+        },
         None => Decision::Refused,
     }
 }
@@ -166,7 +175,7 @@ pub fn take<Q: Drop, R: Copy + Drop, M: StoreMachine<Q, R>>(
         return Ok(decision);
     }
     if !ready.state.accepts(me, item.mode) {
-        return Ok(forwarded(&ready.state, me));
+        return Ok(forwarded(&ready.state, me, item.hops));
     }
     if let Some(decision) = repeated(item.number, client_number(&ready.sent, item.client)) {
         return Ok(decision);
@@ -207,7 +216,7 @@ pub fn ask<Q: Drop, R: Copy + Drop, M: StoreMachine<Q, R>>(
 {
     let accepted = ready.state.accepts(me, item.mode);
     if !accepted {
-        return Ok(forwarded(&ready.state, me));
+        return Ok(forwarded(&ready.state, me, item.hops));
     }
     if limits.waiting <= ready.asking.len() {
         return Ok(Decision::Busy);

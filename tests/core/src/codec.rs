@@ -31,6 +31,7 @@ fn reads_a_batch_again(rt: HostRuntime) {
         client: 7,
         number: 1,
         mode: Mode::Forwarded(ServerId::of(2)),
+        hops: 3,
         request,
     };
     assert!(rt; items.push(item).is_ok());
@@ -39,7 +40,7 @@ fn reads_a_batch_again(rt: HostRuntime) {
         items,
     };
     let mut bytes = write_batch(rt.alloc(), &batch).expect(&rt, "memory");
-    assert!(rt; bytes.len() == 38);
+    assert!(rt; bytes.len() == 39);
     let again = read_batch(rt.alloc(), &bytes).ok().expect(&rt, "a batch");
     assert!(rt; again.server == ServerId::of(1));
     assert!(rt; again.items[0].mode == Mode::Forwarded(ServerId::of(2)));
@@ -119,6 +120,7 @@ fn reads_a_part_again(rt: HostRuntime) {
         client: 7,
         number: 1,
         mode: Mode::Direct,
+        hops: 0,
         request,
     };
     assert!(rt; lasts.push(last).is_ok());

@@ -3,7 +3,7 @@ use sm_ownership::{Mode, Record};
 use sm_ranges::{ServerId, ShardId, Stand};
 use sm_shard::{
     BasePart, Decision, NamedBase, ReplayFault, ShardInput, ShardLimits, ShardOutput, ShardServer,
-    step,
+    StoreServer, step,
 };
 use sm_store::{Head, Item, PassingKey};
 use std::alloc::Global;
@@ -20,6 +20,7 @@ fn item(client: u64, request: u64) -> Item<u64> {
         client,
         number: 1,
         mode: Mode::Direct,
+        hops: 0,
         request,
     }
 }
@@ -215,4 +216,62 @@ fn steps_write_and_clear(rt: HostRuntime) {
             Ok(ShardOutput::Nothing)
         )
     );
+}
+
+// The item as it came to its server after so many hops.
+fn hopped(client: u64, hops: u8) -> Item<u64> {
+    Item {
+        hops,
+        mode: Mode::Forwarded(ServerId::of(3)),
+        ..item(client, 5)
+    }
+}
+
+#[test]
+fn forwards_so_far(rt: HostRuntime) {
+    let (alloc, two) = (rt.alloc(), ServerId::of(2));
+    let mut server = ready(&rt, alloc);
+    let stand = Stand::Taken {
+        owner: two,
+        previous: ServerId::of(1),
+    };
+    let again = server.on_record(alloc, Record { stand, ..serving(two) }, 5);
+    assert!(rt; again.waiting.is_empty());
+    let first = server.on_request(item(7, 5));
+    assert!(rt; matches!(first, Ok(Decision::Forwards(to, 1)) if to == two));
+    let last = server.on_request(hopped(7, 3));
+    assert!(rt; matches!(last, Ok(Decision::Forwards(to, 4)) if to == two));
+    assert!(rt; matches!(server.on_request(hopped(7, 4)), Ok(Decision::TooFar)));
+    assert!(rt; matches!(server.on_question(hopped(8, 4)), Ok(Decision::TooFar)));
+}
+
+#[test]
+fn serves_all_shards(rt: HostRuntime) {
+    let (alloc, one) = (rt.alloc(), ServerId::of(1));
+    let made = StoreServer::new(alloc, one, 8, LIMITS).expect(&rt, "memory");
+    let mut server: StoreServer<Sum, u64, u64> = made.expect(&rt, "8 shards");
+    let none: Option<StoreServer<Sum, u64, u64>> =
+        StoreServer::new(alloc, one, 4097, LIMITS).expect(&rt, "memory");
+    assert!(rt; none.is_none());
+    let seventh = ShardId::new(7).expect(&rt, "a shard");
+    let read = ShardInput::Read {
+        state: serving(one),
+        stood: 3,
+        head: HEAD,
+        logged: 0,
+        parts: &[],
+        batches: &[],
+    };
+    assert!(rt; matches!(server.step(alloc, seventh, read), Ok(ShardOutput::Nothing)));
+    let decided = server.step(alloc, seventh, ShardInput::Request(item(7, 5)));
+    assert!(rt; matches!(decided, Ok(ShardOutput::Decided(Decision::Waits))));
+    let sixth = ShardId::new(6).expect(&rt, "a shard");
+    let unread = server.step(alloc, sixth, ShardInput::Request(item(7, 5)));
+    assert!(rt; matches!(unread, Ok(ShardOutput::Decided(Decision::NotRead))));
+    let eighth = ShardId::new(8).expect(&rt, "a shard");
+    let unknown = server.step(alloc, eighth, ShardInput::Flush);
+    assert!(rt; matches!(unknown, Err(ReplayFault::UnknownShard)));
+    assert!(rt; server.shard(seventh).expect(&rt, "one").sending().is_some());
+    assert!(rt; server.shard(sixth).expect(&rt, "one").sending().is_none());
+    assert!(rt; server.shard(eighth).is_none());
 }

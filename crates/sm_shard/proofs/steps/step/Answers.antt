@@ -11,7 +11,7 @@ use Rattle.sm_shard.proofs.ShardServers.{all-append, both_of, parts_may, transac
 use Rattle.sm_shard.proofs.steps.step.Goals as goal
 
 pub returns-then-branch-clause-call : goal.returns-then-branch-clause-call
-returns-then-branch-clause-call g c = λ charter system since count parts right placed past known asked input.
+returns-then-branch-clause-call g c = λ charter system since count parts right past known asked input.
     let done = c.in_ok-flush-in-Flush.ensures in
     let now = done.known system.log known in
     record {
@@ -20,8 +20,8 @@ returns-then-branch-clause-call g c = λ charter system since count parts right 
       may = transactions_may g.M.StoreMachine.service charter system.log
           c.flush.new.self.me c.flush.new.self.shard c.flush.new.self.ready parts
           (subst (λ k. k < charter.count) (sym done.shard)
-          (subst (λ n. c.args.server.now.shard < n) (sym count) placed.0))
-          (subst (λ k. k ≢ 0) (sym done.me) placed.1) now;
+          (subst (λ n. c.args.server.now.shard < n) (sym count) c.args.server.now.within))
+          (subst (λ k. k ≢ 0) (sym done.me) c.args.server.now.named) now;
       claims = let out : ShardOutput g.row.Q.Denot g.row.R.Denot = Sends in
           subst (λ (i : ShardInput g.row.Q.Denot g.row.R.Denot). AllByRecursion
           (MayClaim g.M.StoreMachine.service system)
@@ -29,7 +29,7 @@ returns-then-branch-clause-call g c = λ charter system since count parts right 
     }
 
 pub returns-in_ok-answers-in-Made-clause-call : goal.returns-in_ok-answers-in-Made-clause-call
-returns-in_ok-answers-in-Made-clause-call g c = λ charter system since count parts right placed past known asked input.
+returns-in_ok-answers-in-Made-clause-call g c = λ charter system since count parts right past known asked input.
     let made = subst (λ (i : ShardInput g.row.Q.Denot g.row.R.Denot). IsInput g.M.StoreMachine.service system since
     c.args.server.now i) c.in-Made.is input in
     let done = c.in_ok-answers-in-Made.ensures in
@@ -53,7 +53,7 @@ returns-in_ok-answers-in-Made-clause-call g c = λ charter system since count pa
     }
 
 pub returns-in_ok-on_read-in-Read-clause-call : goal.returns-in_ok-on_read-in-Read-clause-call
-returns-in_ok-on_read-in-Read-clause-call g c = λ charter system since count parts right placed past known asked input.
+returns-in_ok-on_read-in-Read-clause-call g c = λ charter system since count parts right past known asked input.
     let read = subst (λ (i : ShardInput g.row.Q.Denot g.row.R.Denot). IsInput g.M.StoreMachine.service system since
     c.args.server.now i) c.in-Read.is input in
     let out : ShardOutput g.row.Q.Denot g.row.R.Denot = Nothing in
@@ -67,7 +67,7 @@ returns-in_ok-on_read-in-Read-clause-call g c = λ charter system since count pa
     }
 
 pub returns-in_err-on_read-in-Read-clause-call : goal.returns-in_err-on_read-in-Read-clause-call
-returns-in_err-on_read-in-Read-clause-call g c = λ charter system since count parts right placed past known asked input.
+returns-in_err-on_read-in-Read-clause-call g c = λ charter system since count parts right past known asked input.
     let read = subst (λ (i : ShardInput g.row.Q.Denot g.row.R.Denot). IsInput g.M.StoreMachine.service system since
     c.args.server.now i) c.in-Read.is input in
     record {
@@ -78,7 +78,7 @@ returns-in_err-on_read-in-Read-clause-call g c = λ charter system since count p
     }
 
 pub returns-then-begun-clause-call : goal.returns-then-begun-clause-call
-returns-then-begun-clause-call g c = λ charter system since count parts right placed past known asked input.
+returns-then-begun-clause-call g c = λ charter system since count parts right past known asked input.
     let done = c.in_ok-begun-in-Base.ensures in
     let now = done.known system.log known in
     record {
@@ -93,7 +93,7 @@ returns-then-begun-clause-call g c = λ charter system since count parts right p
     }
 
 pub returns-then-behind-clause-call : goal.returns-then-behind-clause-call
-returns-then-behind-clause-call g c = λ charter system since count parts right placed past known asked input.
+returns-then-behind-clause-call g c = λ charter system since count parts right past known asked input.
     record {
       known = known;
       asked = asked;
@@ -105,7 +105,7 @@ returns-then-behind-clause-call g c = λ charter system since count parts right 
     }
 
 pub returns-in-PartsMade-clause-call : goal.returns-in-PartsMade-clause-call
-returns-in-PartsMade-clause-call g c = λ charter system since count parts right placed past known asked input.
+returns-in-PartsMade-clause-call g c = λ charter system since count parts right past known asked input.
     let made = subst (λ (i : ShardInput g.row.Q.Denot g.row.R.Denot). IsInput g.M.StoreMachine.service system since
     c.args.server.now i) c.in-PartsMade.is input in
     let done = c.on_parts_made.ensures in
