@@ -40,7 +40,7 @@ pub struct LoadReport {
 /// had, and the first asks again. An inc that finds its shard admitted for another request is made anew, at most 1,000
 /// times. Each client learns what it is answered, and counts which of its incs were answered by a count and which were
 /// not.
-pub fn load<S: Service, C: Counting<S> + Sync, R: Threads + Wait + Sync>(
+pub fn load<S: Service, C: Counting<S::Request, S::Reply> + Sync, R: Threads + Wait + Sync>(
     rt: &R,
     alloc: Global,
     clients: &mut [Client<S>],
@@ -60,7 +60,7 @@ pub fn load<S: Service, C: Counting<S> + Sync, R: Threads + Wait + Sync>(
 }
 
 // The first client asks, the others make incs, and the first asks again.
-fn load_by<S: Service, C: Counting<S> + Sync, R: Threads + Wait + Sync>(
+fn load_by<S: Service, C: Counting<S::Request, S::Reply> + Sync, R: Threads + Wait + Sync>(
     rt: &R,
     alloc: Global,
     counting: &C,
@@ -89,7 +89,7 @@ fn load_by<S: Service, C: Counting<S> + Sync, R: Threads + Wait + Sync>(
 }
 
 // Has each client make so many incs, and adds up what came of them.
-fn inc_all<S: Service, C: Counting<S> + Sync, R: Threads + Wait + Sync>(
+fn inc_all<S: Service, C: Counting<S::Request, S::Reply> + Sync, R: Threads + Wait + Sync>(
     rt: &R,
     alloc: Global,
     counting: &C,
@@ -108,7 +108,7 @@ fn inc_all<S: Service, C: Counting<S> + Sync, R: Threads + Wait + Sync>(
 }
 
 // Makes so many incs, and counts those that were answered by a count, and the others.
-fn inc_each<S: Service, C: Counting<S>, R: Wait>(
+fn inc_each<S: Service, C: Counting<S::Request, S::Reply>, R: Wait>(
     rt: &R,
     alloc: Global,
     counting: &C,
@@ -131,7 +131,7 @@ fn inc_each<S: Service, C: Counting<S>, R: Wait>(
 
 // Makes an inc, and says whether it was answered by a count.
 #[tactic(auto, using(crate::proofs::Acking::since_same, crate::proofs::Acking::since_since))]
-fn inc<S: Service, C: Counting<S>, R: Wait>(
+fn inc<S: Service, C: Counting<S::Request, S::Reply>, R: Wait>(
     rt: &R,
     alloc: Global,
     counting: &C,
@@ -154,7 +154,7 @@ fn inc<S: Service, C: Counting<S>, R: Wait>(
 
 // The count that a call gives, 0 where it gives none; or nothing where it is refused.
 #[tactic(auto, using(crate::proofs::Acking::since_same, crate::proofs::Acking::since_since))]
-fn count<S: Service, C: Counting<S>, R: Wait>(
+fn count<S: Service, C: Counting<S::Request, S::Reply>, R: Wait>(
     rt: &R,
     alloc: Global,
     counting: &C,

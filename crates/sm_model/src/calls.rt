@@ -15,9 +15,9 @@ use sm_ownership::admit_fault::AdmitFault;
 use sm_ranges::server_id::ServerId;
 use sm_ranges::shard_id::ShardId;
 use sm_script::{Call, LineAnswer, Refused};
+use sm_service::CounterText;
 use sm_service::reply::Reply;
 use sm_service::request::Request;
-use sm_session::TextBody;
 use sm_table::step::Step;
 use sm_table::world::World;
 use sm_table::world_answer::WorldAnswer;
@@ -26,7 +26,7 @@ use std::alloc::AllocError;
 
 /// Carries out the call to the step that ends it.
 pub(crate) fn carry_out(
-    world: &mut World<TextBody>,
+    world: &mut World<CounterText>,
     call: Call,
 ) -> Result<WorldAnswer<Reply>, WorldFault>
     requires { ends_in_step call ≡ true }
@@ -52,7 +52,10 @@ pub(crate) fn carry_out(
 }
 
 /// Makes a step that takes no memory.
-fn make(world: &mut World<TextBody>, step: Step<Request>) -> Result<WorldAnswer<Reply>, WorldFault>
+fn make(
+    world: &mut World<CounterText>,
+    step: Step<Request>,
+) -> Result<WorldAnswer<Reply>, WorldFault>
     requires no_memory { (may_go step Unmade ≡ false) × (may_go step Unserved ≡ false) }
     ensures steps { Steps world.old step result world.new }
     ensures bounds { world.new.bounds ≡ world.old.bounds }
@@ -62,7 +65,7 @@ fn make(world: &mut World<TextBody>, step: Step<Request>) -> Result<WorldAnswer<
 
 /// Has the server make the shard's present state its base.
 fn make_checkpoint(
-    world: &mut World<TextBody>,
+    world: &mut World<CounterText>,
     shard: ShardId,
     server: ServerId,
 ) -> Result<WorldAnswer<Reply>, WorldFault>
@@ -73,7 +76,7 @@ fn make_checkpoint(
 
 /// Has the request executed by the owner of its key's shard.
 fn run_request(
-    world: &mut World<TextBody>,
+    world: &mut World<CounterText>,
     request: Request,
 ) -> Result<WorldAnswer<Reply>, WorldFault>
     ensures { Ends world.old (call.Request request) result world.new }
@@ -87,7 +90,7 @@ fn run_request(
 
 /// Sends the request of this shard to the server, has it delivered, and finishes it where it began.
 pub(crate) fn run_request_at(
-    world: &mut World<TextBody>,
+    world: &mut World<CounterText>,
     shard: ShardId,
     server: ServerId,
     request: Request,
@@ -108,7 +111,7 @@ pub(crate) fn run_request_at(
 }
 
 /// Has the envelope in flight delivered, and again after each hop, until a server begins its request or refuses it.
-fn arrive(world: &mut World<TextBody>) -> Result<WorldAnswer<Reply>, WorldFault>
+fn arrive(world: &mut World<CounterText>) -> Result<WorldAnswer<Reply>, WorldFault>
     ensures { Arrives world.old result world.new }
 {
     for _hop in 0..MOST_HOPS {

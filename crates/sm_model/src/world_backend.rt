@@ -13,9 +13,10 @@ use sm_ranges::key::Key;
 use sm_ranges::server_id::ServerId;
 use sm_ranges::shard_id::ShardId;
 use sm_script::{Call, LineAnswer, LineFault, LoadClients, Refused};
+use sm_service::CounterText;
 use sm_service::request::Request;
+use sm_session::Backend;
 use sm_session::beginning::{desk_of, empty_bodies};
-use sm_session::{Backend, TextBody};
 use sm_settings::settings::Settings;
 use sm_table::world::{Setup, World};
 use std::alloc::{AllocError, Global};
@@ -25,7 +26,7 @@ use std::marker::Model;
 #[derive(Drop)]
 pub struct WorldBackend {
     alloc: Global,
-    world: World<TextBody>,
+    world: World<CounterText>,
 }
 
 impl Model for WorldBackend {

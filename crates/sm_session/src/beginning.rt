@@ -7,9 +7,9 @@ ghost use Rattle.sm_settings.specs.SettingsLine.{values_of};
 ghost use Rattle.sm_settings.specs.SettingsRules.{KeepsRules};
 ghost use Rattle.sm_session.specs.Beginning.{settings_desk};
 
-use crate::text_body::TextBody;
 use sm_desk::Desk;
 use sm_place::{Books, BooksFault};
+use sm_service::CounterText;
 use sm_settings::settings::Settings;
 use sm_tasks::Tasks;
 use sm_tasks::laws::all_up_meets_caps;
@@ -50,13 +50,17 @@ fn want_of_memory(fault: BooksFault) -> AllocError
 }
 
 /// A body without a request for each shard.
-pub fn empty_bodies(alloc: Global, count: usize, limit: usize) -> Result<Vec<TextBody>, AllocError>
+pub fn empty_bodies(
+    alloc: Global,
+    count: usize,
+    limit: usize,
+) -> Result<Vec<CounterText>, AllocError>
     ensures { IfOk result (λ bodies. bodies.items
         ≡ replicate count (record { base = []; before = 0; requests = []; limit = limit })) }
 {
     let mut bodies = Vec::with_capacity(alloc, count)?;
     for _shard in 0..count {
-        bodies.push(TextBody::new(alloc, limit))?;
+        bodies.push(CounterText::new(alloc, limit))?;
     }
     Ok(bodies)
 }

@@ -12,9 +12,7 @@
 mod backend;
 pub mod beginning;
 mod session;
-mod text_body;
 pub mod writing;
 
 pub use backend::Backend;
 pub use session::Session;
-pub use text_body::TextBody;

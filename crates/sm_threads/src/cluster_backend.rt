@@ -10,7 +10,7 @@ use crate::counts_listener::CountsListener;
 use crate::refusals::begin_fault;
 use sm_cluster::{Client, Cluster, Gate, Setup};
 use sm_run::BeginFault;
-use sm_session::TextBody;
+use sm_service::CounterText;
 use sm_session::beginning::{desk_of, empty_bodies};
 use sm_settings::settings::Settings;
 use std::alloc::Global;
@@ -29,9 +29,9 @@ const CLIENTS: usize = LOADERS + 1;
 pub(crate) struct ClusterBackend<R> {
     rt: R,
     alloc: Global,
-    cluster: Cluster<TextBody>,
-    client: Client<TextBody>,
-    loaders: Vec<Client<TextBody>>,
+    cluster: Cluster<CounterText>,
+    client: Client<CounterText>,
+    loaders: Vec<Client<CounterText>>,
 }
 
 impl<R> Model for ClusterBackend<R> {
@@ -113,8 +113,8 @@ impl<R: Threads + Wait + Drop> ClusterBackend<R> {
 fn backend_of<R>(
     rt: R,
     alloc: Global,
-    mut cluster: Cluster<TextBody>,
-    clients: Vec<Client<TextBody>>,
+    mut cluster: Cluster<CounterText>,
+    clients: Vec<Client<CounterText>>,
 ) -> ClusterBackend<R>
     requires clients { length clients.items ≡ CLIENTS }
     requires fresh { All (IsNewClientOf cluster) clients.items }

@@ -2,7 +2,6 @@ use sm_cluster::Counting;
 use sm_ranges::key::Key;
 use sm_service::reply::Reply;
 use sm_service::request::Request;
-use sm_session::TextBody;
 use std::alloc::{AllocError, Global};
 
 /// The count that a key holds, as requests of a load.
@@ -12,7 +11,7 @@ pub struct KeyCount {
     pub key: Key,
 }
 
-impl Counting<TextBody> for KeyCount {
+impl Counting<Request, Reply> for KeyCount {
     ghost use Rattle.std.specs.Prelude.{pos};
     ghost use Rattle.sm_service.specs.declared.request.Request.TheVariants.{Get, Inc};
     ghost use Rattle.sm_threads.specs.Loads.{count_replied};

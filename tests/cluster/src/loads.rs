@@ -1,5 +1,4 @@
 //! What a load adds up to.
-use crate::holding::Holding;
 use crate::running::{bodies_of, inc_of, kept_of, setup_of, shard};
 use sm_cluster::{Cluster, Counting, Open, load};
 use sm_desk::Command;
@@ -16,7 +15,7 @@ pub(crate) struct Increments {
     pub(crate) key: Key,
 }
 
-impl Counting<Holding> for Increments {
+impl Counting<Request, Reply> for Increments {
     ghost use Rattle.std.specs.Prelude.{pos};
     ghost use Rattle.test_cluster.specs.Counts.{count_of};
     ghost use Rattle.sm_service.specs.declared.request.Request.TheVariants.{Get, Inc};

@@ -3,8 +3,7 @@ use crate::progress::Progress;
 use crate::tally::Tally;
 use sm_cluster::{Client, load};
 use sm_ranges::key::Key;
-use sm_service::Request;
-use sm_session::TextBody;
+use sm_service::{CounterText, Request};
 use sm_threads::KeyCount;
 use std::alloc::Global;
 use std::rt::Clock;
@@ -19,10 +18,10 @@ const MOST_THREADS: usize = 64;
 pub(crate) fn call_all<R: Threads + Wait + Clock + Sync>(
     rt: &R,
     alloc: Global,
-    clients: &mut [Client<TextBody>],
+    clients: &mut [Client<CounterText>],
     run: &Progress,
 ) {
-    let each = |at: usize, client: &mut Client<TextBody>| { call_each(rt, alloc, run, at, client) };
+    let each = |at: usize, client: &mut Client<CounterText>| { call_each(rt, alloc, run, at, client) };
     thread::for_each_mut(rt, clients, MOST_THREADS, &each);
 }
 
@@ -32,7 +31,7 @@ fn call_each<R: Wait + Clock>(
     alloc: Global,
     run: &Progress,
     at: usize,
-    client: &mut Client<TextBody>,
+    client: &mut Client<CounterText>,
 ) {
     let mut tally = Tally::new();
     for turn in 0..run.turns() {
@@ -60,7 +59,7 @@ fn insist<R: Wait>(
     alloc: Global,
     run: &Progress,
     key: [u8; 3],
-    client: &mut Client<TextBody>,
+    client: &mut Client<CounterText>,
     tally: &mut Tally,
 ) {
     for _ in 0..run.plan.tries() {
@@ -76,7 +75,7 @@ fn call<R: Wait>(
     rt: &R,
     alloc: Global,
     key: [u8; 3],
-    client: &mut Client<TextBody>,
+    client: &mut Client<CounterText>,
     tally: &mut Tally,
 ) -> bool {
     let Ok(key) = Key::new(alloc, &key) else {
@@ -98,7 +97,7 @@ fn call<R: Wait>(
 pub(crate) fn load_all<R: Threads + Wait + Sync>(
     rt: &R,
     alloc: Global,
-    clients: &mut [Client<TextBody>],
+    clients: &mut [Client<CounterText>],
     run: &Progress,
 ) {
     let Ok(key) = Key::new(alloc, b"\0\0load") else {

@@ -7,7 +7,7 @@ use sm_desk::Command;
 use sm_ownership::Change;
 use sm_ranges::server_id::ServerId;
 use sm_ranges::shard_id::ShardId;
-use sm_session::TextBody;
+use sm_service::CounterText;
 use std::alloc::Global;
 use std::rt::Clock;
 use std::sync::Wait;
@@ -16,7 +16,7 @@ use std::sync::Wait;
 pub(crate) fn steps<R: Wait + Clock>(
     rt: &R,
     alloc: Global,
-    cluster: &mut Cluster<TextBody>,
+    cluster: &mut Cluster<CounterText>,
     run: &Progress,
     seed: u64,
 ) -> Vec<u64> {
@@ -37,7 +37,7 @@ pub(crate) fn steps<R: Wait + Clock>(
 }
 
 // Gives a command, publishes, makes a checkpoint, or holds or frees a shard; whether that was made.
-fn step<R: Wait>(rt: &R, cluster: &mut Cluster<TextBody>, seed: &mut u64) -> bool {
+fn step<R: Wait>(rt: &R, cluster: &mut Cluster<CounterText>, seed: &mut u64) -> bool {
     let Some(k) = ShardId::new(u16::from(below(8, seed))) else {
         return false;
     };

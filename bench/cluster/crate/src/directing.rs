@@ -7,7 +7,7 @@ use sm_desk::Command;
 use sm_ownership::Change;
 use sm_ranges::server_id::ServerId;
 use sm_ranges::shard_id::ShardId;
-use sm_session::TextBody;
+use sm_service::CounterText;
 use std::alloc::Global;
 use std::rt::Clock;
 use std::sync::Wait;
@@ -21,7 +21,7 @@ const TRIES: u32 = 10_000_000;
 pub(crate) fn direct<R: Wait + Clock>(
     rt: &R,
     alloc: Global,
-    cluster: &mut Cluster<TextBody>,
+    cluster: &mut Cluster<CounterText>,
     run: &Progress,
 ) -> Vec<u64> {
     let figures = match run.plan.direction {
@@ -38,7 +38,7 @@ pub(crate) fn direct<R: Wait + Clock>(
 fn migrate_all<R: Wait + Clock>(
     rt: &R,
     alloc: Global,
-    cluster: &mut Cluster<TextBody>,
+    cluster: &mut Cluster<CounterText>,
     run: &Progress,
     count: u64,
     is_graceful: bool,
@@ -60,7 +60,7 @@ fn migrate_all<R: Wait + Clock>(
 }
 
 // Once the new route is published, the previous owner forwards until no call is under way that went by the old one.
-fn migrate<R: Wait>(rt: &R, cluster: &mut Cluster<TextBody>, run: &Progress, to: ServerId) {
+fn migrate<R: Wait>(rt: &R, cluster: &mut Cluster<CounterText>, run: &Progress, to: ServerId) {
     change(cluster, Change::PrepareAddShard(to));
     change(cluster, Change::PrepareDropShard);
     change(cluster, Change::AddShard);
@@ -70,14 +70,14 @@ fn migrate<R: Wait>(rt: &R, cluster: &mut Cluster<TextBody>, run: &Progress, to:
 }
 
 // Calls are refused from the pause on, and those by the old route until the new one is published.
-fn reassign<R: Wait>(rt: &R, cluster: &mut Cluster<TextBody>, to: ServerId) {
+fn reassign<R: Wait>(rt: &R, cluster: &mut Cluster<CounterText>, to: ServerId) {
     change(cluster, Change::Pause);
     change(cluster, Change::Reassign(to));
     publish(rt, cluster);
 }
 
 // Makes the change of shard 0 once no server is admitted.
-fn change(cluster: &mut Cluster<TextBody>, change: Change) {
+fn change(cluster: &mut Cluster<CounterText>, change: Change) {
     for _ in 0..TRIES {
         if is_made(cluster, &change) {
             return;
@@ -86,14 +86,14 @@ fn change(cluster: &mut Cluster<TextBody>, change: Change) {
     }
 }
 
-fn is_made(cluster: &mut Cluster<TextBody>, change: &Change) -> bool {
+fn is_made(cluster: &mut Cluster<CounterText>, change: &Change) -> bool {
     match ShardId::new(0) {
         Some(k) => cluster.command(Command::Change(k, *change)).is_ok(),
         None => false,
     }
 }
 
-fn publish<R: Wait>(rt: &R, cluster: &mut Cluster<TextBody>) {
+fn publish<R: Wait>(rt: &R, cluster: &mut Cluster<CounterText>) {
     if let Some(k) = ShardId::new(0) {
         let _published = cluster.publish(rt, k).is_ok();
     }

@@ -6,7 +6,7 @@ use crate::progress::Progress;
 use crate::starting::{assign_all, start, stop};
 use crate::tally::Tally;
 use sm_cluster::{Client, Cluster};
-use sm_session::TextBody;
+use sm_service::CounterText;
 use std::alloc::Global;
 use std::rt::Clock;
 use std::sync::Wait;
@@ -47,8 +47,8 @@ pub(crate) fn run<R: Threads + Wait + Clock + Clone + Send + Sync + Drop + 'stat
 fn run_started<R: Threads + Wait + Clock + Sync>(
     rt: &R,
     alloc: Global,
-    mut cluster: Cluster<TextBody>,
-    clients: Vec<Client<TextBody>>,
+    mut cluster: Cluster<CounterText>,
+    clients: Vec<Client<CounterText>>,
     progress: &Progress,
 ) -> Option<(u64, Vec<u64>)> {
     assign_all(rt, &mut cluster, progress.plan);
@@ -63,8 +63,8 @@ fn run_started<R: Threads + Wait + Clock + Sync>(
 fn work<R: Threads + Wait + Clock + Sync>(
     rt: &R,
     alloc: Global,
-    cluster: &mut Cluster<TextBody>,
-    mut clients: Vec<Client<TextBody>>,
+    cluster: &mut Cluster<CounterText>,
+    mut clients: Vec<Client<CounterText>>,
     progress: &Progress,
 ) -> Vec<u64> {
     let figures = match progress.plan.direction {
@@ -82,8 +82,8 @@ fn work<R: Threads + Wait + Clock + Sync>(
 fn call_beside<R: Threads + Wait + Clock + Sync>(
     rt: &R,
     alloc: Global,
-    cluster: &mut Cluster<TextBody>,
-    clients: &mut [Client<TextBody>],
+    cluster: &mut Cluster<CounterText>,
+    clients: &mut [Client<CounterText>],
     progress: &Progress,
 ) -> Vec<u64> {
     let (_, figures) = join_mut(

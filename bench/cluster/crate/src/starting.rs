@@ -12,8 +12,7 @@ use sm_ranges::server_id::ServerId;
 use sm_ranges::shard_id::ShardId;
 use sm_rows::limits::MAX_DOMAIN_DOWN;
 use sm_rows::{GroupRow, ServerRow, ShardRow, equal_domains};
-use sm_service::Service;
-use sm_session::TextBody;
+use sm_service::{CounterText, Service};
 use sm_tasks::Tasks;
 use sm_tasks::laws::all_up_meets_caps;
 use std::alloc::Global;
@@ -101,7 +100,7 @@ fn desk_of(
 }
 
 // A body that has applied nothing, for each shard.
-fn bodies_of(alloc: Global, shards: u16) -> Option<Vec<TextBody>>
+fn bodies_of(alloc: Global, shards: u16) -> Option<Vec<CounterText>>
     ensures length { IfSome result (λ bodies. length bodies.items ≡ shards) }
     ensures initial { IfSome result (λ bodies. All (λ body. body.base ≡ []) bodies.items) }
     ensures before { IfSome result (λ bodies. All (λ body. body.before ≡ 0) bodies.items) }
@@ -109,7 +108,7 @@ fn bodies_of(alloc: Global, shards: u16) -> Option<Vec<TextBody>>
 {
     let mut bodies = Vec::with_capacity(alloc, usize::from(shards)).ok()?;
     for _body in 0..shards {
-        bodies.push(TextBody::new(alloc, KEPT)).ok()?;
+        bodies.push(CounterText::new(alloc, KEPT)).ok()?;
     }
     Some(bodies)
 }
@@ -119,7 +118,7 @@ pub(crate) fn start<R: Threads + Wait + Clone + Send + Drop + 'static>(
     rt: &R,
     alloc: Global,
     plan: Plan,
-) -> Option<(Cluster<TextBody>, Vec<Client<TextBody>>)> {
+) -> Option<(Cluster<CounterText>, Vec<Client<CounterText>>)> {
     let (shards, clients) = (plan.shards, plan.clients);
     if shards == 0 || shards > MOST_SHARDS || plan.workers == 0 || clients == 0 {
         return None;
@@ -135,7 +134,7 @@ pub(crate) fn start<R: Threads + Wait + Clone + Send + Drop + 'static>(
 }
 
 /// Assigns the shards to the servers in turn, and publishes them.
-pub(crate) fn assign_all<R: Wait>(rt: &R, cluster: &mut Cluster<TextBody>, plan: Plan) {
+pub(crate) fn assign_all<R: Wait>(rt: &R, cluster: &mut Cluster<CounterText>, plan: Plan) {
     for number in 0..plan.shards {
         let server = ServerId::new(
             number
@@ -149,7 +148,7 @@ pub(crate) fn assign_all<R: Wait>(rt: &R, cluster: &mut Cluster<TextBody>, plan:
     }
 }
 
-fn assign<R: Wait>(rt: &R, cluster: &mut Cluster<TextBody>, k: ShardId, server: ServerId) {
+fn assign<R: Wait>(rt: &R, cluster: &mut Cluster<CounterText>, k: ShardId, server: ServerId) {
     let assigned = Command::Change(k, Change::Assign(server));
     if cluster.command(assigned).is_ok() {
         let _published = cluster.publish(rt, k).is_ok();
@@ -160,13 +159,13 @@ fn assign<R: Wait>(rt: &R, cluster: &mut Cluster<TextBody>, k: ShardId, server: 
 pub(crate) fn stop<R: Threads + Wait>(
     rt: &R,
     alloc: Global,
-    cluster: Cluster<TextBody>,
+    cluster: Cluster<CounterText>,
 ) -> Option<u64> {
     let rows = cluster.stop(rt, Vec::new(alloc)).ok()?;
     Some(applied(&rows))
 }
 
-fn applied(rows: &[(Record, Option<TextBody>)]) -> u64 {
+fn applied(rows: &[(Record, Option<CounterText>)]) -> u64 {
     let mut sum = 0u64;
     for (_, body) in rows {
         if let Some(body) = body {

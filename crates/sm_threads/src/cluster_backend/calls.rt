@@ -11,9 +11,9 @@ use sm_ranges::key::Key;
 use sm_ranges::server_id::ServerId;
 use sm_ranges::shard_id::ShardId;
 use sm_script::{LineAnswer, LoadClients, Refused};
-use sm_service::Service;
 use sm_service::request::Request;
-use sm_session::{Backend, TextBody};
+use sm_service::{CounterText, Service};
+use sm_session::Backend;
 use std::alloc::AllocError;
 use std::sync::Wait;
 use std::thread::Threads;
@@ -103,7 +103,7 @@ impl<R: Threads + Wait + Sync> Backend for ClusterBackend<R> {
     }
 
     fn request(&mut self, request: Request) -> Result<LineAnswer, AllocError> {
-        let shard = self.cluster.layout().shard_of(TextBody::key(&request));
+        let shard = self.cluster.layout().shard_of(CounterText::key(&request));
         match self.owner(shard) {
             Some(owner) => self.request_at(owner, request),
             None => Ok(LineAnswer::Refused(Refused::Admit(AdmitFault::Vacant))),

@@ -20,8 +20,8 @@ use sm_ranges::server_id::ServerId;
 use sm_ranges::shard_id::ShardId;
 use sm_script::{LineAnswer, LoadVerdict};
 use sm_server::Answer as Given;
+use sm_service::CounterText;
 use sm_service::request::Request;
-use sm_session::TextBody;
 use std::alloc::{AllocError, Global};
 use std::sync::Wait;
 use std::thread::Threads;
@@ -60,7 +60,7 @@ impl<R: Wait> ClusterBackend<R> {
 pub(super) fn load_by<R: Threads + Wait + Sync>(
     rt: &R,
     alloc: Global,
-    clients: &mut [Client<TextBody>],
+    clients: &mut [Client<CounterText>],
     count: usize,
     key: Key,
     each: u16,
@@ -76,8 +76,8 @@ pub(super) fn load_by<R: Threads + Wait + Sync>(
 
 /// Has the client learn what its call gave, and answers that; an error is want of memory.
 pub(super) fn learned(
-    client: &mut Client<TextBody>,
-    given: Result<Given<TextBody>, CallRefused<Request>>,
+    client: &mut Client<CounterText>,
+    given: Result<Given<CounterText>, CallRefused<Request>>,
 ) -> Result<LineAnswer, AllocError>
     requires { IfOk given (λ answer. answer.note.board ≡ client.old.pass.board) }
     ensures board { client.new.pass.board ≡ client.old.pass.board }
