@@ -93,9 +93,26 @@ fn last_below(layout: &Layout, high: &[u8]) -> u16 {
     }
 }
 
+/// Whether the key may have a brace that opens, found out eight bytes at a time.
+fn may_have_brace(key: &[u8]) -> bool {
+    const ONES: u64 = u64::from_ne_bytes([1; 8]);
+    const BRACES: u64 = u64::from_ne_bytes([b'{'; 8]);
+    let (mut found, mut rest) = (0, key);
+    while let Some((word, more)) = rest.split_first_chunk() {
+        // A byte that is a brace is 0 here, and by the subtraction gets its highest bit.
+        let other = u64::from_ne_bytes(*word) ^ BRACES;
+        found |= other.wrapping_sub(ONES) & !other & ONES << 7;
+        rest = more;
+    }
+    found != 0 || rest.contains(&b'{')
+}
+
 /// The part of the key in its first braces, where that isn't empty, and else the whole key, as in Redis Cluster: keys
 /// with one tag are of one shard.
 fn tag_of(key: &[u8]) -> &[u8] {
+    if !may_have_brace(key) {
+        return key;
+    }
     let Some(open) = key.iter().position(|it| *it == b'{') else {
         return key;
     };
@@ -109,11 +126,16 @@ fn tag_of(key: &[u8]) -> &[u8] {
 /// A sum of the bytes, eight at a time, in which each bit of the key changes about half of the bits.
 fn hash(bytes: &[u8]) -> u64 {
     const ODD: u64 = 0x9e37_79b9_7f4a_7c15;
-    let sum = bytes.chunks(8).fold(bytes.len() as u64, |sum, chunk| {
+    let add = |sum: u64, word| (sum.rotate_left(29) ^ u64::from_le_bytes(word)).wrapping_mul(ODD);
+    let (mut sum, mut rest) = (bytes.len() as u64, bytes);
+    while let Some((word, more)) = rest.split_first_chunk() {
+        (sum, rest) = (add(sum, *word), more);
+    }
+    if !rest.is_empty() {
         let mut word = [0; 8];
-        word[..chunk.len()].copy_from_slice(chunk);
-        (sum.rotate_left(29) ^ u64::from_le_bytes(word)).wrapping_mul(ODD)
-    });
+        word[..rest.len()].copy_from_slice(rest);
+        sum = add(sum, word);
+    }
     let sum = (sum ^ sum >> 32).wrapping_mul(ODD);
     sum ^ sum >> 29
 }
@@ -155,6 +177,7 @@ mod tests {
             keyspace.shard_of(b"b{user}")
         );
         assert_eq!(tag_of(b"a{}b"), b"a{}b");
+        assert_eq!(tag_of(b"0123456789{tag}"), b"tag");
         assert_eq!(tag_of(b"a{b"), b"a{b");
     }
 

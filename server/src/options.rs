@@ -8,6 +8,8 @@ const SHARDS: &str = "Servers and shards";
 const DATA: &str = "Data";
 const THREADS: &str = "Threads and waiting";
 const LOG: &str = "Log";
+const PROVED: &str =
+    "./sm serve takes --proved too: it proves the library first, where that wasn't done.";
 
 /// A server that Redis clients talk to. Its data lies in memory alone.
 ///
@@ -19,7 +21,8 @@ const LOG: &str = "Log";
     name = "sm serve",
     version,
     args_override_self = true,
-    verbatim_doc_comment
+    verbatim_doc_comment,
+    after_help = PROVED
 )]
 pub struct Options {
     /// Address to listen at
@@ -127,8 +130,8 @@ pub struct Options {
     pub threads: Option<u16>,
 
     /// How long a thread polls for requests before it sleeps, where they came soon lately: it answers sooner, and uses
-    /// its processor meanwhile
-    #[arg(long, value_name = "MICROSECONDS", default_value_t = 0, help_heading = THREADS)]
+    /// its processor meanwhile, unless others want that
+    #[arg(long, value_name = "MICROSECONDS", default_value_t = 50, help_heading = THREADS)]
     pub busy_poll: u64,
 
     /// Tries of a shard that another thread has, before other connections have their turn

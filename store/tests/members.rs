@@ -1,12 +1,14 @@
 //! What a store on etcd says where members don't answer, or refuse. Nothing is tried where etcd isn't installed.
 mod beside;
 
-use beside::{free_port, Member};
+use beside::{free_port, Folder, Member};
 use durkenzo_store::{
     Access, Etcd, Outcome, ReadError, Revision, Seen, StartError, Store, Transaction, WriteError,
 };
 use std::io::Read;
 use std::net::TcpListener;
+use std::path::Path;
+use std::process::Command;
 use std::sync::mpsc;
 use std::thread;
 use std::time::{Duration, Instant};
@@ -31,7 +33,7 @@ fn reads_addresses() {
     assert!(of("http://127.0.0.1:2379").is_ok() && of("http://etcd.example:2379/").is_ok());
     assert!(matches!(
         of("https://127.0.0.1:2379"),
-        Err(StartError::NoTls(_))
+        Err(StartError::NoName(_))
     ));
     for wrong in [
         "127.0.0.1:2379",
@@ -199,4 +201,75 @@ fn gives_its_name_and_password() {
         assert!(matches!(made, Err(WriteError::Denied(_))), "{made:?}");
         assert!(matches!(stranger.read(&[b"a"]), Err(ReadError::Denied(_))));
     }
+}
+
+/// Makes an authority of our own in this folder, and by it certificates of localhost and of a client.
+fn vouch(folder: &Path) -> bool {
+    let script = "
+        openssl req -x509 -newkey rsa:2048 -nodes -days 2 -subj /CN=authority -keyout ca.key -out ca.pem
+        for it in localhost client; do
+            openssl req -newkey rsa:2048 -nodes -subj /CN=$it -keyout $it.key -out $it.csr
+            printf 'subjectAltName=DNS:%s,IP:127.0.0.1' $it > $it.ext
+            openssl x509 -req -days 2 -in $it.csr -CA ca.pem -CAkey ca.key -CAcreateserial -extfile $it.ext -out $it.pem
+        done";
+    Command::new("sh")
+        .args(["-ec", script])
+        .current_dir(folder)
+        .output()
+        .is_ok_and(|it| it.status.success())
+}
+
+#[test]
+fn speaks_tls() {
+    let folder = Folder::new();
+    let file = |name: &str| folder.path().join(name);
+    let text = |name: &str| file(name).to_string_lossy().into_owned();
+    if !vouch(folder.path()) {
+        eprintln!("openssl isn't installed: nobody speaks TLS");
+        return;
+    }
+    let options = [
+        "--cert-file",
+        &text("localhost.pem"),
+        "--key-file",
+        &text("localhost.key"),
+    ];
+    let asks = ["--client-cert-auth", "--trusted-ca-file", &text("ca.pem")];
+    let Some(member) = Member::start_with_tls(&[&options[..], &asks].concat()) else {
+        return;
+    };
+    let of = |roots: Option<&str>, identity: Option<(&str, &str)>| {
+        let identity = identity.map(|(chain, key)| (file(chain), file(key)));
+        let roots = roots.map(file);
+        Etcd::new(Access {
+            roots,
+            identity,
+            ..Access::new([member.endpoint.as_str()])
+        })
+    };
+    let ours = of(Some("ca.pem"), Some(("client.pem", "client.key"))).expect("files");
+    let end = Instant::now() + ASIDE;
+    while let Err(error) = ours.make(Transaction::new().put("a", "1")) {
+        assert!(Instant::now() < end, "{error}");
+        thread::sleep(Duration::from_millis(100));
+    }
+    let stranger = of(Some("client.pem"), None)
+        .expect("a file")
+        .make(Transaction::new().put("a", "2"));
+    assert!(
+        matches!(stranger, Err(WriteError::Unreachable(_))),
+        "{stranger:?}"
+    );
+    assert!(of(Some("ca.pem"), None)
+        .expect("a file")
+        .make(Transaction::new().put("a", "2"))
+        .is_err());
+    assert!(matches!(
+        of(Some("client.key"), None),
+        Err(StartError::BadFile(..))
+    ));
+    assert!(matches!(
+        of(Some("nowhere"), None),
+        Err(StartError::BadFile(..))
+    ));
 }

@@ -76,7 +76,8 @@ def without_proof(room, names, is_proved):
     """The stage before any proof: pages, tests, and the program as sources alone make it."""
     with_proof = lambda _room: [tool("run-tests", "--proved", *names)]
     proved = [Part("tests, proved", with_proof)] if is_proved else []
-    programs = [built("sm_cli", f"{room}/sm_cli"), Part("a cluster by chance, unproved", soaked)]
+    library_part = Part("the library, built without proof", lambda _room: [tool("unproved", "--library")])
+    programs = [built("sm_cli", f"{room}/sm_cli"), library_part, Part("a cluster by chance, unproved", soaked)]
     return [Part("tests", tests.work(names)), Part("ordinary Rust", alone.passed), *programs, *proved, *pages()]
 
 

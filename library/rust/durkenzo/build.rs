@@ -5,6 +5,8 @@ use std::process::{exit, Command};
 
 const PROVED: &str = "libsm_c.a";
 const OF_THE_KIT: &str = "liblibc_c.a";
+/// What lies beside a library that wasn't proved.
+const MARK: &str = "UNPROVED";
 
 fn fail(text: &str) -> ! {
     eprintln!("durkenzo: {text}");
@@ -53,6 +55,9 @@ fn main() {
             fail(&format!("{library} isn't in any of {folders:?}"));
         };
         println!("cargo:rerun-if-changed={}", folder.join(library).display());
+        if library == PROVED && folder.join(MARK).is_file() {
+            println!("cargo:rustc-env=DURKENZO_UNPROVED=1");
+        }
         println!("cargo:rustc-link-search=native={}", folder.display());
         println!(
             "cargo:rustc-link-lib=static={}",

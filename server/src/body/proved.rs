@@ -1,6 +1,20 @@
 use super::{Range, Refusal, Reply, Request, ShardBody, Value, MAX_KEY, MAX_PAIRS, MAX_TEXT};
-use durkenzo::{Map, MapFault, Reply as Told, Request as Asked, Value as Held};
+use durkenzo::{LentReply, Map, MapFault, Request as Asked, Value as Held};
 use std::ops::Bound;
+
+/// How much room for a text is kept from one request to the next.
+const KEPT_ROOM: usize = 1 << 10;
+
+/// What a map replied, where that was no refusal.
+#[derive(Debug)]
+enum Told {
+    Nothing,
+    Done,
+    /// A text, which stands in the body's room.
+    Text,
+    Count(i64),
+    Pairs(Vec<(Vec<u8>, Held)>),
+}
 
 /// A shard's pairs in the library's map: what it replies to each of its requests is proved. Here stands which of them a
 /// command makes, under one permit.
@@ -9,6 +23,8 @@ pub struct ProvedBody {
     map: Map,
     /// What was told last, which a reply borrows.
     told: Told,
+    /// The text that was told last, so that few texts need memory of their own.
+    text: Vec<u8>,
     /// How many keys held something when that was last asked, unless a request may have changed it since.
     keys: Option<usize>,
 }
@@ -19,21 +35,37 @@ impl ProvedBody {
         Ok(ProvedBody {
             map: Map::new()?,
             told: Told::Nothing,
+            text: Vec::new(),
             keys: Some(0),
         })
     }
 
     /// Whether the map made the request, or the refusal with which it changed nothing; what it told is kept.
     fn ask(&mut self, request: &Asked<'_>) -> Result<(), Refusal> {
-        self.told = self.map.ask(request).map_err(|fault| match fault {
-            MapFault::NoMemory => Refusal::NoMemory,
-            other => unreachable!("a key was judged before: {other}"),
-        })?;
-        match self.told {
-            Told::WrongKind => Err(Refusal::WrongKind),
-            Told::Overflow => Err(Refusal::Overflow),
-            Told::TextTooLong => Err(Refusal::TooLong),
-            _ => Ok(()),
+        self.told = match lent(&mut self.map, request)? {
+            LentReply::Nothing => Told::Nothing,
+            LentReply::Done => Told::Done,
+            LentReply::Text(text) => {
+                self.text.clear();
+                self.text.shrink_to(KEPT_ROOM);
+                text.append_to(&mut self.text);
+                Told::Text
+            }
+            LentReply::Count(count) => Told::Count(count),
+            LentReply::Pairs(pairs) => Told::Pairs(pairs),
+            LentReply::WrongKind => return Err(Refusal::WrongKind),
+            LentReply::Overflow => return Err(Refusal::Overflow),
+            LentReply::TextTooLong => return Err(Refusal::TooLong),
+        };
+        Ok(())
+    }
+
+    /// What was told last, where that was a value.
+    fn value(&self) -> Option<Value<'_>> {
+        match &self.told {
+            Told::Text => Some(Value::Text(&self.text)),
+            Told::Count(count) => Some(Value::Count(*count)),
+            _ => None,
         }
     }
 
@@ -49,21 +81,22 @@ impl ProvedBody {
             }
         }
         self.ask(&Asked::Get(key))?;
-        let before = std::mem::replace(&mut self.told, Told::Nothing);
-        self.ask(&Asked::Remove(key))?;
-        self.ask(&asked_for(key, value)).inspect_err(|_| {
+        lent(&mut self.map, &Asked::Remove(key))?;
+        if let Err(refusal) = lent(&mut self.map, &asked_for(key, value)) {
             // It holds again what it held, unless memory is refused for that too.
-            if let Told::Value(held) = &before {
-                let _ = self.map.ask(&asked_for(key, borrowed(held)));
+            if let Some(held) = self.value().map(owned) {
+                let _ = self.map.ask(&asked_for(key, borrowed(&held)));
             }
-        })
+            return Err(refusal);
+        }
+        self.told = Told::Done;
+        Ok(())
     }
 
     /// How many bytes the key's text has.
     fn length(&mut self, key: &[u8]) -> Result<usize, Refusal> {
-        self.ask(&Asked::Get(key))?;
-        match &self.told {
-            Told::Value(Held::Text(text)) => Ok(text.len()),
+        match lent(&mut self.map, &Asked::Get(key))? {
+            LentReply::Text(text) => Ok(text.len()),
             other => unreachable!("a text was appended to, and Get replied {other:?}"),
         }
     }
@@ -90,8 +123,9 @@ impl ProvedBody {
     fn scan_last(&mut self, most: usize) -> Result<(), Refusal> {
         let before = std::mem::replace(&mut self.told, Told::Nothing);
         self.ask(&Asked::Get(&LAST_KEY))?;
-        let last = std::mem::replace(&mut self.told, before);
-        if let (Told::Pairs(pairs), Told::Value(value)) = (&mut self.told, last) {
+        let last = self.value().map(owned);
+        self.told = before;
+        if let (Told::Pairs(pairs), Some(value)) = (&mut self.told, last) {
             if pairs.len() < most {
                 pairs.push((LAST_KEY.to_vec(), value));
             }
@@ -125,8 +159,9 @@ impl ShardBody for ProvedBody {
         }
         match (&self.told, request) {
             (_, Request::Put(..)) => Reply::Done,
-            (Told::Value(Held::Count(sum)), Request::Add(..)) => Reply::Count(*sum),
-            (Told::Value(held), _) => Reply::Value(borrowed(held)),
+            (Told::Count(sum), Request::Add(..)) => Reply::Count(*sum),
+            (Told::Count(count), _) => Reply::Value(Value::Count(*count)),
+            (Told::Text, _) => Reply::Value(Value::Text(&self.text)),
             (Told::Pairs(pairs), _) => Reply::Pairs(
                 pairs
                     .iter()
@@ -170,6 +205,21 @@ fn asked_for<'a>(key: &'a [u8], value: Value<'a>) -> Asked<'a> {
     match value {
         Value::Text(text) => Asked::Put(key, text),
         Value::Count(count) => Asked::Add(key, count),
+    }
+}
+
+/// What the map lends for the request; or that memory is refused.
+fn lent<'a>(map: &'a mut Map, request: &Asked<'_>) -> Result<LentReply<'a>, Refusal> {
+    map.lend(request).map_err(|fault| match fault {
+        MapFault::NoMemory => Refusal::NoMemory,
+        other => unreachable!("a key was judged before: {other}"),
+    })
+}
+
+fn owned(value: Value<'_>) -> Held {
+    match value {
+        Value::Text(text) => Held::Text(text.to_vec()),
+        Value::Count(count) => Held::Count(count),
     }
 }
 

@@ -146,6 +146,10 @@ fn durkenzo(cluster: &Cluster) -> String {
         ("keys_by", configuration.rule.name().to_owned()),
         ("restarts_at_once", configuration.restarts.to_string()),
         ("wait_ms", configuration.wait.as_millis().to_string()),
+        (
+            "library_is_proved",
+            u8::from(durkenzo::IS_PROVED).to_string(),
+        ),
         ("not_kept_of_settings", configuration.unkept.join("; ")),
     ])
 }

@@ -156,9 +156,15 @@ pub static COMMANDS: [Spec; 31] = [
 
 /// How many letters names begin with.
 const LETTERS: usize = 26;
+/// The most letters of a name.
+const MOST_LETTERS: usize = 16;
+/// The bit that a small letter has beside the capital.
+const SMALL: u8 = 0x20;
 
 /// Where the commands of each letter begin, and at last how many there are.
 static STARTS: [usize; LETTERS + 1] = starts();
+/// The commands' names as numbers.
+static NUMBERS: [u128; COMMANDS.len()] = numbers();
 
 const fn starts() -> [usize; LETTERS + 1] {
     let (mut starts, mut letter, mut index) = ([0; LETTERS + 1], 0, 0);
@@ -170,6 +176,25 @@ const fn starts() -> [usize; LETTERS + 1] {
         letter += 1;
     }
     starts
+}
+
+const fn numbers() -> [u128; COMMANDS.len()] {
+    let (mut numbers, mut index) = ([0; COMMANDS.len()], 0);
+    while index < COMMANDS.len() {
+        numbers[index] = number_of(COMMANDS[index].name.as_bytes());
+        index += 1;
+    }
+    numbers
+}
+
+/// A name as a number, in which no letter's case counts and no byte is 0, so that each name has its own.
+const fn number_of(name: &[u8]) -> u128 {
+    let (mut number, mut at) = (0, 0);
+    while at < name.len() {
+        number = number << 8 | (name[at] | SMALL) as u128;
+        at += 1;
+    }
+    number
 }
 
 impl Spec {
@@ -194,9 +219,12 @@ impl Spec {
         let letter = name.first()?.to_ascii_lowercase();
         let place = usize::from(letter.checked_sub(b'a')?);
         let last = *STARTS.get(place + 1)?;
-        COMMANDS[STARTS[place]..last]
-            .iter()
-            .find(|it| it.name.as_bytes().eq_ignore_ascii_case(name))
+        if name.len() > MOST_LETTERS {
+            return None;
+        }
+        let number = number_of(name);
+        let found = (STARTS[place]..last).find(|it| NUMBERS[*it] == number)?;
+        Some(&COMMANDS[found])
     }
 
     /// The shards of the command's keys.
@@ -254,7 +282,10 @@ mod tests {
             let name = spec.name.to_uppercase();
             assert_eq!(Spec::named(name.as_bytes()).unwrap().name, spec.name);
         }
-        for name in ["", "flushall", "setx", "se", "zzz", "{", "1", "\u{ff}"] {
+        let long = "getgetgetgetgetget";
+        for name in [
+            "", "flushall", "setx", "se", "zzz", "{", "1", "\u{ff}", "g%t", "get\0", long,
+        ] {
             assert!(Spec::named(name.as_bytes()).is_none(), "{name}");
         }
     }

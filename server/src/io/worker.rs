@@ -106,18 +106,29 @@ impl Worker {
         }
         let since = Instant::now();
         events.clear();
-        if self.busy_poll.goes_on(since) && self.cluster.begin_to_poll() {
-            while events.is_empty() && self.busy_poll.goes_on(since) {
-                self.look(events, Some(Duration::ZERO))?;
-            }
+        if self.busy_poll.begins(since) && self.cluster.begin_to_poll() {
+            let polled = self.poll_from(since, events);
             self.cluster.end_to_poll();
+            polled?;
             if !events.is_empty() {
                 return Ok(());
             }
         }
         self.look(events, None)?;
-        self.busy_poll.note(since);
+        self.busy_poll.note(since, Instant::now());
         Ok(())
+    }
+
+    /// Takes events as soon as they are there, without sleeping, for a short time.
+    fn poll_from(&mut self, since: Instant, events: &mut Events) -> io::Result<()> {
+        let mut last = since;
+        loop {
+            self.look(events, Some(Duration::ZERO))?;
+            let goes_on = self.busy_poll.goes_on(since, &mut last, Instant::now());
+            if !goes_on || !events.is_empty() {
+                return Ok(());
+            }
+        }
     }
 
     /// Takes the events that are there, or that come in this time.

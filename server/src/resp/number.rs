@@ -31,14 +31,39 @@ pub fn parse(text: &[u8]) -> Option<i64> {
 /// The digits of a number, in room of their own.
 #[derive(Clone, Copy, Debug)]
 pub struct Digits {
-    bytes: [u8; MAX_DIGITS],
-    start: usize,
+    line: Line,
 }
 
 impl Digits {
     /// Those of this number, as `parse` reads them.
     pub fn new(number: i64) -> Digits {
-        let (mut bytes, mut start) = ([0; MAX_DIGITS], MAX_DIGITS);
+        let line = Line::new(b' ', number);
+        Digits { line }
+    }
+
+    /// The bytes.
+    pub fn as_bytes(&self) -> &[u8] {
+        &self.line.bytes[self.line.start + 1..LINE - 2]
+    }
+}
+
+/// Room for a kind, a number and the end of a line.
+const LINE: usize = 1 + MAX_DIGITS + 2;
+
+/// A number as a line of an answer, in room of its own.
+#[derive(Clone, Copy, Debug)]
+pub struct Line {
+    bytes: [u8; LINE],
+    start: usize,
+}
+
+impl Line {
+    /// The line of this kind and number.
+    #[inline]
+    pub fn new(kind: u8, number: i64) -> Line {
+        let (mut bytes, mut start) = ([0; LINE], LINE - 2);
+        bytes[LINE - 2] = b'\r';
+        bytes[LINE - 1] = b'\n';
         let mut rest = number.unsigned_abs();
         loop {
             start -= 1;
@@ -52,10 +77,13 @@ impl Digits {
             start -= 1;
             bytes[start] = b'-';
         }
-        Digits { bytes, start }
+        start -= 1;
+        bytes[start] = kind;
+        Line { bytes, start }
     }
 
     /// The bytes.
+    #[inline]
     pub fn as_bytes(&self) -> &[u8] {
         &self.bytes[self.start..]
     }

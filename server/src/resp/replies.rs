@@ -1,4 +1,4 @@
-use super::number::Digits;
+use super::number::Line;
 use crate::stats::ErrorCounts;
 use std::fmt::Display;
 use std::io::Write;
@@ -69,7 +69,9 @@ impl Replies {
 
     /// A word that is no data, as OK.
     pub fn simple(&mut self, word: &str) {
-        self.line(b'+', word.as_bytes());
+        self.bytes.push(b'+');
+        self.bytes.extend_from_slice(word.as_bytes());
+        self.bytes.extend_from_slice(b"\r\n");
     }
 
     /// A refusal, whose first word is its name. Bytes that would end the line are shown as spaces.
@@ -112,7 +114,8 @@ impl Replies {
 
     /// A number.
     pub fn number(&mut self, number: i64) {
-        self.line(b':', Digits::new(number).as_bytes());
+        self.bytes
+            .extend_from_slice(Line::new(b':', number).as_bytes());
     }
 
     /// A number of things.
@@ -150,13 +153,8 @@ impl Replies {
 
     fn length(&mut self, kind: u8, length: usize) {
         let length = i64::try_from(length).unwrap_or(i64::MAX);
-        self.line(kind, Digits::new(length).as_bytes());
-    }
-
-    fn line(&mut self, kind: u8, bytes: &[u8]) {
-        self.bytes.push(kind);
-        self.bytes.extend_from_slice(bytes);
-        self.bytes.extend_from_slice(b"\r\n");
+        self.bytes
+            .extend_from_slice(Line::new(kind, length).as_bytes());
     }
 }
 

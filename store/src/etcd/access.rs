@@ -1,17 +1,25 @@
-use hyper::http::uri::{Authority, Scheme};
+use super::tls;
+use hyper::http::uri::Scheme;
 use hyper::Uri;
+use rustls::ClientConfig;
 use std::fmt;
 use std::io;
+use std::net::IpAddr;
+use std::path::PathBuf;
 use std::time::Duration;
 use thiserror::Error;
 
 /// How etcd is reached.
 #[derive(Clone)]
 pub struct Access {
-    /// The members' addresses, as `http://10.0.0.1:2379`.
+    /// The members' addresses, as `http://10.0.0.1:2379` or `https://etcd.example:2379`.
     pub endpoints: Vec<String>,
     /// The user's name and password, where etcd asks for them.
     pub user: Option<(String, String)>,
+    /// A file with the certificates of who may vouch for members, in PEM; where none is named, the system's.
+    pub roots: Option<PathBuf>,
+    /// The files with this client's certificates and its key, in PEM, where etcd asks for them.
+    pub identity: Option<(PathBuf, PathBuf)>,
     /// How long an answer is waited for.
     pub patience: Duration,
 }
@@ -19,21 +27,28 @@ pub struct Access {
 impl Access {
     /// Of these members, without a user, and with five seconds for an answer.
     pub fn new<E: Into<String>>(endpoints: impl IntoIterator<Item = E>) -> Access {
-        let endpoints = endpoints.into_iter().map(Into::into).collect();
         Access {
-            endpoints,
+            endpoints: endpoints.into_iter().map(Into::into).collect(),
             user: None,
+            roots: None,
+            identity: None,
             patience: Duration::from_secs(5),
         }
     }
 
-    /// Where the members listen.
-    pub(super) fn authorities(&self) -> Result<Vec<Authority>, StartError> {
-        let found: Result<Vec<_>, _> = self.endpoints.iter().map(|it| authority(it)).collect();
+    /// The members' addresses, each without what may follow its port.
+    pub(super) fn members(&self) -> Result<Vec<String>, StartError> {
+        let found: Result<Vec<_>, _> = self.endpoints.iter().map(|it| member(it)).collect();
         match found? {
             none if none.is_empty() => Err(StartError::NoEndpoint),
             some => Ok(some),
         }
+    }
+
+    /// How TLS is spoken: where no member asks for it, nobody is trusted.
+    pub(super) fn tls(&self) -> Result<ClientConfig, StartError> {
+        let is_asked = self.endpoints.iter().any(|it| it.starts_with("https:"));
+        tls::config(is_asked, self.roots.as_deref(), self.identity.as_ref())
     }
 }
 
@@ -48,15 +63,20 @@ impl fmt::Debug for Access {
     }
 }
 
-fn authority(endpoint: &str) -> Result<Authority, StartError> {
+fn member(endpoint: &str) -> Result<String, StartError> {
     let bad = || StartError::BadEndpoint(endpoint.to_owned());
     let uri: Uri = endpoint.parse().map_err(|_| bad())?;
-    if uri.scheme() == Some(&Scheme::HTTPS) {
-        return Err(StartError::NoTls(endpoint.to_owned()));
+    let (Some(scheme), Some(authority), "" | "/") = (uri.scheme(), uri.authority(), uri.path())
+    else {
+        return Err(bad());
+    };
+    let host = authority.host().trim_matches(['[', ']']);
+    if *scheme == Scheme::HTTPS && host.parse::<IpAddr>().is_ok() {
+        return Err(StartError::NoName(endpoint.to_owned()));
     }
-    match (uri.scheme(), uri.path()) {
-        (Some(it), "" | "/") if *it == Scheme::HTTP => uri.authority().cloned().ok_or_else(bad),
-        _ => Err(bad()),
+    match *scheme == Scheme::HTTP || *scheme == Scheme::HTTPS {
+        true => Ok(format!("{scheme}://{authority}")),
+        false => Err(bad()),
     }
 }
 
@@ -69,9 +89,14 @@ pub enum StartError {
     /// An address can't be read.
     #[error("{0} is no address of a member, as http://10.0.0.1:2379 is")]
     BadEndpoint(String),
-    /// An address asks for TLS, which isn't there yet.
-    #[error("{0} asks for TLS, which this program can't speak to etcd yet")]
-    NoTls(String),
+    /// An address asks for TLS, and has no name.
+    #[error(
+        "{0} has no name, of which a certificate could be: write it as https://etcd.example:2379"
+    )]
+    NoName(String),
+    /// A file of certificates or of a key can't be used.
+    #[error("the file {0} can't be used: {1}")]
+    BadFile(PathBuf, String),
     /// The system gives no thread.
     #[error("the system gives no thread: {0}")]
     Thread(#[from] io::Error),

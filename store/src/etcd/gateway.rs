@@ -2,8 +2,8 @@ use super::call_error::{CallError, Refusal};
 use super::stream::Stream;
 use super::{Access, StartError};
 use hyper::client::HttpConnector;
-use hyper::http::uri::Authority;
 use hyper::{body, header, Body, Client, Request, Response};
+use hyper_rustls::{HttpsConnector, HttpsConnectorBuilder};
 use serde::de::DeserializeOwned;
 use serde::{Deserialize, Serialize};
 use std::future::Future;
@@ -14,8 +14,8 @@ use tokio::time::timeout;
 
 /// The gateways of the members: a call goes to the member that answered last, and to the next where it can't be reached.
 pub(super) struct Gateway {
-    client: Client<HttpConnector>,
-    members: Vec<Authority>,
+    client: Client<HttpsConnector<HttpConnector>>,
+    members: Vec<String>,
     current: AtomicUsize,
     access: Access,
     token: Mutex<Option<String>>,
@@ -35,10 +35,18 @@ struct Authenticated {
 impl Gateway {
     pub(super) fn new(access: Access) -> Result<Gateway, StartError> {
         let mut connector = HttpConnector::new();
+        connector.enforce_http(false);
         connector.set_nodelay(true);
         connector.set_keepalive(Some(Duration::from_secs(5)));
         connector.set_connect_timeout(Some(access.patience.min(Duration::from_secs(1))));
-        let (client, members) = (Client::builder().build(connector), access.authorities()?);
+        let https = HttpsConnectorBuilder::new()
+            .with_tls_config(access.tls()?)
+            .https_or_http()
+            .enable_http1();
+        let (client, members) = (
+            Client::builder().build(https.wrap_connector(connector)),
+            access.members()?,
+        );
         Ok(Gateway {
             client,
             members,
@@ -183,7 +191,7 @@ impl Gateway {
         asked: Vec<u8>,
     ) -> Result<Request<Body>, CallError> {
         let mut request = Request::post(format!(
-            "http://{}{path}",
+            "{}{path}",
             self.members[member % self.members.len()]
         ))
         .header(header::CONTENT_TYPE, "application/json");

@@ -3,6 +3,7 @@ mod access;
 mod call_error;
 mod gateway;
 mod stream;
+mod tls;
 mod watching;
 mod wire;
 
@@ -45,7 +46,7 @@ impl Etcd {
     ///
     /// # Errors
     ///
-    /// Where an address can't be read or asks for TLS, or the system gives no thread.
+    /// Where an address can't be read, a file of certificates can't be used, or the system gives no thread.
     pub fn new(access: Access) -> Result<Etcd, StartError> {
         let gateway = Arc::new(Gateway::new(access)?);
         let runtime = Builder::new_multi_thread()

@@ -54,19 +54,27 @@ pub struct Member {
 impl Member {
     /// One, where etcd is installed.
     pub fn start(options: &[&str]) -> Option<Member> {
-        let folder = Folder::new();
+        let member = Member::begin(format!("http://127.0.0.1:{}", free_port()), options)?;
+        member.wait_until_up();
+        Some(member)
+    }
+
+    /// One that speaks TLS by these options; it may not be up yet.
+    pub fn start_with_tls(options: &[&str]) -> Option<Member> {
+        Member::begin(format!("https://localhost:{}", free_port()), options)
+    }
+
+    fn begin(endpoint: String, options: &[&str]) -> Option<Member> {
+        let (folder, peer) = (Folder::new(), format!("http://127.0.0.1:{}", free_port()));
         let options: Vec<_> = options.iter().map(|it| it.to_string()).collect();
-        let [endpoint, peer] = [(); 2].map(|()| format!("http://127.0.0.1:{}", free_port()));
         let process = run(&folder, &endpoint, &peer, &options)?;
-        let member = Member {
+        Some(Member {
             process,
             folder,
             options,
             endpoint,
             peer,
-        };
-        member.wait_until_up();
-        Some(member)
+        })
     }
 
     /// Kills it, and has it begin again over the same folder.

@@ -105,10 +105,13 @@ pub use note::Note;
 pub use pass::{Front, Mode, Pass, Permit};
 pub use plan::{Move, Plan};
 pub use record::{Record, Stand};
-pub use reply::{Reply, Value};
+pub use reply::{LentReply, LentText, Reply, Value};
 pub use request::Request;
 pub use restore_fault::RestoreFault;
 pub use routes::{Route, Routes};
 pub use service::{Service, ServiceBuilder, Texts};
 pub use service_pass::{ServeRefused, Served, ServicePass};
 pub use settings_fault::SettingsFault;
+
+/// Whether the library under this crate was proved; one that `tools/unproved --library` built wasn't.
+pub const IS_PROVED: bool = option_env!("DURKENZO_UNPROVED").is_none();

@@ -15,7 +15,7 @@
 //! ```
 use crate::fault::MapFault;
 use crate::raw::{self, Handle, ReplyParts};
-use crate::reply::{Reply, Value};
+use crate::reply::{LentReply, Reply, Value};
 use crate::request::Request;
 use std::fmt;
 
@@ -57,6 +57,11 @@ impl Map {
 
     /// The reply to the request; or `EmptyKey`, `KeyTooLong` or `NoMemory`.
     pub fn ask(&mut self, request: &Request<'_>) -> Result<Reply, MapFault> {
+        self.lend(request).map(Into::into)
+    }
+
+    /// The same, with a text that is copied where and when you want it; or the faults of `ask`.
+    pub fn lend(&mut self, request: &Request<'_>) -> Result<LentReply<'_>, MapFault> {
         let (kind, key, other, amount) = request.parts();
         let mut parts = ReplyParts::default();
         // SAFETY: the handles are this value's alone, and the slices last as long as the call.
@@ -74,7 +79,7 @@ impl Map {
             )
         };
         match code {
-            0 => Ok(Reply::of(&mut self.reply, &parts)),
+            0 => Ok(LentReply::of(&mut self.reply, &parts)),
             code => Err(MapFault::of(code)),
         }
     }

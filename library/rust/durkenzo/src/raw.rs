@@ -2,6 +2,7 @@
 
 /// What the library keeps between calls. It begins as zeros, isn't copied, and is used by one call at a time.
 #[repr(C)]
+#[derive(Debug)]
 pub(crate) struct Handle {
     full: bool,
     owned: *mut u8,

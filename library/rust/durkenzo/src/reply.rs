@@ -35,27 +35,99 @@ pub enum Reply {
 impl Reply {
     /// The reply with these parts, which the handle keeps.
     pub(crate) fn of(handle: &mut Handle, parts: &ReplyParts) -> Reply {
+        LentReply::of(handle, parts).into()
+    }
+}
+
+/// A reply of which a text isn't copied before it is asked for.
+#[derive(Debug)]
+pub enum LentReply<'a> {
+    /// The key holds nothing, or held nothing to remove.
+    Nothing,
+    /// The key holds the new text, or nothing where it was to hold nothing.
+    Done,
+    /// The key holds a text.
+    Text(LentText<'a>),
+    /// The key holds a count; after an addition the new one.
+    Count(i64),
+    /// The pairs that a scan found, in the order of their keys.
+    Pairs(Vec<(Vec<u8>, Value)>),
+    /// The key holds what the request isn't for; nothing has changed.
+    WrongKind,
+    /// The count would have more than 64 bits; nothing has changed.
+    Overflow,
+    /// The text would have more than 65,535 bytes; nothing has changed.
+    TextTooLong,
+}
+
+impl<'a> LentReply<'a> {
+    pub(crate) fn of(handle: &'a mut Handle, parts: &ReplyParts) -> LentReply<'a> {
+        let length = parts.length;
         match parts.kind {
-            0 => Reply::Nothing,
-            1 => Reply::Done,
-            2 => Reply::Value(Value::Text(text_of(handle, parts.length))),
-            3 => Reply::Value(Value::Count(parts.count)),
-            4 => Reply::Pairs((0..parts.length).map(|at| pair_of(handle, at)).collect()),
-            5 => Reply::WrongKind,
-            6 => Reply::Overflow,
-            7 => Reply::TextTooLong,
+            0 => LentReply::Nothing,
+            1 => LentReply::Done,
+            2 => LentReply::Text(LentText { handle, length }),
+            3 => LentReply::Count(parts.count),
+            4 => LentReply::Pairs((0..length).map(|at| pair_of(handle, at)).collect()),
+            5 => LentReply::WrongKind,
+            6 => LentReply::Overflow,
+            7 => LentReply::TextTooLong,
             other => unreachable!("a reply of kind {other}"),
         }
     }
 }
 
-/// The text of this length that the handle keeps as its reply.
-fn text_of(handle: &mut Handle, length: usize) -> Vec<u8> {
-    let (mut text, mut written) = (vec![0; length], 0);
-    // SAFETY: the handle is borrowed alone, and the room is this call's.
-    let code = unsafe { raw::durkenzo_reply_text(handle, text.as_mut_ptr(), length, &mut written) };
-    assert_eq!((code, written), (0, length), "a text has its length");
-    text
+impl From<LentReply<'_>> for Reply {
+    fn from(lent: LentReply<'_>) -> Reply {
+        match lent {
+            LentReply::Nothing => Reply::Nothing,
+            LentReply::Done => Reply::Done,
+            LentReply::Text(text) => Reply::Value(Value::Text(text.into_vec())),
+            LentReply::Count(count) => Reply::Value(Value::Count(count)),
+            LentReply::Pairs(pairs) => Reply::Pairs(pairs),
+            LentReply::WrongKind => Reply::WrongKind,
+            LentReply::Overflow => Reply::Overflow,
+            LentReply::TextTooLong => Reply::TextTooLong,
+        }
+    }
+}
+
+/// The text of a reply, where the map keeps it until the next request.
+#[derive(Debug)]
+pub struct LentText<'a> {
+    handle: &'a mut Handle,
+    length: usize,
+}
+
+impl LentText<'_> {
+    /// How many bytes it has.
+    pub fn len(&self) -> usize {
+        self.length
+    }
+
+    /// Whether it has none.
+    pub fn is_empty(&self) -> bool {
+        self.length == 0
+    }
+
+    /// Writes it behind what is there.
+    pub fn append_to(self, into: &mut Vec<u8>) {
+        let (start, mut written) = (into.len(), 0);
+        into.resize(start + self.length, 0);
+        let room = &mut into[start..];
+        // SAFETY: the handle is borrowed alone, and the room too.
+        let code = unsafe {
+            raw::durkenzo_reply_text(self.handle, room.as_mut_ptr(), room.len(), &mut written)
+        };
+        assert_eq!((code, written), (0, self.length), "a text has its length");
+    }
+
+    /// A copy.
+    pub fn into_vec(self) -> Vec<u8> {
+        let mut text = Vec::with_capacity(self.length);
+        self.append_to(&mut text);
+        text
+    }
 }
 
 /// The pair at this place of the reply.

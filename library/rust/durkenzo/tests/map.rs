@@ -1,5 +1,5 @@
 //! A map beside one of the standard library.
-use durkenzo::{Board, Map, MapFault, Mode, Reply, Request, Value};
+use durkenzo::{Board, LentReply, Map, MapFault, Mode, Reply, Request, Value};
 use std::collections::BTreeMap;
 
 /// A generator of numbers that are the same in each run.
@@ -35,6 +35,30 @@ fn what_a_key_holds() {
         (map.remove("name"), map.remove("name")),
         (Ok(true), Ok(false))
     );
+}
+
+#[test]
+fn a_lent_text_is_copied_where_it_is_wanted() {
+    let mut map = Map::new().unwrap();
+    map.put("name", "durkenzo").unwrap();
+    map.put("empty", "").unwrap();
+    let mut told = b"name: ".to_vec();
+    match map.lend(&Request::Get(b"name")) {
+        Ok(LentReply::Text(text)) => {
+            assert_eq!((text.len(), text.is_empty()), (8, false));
+            text.append_to(&mut told);
+        }
+        other => panic!("{other:?}"),
+    }
+    assert_eq!(told, b"name: durkenzo");
+    match map.lend(&Request::Get(b"empty")) {
+        Ok(LentReply::Text(text)) => assert!(text.is_empty() && text.into_vec().is_empty()),
+        other => panic!("{other:?}"),
+    }
+    assert!(matches!(
+        map.lend(&Request::Add(b"visits", 2)),
+        Ok(LentReply::Count(2))
+    ));
 }
 
 #[test]
