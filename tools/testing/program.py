@@ -248,10 +248,16 @@ class Program:
         yield from self.shell_spreads()
 
     def shell_goes_on(self):
-        """A restart that couldn't be approved goes on once it can be."""
-        said = self.shell_said(["assign 0 2", "fail 1", "restart 2", "back 1", "restart 2"])
-        wanted = ("stopped at 'approve 2'. `restart 2` goes on", "\nserver 2 is back, with 1 shard\n")
-        yield verdict("the shell's restart goes on", all(it in said for it in wanted), said)
+        """A restart that was refused its approval, or a move, goes on once it can, and all shards come home."""
+        refused = ["assign 0 2", "assign 1 2", "fail 1", "restart 2", "back 1"]
+        said = self.shell_said([*refused, "hold 1 2", "restart 2", "free 1", "restart 2", "look 0"], "--shards", "2")
+        wanted = (
+            "stopped at 'approve 2'. `restart 2` goes on",
+            "stopped at 'prepare_add 1 1'.",
+            "is back, with 2 shards",
+        )
+        is_well = all(it in said for it in wanted) and said.splitlines()[-1].startswith("Serving 2 0 idle")
+        yield verdict("the shell's restart goes on", is_well, said)
 
     def shell_explains(self):
         """After a line that is refused the shell tells why, how the shard stands and what to do."""
