@@ -244,6 +244,22 @@ def requests_at_a_server_go_as_in_scripts(program):
         assert found == wanted, found
 
 
+def each_word_tells_how_it_is_written(program):
+    """SM HELP has each word once or twice, and a word without what it needs is refused with its form."""
+    with served(program) as server, server.client() as client:
+        forms = [it.decode().removeprefix("SM ")[:16].strip() for it in client.ask("SM", "HELP")]
+        assert len(forms) == len(set(forms)) > 25, forms
+        bare = {it for it in forms if " " not in it}
+        needing = [it for it in forms if it.split(" ")[0] not in bare]
+        assert {it.split(" ")[0] for it in needing} >= {"ASSIGN", "REASSIGN", "MIGRATE", "DRAIN", "STOPPED", "DUMP"}
+        for form in needing:
+            client.send("SM", form.split(" ")[0])
+            found = client.read()
+            assert isinstance(found, Refused), (form, found)
+            if not form.startswith("AT "):
+                assert f"BadLine: it is written SM {form}" in str(found), (form, found)
+
+
 def a_server_ends_within_a_restart(program):
     """Which would take minutes, by the pause between the steps of its migrations."""
     with served(program, "--pace", 200) as server, server.client() as control:
@@ -282,6 +298,7 @@ TESTS = [
     failed_servers_are_told,
     vacant_shards_are_placed,
     requests_at_a_server_go_as_in_scripts,
+    each_word_tells_how_it_is_written,
     a_server_ends_within_a_restart,
     a_server_ends_after_what_it_was_sent,
 ]

@@ -72,7 +72,18 @@ def said_by(script, python, program):
         yield Verdict(script, f"it ended with {ran.status}: {ran.complaint.decode(errors='replace')[-2000:]}")
 
 
-def passed(_room):
+def installed(room):
+    """What `make install` puts into a folder, and what systemd thinks of the unit."""
+    root, unit = f"{room}/root", f"{room}/root/etc/systemd/system/durkenzo.service"
+    ran = runs.finished(["make", "-C", FOLDER, "install", f"DESTDIR={root}", "PREFIX=/usr"])
+    yield verdict("make install of the server", not ran.status, ran.complaint.decode(errors="replace"))
+    if not ran.status:
+        told = runs.finished([f"{root}/usr/bin/durkenzo-server", "--version"]).output
+        names = "ExecStart=/usr/bin/durkenzo-server" in open(unit, encoding="utf-8").read()
+        yield verdict("the installed server and its unit", b"sm serve" in told and names, told.decode())
+
+
+def passed(room):
     """All of it; nothing where the library wasn't built, or cargo or other people's crates aren't there."""
     serve = runs.loaded("serve")
     if not PROVED.is_file() or not shutil.which("cargo") or not serve.has_crates():
@@ -91,6 +102,8 @@ def passed(_room):
     yield verdict("./sm serve --help", all(it in told for it in HEADINGS), told)
     if other_crates.has_crates(sources.TOP / "trial"):
         yield tool("trial", "--seconds", 5, program)
+    if shutil.which("make"):
+        yield from installed(room)
     if not lacking():
         for script in SCRIPTS:
             yield from said_by(script, python_with_redis(), program)
