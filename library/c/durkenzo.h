@@ -68,6 +68,7 @@ enum durkenzo_code {
     DURKENZO_NO_SHARD = 6,         /* a board has at least one shard */
     DURKENZO_TOO_MANY = 7,         /* a board or a layout has at most 4,096 shards */
     DURKENZO_BAD_BOOKS = 8,        /* there are no servers, or memory for their books was refused */
+    DURKENZO_BAD_COUNT = 9,        /* the bodies are as many as the shards of the settings */
     DURKENZO_UNKNOWN_SHARD = 10,   /* there is no such shard */
     DURKENZO_WRONG_PHASE = 11,     /* the change doesn't begin from the shard's stand */
     DURKENZO_SAME_SERVER = 12,     /* the server owns the shard */
@@ -277,6 +278,11 @@ uint32_t durkenzo_open_service(durkenzo_handle *control, size_t shards, size_t k
 uint32_t durkenzo_open_settings(durkenzo_handle *control, durkenzo_handle *layout, const uint8_t *line, size_t length,
                                 size_t *shards);
 
+/* The same with a body of yours for each number; what the line says of kept requests is for the sample service alone.
+ * Errors: BAD_COUNT where the numbers aren't as many as the line's shards, and as above. */
+uint32_t durkenzo_open_bodies(durkenzo_handle *control, durkenzo_handle *layout, const uint8_t *line, size_t length,
+                              const uint64_t *numbers, size_t count);
+
 /* An envelope but for its request and its note. */
 typedef struct durkenzo_envelope_parts {
     uint64_t number;
@@ -288,9 +294,10 @@ typedef struct durkenzo_envelope_parts {
 /* Writes the parts of an envelope. Errors: WRONG_HANDLE. */
 uint32_t durkenzo_sent(durkenzo_handle *envelope, durkenzo_envelope_parts *parts);
 
-/* Makes an envelope with your number for the shard, that carries this request and a note of all that the pass has seen.
- * Its handle keeps it, in place of what it kept. Errors: UNKNOWN_SHARD, and those of durkenzo_ask. */
-uint32_t durkenzo_envelope(durkenzo_handle *pass, durkenzo_handle *envelope, uint64_t number, uint16_t shard,
+/* Makes an envelope with these parts, those that a client sends (`from` and `hops` are 0) or that another server of
+ * yours sent on, that carries this request and a note of all that the pass has seen. Its handle keeps it, in place of
+ * what it kept. Errors: those of durkenzo_ask, and BAD_ARGUMENT for parts that no envelope has. */
+uint32_t durkenzo_envelope(durkenzo_handle *pass, durkenzo_handle *envelope, const durkenzo_envelope_parts *parts,
                            uint8_t kind, const uint8_t *key, size_t key_length, const uint8_t *other,
                            size_t other_length, int64_t amount);
 

@@ -207,6 +207,36 @@ class Services(unittest.TestCase):
             self.assertEqual((refused.hops, refused.forwarded_by), (0, 0))
             self.assertRaises(durkenzo.KeyEmpty, one.envelope, 0, Request.get(b""))
 
+    def test_envelopes_travel_as_bytes(self):
+        service = durkenzo.Service(durkenzo.Layout([b""]), servers=2)
+        service.control.assign(0, 1)
+        service.control.prepare_add_shard(0, 2)
+        service.control.prepare_drop_shard(0)
+        request = Request.add(b"a", 1)
+        with service.new_pass(1) as one, service.new_pass(2) as two:
+            forward = one.serve(one.envelope(7, request))
+            sent = durkenzo.Sent.from_bytes(forward.envelope.sent.to_bytes())
+            self.assertEqual((forward.to, sent), (2, durkenzo.Sent(7, 0, 1, 1)))
+            again = two.received(sent, request)
+            self.assertEqual(again.sent, sent)
+            self.assertEqual(two.serve(again).number, 7)
+            for wrong in ((7, 0, 1, 0), (7, 0, 0, 1), (7, 0, 1, 5), (7, 4096, 1, 1), (7, 0, 4096, 1)):
+                self.assertRaises(durkenzo.BadArgument, two.received, durkenzo.Sent(*wrong), request)
+                text = durkenzo.Sent(*wrong).to_bytes()
+                self.assertRaises(durkenzo.BadArgument, durkenzo.Sent.from_bytes, text)
+        self.assertRaises(durkenzo.BadArgument, durkenzo.Sent.from_bytes, b"")
+
+    def test_settings_open_a_board_of_own_bodies(self):
+        board, layout = durkenzo.Board.by_settings(SETTINGS, ["one", "two"])
+        self.assertEqual((len(board), len(layout), layout.shard_of(b"z")), (2, 2, 1))
+        board.control.assign(0, 1)
+        self.assertRaises(durkenzo.NoCapacity, board.control.assign, 1, 1)
+        board.control.assign(1, 2)
+        with board.new_pass(2) as two, two.admit(1) as permit:
+            self.assertEqual(permit.body, "two")
+        self.assertRaises(durkenzo.BadCount, durkenzo.Board.by_settings, SETTINGS, ["one"])
+        self.assertRaises(durkenzo.BadSettings, durkenzo.Board.by_settings, b"", [])
+
     def test_settings_open_a_board(self):
         service = durkenzo.Service.by_settings(SETTINGS)
         self.assertEqual((len(service.layout), service.layout.shard_of(b"z")), (2, 1))

@@ -1,14 +1,17 @@
 //! Times what threads do with the counts of 4,096 shards by the library's board, by locks and by a concurrent map.
 //! `library ROUND` prints a line for each row and way: their names and the nanoseconds of each operation; the ways
-//! begin at another one in each round. `library memory WAY` prints the bytes that the way takes.
+//! begin at another one in each round; where requests are served also what their replies tell. `library memory WAY`
+//! prints the bytes that the way takes.
 mod board;
 mod locks;
 mod map;
+mod served;
 mod way;
 
 use board::Owned;
 use locks::{OfParkingLot, OfStd};
 use map::Mapped;
+use served::Site;
 use std::hint::black_box;
 use std::thread;
 use std::time::Instant;
@@ -17,6 +20,7 @@ use way::{Way, Worker, SHARDS};
 const THREADS: usize = 4;
 const ALONE: u64 = 3_000_000;
 const TOGETHER: u64 = 500_000;
+const SERVED: u64 = 300_000;
 const COPIES: usize = 64;
 
 /// Which shards a thread chooses from.
@@ -125,6 +129,19 @@ fn show_refused() {
     println!("a refused admission;board;{taken}");
 }
 
+/// The sums of what the replies tell are those of bench/serve's programs.
+fn show_served() {
+    let mut site = black_box(Site::new());
+    for (row, is_put) in [("serve, get", false), ("serve, put", true)] {
+        let mut told = 0;
+        let taken = timed(SERVED, || {
+            told = site.run(is_put, SERVED);
+            told
+        });
+        println!("{row};board;{taken};{told}");
+    }
+}
+
 /// The bytes that are resident.
 fn resident() -> usize {
     let pages = std::fs::read_to_string("/proc/self/statm").expect("Linux");
@@ -172,4 +189,5 @@ fn main() {
         show(way);
     }
     show_refused();
+    show_served();
 }

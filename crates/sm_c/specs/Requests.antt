@@ -34,17 +34,18 @@ abbrev pub AsksMap :
 AsksMap before after kind key other amount reply =
     (request : Request) × HasParts kind key other amount request × MakesReply before after request reply
 
--- the envelope carries a request of this kind with these parts from the pass
-abbrev pub SendsRequest :
-    Option HandleState → Option HandleState → ℕ → ℕ → ℕ → List ℕ → List ℕ → ℤ → Type 0
-SendsRequest pass envelope number shard kind key other amount =
-    (request : Request) × HasParts kind key other amount request × Carries pass envelope number shard request
-
 -- the parts are those of an envelope that was sent so
 abbrev pub AreSentParts : SentParts → SentAs → Type 0
 AreSentParts parts sent =
     (parts.number ≡ sent.number) × (parts.shard ≡ sent.shard) × CameFrom parts.from sent.mode
     × (parts.hops ≡ sent.hops)
+
+-- the envelope has these parts and carries a request of this kind with these parts from the pass
+abbrev pub SendsRequest :
+    Option HandleState → Option HandleState → SentParts → ℕ → List ℕ → List ℕ → ℤ → Type 0
+SendsRequest pass envelope parts kind key other amount =
+    (sent : SentAs) × (request : Request) × AreSentParts parts sent × HasParts kind key other amount request
+    × Carries pass envelope sent request
 
 -- the handle keeps an envelope with these parts
 abbrev pub TellsSent : Option HandleState → SentParts → Type 0

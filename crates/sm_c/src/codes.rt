@@ -41,6 +41,9 @@ pub(crate) const TOO_MANY: u32 = 7;
 /// There are no servers, or memory for their books was refused.
 pub(crate) const BAD_BOOKS: u32 = 8;
 
+/// The bodies are as many as the shards of the settings.
+pub(crate) const BAD_COUNT: u32 = 9;
+
 /// There is no such shard.
 pub(crate) const UNKNOWN_SHARD: u32 = 10;
 
@@ -184,6 +187,7 @@ pub(crate) fn code_of_open(fault: OpenFault) -> u32
             MakeFault::NoMemory => NO_MEMORY,
         },
         OpenFault::Books(_) => BAD_BOOKS,
+        OpenFault::Bodies => BAD_COUNT,
         OpenFault::Servers | OpenFault::Restarts => BAD_ARGUMENT,
         OpenFault::NoMemory => NO_MEMORY,
     }
@@ -231,6 +235,7 @@ pub(crate) fn code_of_act(fault: ActFault) -> u32
         ActFault::UnknownServer => UNKNOWN_SERVER,
         ActFault::NoMemory => NO_MEMORY,
         ActFault::TooShort => TOO_SHORT,
+        ActFault::NotSent => BAD_ARGUMENT,
         ActFault::NoMore => NO_MORE,
         ActFault::Admit(refusal) => code_of_admission(refusal),
         ActFault::Checkpoint(fault) => match fault {

@@ -1,6 +1,6 @@
 //! Boards that a line of settings describes.
 ghost use Rattle.std.specs.Prelude.{◌≡◌, ◌≢◌, ◌≤◌};
-ghost use Rattle.sm_handle.specs.Opening.{OpensService};
+ghost use Rattle.sm_handle.specs.Opening.{OpensBoard, OpensService};
 ghost use Rattle.sm_c.specs.Opening.{HasFault, settings_code};
 
 use crate::codes::{NO_MEMORY, code_of_open};
@@ -31,6 +31,29 @@ pub extern "C" fn durkenzo_open_settings(
             *shards = count;
             0
         }
+        Err(SettingsOpenFault::Settings(fault)) => code_of_settings(fault),
+        Err(SettingsOpenFault::Open(fault)) => code_of_open(fault),
+    }
+}
+
+/// Opens a board with a body for each number as the line of settings says, but for how many requests a shard keeps: the
+/// bodies are as many as its shards. The rest as `durkenzo_open_settings`.
+#[unsafe(no_mangle)]
+pub extern "C" fn durkenzo_open_bodies(
+    alloc: Global,
+    chief: &mut Handle,
+    layout: &mut Handle,
+    line: &[u8],
+    numbers: &[u64],
+) -> u32
+    ensures made { result ≡ 0
+        → OpensBoard line.now numbers.now chief.new.owned.state layout.new.owned.state }
+    ensures fault { 70 ≤ result → HasFault line.now result }
+    ensures kept { result ≢ 0 → chief.new.owned.state ≡ chief.old.owned.state }
+    ensures unwritten { result ≢ 0 → layout.new.owned.state ≡ layout.old.owned.state }
+{
+    match chief.open_bodies_by(alloc, layout, line, numbers) {
+        Ok(()) => 0,
         Err(SettingsOpenFault::Settings(fault)) => code_of_settings(fault),
         Err(SettingsOpenFault::Open(fault)) => code_of_open(fault),
     }

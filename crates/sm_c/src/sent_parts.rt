@@ -1,8 +1,11 @@
+ghost use Rattle.std.specs.Prelude.{IfSome};
 ghost use Rattle.sm_c.specs.Requests.{AreSentParts};
 ghost use Rattle.sm_c.specs.Words.{CameFrom};
 
+use crate::kinds::mode_of;
 use sm_handle::SentAs;
 use sm_ownership::mode::Mode;
+use sm_ranges::shard_id::ShardId;
 
 /// An envelope but for its request and its note, as C sees it: its number, its shard, the server that forwarded it, or
 /// 0 where it came directly, and how often it was forwarded.
@@ -16,6 +19,21 @@ pub struct SentParts {
 }
 
 impl SentParts {
+    /// What these parts tell of an envelope, or none where they name no shard or server.
+    pub(crate) fn sent(&self) -> Option<SentAs>
+        ensures { IfSome result (AreSentParts self.now) }
+    {
+        let (Some(shard), Some(mode)) = (ShardId::new(self.shard), mode_of(self.from)) else {
+            return None;
+        };
+        Some(SentAs {
+            number: self.number,
+            shard,
+            mode,
+            hops: self.hops,
+        })
+    }
+
     /// The parts of an envelope.
     pub(crate) fn of(sent: &SentAs) -> SentParts
         ensures { AreSentParts result sent.now }

@@ -8,7 +8,8 @@ ghost use Rattle.sm_c.specs.Reading.{TellsRecord, refusal_read};
 ghost use Rattle.sm_c.specs.Requests.{ComesBack, LeavesShard, SendsRequest, TellsSent};
 
 use crate::codes::{
-    FORWARD, UNKNOWN_SHARD, code_of_act, code_of_open, code_of_refusal, code_of_request,
+    BAD_ARGUMENT, FORWARD, UNKNOWN_SHARD, code_of_act, code_of_open, code_of_refusal,
+    code_of_request,
 };
 use crate::read::{read_of, read_of_refusal, tell};
 use crate::record_parts::RecordParts;
@@ -40,15 +41,14 @@ pub extern "C" fn durkenzo_open_service(
     }
 }
 
-/// Makes an envelope with this number for the shard that carries the request of this kind, with a note of all that the
-/// pass has seen. The envelope's handle keeps it, in place of what it kept.
+/// Makes an envelope with these parts that carries the request of this kind, with a note of all that the pass has seen.
+/// The envelope's handle keeps it, in place of what it kept.
 #[unsafe(no_mangle)]
 pub extern "C" fn durkenzo_envelope(
     alloc: Global,
     pass: &mut Handle,
     envelope: &mut Handle,
-    number: u64,
-    shard: u16,
+    parts: &SentParts,
     kind: u8,
     key: &[u8],
     other: &[u8],
@@ -56,17 +56,17 @@ pub extern "C" fn durkenzo_envelope(
 ) -> u32
     ensures pass { pass.new.owned.state ≡ pass.old.owned.state }
     ensures made { result ≡ 0
-        → SendsRequest pass.old.owned.state envelope.new.owned.state number shard kind key.now other.now amount }
+        → SendsRequest pass.old.owned.state envelope.new.owned.state parts.now kind key.now other.now amount }
     ensures kept { result ≢ 0 → envelope.new.owned.state ≡ envelope.old.owned.state }
 {
-    let Some(k) = ShardId::new(shard) else {
-        return UNKNOWN_SHARD;
+    let Some(sent) = parts.sent() else {
+        return BAD_ARGUMENT;
     };
     let request = match request_of(alloc, kind, key, other, amount) {
         Ok(request) => request,
         Err(fault) => return code_of_request(fault),
     };
-    match envelope.envelope(alloc, pass, number, k, request) {
+    match envelope.envelope(alloc, pass, sent, request) {
         Ok(()) => 0,
         Err(fault) => code_of_act(fault),
     }

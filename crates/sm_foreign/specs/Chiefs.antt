@@ -1,11 +1,15 @@
 -- The bodies of a board that another program owns, and the books of new ones.
-use Rattle.std.specs.Prelude.{ℕ, List, map}
+use Rattle.std.specs.Prelude.{ℕ, ◌≡◌, List, length, map, Option, Some, None}
+use Rattle.sm_control.specs.Controls.{ControlValue}
 use Rattle.sm_desk.specs.Desk.{DeskView}
-use Rattle.sm_place.specs.Books.{new_books}
+use Rattle.sm_place.specs.Books.{BooksView, new_books}
+use Rattle.sm_place.specs.Plans.{assign_plan, drain_plan}
+use Rattle.sm_place.specs.declared.plan.Plan.{Plan as PlanValue}
 use Rattle.sm_rows.specs.declared.domain_row.DomainRow.{DomainRow}
 use Rattle.sm_rows.specs.declared.group_row.GroupRow.{GroupRow}
 use Rattle.sm_rows.specs.declared.server_row.ServerRow.{ServerRow}
 use Rattle.sm_rows.specs.declared.shard_row.ShardRow.{ShardRow}
+use Rattle.sm_settings.specs.SettingsLine.{SettingsValues}
 use Rattle.sm_foreign.specs.declared.foreign.Foreign.{Foreign}
 
 -- the bodies of these numbers
@@ -16,3 +20,17 @@ foreign_of numbers = map (λ number. record { number = number }) numbers
 abbrev pub desk_of_rows : List ServerRow → List GroupRow → List ShardRow → List DomainRow → ℕ → DeskView
 desk_of_rows servers groups shards domains ops =
     record { books = new_books servers groups shards domains; caps = record { ops = ops } }
+
+-- the control of a new board with bodies of these limits, with a row for each shard of the settings and their other
+-- rows and limits
+abbrev pub IsControlBy : {Q : Type 0} → ControlValue Q → List ℕ → SettingsValues → Type 0
+IsControlBy control limits settings =
+    (control.chair.board.limits.count ≡ length settings.shards)
+    × (control.chair.board.limits.ceiling ≡ settings.ceiling) × (control.chair.board.limits.bodies ≡ limits)
+    × (control.desk
+    ≡ desk_of_rows settings.servers settings.groups settings.shards settings.domains settings.ops)
+
+-- the plan of these books, for the shards of the server or, without one, for the vacant ones
+abbrev pub planned_for : BooksView → Option ℕ → PlanValue
+planned_for books (Some server) = drain_plan books server
+planned_for books None = assign_plan books

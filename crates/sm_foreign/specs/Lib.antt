@@ -1,2 +1,3 @@
 pub mod Chiefs
 pub mod Holding
+pub use Rattle.sm_control.specs.Controls

@@ -1,10 +1,11 @@
-ghost use Rattle.std.specs.Prelude.{◌≡◌, ◌<◌, ◌≤◌, [], All, IfOk, IfSome, None, length, map};
+ghost use Rattle.std.specs.Prelude.{◌≡◌, ◌≤◌, [], All, IfOk, None, length, map};
 ghost use Rattle.std.specs.Arc.{arc_value};
 ghost use Rattle.sm_ranges.specs.declared.stand.Stand.TheVariants.{Vacant};
 ghost use Rattle.sm_control.specs.Controls.{Commanded};
 ghost use Rattle.sm_desk.specs.Desk.{desk_fault};
-ghost use Rattle.sm_place.specs.Plans.{assign_plan, drain_plan};
-ghost use Rattle.sm_foreign.specs.Chiefs.{desk_of_rows};
+ghost use Rattle.sm_settings.specs.SettingsLine.{values_of};
+ghost use Rattle.sm_settings.specs.SettingsRules.{KeepsRules};
+ghost use Rattle.sm_foreign.specs.Chiefs.{IsControlBy, desk_of_rows, planned_for};
 
 use crate::board_pass::BoardPass;
 use crate::foreign::Foreign;
@@ -18,6 +19,7 @@ use sm_ranges::server_id::ServerId;
 use sm_rows::limits::MAX_DOMAIN_DOWN;
 use sm_rows::{DomainRow, GroupRow, ServerRow, ShardRow, equal_domains};
 use sm_rule::{Board, Chair};
+use sm_settings::Settings;
 use sm_tasks::Tasks;
 use sm_tasks::laws::all_up_meets_caps;
 use std::alloc::{AllocError, Global};
@@ -53,14 +55,14 @@ impl<S: Service> Chief<S> {
         servers: u16,
         ops: u16,
         ceiling: u64,
-    ) -> Result<Chief<S>, OpenFault>
+    ) -> Result<Box<Chief<S>>, OpenFault>
         requires initial { All (λ body. S.base body ≡ S.initial) bodies.items }
         requires before { All (λ body. S.before body ≡ 0) bodies.items }
         requires empty { All (λ body. S.requests body ≡ []) bodies.items }
-        ensures count { IfOk result (λ chief. chief.chair.board.limits.count ≡ length bodies.items) }
-        ensures ceiling { IfOk result (λ chief. chief.chair.board.limits.ceiling ≡ ceiling) }
-        ensures bodies { IfOk result (λ chief. chief.chair.board.limits.bodies ≡ map S.limit bodies.items) }
-        ensures ops { IfOk result (λ chief. chief.desk.caps.ops ≡ ops) }
+        ensures count { IfOk result (λ chief. chief.value.chair.board.limits.count ≡ length bodies.items) }
+        ensures ceiling { IfOk result (λ chief. chief.value.chair.board.limits.ceiling ≡ ceiling) }
+        ensures bodies { IfOk result (λ chief. chief.value.chair.board.limits.bodies ≡ map S.limit bodies.items) }
+        ensures ops { IfOk result (λ chief. chief.value.desk.caps.ops ≡ ops) }
     {
         if servers > 4095 {
             return Err(OpenFault::Servers);
@@ -80,35 +82,35 @@ impl<S: Service> Chief<S> {
         Chief::of_parts(alloc, board, chair, desk)
     }
 
-    /// The chief of a new board with these bodies, which have applied nothing yet, and of books of these rows, with one
-    /// for each body, at most `ops` of whose servers (at most 4,095) restart at once; generations stay at or below the
-    /// ceiling (3 to 2^36 - 1).
-    pub fn by_rows(
+    /// The chief of a new board with these bodies, which have applied nothing yet, as the settings say: a body for each
+    /// of their shards, the rows of servers, groups, shards and domains, the cap of restarts and the ceiling.
+    pub fn by_settings(
         alloc: Global,
         bodies: Vec<S>,
-        servers: &[ServerRow],
-        groups: &[GroupRow],
-        shards: &[ShardRow],
-        domains: &[DomainRow],
-        ops: u16,
-        ceiling: u64,
-    ) -> Result<Chief<S>, OpenFault>
+        settings: &Settings,
+    ) -> Result<Box<Chief<S>>, OpenFault>
         requires initial { All (λ body. S.base body ≡ S.initial) bodies.items }
         requires before { All (λ body. S.before body ≡ 0) bodies.items }
         requires empty { All (λ body. S.requests body ≡ []) bodies.items }
-        requires rows { length shards.now ≡ length bodies.items }
-        requires ops { ops ≤ 4095 }
-        ensures count { IfOk result (λ chief. chief.chair.board.limits.count ≡ length bodies.items) }
-        ensures ceiling { IfOk result (λ chief. chief.chair.board.limits.ceiling ≡ ceiling) }
-        ensures bodies { IfOk result (λ chief. chief.chair.board.limits.bodies ≡ map S.limit bodies.items) }
-        ensures desk { IfOk result
-            (λ chief. chief.desk ≡ desk_of_rows servers.now groups.now shards.now domains.now ops) }
+        requires rules { KeepsRules (values_of settings.now) }
+        ensures { IfOk result
+            (λ chief. IsControlBy chief.value (map S.limit bodies.items) (values_of settings.now)) }
     {
-        let (board, chair) = match Board::make(alloc, bodies, ceiling) {
+        if settings.shards.len() != bodies.len() {
+            return Err(OpenFault::Bodies);
+        }
+        let (board, chair) = match Board::make(alloc, bodies, settings.ceiling) {
             Ok(made) => made,
             Err(fault) => return Err(OpenFault::Board(fault)),
         };
-        let desk = match desk_over(alloc, servers, groups, shards, domains, ops) {
+        let desk = match desk_over(
+            alloc,
+            &settings.servers,
+            &settings.groups,
+            &settings.shards,
+            &settings.domains,
+            settings.ops,
+        ) {
             Ok(desk) => desk,
             Err(fault) => return Err(OpenFault::Books(fault)),
         };
@@ -121,19 +123,20 @@ impl<S: Service> Chief<S> {
         board: Board<S>,
         chair: Chair<S>,
         desk: Desk,
-    ) -> Result<Chief<S>, OpenFault>
+    ) -> Result<Box<Chief<S>>, OpenFault>
         requires board { chair.board ≡ board }
         requires seen { chair.seen ≡ [] }
         requires count { length desk.books.shards ≡ chair.board.limits.count }
         requires vacant { All (λ shard. shard.stand ≡ Vacant) desk.books.shards }
-        ensures chair { IfOk result (λ chief. chief.chair ≡ chair) }
-        ensures desk { IfOk result (λ chief. chief.desk ≡ desk) }
+        ensures chair { IfOk result (λ chief. chief.value.chair ≡ chair) }
+        ensures desk { IfOk result (λ chief. chief.value.desk ≡ desk) }
     {
-        match Arc::new(alloc, board) {
-            Ok(board) => Ok(Chief {
-                board,
-                control: Control::new(chair, desk),
-            }),
+        let Ok(board) = Arc::new(alloc, board) else {
+            return Err(OpenFault::NoMemory);
+        };
+        let control = Control::new(chair, desk);
+        match Box::new(alloc, Chief { board, control }) {
+            Ok(chief) => Ok(chief),
             Err(_) => Err(OpenFault::NoMemory),
         }
     }
@@ -147,18 +150,18 @@ impl<S: Service> Chief<S> {
         Ok(FreePass::new(board, server))
     }
 
-    /// Where the control would have the vacant shards go. It is refused for want of memory alone.
-    pub fn plan_assign(&self, alloc: Global) -> Result<Plan, AllocError>
-        ensures { IfOk result (λ plan. plan ≡ assign_plan self.now.desk.books) }
+    /// Where the control would have the shards of the server go, or without one the vacant shards; or the first fault
+    /// that applies.
+    pub fn plan(&self, alloc: Global, from: Option<ServerId>) -> Result<Plan, DrainFault>
+        ensures { IfOk result (λ plan. plan ≡ planned_for self.now.desk.books from) }
     {
-        self.control.plan_assign(alloc)
-    }
-
-    /// Where the control would have the shards of the server go; or the first fault that applies.
-    pub fn plan_drain(&self, alloc: Global, server: ServerId) -> Result<Plan, DrainFault>
-        ensures { IfOk result (λ plan. plan ≡ drain_plan self.now.desk.books server) }
-    {
-        self.control.plan_drain(alloc, server)
+        match from {
+            Some(server) => self.control.plan_drain(alloc, server),
+            None => match self.control.plan_assign(alloc) {
+                Ok(plan) => Ok(plan),
+                Err(_) => Err(DrainFault::NoMemory),
+            },
+        }
     }
 
     /// Gives the command to the control: it is made, or refused by the first fault that applies.

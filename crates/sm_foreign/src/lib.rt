@@ -25,3 +25,4 @@ pub use chief::Chief;
 pub use foreign::Foreign;
 pub use free_pass::FreePass;
 pub use open_fault::OpenFault;
+pub use sm_control::DrainFault;

@@ -8,6 +8,8 @@ pub enum OpenFault {
     Board(MakeFault),
     /// The servers and shards are no books.
     Books(BooksFault),
+    /// The bodies aren't as many as the shards of the settings.
+    Bodies,
     /// More than 4,095 servers.
     Servers,
     /// More than 4,095 restarts at once.

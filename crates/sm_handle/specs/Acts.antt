@@ -4,11 +4,11 @@ use Rattle.sm_ownership.specs.declared.mode.Mode.{Mode}
 use Rattle.sm_ownership.specs.declared.record.Record.{Record}
 use Rattle.sm_rule.specs.Admissions.{RefusedBy}
 use Rattle.sm_rule.specs.Passes.{PassLooks, record_of}
-use Rattle.sm_control.specs.Controls.{Commanded}
 use Rattle.sm_desk.specs.declared.command.Command.{Command}
 use Rattle.sm_desk.specs.Desk.{desk_fault}
 use Rattle.sm_foreign.specs.declared.foreign.Foreign.{Foreign}
 use Rattle.sm_foreign.specs.Chiefs.{foreign_of}
+use Rattle.sm_foreign.specs.Controls.{Commanded}
 use Rattle.sm_foreign.specs.Holding.{AdmitsPass, EndsPermit}
 use Rattle.sm_handle.specs.declared.act_fault.ActFault.{ActFault}
 use Rattle.sm_handle.specs.declared.act_fault.ActFault.TheVariants.{WrongHandle, Admit, Command as CommandRefused}
@@ -91,10 +91,13 @@ abbrev pub IsPassOf : Option HandleState → Option HandleState → Option ℕ �
 IsPassOf (Some chief) (Some pass) server = IsPassOfState chief server pass
 IsPassOf chief pass server = ⊥
 
+-- the limits that a board keeps for bodies of these numbers, which are the numbers
+abbrev pub foreign_limits : List ℕ → List ℕ
+foreign_limits numbers = map (λ (body : Foreign). body.number) (foreign_of numbers)
+
 -- the handle keeps the control of a board with a body for each number, under this cap of restarts and this ceiling
 abbrev pub IsOpened : Option HandleState → List ℕ → ℕ → ℕ → Type 0
 IsOpened (Some (Chief chief)) numbers ops ceiling =
     (chief.value.chair.board.limits.count ≡ length numbers) × (chief.value.chair.board.limits.ceiling ≡ ceiling)
-    × (chief.value.chair.board.limits.bodies ≡ map (λ (body : Foreign). body.number) (foreign_of numbers))
-    × (chief.value.desk.caps.ops ≡ ops)
+    × (chief.value.chair.board.limits.bodies ≡ foreign_limits numbers) × (chief.value.desk.caps.ops ≡ ops)
 IsOpened state numbers ops ceiling = ⊥

@@ -1,39 +1,42 @@
 -- Boards that a line of settings describes.
 use Rattle.std.specs.Prelude.{ℕ, ◌≡◌, ◌≢◌, ⊤, List, length, replicate, Option, Some, Ok, Err}
-use Rattle.sm_control.specs.Controls.{ControlValue}
-use Rattle.sm_foreign.specs.Chiefs.{desk_of_rows}
-use Rattle.sm_service.specs.declared.request.Request.{Request}
+use Rattle.sm_foreign.specs.Chiefs.{IsControlBy}
 use Rattle.sm_settings.specs.SettingsLine.{SettingsValues, settings_of}
 use Rattle.sm_settings.specs.declared.settings_fault.SettingsFault.TheVariants.{NoMemory}
+use Rattle.sm_handle.specs.Acts.{foreign_limits}
 use Rattle.sm_handle.specs.declared.handle_state.HandleState.{HandleState}
-use Rattle.sm_handle.specs.declared.handle_state.HandleState.TheVariants.{Layout, TextChief}
+use Rattle.sm_handle.specs.declared.handle_state.HandleState.TheVariants.{Chief, Layout, TextChief}
 use Rattle.sm_handle.specs.declared.settings_open_fault.SettingsOpenFault.{SettingsOpenFault}
 use Rattle.sm_handle.specs.declared.settings_open_fault.SettingsOpenFault.TheVariants.{Settings}
 
--- the control of a new board with a row and an empty body for each shard of the settings, under their limits
-abbrev pub IsControlBy : ControlValue Request → SettingsValues → Type 0
-IsControlBy control settings =
-    (control.chair.board.limits.count ≡ length settings.shards)
-    × (control.chair.board.limits.ceiling ≡ settings.ceiling)
-    × (control.chair.board.limits.bodies ≡ replicate (length settings.shards) settings.kept)
-    × (control.desk
-    ≡ desk_of_rows settings.servers settings.groups settings.shards settings.domains settings.ops)
+-- the handle keeps the control of a new board of empty bodies of the sample service, as the settings say
+abbrev pub KeepsService : Option HandleState → SettingsValues → Type 0
+KeepsService (Some (TextChief chief)) settings =
+    IsControlBy chief.value (replicate (length settings.shards) settings.kept) settings
+KeepsService state settings = ⊥
 
--- the handle keeps such a control
-abbrev pub KeepsControl : Option HandleState → SettingsValues → Type 0
-KeepsControl (Some (TextChief chief)) settings = IsControlBy chief.value settings
-KeepsControl state settings = ⊥
+-- the handle keeps the control of a new board with a body for each number, as the settings say
+abbrev pub KeepsBoard : Option HandleState → SettingsValues → List ℕ → Type 0
+KeepsBoard (Some (Chief chief)) settings numbers = IsControlBy chief.value (foreign_limits numbers) settings
+KeepsBoard state settings numbers = ⊥
 
--- the handle keeps the layout of the settings
-abbrev pub KeepsLayout : Option HandleState → SettingsValues → Type 0
-KeepsLayout (Some (Layout bounds)) settings = bounds ≡ settings.bounds
-KeepsLayout state settings = ⊥
+-- the handle keeps the layout with these bounds
+abbrev pub KeepsLayout : Option HandleState → List (List ℕ) → Type 0
+KeepsLayout (Some (Layout kept)) bounds = kept ≡ bounds
+KeepsLayout state bounds = ⊥
 
--- the line says settings of so many shards, whose control and layout the handles keep
+-- the line says settings of so many shards, and the handles keep the control of a board of the sample service, and the
+-- layout, that they say
 abbrev pub OpensService : List ℕ → Option HandleState → Option HandleState → ℕ → Type 0
 OpensService line control layout count =
-    (settings : SettingsValues) × (settings_of line ≡ Ok settings) × KeepsControl control settings
-    × KeepsLayout layout settings × (count ≡ length settings.shards)
+    (settings : SettingsValues) × (settings_of line ≡ Ok settings) × KeepsService control settings
+    × KeepsLayout layout settings.bounds × (count ≡ length settings.shards)
+
+-- the same of a board with a body for each number
+abbrev pub OpensBoard : List ℕ → List ℕ → Option HandleState → Option HandleState → Type 0
+OpensBoard line numbers control layout =
+    (settings : SettingsValues) × (settings_of line ≡ Ok settings) × KeepsBoard control settings numbers
+    × KeepsLayout layout settings.bounds
 
 -- a fault of settings is the line's first, but for refused memory
 abbrev pub TellsFault : List ℕ → SettingsOpenFault → Type 0

@@ -1,16 +1,9 @@
 -- Plans that handles keep.
-use Rattle.std.specs.Prelude.{ℕ, ◌≡◌, slice_get, Option, Some, None}
-use Rattle.sm_place.specs.Books.{BooksView}
-use Rattle.sm_place.specs.Plans.{assign_plan, drain_plan}
-use Rattle.sm_place.specs.declared.plan.Plan.{Plan as PlanValue}
+use Rattle.std.specs.Prelude.{ℕ, ◌≡◌, slice_get, Option, Some}
+use Rattle.sm_foreign.specs.Chiefs.{planned_for}
 use Rattle.sm_place.specs.declared.plan.Move.{Move}
 use Rattle.sm_handle.specs.declared.handle_state.HandleState.{HandleState}
 use Rattle.sm_handle.specs.declared.handle_state.HandleState.TheVariants.{Chief, Plan, TextChief}
-
--- the plan of these books, for the shards of the server or, without one, for the vacant ones
-abbrev pub planned_for : BooksView → Option ℕ → PlanValue
-planned_for books (Some server) = drain_plan books server
-planned_for books None = assign_plan books
 
 -- the plan of the control's books
 abbrev pub IsPlanOf : Option HandleState → Option HandleState → Option ℕ → Type 0

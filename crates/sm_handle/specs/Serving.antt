@@ -1,7 +1,6 @@
 -- Boards of the sample service, their passes, and envelopes, that handles keep.
 use Rattle.std.specs.Prelude.{ℕ, ◌≡◌, [], replicate, Option, Some}
 use Rattle.sm_body.specs.Service.{Service, meaning_of}
-use Rattle.sm_ownership.specs.declared.mode.Mode.TheVariants.{Direct}
 use Rattle.sm_rule.specs.Passes.{PassLooks, record_of}
 use Rattle.sm_rule.specs.Views.{Begins}
 use Rattle.sm_server.specs.Answers.{AnswerValue}
@@ -34,20 +33,20 @@ IsServiceOpened (Some (TextChief chief)) count kept ops ceiling =
     × (chief.value.chair.board.limits.bodies ≡ replicate count kept) × (chief.value.desk.caps.ops ≡ ops)
 IsServiceOpened state count kept ops ceiling = ⊥
 
--- the second handle keeps an envelope with this number for this shard that carries the request, which came directly,
--- with a note of all that the first one's pass has seen
-abbrev pub Carries : Option HandleState → Option HandleState → ℕ → ℕ → Request → Type 0
-Carries (Some (TextPass pass)) (Some (Envelope envelope)) number shard request =
-    (envelope.number ≡ number) × (envelope.shard ≡ shard) × (envelope.mode ≡ Direct) × (envelope.hops ≡ 0)
-    × (envelope.request ≡ request) × (envelope.note.board ≡ pass.board) × Begins pass.seen envelope.note.seen
-Carries pass state number shard request = ⊥
-
 -- the handle keeps an envelope with this number for this shard, which came so and was forwarded so often
 abbrev pub IsSentAs : Option HandleState → SentAs → Type 0
 IsSentAs (Some (Envelope envelope)) sent =
     (sent.number ≡ envelope.number) × (sent.shard ≡ envelope.shard) × (sent.mode ≡ envelope.mode)
     × (sent.hops ≡ envelope.hops)
 IsSentAs state sent = ⊥
+
+-- the second handle keeps an envelope that came so and carries the request, with a note of all that the first one's
+-- pass has seen
+abbrev pub Carries : Option HandleState → Option HandleState → SentAs → Request → Type 0
+Carries (Some (TextPass pass)) (Some (Envelope envelope)) sent request =
+    IsSentAs (Some (Envelope envelope)) sent × (envelope.request ≡ request) × (envelope.note.board ≡ pass.board)
+    × Begins pass.seen envelope.note.seen
+Carries pass state sent request = ⊥
 
 -- the handle keeps what became of an envelope: the answer in its place, or the envelope that goes on or comes back
 abbrev pub KeepsOutcome :

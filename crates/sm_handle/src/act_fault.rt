@@ -15,6 +15,8 @@ pub enum ActFault {
     NoMemory,
     /// The caller has less room than what would be written.
     TooShort,
+    /// No envelope comes so.
+    NotSent,
     /// The plan has no such line, or the reply no such pair.
     NoMore,
     /// The pass isn't admitted.

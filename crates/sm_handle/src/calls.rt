@@ -33,9 +33,6 @@ impl Handle {
             return Err(OpenFault::NoMemory);
         };
         let chief = Chief::make(alloc, bodies, servers, ops, ceiling)?;
-        let Ok(chief) = Box::new(alloc, chief) else {
-            return Err(OpenFault::NoMemory);
-        };
         match self.keep(alloc, HandleState::Chief(chief)) {
             Ok(()) => Ok(()),
             Err(_) => Err(OpenFault::NoMemory),

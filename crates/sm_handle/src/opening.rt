@@ -1,14 +1,17 @@
 //! Boards that a line of settings describes.
-ghost use Rattle.std.specs.Prelude.{◌≡◌, IfErr, IfOk};
-ghost use Rattle.sm_settings.specs.SettingsLine.{values_of};
+ghost use Rattle.std.specs.Prelude.{◌≡◌, IfErr, IfOk, OnOk, Ok, Some, length, replicate};
+ghost use Rattle.sm_settings.specs.SettingsLine.{settings_of, values_of};
 ghost use Rattle.sm_settings.specs.SettingsRules.{KeepsRules};
-ghost use Rattle.sm_handle.specs.Opening.{IsControlBy, OpensService, TellsFault};
+ghost use Rattle.sm_foreign.specs.Chiefs.{IsControlBy};
+ghost use Rattle.sm_handle.specs.Acts.{foreign_limits};
+ghost use Rattle.sm_handle.specs.Opening.{KeepsLayout, OpensBoard, OpensService, TellsFault};
 
 use crate::handle::Handle;
 use crate::handle_state::HandleState;
 use crate::serving::empty_bodies;
 use crate::settings_open_fault::SettingsOpenFault;
-use sm_foreign::{Chief, OpenFault};
+use sm_foreign::{Chief, Foreign, OpenFault};
+use sm_ranges::layout::Layout;
 use sm_service::CounterText;
 use sm_settings::Settings;
 use std::alloc::Global;
@@ -27,48 +30,108 @@ impl Handle {
         ensures kept { IfErr result (λ fault. self.new.owned.state ≡ self.old.owned.state) }
         ensures unwritten { IfErr result (λ fault. layout.new.owned.state ≡ layout.old.owned.state) }
     {
-        let settings = match Settings::read(alloc, line) {
-            Ok(settings) => settings,
-            Err(fault) => return Err(SettingsOpenFault::Settings(fault)),
-        };
-        let chief = match chief_by(alloc, &settings) {
+        let settings = read(alloc, line)?;
+        let chief = match service_by(alloc, &settings) {
             Ok(chief) => chief,
             Err(fault) => return Err(SettingsOpenFault::Open(fault)),
         };
         let count = settings.shards.len();
-        // The layout's place first, so that nothing is refused once the control is kept.
-        let Ok(place) = Box::new(alloc, HandleState::Layout(settings.layout)) else {
+        self.keep_both(
+            alloc,
+            HandleState::TextChief(chief),
+            layout,
+            settings.layout,
+        )?;
+        Ok(count)
+    }
+
+    /// Keeps the control of a new board with a body for each number, as the line of settings says, in place of what was
+    /// kept, and the other handle keeps the layout; or says why not, and both are as they were.
+    pub fn open_bodies_by(
+        &mut self,
+        alloc: Global,
+        layout: &mut Handle,
+        line: &[u8],
+        numbers: &[u64],
+    ) -> Result<(), SettingsOpenFault>
+        ensures made { OnOk result
+            (OpensBoard line.now numbers.now self.new.owned.state layout.new.owned.state) }
+        ensures fault { IfErr result (TellsFault line.now) }
+        ensures kept { IfErr result (λ fault. self.new.owned.state ≡ self.old.owned.state) }
+        ensures unwritten { IfErr result (λ fault. layout.new.owned.state ≡ layout.old.owned.state) }
+    {
+        let settings = read(alloc, line)?;
+        let chief = match board_by(alloc, &settings, numbers) {
+            Ok(chief) => chief,
+            Err(fault) => return Err(SettingsOpenFault::Open(fault)),
+        };
+        self.keep_both(alloc, HandleState::Chief(chief), layout, settings.layout)
+    }
+
+    // Keeps the state, and the other handle the layout, in place of what they kept; or says that memory was refused,
+    // and both are as they were.
+    fn keep_both(
+        &mut self,
+        alloc: Global,
+        state: HandleState,
+        other: &mut Handle,
+        layout: Layout,
+    ) -> Result<(), SettingsOpenFault>
+        ensures state { OnOk result (self.new.owned.state ≡ Some state) }
+        ensures layout { OnOk result (KeepsLayout other.new.owned.state layout) }
+        ensures fault { IfErr result (λ fault. fault ≡ SettingsOpenFault.Open OpenFault.NoMemory) }
+        ensures kept { IfErr result (λ fault. self.new.owned.state ≡ self.old.owned.state) }
+        ensures unwritten { IfErr result (λ fault. other.new.owned.state ≡ other.old.owned.state) }
+    {
+        // The layout's place first, so that nothing is refused once the state is kept.
+        let Ok(place) = Box::new(alloc, HandleState::Layout(layout)) else {
             return Err(SettingsOpenFault::Open(OpenFault::NoMemory));
         };
-        if self.keep(alloc, HandleState::TextChief(chief)).is_err() {
+        if self.keep(alloc, state).is_err() {
             return Err(SettingsOpenFault::Open(OpenFault::NoMemory));
         }
-        layout.close(alloc);
-        layout.put(place);
-        Ok(count)
+        other.close(alloc);
+        other.put(place);
+        Ok(())
     }
 }
 
-// The control of a board of what settings say.
-fn chief_by(alloc: Global, settings: &Settings) -> Result<Box<Chief<CounterText>>, OpenFault>
+// The settings of the line.
+fn read(alloc: Global, line: &[u8]) -> Result<Settings, SettingsOpenFault>
+    ensures ok { IfOk result (λ settings. settings_of line.now ≡ Ok (values_of settings)) }
+    ensures rules { IfOk result (λ settings. KeepsRules (values_of settings)) }
+    ensures fault { IfErr result (TellsFault line.now) }
+{
+    match Settings::read(alloc, line) {
+        Ok(settings) => Ok(settings),
+        Err(fault) => Err(SettingsOpenFault::Settings(fault)),
+    }
+}
+
+// The control of a board of the sample service as settings say.
+fn service_by(alloc: Global, settings: &Settings) -> Result<Box<Chief<CounterText>>, OpenFault>
     requires { KeepsRules (values_of settings.now) }
-    ensures { IfOk result (λ chief. IsControlBy chief.value (values_of settings.now)) }
+    ensures { IfOk result (λ chief. IsControlBy chief.value
+        (replicate (length settings.now.shards.items) settings.now.kept) (values_of settings.now)) }
 {
     let Ok(bodies) = empty_bodies(alloc, settings.shards.len(), settings.kept as usize) else {
         return Err(OpenFault::NoMemory);
     };
-    let chief = Chief::by_rows(
-        alloc,
-        bodies,
-        &settings.servers,
-        &settings.groups,
-        &settings.shards,
-        &settings.domains,
-        settings.ops,
-        settings.ceiling,
-    )?;
-    match Box::new(alloc, chief) {
-        Ok(chief) => Ok(chief),
-        Err(_) => Err(OpenFault::NoMemory),
-    }
+    Chief::by_settings(alloc, bodies, settings)
+}
+
+// The control of a board with a body for each number as settings say.
+fn board_by(
+    alloc: Global,
+    settings: &Settings,
+    numbers: &[u64],
+) -> Result<Box<Chief<Foreign>>, OpenFault>
+    requires { KeepsRules (values_of settings.now) }
+    ensures { IfOk result
+        (λ chief. IsControlBy chief.value (foreign_limits numbers.now) (values_of settings.now)) }
+{
+    let Ok(bodies) = Foreign::all(alloc, numbers) else {
+        return Err(OpenFault::NoMemory);
+    };
+    Chief::by_settings(alloc, bodies, settings)
 }

@@ -1,14 +1,11 @@
 //! Plans that handles keep.
 ghost use Rattle.std.specs.Prelude.{◌≡◌, IfErr, IfOk, OnOk, Some};
-ghost use Rattle.sm_handle.specs.declared.handle_state.HandleState.TheVariants.{Plan as Planned};
-ghost use Rattle.sm_handle.specs.Plans.{IsLeftOut, IsMove, IsPlanOf, planned_for};
+ghost use Rattle.sm_handle.specs.Plans.{IsLeftOut, IsMove, IsPlanOf};
 
 use crate::act_fault::ActFault;
 use crate::handle::Handle;
 use crate::handle_state::HandleState;
-use sm_body::service::Service;
-use sm_control::DrainFault;
-use sm_foreign::Chief;
+use sm_foreign::DrainFault;
 use sm_place::Move;
 use sm_ranges::server_id::ServerId;
 use sm_ranges::shard_id::ShardId;
@@ -67,33 +64,16 @@ fn plan_of(
 ) -> Result<HandleState, ActFault>
     ensures { IfOk result (λ plan. IsPlanOf (Some state.now) (Some plan) from) }
 {
-    match state {
-        HandleState::Chief(chief) => plan_by(alloc, chief, from),
-        HandleState::TextChief(chief) => plan_by(alloc, chief, from),
-        _ => Err(ActFault::WrongHandle),
-    }
-}
-
-// Where the control would have shards go.
-fn plan_by<S: Service>(
-    alloc: Global,
-    chief: &Chief<S>,
-    from: Option<ServerId>,
-) -> Result<HandleState, ActFault>
-    ensures plan { IfOk result (λ plan. plan ≡ Planned (planned_for chief.now.desk.books from)) }
-{
-    let plan = match from {
-        Some(server) => match chief.plan_drain(alloc, server) {
-            Ok(plan) => plan,
-            Err(DrainFault::UnknownServer) => return Err(ActFault::UnknownServer),
-            Err(DrainFault::NoMemory) => return Err(ActFault::NoMemory),
-        },
-        None => match chief.plan_assign(alloc) {
-            Ok(plan) => plan,
-            Err(_) => return Err(ActFault::NoMemory),
-        },
+    let made = match state {
+        HandleState::Chief(chief) => chief.plan(alloc, from),
+        HandleState::TextChief(chief) => chief.plan(alloc, from),
+        _ => return Err(ActFault::WrongHandle),
     };
-    Ok(HandleState::Plan(plan))
+    match made {
+        Ok(plan) => Ok(HandleState::Plan(plan)),
+        Err(DrainFault::UnknownServer) => Err(ActFault::UnknownServer),
+        Err(DrainFault::NoMemory) => Err(ActFault::NoMemory),
+    }
 }
 
 fn move_in(state: &HandleState, at: usize) -> Result<Move, ActFault>

@@ -1,5 +1,5 @@
 //! Boards of the sample service, and envelopes, that handles keep.
-ghost use Rattle.std.specs.Prelude.{◌≡◌, [], IfErr, IfOk, IsSome, OnOk, Some, replicate};
+ghost use Rattle.std.specs.Prelude.{◌≡◌, [], IfErr, IfOk, IfSome, IsSome, OnOk, Some, replicate};
 ghost use Rattle.sm_handle.specs.declared.handle_state.HandleState.TheVariants.{Envelope as Sent};
 ghost use Rattle.sm_handle.specs.declared.handle_state.HandleState.TheVariants.{Layout as LayoutOf, TextPass};
 ghost use Rattle.sm_handle.specs.Serving.{Carries, IsOfBoard, IsSentAs, IsServiceOpened, MakesCheckpoint};
@@ -12,9 +12,14 @@ use crate::handle_state::HandleState;
 use crate::sent_as::SentAs;
 use crate::served_as::ServedAs;
 use sm_envelope::envelope::Envelope;
+use sm_envelope::shell::Shell;
 use sm_foreign::{Chief, FreePass, OpenFault};
+use sm_ownership::mode::Mode;
+use sm_ownership::record::Record;
 use sm_ranges::layout::Layout;
+use sm_ranges::server_id::ServerId;
 use sm_ranges::shard_id::ShardId;
+use sm_ranges::stand::Stand;
 use sm_rule::note::Note;
 use sm_server::Outcome;
 use sm_service::{CounterText, Request};
@@ -40,34 +45,29 @@ impl Handle {
             return Err(OpenFault::NoMemory);
         };
         let chief = Chief::make(alloc, bodies, servers, ops, ceiling)?;
-        let Ok(chief) = Box::new(alloc, chief) else {
-            return Err(OpenFault::NoMemory);
-        };
         match self.keep(alloc, HandleState::TextChief(chief)) {
             Ok(()) => Ok(()),
             Err(_) => Err(OpenFault::NoMemory),
         }
     }
 
-    /// Keeps an envelope with this number for the shard that carries the request, with a note of all that the other
-    /// handle's pass has seen, in place of what was kept; or says why not, and this handle is as it was. The other one
-    /// is as it was.
+    /// Keeps an envelope that came so and carries the request, with a note of all that the other handle's pass has
+    /// seen, in place of what was kept; or says why not, and this handle is as it was. The other one is as it was.
     pub fn envelope(
         &mut self,
         alloc: Global,
         pass: &mut Handle,
-        number: u64,
-        k: ShardId,
+        sent: SentAs,
         request: Request,
     ) -> Result<(), ActFault>
         ensures pass { pass.new.owned.state ≡ pass.old.owned.state }
-        ensures made { OnOk result (Carries pass.old.owned.state self.new.owned.state number k request) }
+        ensures made { OnOk result (Carries pass.old.owned.state self.new.owned.state sent request) }
         ensures refused { IfErr result (λ fault. self.new.owned.state ≡ self.old.owned.state) }
     {
         if !pass.full {
             return Err(ActFault::WrongHandle);
         }
-        let made = envelope_of(pass.owned.state_mut(), number, k, request)?;
+        let made = envelope_of(pass.owned.state_mut(), sent, request)?;
         match self.keep(alloc, made) {
             Ok(()) => Ok(()),
             Err(_) => Err(ActFault::NoMemory),
@@ -149,21 +149,45 @@ pub(crate) fn empty_bodies(
     Ok(bodies)
 }
 
-// An envelope with a note of all that the state's pass has seen.
+// An envelope that came so, with a note of all that the state's pass has seen.
 fn envelope_of(
     state: &mut HandleState,
-    number: u64,
-    k: ShardId,
+    sent: SentAs,
     request: Request,
 ) -> Result<HandleState, ActFault>
-    ensures made { IfOk result (λ made. Carries (Some state.old) (Some made) number k request) }
+    ensures made { IfOk result (λ made. Carries (Some state.old) (Some made) sent request) }
     ensures unchanged { state.new ≡ state.old }
 {
+    let Some(shell) = shell_of(sent) else {
+        return Err(ActFault::NotSent);
+    };
     let HandleState::TextPass(pass) = state else {
         return Err(ActFault::WrongHandle);
     };
     let note = pass.note();
-    Ok(HandleState::Envelope(Envelope::new(number, k, request, note)))
+    Ok(HandleState::Envelope(shell.whole(request, note)))
+}
+
+// The shell of an envelope that came so, where one comes so: directly without a hop, or forwarded by 1 to 4.
+fn shell_of(sent: SentAs) -> Option<Shell>
+    ensures { IfSome result (λ shell. (shell.number ≡ sent.number) × (shell.shard ≡ sent.shard)
+        × (shell.mode ≡ sent.mode) × (shell.hops ≡ sent.hops)) }
+{
+    let direct = Envelope::new(sent.number, sent.shard, (), ());
+    let envelope = match forwarder(&sent.mode) {
+        None => direct,
+        Some(from) => hopped(direct, from, sent.hops),
+    };
+    let (_, _, shell) = envelope.parts();
+    if shell.number() == sent.number
+        && shell.shard() == sent.shard
+        && shell.mode() == sent.mode
+        && shell.hops() == sent.hops
+    {
+        Some(shell)
+    } else {
+        None
+    }
 }
 
 // What the server of the state's pass makes of the envelope, and what became of that; or the state as it was, and why.
@@ -207,6 +231,35 @@ fn serve_at(
             ServedAs::Refused(refusal),
         ),
     }
+}
+
+// The server that forwarded what came so, if one did.
+fn forwarder(mode: &Mode) -> Option<ServerId> {
+    match mode {
+        Mode::Direct => None,
+        Mode::Forwarded(from) => Some(*from),
+    }
+}
+
+// The envelope after so many hops, or as many as it may have, each from this server.
+fn hopped(envelope: Envelope<(), ()>, from: ServerId, hops: u8) -> Envelope<(), ()> {
+    // A record by which the server forwards.
+    let state = Record {
+        stand: Stand::Forwarding {
+            owner: from,
+            next: from,
+        },
+        admitted: false,
+        generation: 1,
+    };
+    let mut envelope = envelope;
+    for _hop in 0..hops {
+        envelope = match envelope.forwarded(&state, from) {
+            Ok(forwarded) => forwarded.1,
+            Err(back) => back,
+        };
+    }
+    envelope
 }
 
 fn sent_in(state: &HandleState) -> Result<SentAs, ActFault>

@@ -31,8 +31,8 @@ from .errors import *
 from .errors import BadArgument, Busy, DurkenzoError, IsAdmitted, NotAdmitted, Raced
 from ._map import Map
 from ._reply import ReplyKind, RequestKind, Value
-from ._service import Answer, BadSettings, Envelope, Forward, KeptFull, Reply, Request, ServicePass, TooManyHops
-from ._service import WrongShard, _RULES
+from ._service import Answer, BadSettings, Envelope, Forward, KeptFull, Reply, Request, Sent, ServicePass
+from ._service import TooManyHops, WrongShard, _RULES
 from .record import Phase, Record
 
 T = TypeVar("T")
@@ -274,6 +274,12 @@ class Control(Generic[T]):
                 pass
 
 
+def _check_settings(code: int) -> None:
+    if code >= 70:
+        raise BadSettings(_RULES[code - 70])
+    _check(code)
+
+
 class Board(_Kept, Generic[T]):
     """A board: a body for each shard, and who may use it. Threads may share it."""
 
@@ -284,12 +290,28 @@ class Board(_Kept, Generic[T]):
         Raises NoShard, TooMany, BadArgument, BadCeiling or NoMemory.
         """
         super().__init__()
-        self._bodies = list(bodies)
-        self._lock = threading.Lock()
+        numbers, count = self._begin(bodies)
+        _check(LIBRARY.durkenzo_open(ctypes.byref(self._handle), numbers, count, servers, restarts, ceiling))
+
+    @classmethod
+    def by_settings(cls, line: bytes, bodies: Iterable[T]) -> tuple[Board[T], Layout]:
+        """Makes the board that a line of settings says, but for its workers and how many requests a shard keeps, with
+        these bodies, as many as its shards; and its layout. Raises BadSettings, BadCount or NoMemory."""
+        board, layout = cls.__new__(cls), Layout.__new__(Layout)
+        for kept in (board, layout):
+            _Kept.__init__(kept)
+        numbers, count = board._begin(bodies)
+        handles = map(ctypes.byref, (board._handle, layout._handle))
+        _check_settings(LIBRARY.durkenzo_open_bodies(*handles, line, len(line), numbers, count))
+        layout._begin(count)
+        return board, layout
+
+    def _begin(self, bodies: Iterable[T]) -> tuple[ctypes.Array[ctypes.c_uint64], int]:
+        """Keeps the bodies, and returns their numbers, and how many they are."""
+        self._bodies, self._lock = list(bodies), threading.Lock()
         self.control: Control[T] = Control(self)
         count = len(self._bodies)
-        numbers = (ctypes.c_uint64 * count)(*range(count))
-        _check(LIBRARY.durkenzo_open(ctypes.byref(self._handle), numbers, count, servers, restarts, ceiling))
+        return (ctypes.c_uint64 * count)(*range(count)), count
 
     def __len__(self) -> int:
         return len(self._bodies)
@@ -309,13 +331,15 @@ class Layout(_Kept):
         Raises NoBound, FirstNotEmpty, NotRising, BoundTooLong, TooMany or NoMemory.
         """
         super().__init__()
-        self._lock = threading.Lock()
         texts = list(bounds)
         ends = list(itertools.accumulate(map(len, texts)))
         parts = (Part * len(texts))(*(Part(end - len(it), end) for it, end in zip(texts, ends)))
         text = b"".join(texts)
         _check(LIBRARY.durkenzo_layout(ctypes.byref(self._handle), text, len(text), parts, len(texts)))
-        self._count = len(texts)
+        self._begin(len(texts))
+
+    def _begin(self, count: int) -> None:
+        self._lock, self._count = threading.Lock(), count
 
     def __len__(self) -> int:
         return self._count
@@ -368,11 +392,8 @@ class Service(_Kept):
         for kept in (service, layout):
             _Kept.__init__(kept)
         handles = map(ctypes.byref, (service._handle, layout._handle))
-        code = LIBRARY.durkenzo_open_settings(*handles, line, len(line), ctypes.byref(count))
-        if code >= 70:
-            raise BadSettings(_RULES[code - 70])
-        _check(code)
-        layout._lock, layout._count = threading.Lock(), count.value
+        _check_settings(LIBRARY.durkenzo_open_settings(*handles, line, len(line), ctypes.byref(count)))
+        layout._begin(count.value)
         service._begin(layout)
         return service
 

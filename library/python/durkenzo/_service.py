@@ -2,6 +2,7 @@
 from __future__ import annotations
 
 import ctypes
+import struct
 from dataclasses import dataclass
 from types import TracebackType
 from typing import TYPE_CHECKING, Union
@@ -93,6 +94,36 @@ class Reply:
     value: Union[Value, list[tuple[bytes, Value]], None] = None
 
 
+@dataclass(frozen=True)
+class Sent:
+    """An envelope but for its request and its note, as plain fields that travel as bytes: its number, its shard, the
+    server that forwarded it, or 0 where it came directly, and how often it was forwarded."""
+
+    number: int
+    shard: int
+    forwarded_by: int = 0
+    hops: int = 0
+
+    def to_bytes(self) -> bytes:
+        """Returns the fields as 13 bytes, each with its highest byte first."""
+        return _FIELDS.pack(self.number, self.shard, self.forwarded_by, self.hops)
+
+    @staticmethod
+    def from_bytes(text: bytes) -> Sent:
+        """Returns what to_bytes made the bytes of. Raises BadArgument where they tell no envelope."""
+        if len(text) != _FIELDS.size:
+            raise BadArgument()
+        sent = Sent(*_FIELDS.unpack(text))
+        if sent.shard > 4_095 or sent.forwarded_by > 4_095 or sent.hops not in _HOPS[sent.forwarded_by != 0]:
+            raise BadArgument()
+        return sent
+
+
+_FIELDS = struct.Struct(">QHHB")
+# How often a direct envelope was forwarded, and how often another one.
+_HOPS = (range(1), range(1, 5))
+
+
 class Envelope(Kept):
     """A request on its way, with what its sender had seen. A host that forwards it hands on just this."""
 
@@ -100,25 +131,28 @@ class Envelope(Kept):
         super().__init__()
         self._service = service
 
-    def _sent(self) -> SentParts:
+    @property
+    def sent(self) -> Sent:
+        """The envelope but for its request and its note: what goes with the request to another process, where
+        ServicePass.received makes the envelope again."""
         parts = SentParts()
         check(LIBRARY.durkenzo_sent(ctypes.byref(self._handle), ctypes.byref(parts)))
-        return parts
+        return Sent(parts.number, parts.shard, getattr(parts, "from"), parts.hops)
 
     @property
     def shard(self) -> int:
         """The shard that it is for."""
-        return self._sent().shard
+        return self.sent.shard
 
     @property
     def hops(self) -> int:
         """How often it was forwarded, 0 to 4."""
-        return self._sent().hops
+        return self.sent.hops
 
     @property
     def forwarded_by(self) -> int:
         """The server that forwarded it, or 0 where it came directly."""
-        return getattr(self._sent(), "from")
+        return self.sent.forwarded_by
 
 
 class Answer(Kept):
@@ -165,11 +199,16 @@ class ServicePass(Kept):
     def envelope(self, number: int, request: Request) -> Envelope:
         """Returns an envelope with your number for the request's shard, with a note of all that the pass has seen.
         Raises KeyEmpty, KeyTooLong, BadArgument or NoMemory."""
+        return self.received(Sent(number, self._service.layout.shard_of(request.key)), request)
+
+    def received(self, sent: Sent, request: Request) -> Envelope:
+        """Returns the envelope that came so with this request, as Envelope.sent told another process, with a note of
+        all that the pass has seen. Raises KeyEmpty, KeyTooLong, BadArgument or NoMemory."""
         envelope, it = Envelope(self._service), request
-        shard = self._service.layout.shard_of(it.key)
-        handles = map(ctypes.byref, (self._handle, envelope._handle))
+        parts = SentParts(sent.number, sent.shard, sent.forwarded_by, sent.hops)
+        handles = map(ctypes.byref, (self._handle, envelope._handle, parts))
         texts = (it.key, len(it.key), it.other, len(it.other))
-        check(LIBRARY.durkenzo_envelope(*handles, number, shard, it.kind, *texts, it.amount))
+        check(LIBRARY.durkenzo_envelope(*handles, it.kind, *texts, it.amount))
         return envelope
 
     def serve(self, envelope: Envelope) -> Union[Answer, Forward]:

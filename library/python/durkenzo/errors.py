@@ -57,6 +57,12 @@ class BadBooks(DurkenzoError):
     code = 8
 
 
+class BadCount(DurkenzoError):
+    """The bodies are as many as the shards of the settings."""
+
+    code = 9
+
+
 class UnknownShard(DurkenzoError):
     """There is no such shard."""
 
@@ -285,6 +291,7 @@ __all__ = [
     "NoShard",
     "TooMany",
     "BadBooks",
+    "BadCount",
     "UnknownShard",
     "WrongPhase",
     "SameServer",

@@ -1,7 +1,9 @@
 use crate::control::Control;
 use crate::fault::{BuildFault, PassFault};
+use crate::layout::Layout;
 use crate::pass::Pass;
 use crate::raw::{self, Handle};
+use crate::settings_fault::SettingsFault;
 use std::cell::UnsafeCell;
 use std::fmt;
 use std::sync::{Arc, Mutex, MutexGuard, PoisonError};
@@ -78,8 +80,7 @@ impl Builder {
         if self.servers == 0 {
             return Err(BuildFault::BadServers);
         }
-        let bodies: Box<[_]> = bodies.into_iter().map(UnsafeCell::new).collect();
-        let numbers: Vec<u64> = (0..bodies.len() as u64).collect();
+        let (bodies, numbers) = numbered(bodies);
         let mut chief = Handle::empty();
         // SAFETY: the handle is this call's alone, and the slice lasts as long as the call.
         let code = unsafe {
@@ -93,15 +94,17 @@ impl Builder {
             )
         };
         match code {
-            0 => Ok(Board {
-                shared: Arc::new(Shared {
-                    chief: Mutex::new(chief),
-                    bodies,
-                }),
-            }),
+            0 => Ok(Board::of(chief, bodies)),
             code => Err(BuildFault::of(code)),
         }
     }
+}
+
+/// The bodies in their places, and the number of each.
+fn numbered<T>(bodies: impl IntoIterator<Item = T>) -> (Box<[UnsafeCell<T>]>, Vec<u64>) {
+    let bodies: Box<[_]> = bodies.into_iter().map(UnsafeCell::new).collect();
+    let numbers = (0..bodies.len() as u64).collect();
+    (bodies, numbers)
 }
 
 impl Board<()> {
@@ -116,6 +119,57 @@ impl Board<()> {
 }
 
 impl<T> Board<T> {
+    fn of(chief: Handle, bodies: Box<[UnsafeCell<T>]>) -> Board<T> {
+        Board {
+            shared: Arc::new(Shared {
+                chief: Mutex::new(chief),
+                bodies,
+            }),
+        }
+    }
+
+    /// A board with these bodies as the line of settings says with which a script begins, and its layout: its servers
+    /// with their capacities, its groups, domains and limits bind. Its workers and kept requests are for other engines.
+    /// The bodies are as many as its shards. Nobody owns a shard yet.
+    ///
+    /// ```
+    /// use durkenzo::Board;
+    ///
+    /// let line = r#"{"version": 1, "bounds": ["", "m"], "servers": [{"id": 1, "domain": 0, "capacity": 1},
+    ///     {"id": 2, "domain": 1, "capacity": 2}], "groups": [{"limit": 2, "down": 1}],
+    ///     "shards": [{"group": 0, "load": 1, "cap": 1}, {"group": 0, "load": 1, "cap": 1}],
+    ///     "ops": 1, "kept": 1, "ceiling": 1000, "workers": 1}"#;
+    /// let (board, layout) = Board::by_settings(line, [Vec::<u8>::new(), Vec::new()])?;
+    /// assert_eq!((board.count(), layout.shard_of("salt")), (2, 1));
+    /// board.control().assign(0, 1)?;
+    /// // Server 1 has room for one shard.
+    /// assert!(board.control().assign(1, 1).is_err());
+    /// # Ok::<(), Box<dyn std::error::Error>>(())
+    /// ```
+    pub fn by_settings(
+        line: impl AsRef<[u8]>,
+        bodies: impl IntoIterator<Item = T>,
+    ) -> Result<(Board<T>, Layout), SettingsFault> {
+        let (bodies, numbers) = numbered(bodies);
+        let (mut chief, mut layout) = (Handle::empty(), Handle::empty());
+        let line = line.as_ref();
+        // SAFETY: the handles are this call's alone, and the slices last as long as the call.
+        let code = unsafe {
+            raw::durkenzo_open_bodies(
+                &mut chief,
+                &mut layout,
+                line.as_ptr(),
+                line.len(),
+                numbers.as_ptr(),
+                numbers.len(),
+            )
+        };
+        match code {
+            0 => Ok((Board::of(chief, bodies), Layout::of(layout, numbers.len()))),
+            code => Err(SettingsFault::of(code)),
+        }
+    }
+
     /// The number of shards.
     pub fn count(&self) -> usize {
         self.shared.bodies.len()

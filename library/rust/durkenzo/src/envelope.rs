@@ -2,6 +2,7 @@ use crate::board::Shared;
 use crate::pass::Mode;
 use crate::raw::{self, AnswerParts, Handle, SentParts};
 use crate::reply::Reply;
+use crate::sent::Sent;
 use crate::service::Texts;
 use std::fmt;
 use std::sync::Arc;
@@ -30,10 +31,7 @@ impl Envelope {
 
     /// How it came to the server that serves it next.
     pub fn mode(&mut self) -> Mode {
-        match self.sent().from {
-            0 => Mode::Direct,
-            server => Mode::Forwarded(server),
-        }
+        self.sent().mode
     }
 
     /// How often it was forwarded, 0 to 4.
@@ -41,12 +39,14 @@ impl Envelope {
         self.sent().hops
     }
 
-    fn sent(&mut self) -> SentParts {
+    /// The envelope but for its request and its note: what goes with the request to another process, where
+    /// [`ServicePass::received`](crate::ServicePass::received) makes the envelope again.
+    pub fn sent(&mut self) -> Sent {
         let mut parts = SentParts::default();
         // SAFETY: the handle is this envelope's, which is borrowed alone.
         let code = unsafe { raw::durkenzo_sent(&mut self.handle, &mut parts) };
         assert_eq!(code, 0, "the handle of an envelope keeps it");
-        parts
+        Sent::of(&parts)
     }
 }
 

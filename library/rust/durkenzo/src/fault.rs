@@ -405,6 +405,8 @@ impl Error for MapFault {}
 /// Why there is no envelope.
 #[derive(Clone, Copy, Debug, PartialEq, Eq)]
 pub enum SendFault {
+    /// No envelope comes so.
+    NotSent,
     /// Out of memory.
     NoMemory,
     /// A key has at least one byte.
@@ -416,6 +418,7 @@ pub enum SendFault {
 impl SendFault {
     pub(crate) fn of(code: u32) -> SendFault {
         match code {
+            2 => SendFault::NotSent,
             3 => SendFault::NoMemory,
             57 => SendFault::EmptyKey,
             58 => SendFault::KeyTooLong,
@@ -427,6 +430,7 @@ impl SendFault {
 impl fmt::Display for SendFault {
     fn fmt(&self, f: &mut fmt::Formatter<'_>) -> fmt::Result {
         f.write_str(match self {
+            SendFault::NotSent => "no envelope comes so",
             SendFault::NoMemory => "out of memory",
             SendFault::EmptyKey => "a key has at least one byte",
             SendFault::KeyTooLong => "a key has at most 255 bytes",

@@ -182,12 +182,19 @@ extern "C" {
         length: usize,
         shards: *mut usize,
     ) -> u32;
+    pub(crate) fn durkenzo_open_bodies(
+        chief: *mut Handle,
+        layout: *mut Handle,
+        line: *const u8,
+        length: usize,
+        numbers: *const u64,
+        count: usize,
+    ) -> u32;
     pub(crate) fn durkenzo_sent(envelope: *mut Handle, parts: *mut SentParts) -> u32;
     pub(crate) fn durkenzo_envelope(
         pass: *mut Handle,
         envelope: *mut Handle,
-        number: u64,
-        shard: u16,
+        parts: *const SentParts,
         kind: u8,
         key: *const u8,
         key_length: usize,

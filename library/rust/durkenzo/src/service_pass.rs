@@ -2,10 +2,12 @@ use crate::board::Shared;
 use crate::envelope::{Answer, Envelope};
 use crate::fault::{CheckpointFault, NoteFault, SendFault, ServeFault, UnknownShard};
 use crate::layout::Layout;
+use crate::pass::Mode;
 use crate::raw::{self, AnswerParts, Handle, RecordParts, ReplyParts};
 use crate::record::Record;
 use crate::reply::Reply;
 use crate::request::Request;
+use crate::sent::Sent;
 use crate::service::Texts;
 use std::error::Error;
 use std::fmt;
@@ -62,7 +64,18 @@ impl ServicePass {
     /// An envelope with your number for the request's shard, with a note of all that the pass has seen; or `EmptyKey`,
     /// `KeyTooLong` or `NoMemory`.
     pub fn envelope(&mut self, number: u64, request: &Request<'_>) -> Result<Envelope, SendFault> {
-        let shard = self.layout.shard_of(request.key());
+        let sent = Sent {
+            number,
+            shard: self.layout.shard_of(request.key()),
+            mode: Mode::Direct,
+            hops: 0,
+        };
+        self.received(&sent, request)
+    }
+
+    /// The envelope that came so with this request, as [`Envelope::sent`] told another process, with a note of all that
+    /// the pass has seen; or, beside the faults of [`ServicePass::envelope`], `NotSent` where no envelope comes so.
+    pub fn received(&mut self, sent: &Sent, request: &Request<'_>) -> Result<Envelope, SendFault> {
         let (kind, key, other, amount) = request.parts();
         let mut handle = Handle::empty();
         // SAFETY: one handle is this pass's, which is borrowed alone, the other this call's, and the slices last as
@@ -71,8 +84,7 @@ impl ServicePass {
             raw::durkenzo_envelope(
                 &mut self.handle,
                 &mut handle,
-                number,
-                shard,
+                &sent.parts(),
                 kind,
                 key.as_ptr(),
                 key.len(),
@@ -82,7 +94,7 @@ impl ServicePass {
             )
         };
         match code {
-            0 => Ok(Envelope::new(handle, self.shared.clone(), shard)),
+            0 => Ok(Envelope::new(handle, self.shared.clone(), sent.shard)),
             code => Err(SendFault::of(code)),
         }
     }

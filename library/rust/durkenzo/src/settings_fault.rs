@@ -31,11 +31,14 @@ pub enum SettingsFault {
     BadWorkers,
     /// The domains break a rule.
     BadDomains,
+    /// The bodies aren't as many as the line's shards.
+    BadCount,
     /// Memory was refused.
     NoMemory,
 }
 
-const NAMED: [(u32, SettingsFault, &str); 13] = [
+const NAMED: [(u32, SettingsFault, &str); 14] = [
+    (9, SettingsFault::BadCount, "BadCount"),
     (70, SettingsFault::TooLong, "TooLong"),
     (71, SettingsFault::BadJson, "BadJson"),
     (72, SettingsFault::BadVersion, "BadVersion"),
@@ -61,7 +64,7 @@ impl SettingsFault {
 }
 
 impl fmt::Display for SettingsFault {
-    /// The fault's name, as scripts have it.
+    /// The fault's name, which is that of scripts where they have it.
     fn fmt(&self, f: &mut fmt::Formatter<'_>) -> fmt::Result {
         let named = NAMED.iter().find(|named| named.1 == *self);
         f.write_str(named.map_or("NoMemory", |named| named.2))

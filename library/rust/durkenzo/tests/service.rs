@@ -1,7 +1,8 @@
 //! A board of the sample service.
 use durkenzo::{
-    AdmitFault, BuildFault, ChangeFault, CheckpointFault, Envelope, Layout, Mode, Reply, Request,
-    RestoreFault, SendFault, ServeFault, Served, Service, ServicePass, SettingsFault, Stand, Value,
+    AdmitFault, Board, BuildFault, ChangeFault, CheckpointFault, Envelope, Layout, Mode, Reply,
+    Request, RestoreFault, SendFault, Sent, SentFault, ServeFault, Served, Service, ServicePass,
+    SettingsFault, Stand, Value,
 };
 
 const SETTINGS: &str = r#"{"version":2,"bounds":["","n"],"servers":[{"id":1,"domain":0,"capacity":1},{"id":7,"domain":1,"capacity":2}],"groups":[{"limit":2,"down":1}],"shards":[{"group":0,"load":1,"cap":1},{"group":0,"load":1,"cap":1}],"ops":1,"kept":1,"ceiling":100,"workers":1,"domains":[{"domain":0,"down":1},{"domain":1,"down":0}]}"#;
@@ -246,6 +247,36 @@ fn settings_open_a_board() {
 }
 
 #[test]
+fn settings_open_a_board_of_own_bodies() {
+    let bodies = ["one".to_string(), "two".to_string()];
+    let (board, layout) = Board::by_settings(SETTINGS, bodies).unwrap();
+    assert_eq!(
+        (board.count(), layout.count(), layout.shard_of("z")),
+        (2, 2, 1)
+    );
+    let control = board.control();
+    assert_eq!(control.assign(0, 2), Err(ChangeFault::UnknownServer));
+    control.assign(0, 1).unwrap();
+    assert_eq!(control.assign(1, 1), Err(ChangeFault::NoCapacity));
+    control.assign(1, 7).unwrap();
+    let mut pass = board.pass(7).unwrap();
+    assert_eq!(*pass.admit(1, Mode::Direct).unwrap(), "two");
+    assert!(pass.admit(0, Mode::Direct).is_err());
+    control.ask(7).unwrap();
+    assert!(control.approve(7).is_err(), "its domain may not be down");
+    for (bodies, line, fault) in [
+        (1, SETTINGS.to_string(), SettingsFault::BadCount),
+        (3, SETTINGS.to_string(), SettingsFault::BadCount),
+        (2, SETTINGS.replace(":100", ":2"), SettingsFault::BadCeiling),
+    ] {
+        assert_eq!(
+            Board::by_settings(line, vec![(); bodies]).unwrap_err(),
+            fault
+        );
+    }
+}
+
+#[test]
 fn settings_are_refused_by_their_first_fault() {
     for (line, fault) in [
         (String::new(), SettingsFault::BadJson),
@@ -310,4 +341,54 @@ fn an_envelope_tells_how_it_came() {
     assert_eq!((sent.mode(), sent.hops()), (Mode::Direct, 0));
     let (to, mut sent) = forwarded(&mut owner, sent);
     assert_eq!((to, sent.mode(), sent.hops()), (2, Mode::Forwarded(1), 1));
+}
+
+#[test]
+fn an_envelope_travels_as_bytes() {
+    let service = service(&["", "n"], 2);
+    let mut owner = service.pass(1).unwrap();
+    let request = Request::Add(b"s", 1);
+    for (mode, hops) in [
+        (Mode::Direct, 0),
+        (Mode::Forwarded(9), 1),
+        (Mode::Forwarded(4_095), 4),
+    ] {
+        let sent = Sent {
+            number: u64::MAX - 5,
+            shard: 1,
+            mode,
+            hops,
+        };
+        let told = Sent::from_bytes(&sent.to_bytes()).unwrap();
+        assert_eq!(told, sent);
+        let mut envelope = owner.received(&told, &request).unwrap();
+        assert_eq!(envelope.sent(), sent);
+        let Served::Answered(answer) = owner.serve(envelope).unwrap() else {
+            panic!("the owner executes");
+        };
+        assert_eq!(answer.number(), sent.number);
+    }
+    for (mode, hops) in [
+        (Mode::Direct, 1),
+        (Mode::Forwarded(9), 0),
+        (Mode::Forwarded(9), 5),
+    ] {
+        let sent = Sent {
+            number: 0,
+            shard: 0,
+            mode,
+            hops,
+        };
+        assert_eq!(Sent::from_bytes(&sent.to_bytes()), Err(SentFault::Hops));
+        let refused = owner.received(&sent, &request).unwrap_err();
+        assert_eq!(refused, SendFault::NotSent);
+    }
+    let bytes = |at: usize| {
+        let mut bytes = [0; Sent::BYTES];
+        bytes[at] = 16;
+        bytes
+    };
+    assert_eq!(Sent::from_bytes(&bytes(8)), Err(SentFault::Shard));
+    assert_eq!(Sent::from_bytes(&bytes(10)), Err(SentFault::Server));
+    assert_eq!(Sent::from_bytes(&[0; 12]), Err(SentFault::Length));
 }

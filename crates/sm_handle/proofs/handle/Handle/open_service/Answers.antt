@@ -7,7 +7,7 @@ use Rattle.sm_handle.proofs.handle.Handle.open_service.Goals as goal
 pub returns-in-Ok-keep-clause-made : goal.returns-in-Ok-keep-clause-made
 returns-in-Ok-keep-clause-made c =
     let body : TextLog = record { base = []; before = 0; requests = []; limit = c.args.kept } in
-    rw (c.in-Ok-keep.ensures.kept, c.in-Ok-new.ensures.ok) (
+    rw c.in-Ok-keep.ensures.kept (
       c.in_ok-chief.ensures.count ∙ (ap length c.in-Ok.ensures ∙ length-replicate c.args.count body),
       c.in_ok-chief.ensures.ceiling,
       c.in_ok-chief.ensures.bodies

@@ -1,0 +1,76 @@
+//! The library's board of the sample service, whose server 1 owns all shards, with 16 keys of 16 bytes each and texts
+//! of 32: the requests of bench/serve, which come in the same order.
+use crate::way::SHARDS;
+use durkenzo::{Layout, Reply, Request, Served, Service, ServicePass, Value};
+
+const KEYS: u8 = 16;
+const FIRST_STATE: u64 = 88_172_645_463_325_252;
+
+/// A client's pass, and a server's.
+pub struct Site {
+    client: ServicePass,
+    server: ServicePass,
+}
+
+impl Site {
+    pub fn new() -> Site {
+        let bound = |shard: u16| match shard {
+            0 => Vec::new(),
+            _ => shard.to_be_bytes().to_vec(),
+        };
+        let layout = Layout::new((0..SHARDS as u16).map(bound)).expect("rising bounds");
+        let service = Service::builder(layout).build().expect("memory");
+        let pass = || service.pass(1).expect("memory");
+        let mut site = Site {
+            client: pass(),
+            server: pass(),
+        };
+        for shard in 0..SHARDS as u16 {
+            service.control().assign(shard, 1).expect("a vacant shard");
+            for key in 0..KEYS {
+                site.put(shard, key, key);
+            }
+        }
+        site
+    }
+
+    /// Gets a key of a shard, or puts a text, so often, and sums what the replies tell.
+    pub fn run(&mut self, is_put: bool, times: u64) -> u64 {
+        let (mut state, mut told) = (FIRST_STATE, 0u64);
+        for _ in 0..times {
+            state ^= state << 13;
+            state ^= state >> 7;
+            state ^= state << 17;
+            let (shard, key) = ((state >> 40 & 4095) as u16, (state >> 24 & 15) as u8);
+            told = told.wrapping_add(match is_put {
+                true => self.put(shard, key, (state >> 16 & 255) as u8),
+                false => self.asked(&Request::Get(&key_of(shard, key))),
+            });
+        }
+        told
+    }
+
+    fn put(&mut self, shard: u16, key: u8, text: u8) -> u64 {
+        self.asked(&Request::Put(&key_of(shard, key), &[text; 32]))
+    }
+
+    /// What the reply tells: the first byte of a text and 1, or 1 where a text was put.
+    fn asked(&mut self, request: &Request<'_>) -> u64 {
+        let envelope = self.client.envelope(0, request).expect("memory");
+        let Ok(Served::Answered(answer)) = self.server.serve(envelope) else {
+            unreachable!("the owner of all shards executes")
+        };
+        match answer.reply() {
+            Reply::Value(Value::Text(text)) => u64::from(text[0]) + 1,
+            Reply::Done => 1,
+            _ => 0,
+        }
+    }
+}
+
+fn key_of(shard: u16, key: u8) -> [u8; 16] {
+    let mut bytes = [0; 16];
+    bytes[..2].copy_from_slice(&shard.to_be_bytes());
+    bytes[15] = key;
+    bytes
+}

@@ -1,0 +1,110 @@
+//! How an envelope came.
+use crate::pass::Mode;
+use crate::raw::SentParts;
+use std::error::Error;
+use std::fmt;
+
+/// An envelope but for its request and its note, as plain fields that travel as bytes.
+#[derive(Clone, Copy, Debug, PartialEq, Eq)]
+pub struct Sent {
+    /// The number that its sender gave it.
+    pub number: u64,
+    /// The shard that it is for.
+    pub shard: u16,
+    /// How it came to the server that serves it next.
+    pub mode: Mode,
+    /// How often it was forwarded: 0 where it came directly, else 1 to 4.
+    pub hops: u8,
+}
+
+/// Why bytes tell no envelope.
+#[derive(Clone, Copy, Debug, PartialEq, Eq)]
+pub enum SentFault {
+    /// They aren't [`Sent::BYTES`].
+    Length,
+    /// A shard has a number from 0 to 4,095.
+    Shard,
+    /// A server has a number from 1 to 4,095.
+    Server,
+    /// An envelope that came directly has no hop, and one that was forwarded 1 to 4.
+    Hops,
+}
+
+impl Sent {
+    /// How many bytes [`Sent::to_bytes`] gives.
+    pub const BYTES: usize = 13;
+
+    /// The number, the shard, the server that forwarded it or 0, and the hops, each with its highest byte first.
+    pub fn to_bytes(&self) -> [u8; Sent::BYTES] {
+        let (parts, mut bytes) = (self.parts(), [0; Sent::BYTES]);
+        bytes[..8].copy_from_slice(&parts.number.to_be_bytes());
+        bytes[8..10].copy_from_slice(&parts.shard.to_be_bytes());
+        bytes[10..12].copy_from_slice(&parts.from.to_be_bytes());
+        bytes[12] = parts.hops;
+        bytes
+    }
+
+    /// What [`Sent::to_bytes`] made the bytes of; or the first reason why there is no such envelope.
+    pub fn from_bytes(bytes: &[u8]) -> Result<Sent, SentFault> {
+        let bytes: [u8; Sent::BYTES] = bytes.try_into().map_err(|_| SentFault::Length)?;
+        let pair = |at: usize| u16::from_be_bytes([bytes[at], bytes[at + 1]]);
+        let parts = SentParts {
+            number: bytes[..8]
+                .iter()
+                .fold(0, |it, byte| it << 8 | u64::from(*byte)),
+            shard: pair(8),
+            from: pair(10),
+            hops: bytes[12],
+        };
+        match parts {
+            SentParts { shard: 4_096.., .. } => Err(SentFault::Shard),
+            SentParts { from: 4_096.., .. } => Err(SentFault::Server),
+            SentParts {
+                from: 0, hops: 0, ..
+            } => Ok(Sent::of(&parts)),
+            SentParts {
+                from: 1..,
+                hops: 1..=4,
+                ..
+            } => Ok(Sent::of(&parts)),
+            _ => Err(SentFault::Hops),
+        }
+    }
+
+    pub(crate) fn of(parts: &SentParts) -> Sent {
+        Sent {
+            number: parts.number,
+            shard: parts.shard,
+            mode: match parts.from {
+                0 => Mode::Direct,
+                server => Mode::Forwarded(server),
+            },
+            hops: parts.hops,
+        }
+    }
+
+    pub(crate) fn parts(&self) -> SentParts {
+        SentParts {
+            number: self.number,
+            shard: self.shard,
+            from: match self.mode {
+                Mode::Direct => 0,
+                Mode::Forwarded(server) => server,
+            },
+            hops: self.hops,
+        }
+    }
+}
+
+impl fmt::Display for SentFault {
+    fn fmt(&self, f: &mut fmt::Formatter<'_>) -> fmt::Result {
+        f.write_str(match self {
+            SentFault::Length => "they aren't 13 bytes",
+            SentFault::Shard => "a shard has a number from 0 to 4,095",
+            SentFault::Server => "a server has a number from 1 to 4,095",
+            SentFault::Hops => "a direct envelope has no hop, and a forwarded one 1 to 4",
+        })
+    }
+}
+
+impl Error for SentFault {}
