@@ -45,7 +45,7 @@ pub struct Options {
     #[arg(long, value_name = "FILE", help_heading = NETWORK)]
     pub password_file: Option<PathBuf>,
 
-    /// File with settings as scripts take them: servers, bounds, ops, ceiling, domains [default: none]
+    /// File with settings as scripts take them, whose capacities, groups and caps bind too [default: none]
     #[arg(
         long,
         value_name = "FILE",
