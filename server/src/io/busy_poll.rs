@@ -1,7 +1,7 @@
 use std::time::Duration;
 
 /// Waits of a trial of either way.
-const TRIAL: u32 = 128;
+const TRIAL: u32 = 256;
 /// Waits by the way that was quicker, before both are tried again: so many that the slower one is none in a hundred.
 const TERM: u32 = 32_768;
 
@@ -67,8 +67,8 @@ impl BusyPoll {
     fn next(&self) -> (Stage, u32) {
         match self.stage {
             Stage::TryPolling => (Stage::TrySleeping(self.spent), TRIAL),
-            // By a tenth, so that chance seldom decides it.
-            Stage::TrySleeping(polling) if 10 * polling < 9 * self.spent => (Stage::Poll, TERM),
+            // By a twentieth, as it uses a processor.
+            Stage::TrySleeping(polling) if 20 * polling < 19 * self.spent => (Stage::Poll, TERM),
             Stage::TrySleeping(_) => (Stage::Sleep, TERM),
             Stage::Poll | Stage::Sleep => (Stage::TryPolling, TRIAL),
         }
