@@ -5,11 +5,12 @@ use crate::domains::Domains;
 use crate::dump::{restore, DumpFault, ShardHead};
 use crate::io::Inlet;
 use crate::keyspace::Rule;
+use crate::open_fault::OpenFault;
 use crate::presence::Presence;
 use crate::progress::Progress;
 use crate::settings::MAX_CEILING;
 use crate::stats::ChangesMade;
-use durkenzo::{Board, BuildFault, Builder};
+use durkenzo::Board;
 use std::fmt;
 use std::path::PathBuf;
 use std::sync::atomic::{AtomicBool, AtomicU64, Ordering};
@@ -45,8 +46,8 @@ pub struct Configuration {
     pub folder: PathBuf,
     /// What clients have to give first.
     pub password: Option<Box<[u8]>>,
-    /// What of the settings isn't kept.
-    pub unkept: Vec<String>,
+    /// The settings as a line, where a file gave some: their capacities, groups and caps bind too.
+    pub settings: Option<Box<str>>,
 }
 
 impl Configuration {
@@ -66,7 +67,17 @@ impl Configuration {
             grace: Duration::from_secs(2),
             folder: PathBuf::from("."),
             password: None,
-            unkept: Vec::new(),
+            settings: None,
+        }
+    }
+}
+
+impl Configuration {
+    /// What binds plans and restarts.
+    pub fn limits(&self) -> &'static str {
+        match self.settings {
+            Some(_) => "capacities, groups, domains and caps of the settings",
+            None => "domains and restarts at once",
         }
     }
 }
@@ -104,13 +115,13 @@ impl Cluster {
     pub fn new(
         configuration: Configuration,
         storage: Box<dyn Storage>,
-    ) -> Result<Cluster, BuildFault> {
+    ) -> Result<Cluster, OpenFault> {
         let shards = configuration.rule.shards();
         let bodies = (0..shards).map(|it| storage.open(it));
         let mut bodies: Vec<Shard> = bodies.collect::<Result<_, _>>()?;
         let keys = bodies.iter_mut().map(|it| AtomicU64::new(it.keys() as u64));
         let keys = keys.collect();
-        let board = builder(&configuration).build(bodies)?;
+        let board = opened(&configuration, bodies)?;
         Ok(Cluster {
             board: RwLock::new(board),
             board_version: AtomicU64::new(0),
@@ -144,8 +155,8 @@ impl Cluster {
     /// A board on which shards stand as these heads say, and have these bodies; it isn't used yet.
     pub fn open(&self, heads: &[ShardHead], mut bodies: Vec<Shard>) -> Result<Opened, DumpFault> {
         let keys = bodies.iter_mut().map(|it| it.keys() as u64).collect();
-        let built = builder(&self.configuration).build(bodies);
-        let board = built.map_err(|_| DumpFault::NoMemory)?;
+        // All else was accepted when the server began.
+        let board = opened(&self.configuration, bodies).map_err(|_| DumpFault::NoMemory)?;
         restore(&board.control(), heads)?;
         let generations = heads.iter().map(|it| it.generation).collect();
         Ok(Opened {
@@ -265,12 +276,16 @@ impl fmt::Debug for Opened {
     }
 }
 
-/// A board of these sizes that is to be built.
-fn builder(configuration: &Configuration) -> Builder {
-    Board::builder()
+/// A board with these bodies, by the settings where there are some.
+fn opened(configuration: &Configuration, bodies: Vec<Shard>) -> Result<Board<Shard>, OpenFault> {
+    if let Some(line) = &configuration.settings {
+        return Ok(Board::by_settings(&**line, bodies)?.0);
+    }
+    let builder = Board::builder()
         .servers(configuration.servers)
         .restarts(configuration.restarts)
-        .ceiling(configuration.ceiling)
+        .ceiling(configuration.ceiling);
+    Ok(builder.build(bodies)?)
 }
 
 impl fmt::Debug for Cluster {

@@ -31,7 +31,7 @@ pub fn configuration(options: &Options) -> Result<Configuration, Fault> {
         grace: Duration::from_millis(options.grace),
         folder: options.folder.clone(),
         password: password.transpose()?,
-        unkept: settings.map_or(Vec::new(), |it| it.unkept()),
+        settings: settings.map(|it| it.line().into()),
     })
 }
 

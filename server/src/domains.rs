@@ -1,8 +1,8 @@
 //! Servers that fail together.
 use std::collections::BTreeMap;
 
-/// The domain of each server, and how many servers of each may be away at once. The library knows no domains yet, so
-/// the control looks at these before it asks the library for an approval.
+/// The domain of each server, and how many servers of each may be away at once. A board without settings knows no
+/// domains, so the control looks at these before it asks the library for an approval.
 #[derive(Clone, Debug, Default, PartialEq, Eq)]
 pub struct Domains {
     /// From server 1.

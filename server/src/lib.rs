@@ -20,6 +20,7 @@ pub mod http;
 pub mod io;
 pub mod keyspace;
 pub mod observer;
+pub mod open_fault;
 pub mod options;
 pub mod presence;
 pub mod progress;

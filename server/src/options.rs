@@ -45,7 +45,7 @@ pub struct Options {
     #[arg(long, value_name = "FILE", help_heading = NETWORK)]
     pub password_file: Option<PathBuf>,
 
-    /// File with settings as scripts take them: servers, bounds, ops, ceiling, domains [default: none]
+    /// File with settings as scripts take them, whose capacities, groups and caps bind too [default: none]
     #[arg(
         long,
         value_name = "FILE",
@@ -129,8 +129,8 @@ pub struct Options {
     )]
     pub threads: Option<u16>,
 
-    /// How long a thread polls for requests before it sleeps, where they came soon lately: it answers sooner, and uses
-    /// its processor meanwhile, unless others want that
+    /// How long a thread polls for requests before it sleeps, where they came soon lately and it answers sooner so; 0 is
+    /// not at all
     #[arg(long, value_name = "MICROSECONDS", default_value_t = 50, help_heading = THREADS)]
     pub busy_poll: u64,
 

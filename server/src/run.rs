@@ -142,9 +142,6 @@ fn announce(options: &Options, cluster: &Cluster, address: SocketAddr) {
     let by = cluster.configuration.rule.name();
     tracing::info!(%address, servers, shards, by, "serving Redis clients");
     tracing::warn!("data lies {}", cluster.storage.description());
-    for unkept in &cluster.configuration.unkept {
-        tracing::warn!("not kept of the settings: {unkept}");
-    }
     if !options.bind.is_loopback() && cluster.configuration.password.is_none() {
         tracing::warn!(
             "anybody who reaches {address} may read, write and move shards: --password-file"

@@ -1,87 +1,50 @@
 //! Settings as scripts take them: one JSON object, which docs/SETTINGS.md tells.
 use crate::domains::Domains;
 use serde::Deserialize;
+use std::collections::BTreeMap;
 use std::error::Error;
 use std::fmt;
 
 /// The greatest generation that a shard may have.
 pub const MAX_CEILING: u64 = (1 << 36) - 1;
 
-/// The settings of a script.
-#[derive(Clone, Debug, Deserialize)]
-#[serde(deny_unknown_fields)]
+/// What the server itself needs of the settings of a script; the library judges and keeps all of them.
+#[derive(Clone, Debug)]
 pub struct Settings {
-    version: u8,
-    bounds: Vec<String>,
-    servers: Vec<ServerRow>,
-    groups: Vec<GroupRow>,
-    shards: Vec<ShardRow>,
-    ops: u16,
-    #[serde(rename = "kept")]
-    _kept: u64,
-    ceiling: u64,
-    #[serde(rename = "workers")]
-    _workers: u8,
-    #[serde(default)]
-    domains: Vec<DomainRow>,
+    line: String,
+    members: Members,
 }
 
 #[derive(Clone, Debug, Deserialize)]
-#[serde(deny_unknown_fields)]
+struct Members {
+    bounds: Vec<String>,
+    servers: Vec<ServerRow>,
+    ops: u16,
+    ceiling: u64,
+}
+
+#[derive(Clone, Debug, Deserialize)]
 struct ServerRow {
     id: u16,
     domain: u16,
-    capacity: u64,
 }
 
-#[derive(Clone, Debug, Deserialize)]
-#[serde(deny_unknown_fields)]
-struct GroupRow {
-    limit: u64,
-    down: u64,
-}
-
-#[derive(Clone, Debug, Deserialize)]
-#[serde(deny_unknown_fields)]
-struct ShardRow {
-    #[serde(rename = "group")]
-    _group: u64,
-    load: u64,
-    cap: u8,
-}
-
-#[derive(Clone, Debug, Deserialize)]
-#[serde(deny_unknown_fields)]
-struct DomainRow {
-    domain: u16,
-    down: u16,
-}
-
-/// Why settings aren't accepted, by the names of scripts where they have one.
+/// Why settings aren't accepted before the library judges them.
 #[derive(Debug)]
 pub enum SettingsFault {
     /// They are no object of these members.
     BadJson(serde_json::Error),
-    /// Their version is neither 1 nor 2.
-    BadVersion,
-    /// There is no server, or too many.
-    BadServers,
     /// Servers have other numbers than 1, 2 and so on.
     Gaps,
-    /// Not each bound has a row.
-    BadShards,
 }
 
 impl fmt::Display for SettingsFault {
     fn fmt(&self, f: &mut fmt::Formatter<'_>) -> fmt::Result {
         match self {
             SettingsFault::BadJson(error) => write!(f, "BadJson: {error}"),
-            SettingsFault::BadVersion => f.write_str("BadVersion: the version is 1 or 2"),
-            SettingsFault::BadServers => f.write_str("BadServers: there are 1 to 4095 servers"),
             SettingsFault::Gaps => f.write_str(
                 "BadServers: servers here have the numbers 1, 2 and so on, without gaps",
             ),
-            SettingsFault::BadShards => f.write_str("BadShards: there is a row for each bound"),
         }
     }
 }
@@ -90,7 +53,7 @@ impl Error for SettingsFault {
     fn source(&self) -> Option<&(dyn Error + 'static)> {
         match self {
             SettingsFault::BadJson(error) => Some(error),
-            _ => None,
+            SettingsFault::Gaps => None,
         }
     }
 }
@@ -98,25 +61,24 @@ impl Error for SettingsFault {
 impl Settings {
     /// The settings of this text.
     pub fn of(text: &str) -> Result<Settings, SettingsFault> {
-        let settings: Settings = serde_json::from_str(text).map_err(SettingsFault::BadJson)?;
-        if !matches!(settings.version, 1 | 2) {
-            return Err(SettingsFault::BadVersion);
-        }
-        if !(1..=4_095).contains(&settings.servers.len()) {
-            return Err(SettingsFault::BadServers);
-        }
-        if (1..).zip(&settings.servers).any(|(id, row)| row.id != id) {
+        let members: Members = serde_json::from_str(text).map_err(SettingsFault::BadJson)?;
+        if (1..).zip(&members.servers).any(|(id, row)| row.id != id) {
             return Err(SettingsFault::Gaps);
         }
-        match settings.shards.len() == settings.bounds.len() {
-            true => Ok(settings),
-            false => Err(SettingsFault::BadShards),
-        }
+        // No text in JSON has an end of line in it as it is.
+        let line = text.replace(['\r', '\n'], " ");
+        Ok(Settings { line, members })
+    }
+
+    /// All of them, as a line.
+    pub fn line(&self) -> &str {
+        &self.line
     }
 
     /// The bounds of the ranges.
     pub fn bounds(&self) -> Vec<Vec<u8>> {
-        self.bounds
+        self.members
+            .bounds
             .iter()
             .map(|it| it.clone().into_bytes())
             .collect()
@@ -124,44 +86,24 @@ impl Settings {
 
     /// The number of servers.
     pub fn servers(&self) -> u16 {
-        // At most 4,095.
-        self.servers.len() as u16
+        // The library takes at most 4,095.
+        u16::try_from(self.members.servers.len()).unwrap_or(u16::MAX)
     }
 
     /// How many servers may be away at once.
     pub fn restarts(&self) -> u16 {
-        self.ops
+        self.members.ops
     }
 
     /// The greatest generation.
     pub fn ceiling(&self) -> u64 {
-        self.ceiling
+        self.members.ceiling
     }
 
-    /// The servers that fail together.
+    /// The servers that fail together. How many of them may be away at once the library knows.
     pub fn domains(&self) -> Domains {
-        let of = self.servers.iter().map(|it| it.domain).collect();
-        Domains::new(
-            of,
-            self.domains.iter().map(|it| (it.domain, it.down)).collect(),
-        )
-    }
-
-    /// What of these settings binds in scripts, and isn't kept here, as the library has no call for it.
-    pub fn unkept(&self) -> Vec<String> {
-        let loads: u64 = self.shards.iter().map(|it| it.load).sum();
-        let shards = self.shards.len() as u64;
-        let mut unkept = Vec::new();
-        if self.servers.iter().any(|it| it.capacity < loads) {
-            unkept.push("capacities of servers".to_owned());
-        }
-        if self.groups.iter().any(|it| it.limit.min(it.down) < shards) {
-            unkept.push("limits of groups".to_owned());
-        }
-        if self.shards.iter().any(|it| it.cap == 0) {
-            unkept.push("caps of shards".to_owned());
-        }
-        unkept
+        let of = self.members.servers.iter().map(|it| it.domain).collect();
+        Domains::new(of, BTreeMap::new())
     }
 }
 
@@ -197,15 +139,13 @@ mod tests {
         );
         assert_eq!(settings.bounds(), [b"".to_vec(), b"m".to_vec()]);
         assert_eq!(settings.domains().domain_of(2), 1);
-        assert_eq!(settings.unkept(), ["capacities of servers"]);
+        assert!(!settings.line().contains('\n') && settings.line().contains("\"capacity\":1}"));
     }
 
     #[test]
     fn other_settings_are_refused_by_name() {
         for (from, to, name) in [
-            ("\"version\":2", "\"version\":3", "BadVersion"),
             ("\"id\":2", "\"id\":3", "BadServers"),
-            ("[\"\",\"m\"]", "[\"\"]", "BadShards"),
             ("\"ops\":1", "\"oops\":1", "BadJson"),
         ] {
             let fault = Settings::of(&LINE.replace(from, to)).unwrap_err();

@@ -90,20 +90,9 @@ def by_model(script, asked):
     return answers
 
 
-def unlimited(settings):
-    """These settings with rows by which nothing is refused but by the cap of restarts at once."""
-    kept = {name: value for name, value in settings.items() if name != "domains"}
-    servers = [{"id": it["id"], "domain": it["id"], "capacity": 4096} for it in settings["servers"]]
-    shards = [{"group": 0, "load": 1, "cap": 1} for _ in settings["bounds"]]
-    groups = [{"limit": 4096, "down": 4096}]
-    return {**kept, "version": 1, "servers": servers, "groups": groups, "shards": shards}
-
-
 def compare(program, seed):
     """Has a server do the lines of a random script; returns how many."""
     script = SCRIPTS.Script(seed, is_served=True)
-    script.settings = unlimited(script.settings)
-    script.model = SCRIPTS.Model(script.settings)
     asked = list(script.answered(LINES))
     answers = by_model(script, asked)
     bounds = [it.encode() for it in script.settings["bounds"]]

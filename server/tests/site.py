@@ -2,7 +2,9 @@
 """The page, /metrics and /healthz, and other ways to begin: site.py PROGRAM."""
 import contextlib
 import json
+import pathlib
 import re
+import shutil
 import socket
 import subprocess
 import tempfile
@@ -62,27 +64,85 @@ def metrics_are_in_the_format_of_prometheus(program):
         assert "# TYPE durkenzo_commands_total counter" in lines and "# TYPE durkenzo_keys gauge" in lines
 
 
-def settings_of_scripts_are_taken(program):
-    """Servers, bounds, ops and domains; what isn't kept of them is told."""
+def settings_of(count, **members):
+    """Settings of two shards and so many servers with room for one each, of which two are of a domain."""
     rows = {
         "version": 2, "bounds": ["", "m"], "groups": [{"limit": 2, "down": 2}], "ops": 2, "kept": 9, "ceiling": 1000,
-        "servers": [{"id": it + 1, "domain": it // 2, "capacity": 1} for it in range(4)], "workers": 1,
-        "shards": [{"group": 0, "load": 1, "cap": 1}] * 2, "domains": [{"domain": it, "down": 1} for it in range(2)],
+        "servers": [{"id": it + 1, "domain": it // 2, "capacity": 1} for it in range(count)], "workers": 1,
+        "shards": [{"group": 0, "load": 1, "cap": 1}] * 2,
+        "domains": [{"domain": it, "down": 1} for it in range((count + 1) // 2)],
     }  # fmt: skip
-    with tempfile.NamedTemporaryFile("w", suffix=".json") as file:
-        json.dump(rows, file)
-        file.flush()
-        with served(program, "--settings", file.name) as server, server.client() as client:
-            settings = b"\n".join(client.ask("SM", "SETTINGS")).decode()
-            assert "servers 4\nshards 2\nkeys by ranges\nrestarts at once 2\nceiling 1000" in settings, settings
-            assert "not kept: capacities of servers" in settings
-            for server_number in (1, 2, 3):
-                assert client.ask("SM", "ASK", server_number) == "OK"
-            assert client.ask("SM", "APPROVE", 1) == "OK"
-            client.send("SM", "APPROVE", 2)
-            found = client.read()
-            assert isinstance(found, Refused) and str(found).startswith("REFUSED DomainCap"), found
-            assert client.ask("SM", "APPROVE", 3) == "OK"
+    return {**rows, **members}
+
+
+@contextlib.contextmanager
+def by_settings(program, rows):
+    """A client of a server with these settings, which stand over several lines."""
+    with tempfile.TemporaryDirectory() as folder:
+        file = pathlib.Path(folder) / "settings.json"
+        file.write_text(json.dumps(rows, indent=1))
+        with served(program, "--settings", file, "--folder", folder) as server, server.client() as client:
+            yield client
+
+
+def refused(client, *words):
+    """The name by which the command is refused."""
+    client.send(*words)
+    found = client.read()
+    assert isinstance(found, Refused) and str(found).startswith("REFUSED "), (words, found)
+    return str(found).split(" ")[1].rstrip(":")
+
+
+def settings_of_scripts_are_taken(program):
+    """Servers, bounds, ops and domains."""
+    with by_settings(program, settings_of(4)) as client:
+        settings = b"\n".join(client.ask("SM", "SETTINGS")).decode()
+        assert "servers 4\nshards 2\nkeys by ranges\nrestarts at once 2\nceiling 1000" in settings, settings
+        for server_number in (1, 2, 3):
+            assert client.ask("SM", "ASK", server_number) == "OK"
+        assert client.ask("SM", "APPROVE", 1) == "OK"
+        assert refused(client, "SM", "APPROVE", 2) == "DomainCap"
+        assert client.ask("SM", "APPROVE", 3) == "OK"
+
+
+def limits_of_settings_bind(program):
+    """Capacities, limits of groups, and caps of shards and groups, each by its name."""
+    with by_settings(program, settings_of(2)) as client:
+        assert client.ask("SM", "PLAN", 1) == "plan left 0"
+        for words in (("MIGRATE", 0, 2), ("DRAIN", 1), ("RESTART", 1)):
+            assert refused(client, "SM", *words) == "NoCapacity", words
+        assert client.ask("SM", "LOOK", 0).startswith("Serving 1 0 "), "it stays where it was"
+    apart = [{"id": it + 1, "domain": it, "capacity": 2} for it in range(2)]
+    domains = [{"domain": it, "down": 1} for it in range(2)]
+    limited = settings_of(2, servers=apart, domains=domains, groups=[{"limit": 1, "down": 2}])
+    with by_settings(program, limited) as client:
+        assert refused(client, "SM", "MIGRATE", 0, 2) == "DomainLimit"
+    for members, name in [
+        ({"shards": [{"group": 0, "load": 1, "cap": 0}] * 2}, "ShardCap"),
+        ({"groups": [{"limit": 2, "down": 0}]}, "GroupCap"),
+        ({"ops": 0}, "GlobalCap"),
+    ]:
+        with by_settings(program, settings_of(4, **members)) as client:
+            assert refused(client, "SM", "RESTART", 1) == name
+            assert client.ask("SM", "ASK", 2) == "OK"
+            assert refused(client, "SM", "APPROVE", 2) == name
+    with by_settings(program, settings_of(1)) as client:
+        told = client.ask("SM", "SHARDS")
+        assert told[1].startswith(b"1 Vacant"), ("the second shard fits nowhere", told)
+
+
+def loads_stay_within_settings(program):
+    """A board that stands as in a dump has its limits, also where a migration was under way."""
+    with by_settings(program, settings_of(4)) as client:
+        assert client.ask("SM", "MIGRATE", 0, 3) == client.ask("SM", "PREPARE_ADD", 1, 4) == "OK"
+        client.ask("SM", "DUMP", "file")
+        for words in (("PREPARE_DROP", 1), ("ADD", 1), ("DROP", 1), ("MIGRATE", 0, 1)):
+            assert client.ask("SM", *words) == "OK"
+        client.ask("SM", "LOAD", "file")
+        assert [client.ask("SM", "LOOK", it)[:12] for it in (0, 1)] == ["Serving 3 0 ", "Prepared 2 4"]
+        assert refused(client, "SM", "MIGRATE", 0, 4) == "NoCapacity"
+        assert refused(client, "SM", "MIGRATE", 0, 2) == "NoCapacity"
+        assert client.ask("SM", "MIGRATE", 0, 1) == "OK"
 
 
 def what_is_not_accepted_is_told(program):
@@ -90,11 +150,14 @@ def what_is_not_accepted_is_told(program):
     taken.bind(("127.0.0.1", 0))
     taken.listen()
     port = taken.getsockname()[1]
+    settings_file = pathlib.Path(tempfile.mkdtemp()) / "settings"
+    settings_file.write_text(json.dumps(settings_of(2, groups=[])))
     for words, wanted in [
         (["--port", port], "--port takes another port"),
         (["--port", 0, "--http-port", port], "--http-port takes another port"),
         (["--servers", 0], "0 is not in 1..=4095"),
         (["--settings", "/nowhere"], "/nowhere: No such file"),
+        (["--settings", settings_file], "the settings: BadGroups"),
         (["--bounds", "m,a"], "a bound is not above the one before it"),
         (["--servers", 2, "--domains", 3], "3 domains need a server each"),
         (["--password-file", "/dev/null"], "its first line is empty"),
@@ -103,12 +166,15 @@ def what_is_not_accepted_is_told(program):
         ran = subprocess.run(command, capture_output=True, text=True, timeout=20, stdin=subprocess.DEVNULL)
         assert ran.returncode in (1, 2) and wanted in ran.stderr, (words, ran.returncode, ran.stderr[-300:])
     taken.close()
+    shutil.rmtree(settings_file.parent)
 
 
 TESTS = [
     the_page_shows_how_all_stands,
     metrics_are_in_the_format_of_prometheus,
     settings_of_scripts_are_taken,
+    limits_of_settings_bind,
+    loads_stay_within_settings,
     what_is_not_accepted_is_told,
 ]
 

@@ -150,6 +150,6 @@ fn durkenzo(cluster: &Cluster) -> String {
             "library_is_proved",
             u8::from(durkenzo::IS_PROVED).to_string(),
         ),
-        ("not_kept_of_settings", configuration.unkept.join("; ")),
+        ("limits", configuration.limits().to_owned()),
     ])
 }

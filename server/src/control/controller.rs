@@ -96,11 +96,19 @@ impl Controller {
         })
     }
 
-    /// Gives shards to all servers in turn, of a cluster in which none has an owner.
+    /// Gives shards to all servers in turn, of a cluster in which none has an owner; those that don't fit so go where
+    /// the library's plan has them go. What fits nowhere stays vacant.
     pub fn assign_all(&mut self) -> Result<(), Refusal> {
         for shard in 0..self.cluster.shards() {
             let server = shard % self.cluster.presence.servers() + 1;
-            self.change(Change::Assign(server), shard)?;
+            match self.mover.change(Change::Assign(server), shard) {
+                Ok(()) | Err(ChangeFault::NoCapacity | ChangeFault::DomainLimit) => {}
+                Err(fault) => return Err(self.why_unchanged(shard, fault)),
+            }
+        }
+        self.place()?;
+        for shard in self.mover.control.plan_assign()?.left {
+            tracing::warn!("shard {shard} fits no server, and nobody owns it");
         }
         Ok(())
     }
@@ -306,18 +314,16 @@ impl Controller {
 
     fn settings(&self) -> Answer {
         let configuration = &self.cluster.configuration;
-        let mut lines = vec![
+        Answer::Lines(vec![
             format!("servers {}", configuration.servers),
             format!("shards {}", self.cluster.shards()),
             format!("keys by {}", configuration.rule.name()),
             format!("restarts at once {}", configuration.restarts),
             format!("ceiling {}", configuration.ceiling),
             format!("wait {} ms", configuration.wait.as_millis()),
+            format!("limits {}", configuration.limits()),
             format!("data {}", self.cluster.storage.description()),
-        ];
-        let unkept = configuration.unkept.iter();
-        lines.extend(unkept.map(|it| format!("not kept: {it}")));
-        Answer::Lines(lines)
+        ])
     }
 
     fn look(&mut self, shard: u16) -> Result<Answer, Refusal> {

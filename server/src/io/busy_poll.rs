@@ -1,16 +1,32 @@
-use std::time::{Duration, Instant};
+use std::time::Duration;
 
-/// How long a thread doesn't poll after another one had its processor meanwhile.
-const PAUSE: Duration = Duration::from_millis(100);
+/// Waits of a trial of either way.
+const TRIAL: u32 = 256;
+/// Waits by the way that was quicker, before both are tried again: so many that the slower one is none in a hundred.
+const TERM: u32 = 32_768;
 
-/// How long a thread polls for events before it sleeps: where they came soon after it ran out of work last time, for as
-/// long as is allowed, and else not at all. So a thread that is asked often is spared a wake-up each time, and one that
-/// is asked seldom uses no processor. Where others want the processor, it doesn't poll for a while.
+/// Whether a thread that runs out of work polls for events for a short time before it sleeps. It makes sense where they
+/// came soon last time: a thread that is asked seldom uses no processor so. And it makes sense where there is a
+/// processor to spare; else a client would wait for the one on which the thread polls. So both ways are tried from time
+/// to time, and the one is taken by which the next events came sooner.
 #[derive(Debug)]
 pub(super) struct BusyPoll {
     most: Duration,
     comes_soon: bool,
-    pauses_until: Option<Instant>,
+    stage: Stage,
+    /// How many waits are left of the stage.
+    left: u32,
+    /// How long its waits took, of which each counts as twice the most at most.
+    spent: Duration,
+}
+
+#[derive(Clone, Copy, Debug, PartialEq, Eq)]
+enum Stage {
+    TryPolling,
+    /// After polling took so long.
+    TrySleeping(Duration),
+    Poll,
+    Sleep,
 }
 
 impl BusyPoll {
@@ -19,28 +35,43 @@ impl BusyPoll {
         BusyPoll {
             most,
             comes_soon: true,
-            pauses_until: None,
+            stage: Stage::TryPolling,
+            left: TRIAL,
+            spent: Duration::ZERO,
         }
     }
 
-    /// Whether it makes sense to begin.
-    pub(super) fn begins(&self, now: Instant) -> bool {
-        self.comes_soon && !self.most.is_zero() && self.pauses_until.is_none_or(|it| it <= now)
+    /// Whether to poll.
+    pub(super) fn begins(&self) -> bool {
+        let polls = matches!(self.stage, Stage::TryPolling | Stage::Poll);
+        polls && self.comes_soon && !self.most.is_zero()
     }
 
-    /// Whether a thread that began then, and was asked this last at that moment, is to go on.
-    pub(super) fn goes_on(&mut self, began: Instant, last: &mut Instant, now: Instant) -> bool {
-        // So long a step isn't the thread's own.
-        if now.duration_since(*last) > self.most {
-            self.pauses_until = Some(now + PAUSE);
+    /// Whether to go on after so long.
+    pub(super) fn goes_on(&self, since: Duration) -> bool {
+        since < self.most
+    }
+
+    /// Notes that events came, to a thread that had no work for so long.
+    pub(super) fn note(&mut self, took: Duration) {
+        self.comes_soon = took < self.most;
+        self.spent += took.min(2 * self.most);
+        self.left -= 1;
+        if self.left == 0 {
+            (self.stage, self.left) = self.next();
+            self.spent = Duration::ZERO;
         }
-        *last = now;
-        now.duration_since(began) < self.most
     }
 
-    /// Notes that events came now, to a thread without work since then.
-    pub(super) fn note(&mut self, since: Instant, now: Instant) {
-        self.comes_soon = now.duration_since(since) < self.most;
+    /// The next stage, and of how many waits it is.
+    fn next(&self) -> (Stage, u32) {
+        match self.stage {
+            Stage::TryPolling => (Stage::TrySleeping(self.spent), TRIAL),
+            // By a twentieth, as it uses a processor.
+            Stage::TrySleeping(polling) if 20 * polling < 19 * self.spent => (Stage::Poll, TERM),
+            Stage::TrySleeping(_) => (Stage::Sleep, TERM),
+            Stage::Poll | Stage::Sleep => (Stage::TryPolling, TRIAL),
+        }
     }
 }
 
@@ -52,22 +83,31 @@ mod tests {
 
     #[test]
     fn it_polls_where_events_come_soon() {
-        let (mut polls, now) = (BusyPoll::new(MOST), Instant::now());
-        let soon = now + MOST / 2;
-        assert!(polls.begins(now) && polls.goes_on(now, &mut now.clone(), soon));
-        assert!(!polls.goes_on(now, &mut soon.clone(), now + MOST));
-        polls.note(now, now + MOST);
-        assert!(!polls.begins(now));
-        polls.note(now, soon);
-        assert!(polls.begins(now));
-        assert!(!BusyPoll::new(Duration::ZERO).begins(now));
+        let mut polls = BusyPoll::new(MOST);
+        assert!(polls.begins() && polls.goes_on(MOST / 2) && !polls.goes_on(MOST));
+        polls.note(MOST);
+        assert!(!polls.begins());
+        polls.note(MOST / 2);
+        assert!(polls.begins());
+        assert!(!BusyPoll::new(Duration::ZERO).begins());
+    }
+
+    /// Of the waits after both trials how many polled, where the next events came after so long by either way.
+    fn polled(polling: Duration, sleeping: Duration) -> u32 {
+        let mut polls = BusyPoll::new(MOST);
+        let waits = (0..2 * TRIAL + TERM).map(|_| {
+            let begins = polls.begins();
+            polls.note(if begins { polling } else { sleeping });
+            u32::from(begins)
+        });
+        waits.skip(2 * TRIAL as usize).sum()
     }
 
     #[test]
-    fn it_pauses_where_others_want_the_processor() {
-        let (mut polls, now) = (BusyPoll::new(MOST), Instant::now());
-        let (mut last, later) = (now, now + 2 * MOST);
-        assert!(!polls.goes_on(now, &mut last, later) && last == later);
-        assert!(!polls.begins(later) && polls.begins(later + PAUSE));
+    fn it_takes_the_quicker_way() {
+        assert_eq!(polled(MOST / 6, MOST / 5), TERM);
+        assert_eq!(polled(MOST / 4, MOST / 5), 0);
+        // Where they come seldom, no wait begins so.
+        assert_eq!(polled(MOST / 4, 100 * MOST), 0);
     }
 }

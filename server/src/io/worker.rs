@@ -106,29 +106,24 @@ impl Worker {
         }
         let since = Instant::now();
         events.clear();
-        if self.busy_poll.begins(since) && self.cluster.begin_to_poll() {
+        if self.busy_poll.begins() && self.cluster.begin_to_poll() {
             let polled = self.poll_from(since, events);
             self.cluster.end_to_poll();
             polled?;
-            if !events.is_empty() {
-                return Ok(());
-            }
         }
-        self.look(events, None)?;
-        self.busy_poll.note(since, Instant::now());
+        if events.is_empty() {
+            self.look(events, None)?;
+        }
+        self.busy_poll.note(since.elapsed());
         Ok(())
     }
 
     /// Takes events as soon as they are there, without sleeping, for a short time.
     fn poll_from(&mut self, since: Instant, events: &mut Events) -> io::Result<()> {
-        let mut last = since;
-        loop {
+        while events.is_empty() && self.busy_poll.goes_on(since.elapsed()) {
             self.look(events, Some(Duration::ZERO))?;
-            let goes_on = self.busy_poll.goes_on(since, &mut last, Instant::now());
-            if !goes_on || !events.is_empty() {
-                return Ok(());
-            }
         }
+        Ok(())
     }
 
     /// Takes the events that are there, or that come in this time.
