@@ -1,81 +1,37 @@
 -- What clients learn, one call after another and one client beside another.
-use Rattle.std.proofs.Common.{◌≡◌, ◌+◌, ℕ, zero, suc, Bool, true, false, List, [], ◌++◌, add-one, arith, refl, sym, ap}
-use Rattle.std.proofs.Common.{◌∙◌, subst, append_assoc}
-use Rattle.std.specs.Prelude.{ℤ, IfErr, MatchBool, OnOk, Option, Some, None, Result, Ok, Err}
+use Rattle.std.proofs.Common.{◌≡◌, ◌+◌, ℕ, zero, suc, Bool, true, false, add-one, arith, refl, sym, ◌∙◌, subst}
+use Rattle.std.specs.Prelude.{ℤ, MatchBool, Option, Some, None, Ok, Err}
 use Rattle.std.specs.Option.{is_some}
-use Rattle.std.proofs.lemmas.List.{append-nil}
 use Rattle.sm_body.specs.Service.{Service}
 use Rattle.sm_ranges.specs.Ranges.{shard_of}
-use Rattle.sm_publish.specs.Seen.{Extends}
-use Rattle.sm_rule.specs.Passes.{PassValue}
-use Rattle.sm_rule.specs.Views.{Begins}
-use Rattle.sm_rule.specs.lemmas.Passing.{begins_begins, looks_begins}
+use Rattle.sm_rule.specs.lemmas.Passing.{begins_begins}
 use Rattle.sm_server.specs.Answers.{AnswerValue, IsAnswer}
 use Rattle.sm_server.specs.lemmas.Beginnings.{none_begins}
 use Rattle.sm_cluster.specs.declared.call_refused.CallFault.{CallFault}
 use Rattle.sm_cluster.specs.declared.call_refused.CallFault.TheVariants.{NoRoute, Unreachable, Refused, NoMemory}
 use Rattle.sm_cluster.specs.declared.call_refused.CallFault.TheVariants.{Closed}
-use Rattle.sm_cluster.specs.declared.call_refused.CallRefused.{CallRefused}
-use Rattle.sm_cluster.specs.Calls.{ClientValue, FaultAt, Gives, client_reading, handed_back}
+use Rattle.sm_cluster.specs.Calls.{CallResult, CalledAt, ClientValue, FaultAt, Gives, handed_back}
 use Rattle.sm_cluster.specs.Loads.{HasLearned, HasLearnedCount, HasLearnedCounts, HasLearnedReply, IsClientSince}
-use Rattle.sm_cluster.proofs.Travelling.{begins_same}
-
-pub since_same : {Q : Type 0} (client : ClientValue Q) → IsClientSince client client
-since_same client = record {
-  board = refl;
-  bounds = refl;
-  seen = begins_same client.pass.seen;
-  read = ([], sym (append-nil client.router.seen));
-}
-
-extends_extends : {X : Type 0} (one two three : List X) → (more : List X) × (two ≡ one ++ more)
-    → (more : List X) × (three ≡ two ++ more) → (more : List X) × (three ≡ one ++ more)
-extends_extends one two three first second =
-    (first.0 ++ second.0, second.1 ∙ (ap (λ list. list ++ second.0) first.1 ∙ append_assoc one first.0 second.0))
-
-pub since_since : {Q : Type 0} (a b c : ClientValue Q) → IsClientSince a b → IsClientSince b c → IsClientSince a c
-since_since a b c first second = record {
-  board = second.board ∙ first.board;
-  bounds = second.bounds ∙ first.bounds;
-  seen = begins_begins a.pass.seen b.pass.seen c.pass.seen first.seen second.seen;
-  read = extends_extends a.router.seen b.router.seen c.router.seen first.read second.read;
-}
+use Rattle.sm_cluster.specs.lemmas.Since.{since_looks, since_same, since_since}
 
 -- a client whose call at a server ended so has seen no less
 module _ {Q R : Type 0} (service : Service Q R) (number : ℕ) (request : Q) where
-  since_at : (before after : ClientValue Q) (fault : CallFault) → FaultAt service before after number request fault
-      → IsClientSince before after
-  since_at before after NoRoute never = absurd never
-  since_at before after Unreachable same =
+  since_fault : (before after : ClientValue Q) (fault : CallFault)
+      → FaultAt service before after number request fault → IsClientSince before after
+  since_fault before after NoRoute never = absurd never
+  since_fault before after Unreachable same =
       subst (λ (client : ClientValue Q). IsClientSince before client) (sym same) (since_same before)
-  since_at before after (Refused refusal) why = record {
-    board = ap (λ (pass : PassValue Q). pass.board) why.0.1;
-    bounds = ap (λ (client : ClientValue Q). client.bounds) why.1;
-    seen = looks_begins before.pass after.pass why.0;
-    read = ([], ap (λ (client : ClientValue Q). client.router.seen) why.1 ∙ sym (append-nil before.router.seen));
-  }
-  since_at before after NoMemory same =
+  since_fault before after (Refused refusal) why = since_looks before after why.0 why.1
+  since_fault before after NoMemory same =
       subst (λ (client : ClientValue Q). IsClientSince before client) (sym same) (since_same before)
-  since_at before after Closed same =
+  since_fault before after Closed same =
       subst (λ (client : ClientValue Q). IsClientSince before client) (sym same) (since_same before)
 
-  pub since_call : {X : Type 0} (before after : ClientValue Q) (result : Result X (CallRefused Q))
-      → OnOk result (after ≡ before)
-      → IfErr result (λ refused. FaultAt service before after number request refused.fault) → IsClientSince before after
-  since_call before after (Ok answer) same why =
-      subst (λ (client : ClientValue Q). IsClientSince before client) (sym same) (since_same before)
-  since_call before after (Err refused) same why = since_at before after refused.fault why
-
--- a client that has read routes has seen no less
-pub since_read : {Q : Type 0} (before after : ClientValue Q) → after ≡ client_reading before after.router
-    → Extends after.router.seen before.router.seen → IsClientSince before after
-since_read {Q} before after is read = record {
-  board = ap (λ (client : ClientValue Q). client.pass.board) is;
-  bounds = ap (λ (client : ClientValue Q). client.bounds) is;
-  seen = subst (λ (client : ClientValue Q). Begins before.pass.seen client.pass.seen) (sym is)
-      (begins_same before.pass.seen);
-  read = read;
-}
+  pub since_called : (before after : ClientValue Q) (result : CallResult Q R)
+      → CalledAt service before number request result after → IsClientSince before after
+  since_called before after (Ok answer) called =
+      subst (λ (client : ClientValue Q). IsClientSince before client) (sym called.1) (since_same before)
+  since_called before after (Err refused) called = since_fault before after refused.fault called.1
 
 module _ {Q R : Type 0} (service : Service Q R) (request : Q) where
   -- what was learned stays so

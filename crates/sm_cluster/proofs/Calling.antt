@@ -1,9 +1,8 @@
 -- What a reply to a call is to its caller.
-use Rattle.std.proofs.Common.{◌≡◌, ℕ, List, ◌∙◌, ap, refl, subst, sym}
-use Rattle.std.specs.Prelude.{Some, Result, Ok, Err, IfOk, IfErr, OnOk}
+use Rattle.std.proofs.Common.{◌≡◌, ℕ, List, ◌∙◌, ap, refl, subst}
+use Rattle.std.specs.Prelude.{Some, Result, Ok, Err, IfOk}
 use Rattle.sm_body.specs.Service.{Service}
 use Rattle.sm_ownership.specs.declared.entry.Entry.{Entry}
-use Rattle.sm_publish.specs.Seen.{RouterView}
 use Rattle.sm_rule.specs.Boards.{BoardValue}
 use Rattle.sm_rule.specs.Passes.{PassValue}
 use Rattle.sm_rule.specs.Views.{Begins}
@@ -16,11 +15,10 @@ use Rattle.sm_server.specs.Serving.{Sent, Served, is_here}
 use Rattle.sm_cluster.specs.declared.call_refused.CallFault.{CallFault}
 use Rattle.sm_cluster.specs.declared.call_refused.CallFault.TheVariants.{NoRoute, Unreachable, Refused, NoMemory}
 use Rattle.sm_cluster.specs.declared.call_refused.CallFault.TheVariants.{Closed}
-use Rattle.sm_cluster.specs.declared.call_refused.CallRefused.{CallRefused}
 use Rattle.sm_cluster.specs.declared.reply.CallReply.{CallReply}
 use Rattle.sm_cluster.specs.declared.reply.CallReply.TheVariants as reply
-use Rattle.sm_cluster.specs.Calls.{ClientValue, FaultAt, FaultByRoute, Gives, HandsBack, IsAnswerFor, IsEnvelopeOf}
-use Rattle.sm_cluster.specs.Calls.{WasRefused, client_reading, handed_back, shard_asked}
+use Rattle.sm_cluster.specs.Calls.{CalledAt, ClientValue, FaultAt, IsAnswerFor, IsEnvelopeOf, WasRefused, handed_back}
+use Rattle.sm_cluster.specs.Calls.{shard_asked}
 use Rattle.sm_cluster.specs.Exchanging.{IsCallOf, IsLeftAfter, IsLeftBy, SendsBackOn, call_outcome}
 use Rattle.sm_cluster.specs.Replies.{CallValue, ComesBackFor, Fits, IsAnswerTo, IsRefusalTo}
 use Rattle.sm_cluster.proofs.Travelling.{new_told}
@@ -96,71 +94,17 @@ module _ {Q R : Type 0} (service : Service Q R) (before : ClientValue Q) (number
   fault_for after NoMemory back why left = left
   fault_for after Closed back never left = absurd never
 
-  module _ {E : Type 0} where
-    pub call_answer : (reply : Result (CallReply (AnswerValue Q R) (Sent Q)) E) → IfOk reply (Fits service (Some asked))
-        → IfOk (call_outcome reply) (λ answer. Gives service before number request answer)
-    call_answer (Ok (reply.Answered answer)) fits = answers_for service before.pass
-        (shard_asked service before request) number request asked.sent answer of.sent fits
-    call_answer (Ok (reply.Refused fault back)) fits = tt
-    call_answer (Err none) fits = tt
-
-    pub call_answered : (reply : Result (CallReply (AnswerValue Q R) (Sent Q)) E) (after : ClientValue Q)
-        → IsLeftAfter before reply after → OnOk (call_outcome reply) (after ≡ before)
-    call_answered (Ok (reply.Answered answer)) after left = left
-    call_answered (Ok (reply.Refused fault back)) after left = tt
-    call_answered (Err none) after left = tt
-
-    pub call_back : (reply : Result (CallReply (AnswerValue Q R) (Sent Q)) E) → IfOk reply (Fits service (Some asked))
-        → IfErr (call_outcome reply) (λ refused. HandsBack request refused)
-    call_back (Ok (reply.Answered answer)) fits = tt
-    call_back (Ok (reply.Refused fault back)) fits =
-        request_back service asked back fault request (fits.0.request ∙ of.sent.request_is) fits.1
-    call_back (Err none) fits = refl
-
-    pub call_fault : (reply : Result (CallReply (AnswerValue Q R) (Sent Q)) E) (after : ClientValue Q)
-        → IfOk reply (Fits service (Some asked)) → IsLeftAfter before reply after
-        → IfErr (call_outcome reply) (λ refused. FaultAt service before after number request refused.fault)
-    call_fault (Ok (reply.Answered answer)) after fits left = tt
-    call_fault (Ok (reply.Refused fault back)) after fits left = fault_for after fault back fits.1 left
-    call_fault (Err none) after fits left = left
-
--- a call at a server leaves the router as it is
-module _ {Q R : Type 0} (service : Service Q R) (number : ℕ) (request : Q) where
-  router_at : (before after : ClientValue Q) (fault : CallFault) → FaultAt service before after number request fault
-      → after.router ≡ before.router
-  router_at before after NoRoute never = absurd never
-  router_at before after Unreachable same = ap (λ (client : ClientValue Q). client.router) same
-  router_at before after (Refused refusal) why = ap (λ (client : ClientValue Q). client.router) why.1
-  router_at before after NoMemory same = ap (λ (client : ClientValue Q). client.router) same
-  router_at before after Closed same = ap (λ (client : ClientValue Q). client.router) same
-
-  pub router_after : {X : Type 0} (before after : ClientValue Q) (result : Result X (CallRefused Q)) → OnOk result
-      (after ≡ before) → IfErr result (λ refused. FaultAt service before after number request refused.fault)
-      → after.router ≡ before.router
-  router_after before after (Ok answer) same why = ap (λ (client : ClientValue Q). client.router) same
-  router_after before after (Err refused) same why = router_at before after refused.fault why
-
-  -- what is known of a call at the server of a route
-  fault_by_route : (before after : ClientValue Q) (fault : CallFault)
-      → FaultAt service (client_reading before after.router) after number request fault
-      → FaultByRoute service before after number request fault
-  fault_by_route before after NoRoute never = absurd never
-  fault_by_route before after Unreachable why = why
-  fault_by_route before after (Refused refusal) why = why
-  fault_by_route before after NoMemory why = why
-  fault_by_route before after Closed why = why
-
-  pub by_route : {X : Type 0} (before after : ClientValue Q) (result : Result X (CallRefused Q)) → IfErr result
-      (λ refused. FaultAt service (client_reading before after.router) after number request refused.fault)
-      → IfErr result (λ refused. FaultByRoute service before after number request refused.fault)
-  by_route before after (Ok answer) why = tt
-  by_route before after (Err refused) why = fault_by_route before after refused.fault why
-
--- an answer by a route leaves the client as it was but for its router
-pub answered_by_route : {Q X : Type 0} (before mid after : ClientValue Q) (result : Result X (CallRefused Q))
-    → mid ≡ client_reading before mid.router → OnOk result (after ≡ mid)
-    → OnOk result (after ≡ client_reading before after.router)
-answered_by_route {Q} before mid after (Ok answer) read same =
-    same ∙ (read ∙ ap (λ (router : RouterView). client_reading before router)
-    (sym (ap (λ (client : ClientValue Q). client.router) same)))
-answered_by_route before mid after (Err refused) read same = tt
+  -- what the call gives by its reply, or by none
+  pub called_at : {E : Type 0} (reply : Result (CallReply (AnswerValue Q R) (Sent Q)) E) (after : ClientValue Q)
+      → IfOk reply (Fits service (Some asked)) → IsLeftAfter before reply after
+      → CalledAt service before number request (call_outcome reply) after
+  called_at (Ok (reply.Answered answer)) after fits left = (
+    answers_for service before.pass (shard_asked service before request) number request asked.sent answer of.sent
+        fits,
+    left,
+  )
+  called_at (Ok (reply.Refused fault back)) after fits left = (
+    request_back service asked back fault request (fits.0.request ∙ of.sent.request_is) fits.1,
+    fault_for after fault back fits.1 left,
+  )
+  called_at (Err none) after fits left = (refl, left)

@@ -1,5 +1,6 @@
 -- What a checkpoint of a cluster's shard leaves.
-use Rattle.std.specs.Prelude.{ℕ, ◌≡◌, [], Result, Ok, Err}
+use Rattle.std.specs.Prelude.{ℕ, ◌≡◌, ◌<◌, ◌≤◌, true, false, [], Result, Ok, Err}
+use Rattle.sm_desk.specs.Desk.{is_known}
 use Rattle.sm_ownership.specs.History.{kept}
 use Rattle.sm_rule.specs.declared.permit.Front.{Front}
 use Rattle.sm_rule.specs.Passes.{PassValue, record_of}
@@ -35,3 +36,15 @@ pub record IsBasedBy {Q : Type 0} (cluster : ClusterValue Q) (shard server : ℕ
   pub made : BasesOrRefuses before shard after result
   pub told : Begins after.seen later.told
   pub others : TellsMore cluster later
+
+-- what a checkpoint leaves and answers: the first reason that applies, or what comes of it where there are both shard
+-- and server
+abbrev pub HasBased : {Q : Type 0} → ClusterValue Q → ℕ → ℕ → Result Front HoldFault → ClusterValue Q → Type 0
+HasBased before shard server result after =
+    (before.control.chair.board.limits.count ≤ shard → (result ≡ Err hold.UnknownShard) × (after ≡ before))
+    × (shard < before.control.chair.board.limits.count
+    → is_known before.control.desk.books.servers server ≡ false
+    → (result ≡ Err hold.UnknownServer) × (after ≡ before))
+    × (shard < before.control.chair.board.limits.count
+    → is_known before.control.desk.books.servers server ≡ true
+    → IsBasedBy before shard server result after)

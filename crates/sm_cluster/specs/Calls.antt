@@ -1,14 +1,16 @@
 -- Clients as contracts see them, and what a call gives.
-use Rattle.std.specs.Prelude.{ℕ, ◌≡◌, ◌⊎◌, List, Option, Some, None}
+use Rattle.std.specs.Prelude.{ℕ, ◌≡◌, ◌⊎◌, List, Option, Some, None, Result, Ok, Err}
 use Rattle.sm_body.specs.Service.{Service}
 use Rattle.sm_ownership.specs.declared.entry.Entry.{Entry}
 use Rattle.sm_ownership.specs.declared.mode.Mode.{Mode}
+use Rattle.sm_ownership.specs.declared.record.Record.{Record}
+use Rattle.sm_ownership.specs.declared.route.Route.{Route}
 use Rattle.sm_ownership.specs.History.{NoneBy}
 use Rattle.sm_ownership.specs.Routes.{routes_of}
-use Rattle.sm_publish.specs.Seen.{RouterView}
+use Rattle.sm_publish.specs.Seen.{Extends, RouterView}
 use Rattle.sm_ranges.specs.Ranges.{shard_of}
-use Rattle.sm_rule.specs.Passes.{PassLooks, PassValue}
-use Rattle.sm_rule.specs.Views.{Begins}
+use Rattle.sm_rule.specs.Passes.{PassLooks, PassValue, record_of}
+use Rattle.sm_rule.specs.Views.{Begins, IsMet}
 use Rattle.sm_server.specs.Answers.{AnswerValue, IsAnswer}
 use Rattle.sm_server.specs.declared.refusal.Refusal.{Refusal}
 use Rattle.sm_server.specs.declared.outcome.Outcome.TheVariants as outcome
@@ -31,6 +33,26 @@ client_seeing client pass = record client { pass = pass }
 -- a client with a router that has seen this
 abbrev pub client_reading : {Q : Type 0} → ClientValue Q → RouterView → ClientValue Q
 client_reading client router = record client { router = router }
+
+-- the client has looked: this is the shard's record after all that it then has seen
+abbrev pub HasLooked : {Q : Type 0} → ClientValue Q → ℕ → Record → ClientValue Q → Type 0
+HasLooked before shard state after =
+    PassLooks before.pass after.pass × (state ≡ record_of after.pass shard) × (after ≡ client_seeing before after.pass)
+
+-- the client has heard a note: it then has seen all that the note tells
+abbrev pub HasHeard : {Q : Type 0} → ClientValue Q → PassValue Q → ClientValue Q → Type 0
+HasHeard before note after =
+    PassLooks before.pass after.pass × IsMet note.number note.seen after.pass.seen
+    × (after ≡ client_seeing before after.pass)
+
+-- the client's router has read: this is the shard's last route of those that it then has seen, or there is none, as it
+-- has seen none, or the read was refused
+abbrev pub HasReadRoute : {Q : Type 0} → ClientValue Q → ℕ → Option Route → ClientValue Q → Type 0
+HasReadRoute before shard route after =
+    Extends after.router.seen before.router.seen
+    × ((route ≡ routes_of after.router.seen shard)
+    ⊎ ((route ≡ None) × (after.router.seen ≡ before.router.seen)))
+    × (after ≡ client_reading before after.router)
 
 -- an answer for a caller: to the request of this number for the shard, in a history that extends all that the caller
 -- had seen, by the entries by which the request was executed among others
@@ -94,15 +116,27 @@ FaultAt service before after number request (Refused refusal) =
     × WasRefused service before number request refusal after.pass.seen
 FaultAt service before after number request fault = after ≡ before
 
--- the router has seen no route of the shard, or its read was refused
-abbrev pub ReadsNoRoute : RouterView → RouterView → ℕ → Type 0
-ReadsNoRoute before after shard = (routes_of after.seen shard ≡ None) ⊎ (after.seen ≡ before.seen)
+-- what a call gives: an answer, or why there is none
+abbrev pub CallResult : Type 0 → Type 0 → Type 0
+CallResult Q R = Result (AnswerValue Q R) (CallRefused Q)
 
--- why a call isn't answered that goes by a route, and the client that this leaves: the router gave none, or it is as
--- at a server
-abbrev pub FaultByRoute : {Q R : Type 0} → Service Q R → ClientValue Q → ClientValue Q → ℕ → Q → CallFault → Type 0
-FaultByRoute service before after number request NoRoute =
-    ReadsNoRoute before.router after.router (shard_asked service before request)
-    × (after ≡ client_reading before after.router)
-FaultByRoute service before after number request fault =
-    FaultAt service (client_reading before after.router) after number request fault
+-- what a call at a server gives, and the client that this leaves
+abbrev pub CalledAt : {Q R : Type 0} → Service Q R → ClientValue Q → ℕ → Q → CallResult Q R → ClientValue Q → Type 0
+CalledAt service before number request (Ok answer) after =
+    Gives service before number request answer × (after ≡ before)
+CalledAt service before number request (Err refused) after =
+    HandsBack request refused × FaultAt service before after number request refused.fault
+
+-- what a call by this route gives: where there is none, it is refused for that
+abbrev pub CalledBy : {Q R : Type 0} → Service Q R → ClientValue Q → ℕ → Q → Option Route → CallResult Q R
+    → ClientValue Q → Type 0
+CalledBy service before number request None result after =
+    (result ≡ Err (record { fault = NoRoute; back = Some request })) × (after ≡ before)
+CalledBy service before number request (Some route) result after = CalledAt service before number request result after
+
+-- what a call gives, and the client that this leaves: it goes by the route that the router then reads of the shard
+abbrev pub Called : {Q R : Type 0} → Service Q R → ClientValue Q → ℕ → Q → CallResult Q R → ClientValue Q → Type 0
+Called {Q} service before number request result after =
+    (route : Option Route) × (read : ClientValue Q)
+    × HasReadRoute before (shard_asked service before request) route read
+    × CalledBy service read number request route result after

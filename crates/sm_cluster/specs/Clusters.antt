@@ -9,11 +9,11 @@ use Rattle.sm_ownership.specs.declared.record.Record.{Record}
 use Rattle.sm_ownership.specs.History.{IsLegal, NoneBy}
 use Rattle.sm_publish.specs.Publishing.{PublisherView}
 use Rattle.sm_rule.specs.Closing.{AreLeft}
-use Rattle.sm_rule.specs.Passes.{PassAdds, PassValue}
+use Rattle.sm_rule.specs.Passes.{PassAdds, PassLooks, PassValue}
 use Rattle.sm_rule.specs.Views.{Begins}
 use Rattle.sm_cluster.specs.declared.hold_fault.HoldFault.{HoldFault}
 use Rattle.sm_cluster.specs.declared.hold_fault.HoldFault.TheVariants as hold
-use Rattle.sm_cluster.specs.Calls.{ClientValue}
+use Rattle.sm_cluster.specs.Calls.{ClientValue, client_seeing}
 use Rattle.sm_cluster.specs.Holding.{AreEndedIn, IsHold, IsTurnedAway, hold_at}
 use Rattle.sm_cluster.specs.Passes.{IsNewPass}
 
@@ -93,6 +93,16 @@ FreeRefused cluster shard fault = ⊥
 -- a client of the cluster: of its board, and with its bounds
 abbrev pub IsClientOf : {Q : Type 0} → ClusterValue Q → ClientValue Q → Type 0
 IsClientOf cluster client = (client.pass.board ≡ cluster.control.chair.board) × (client.bounds ≡ cluster.bounds)
+
+-- the client has seen all that the cluster tells
+abbrev pub KnowsAll : {Q : Type 0} → ClusterValue Q → ClientValue Q → Type 0
+KnowsAll cluster client = Begins cluster.told client.pass.seen
+
+-- the cluster has told the client, which has then seen all that the cluster tells, and all that its control has seen
+abbrev pub HasTold : {Q : Type 0} → ClusterValue Q → ClientValue Q → ClientValue Q → Type 0
+HasTold cluster before after =
+    PassLooks before.pass after.pass × KnowsAll cluster after
+    × Begins cluster.control.chair.seen after.pass.seen × (after ≡ client_seeing before after.pass)
 
 -- the rows are those of all shards after one legal history, to which passes alone have added since the chair last
 -- looked, which extends what each client that came back had seen, in which each hold was ended, and which extends what

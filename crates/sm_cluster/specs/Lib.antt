@@ -1,6 +1,7 @@
 pub mod Basing
 pub mod Calls
 pub mod Clusters
+pub mod Commands
 pub mod Exchanging
 pub mod Holding
 pub mod IncCounts
@@ -9,3 +10,8 @@ pub mod Passes
 pub mod Publications
 pub mod Replies
 pub mod Telling
+pub mod lemmas
+pub use Rattle.sm_publish.specs.Seen
+pub use Rattle.sm_rule.specs.declared.admit_refusal.AdmitRefusal
+pub use Rattle.sm_rule.specs.declared.permit.Front
+pub use Rattle.sm_server.specs.declared.refusal.Refusal

@@ -1,6 +1,6 @@
 -- What a publication of a shard's route leaves.
 use Rattle.std.specs.Prelude.{ℕ, ◌≡◌, Option, Some, None, Result, Ok, Err}
-use Rattle.sm_control.specs.Routes.{IsRouteOf}
+use Rattle.sm_control.specs.Routes.{IsRouteOf, route_fault}
 use Rattle.sm_ownership.specs.declared.route.Route.{Route}
 use Rattle.sm_ownership.specs.declared.route_fault.RouteFault.{RouteFault}
 use Rattle.sm_ownership.specs.declared.route_fault.RouteFault.TheVariants.{NoMemory}
@@ -30,3 +30,8 @@ Published None before after shard (Ok route) =
 Published None before after shard (Err fault) =
     (route : Route) × ReadsRoute before after shard route × IsMapFault (publish_fault before.map.map route) fault
     × (after.map ≡ before.map)
+
+-- what a publication leaves and answers: of a shard that has no route, why, and else its route
+abbrev pub HasPublished : {Q : Type 0} → ClusterValue Q → ℕ → Result Route RouteFault → ClusterValue Q → Type 0
+HasPublished before shard result after =
+    Published (route_fault before.control.desk.books shard) before after shard result

@@ -1,12 +1,8 @@
-ghost use Rattle.std.specs.Prelude.{◌≡◌, ◌<◌, ◌⊎◌, None, Some, IfErr, IfOk, OnOk, length};
+ghost use Rattle.std.specs.Prelude.{◌≡◌, ◌<◌, None, Some, IfErr, IfOk, length};
 ghost use Rattle.std.specs.Arc.{arc_value};
 ghost use Rattle.sm_body.specs.Service.{meaning_of};
-ghost use Rattle.sm_ownership.specs.Routes.{routes_of};
-ghost use Rattle.sm_publish.specs.Seen.{Extends};
 ghost use Rattle.sm_ranges.specs.Ranges.{shard_of};
-ghost use Rattle.sm_rule.specs.Passes.{PassLooks, record_of};
-ghost use Rattle.sm_rule.specs.Views.{IsMet};
-ghost use Rattle.sm_cluster.specs.Calls.{FaultAt, FaultByRoute, Gives, HandsBack, client_reading, client_seeing};
+ghost use Rattle.sm_cluster.specs.Calls.{Called, CalledAt, HasHeard, HasLooked, HasReadRoute};
 ghost use Rattle.sm_cluster.specs.Exchanging.{IsCallOf, IsLeftAfter, IsLeftBy, SendsBackOn, call_outcome};
 ghost use Rattle.sm_cluster.specs.Loads.{IsClientSince};
 ghost use Rattle.sm_cluster.specs.Replies.{Fits};
@@ -90,12 +86,8 @@ impl<S: Service> Client<S> {
         number: u64,
         request: S::Request,
     ) -> Result<Answer<S>, CallRefused<S::Request>>
-        ensures answer { IfOk result
-            (λ answer. Gives (meaning_of S.initial S.next S.answer S.key_of) self.old number request answer) }
-        ensures answered { OnOk result (self.new ≡ client_reading self.old self.new.router) }
-        ensures back { IfErr result (λ refused. HandsBack request refused) }
-        ensures fault { IfErr result (λ refused. FaultByRoute
-            (meaning_of S.initial S.next S.answer S.key_of) self.old self.new number request refused.fault) }
+        ensures called { Called
+            (meaning_of S.initial S.next S.answer S.key_of) self.old number request result self.new }
         ensures since { IsClientSince self.old self.new }
     {
         let k = self.shard_of(&request);
@@ -105,7 +97,7 @@ impl<S: Service> Client<S> {
                 back: Some(request),
             });
         };
-        self.call_for(rt, alloc, route.server, number, k, request)
+        self.call_shard_at(rt, alloc, route.server, number, k, request)
     }
 
     /// Has this server answer the request, or one that it forwards it to. The answer's history extends all that the
@@ -120,28 +112,24 @@ impl<S: Service> Client<S> {
         number: u64,
         request: S::Request,
     ) -> Result<Answer<S>, CallRefused<S::Request>>
-        ensures answer { IfOk result
-            (λ answer. Gives (meaning_of S.initial S.next S.answer S.key_of) self.old number request answer) }
-        ensures answered { OnOk result (self.new ≡ self.old) }
-        ensures back { IfErr result (λ refused. HandsBack request refused) }
-        ensures fault { IfErr result (λ refused. FaultAt
-            (meaning_of S.initial S.next S.answer S.key_of) self.old self.new number request refused.fault) }
+        ensures called { CalledAt
+            (meaning_of S.initial S.next S.answer S.key_of) self.old number request result self.new }
         ensures since { IsClientSince self.old self.new }
     {
         let k = self.shard_of(&request);
-        self.call_for(rt, alloc, server, number, k, request)
+        self.call_shard_at(rt, alloc, server, number, k, request)
     }
 
-    // The shard whose range covers the request's key.
-    fn shard_of(&self, request: &S::Request) -> ShardId
+    /// The shard whose range covers the request's key.
+    pub fn shard_of(&self, request: &S::Request) -> ShardId
         ensures within { result < length self.now.bounds }
         ensures value { result ≡ shard_of self.now.bounds (S.key_of request.now) }
     {
         self.ground.layout.shard_of(S::key(request))
     }
 
-    // `call_at`, for who has found the shard of the request's key.
-    fn call_for<R: Wait>(
+    /// `call_at`, for who has found the shard of the request's key.
+    pub fn call_shard_at<R: Wait>(
         &mut self,
         rt: &R,
         alloc: Global,
@@ -152,12 +140,8 @@ impl<S: Service> Client<S> {
     ) -> Result<Answer<S>, CallRefused<S::Request>>
         requires within { k < length self.old.bounds }
         requires shard { k ≡ shard_of self.old.bounds (S.key_of request) }
-        ensures answer { IfOk result
-            (λ answer. Gives (meaning_of S.initial S.next S.answer S.key_of) self.old number request answer) }
-        ensures answered { OnOk result (self.new ≡ self.old) }
-        ensures back { IfErr result (λ refused. HandsBack request refused) }
-        ensures fault { IfErr result (λ refused. FaultAt
-            (meaning_of S.initial S.next S.answer S.key_of) self.old self.new number request refused.fault) }
+        ensures called { CalledAt
+            (meaning_of S.initial S.next S.answer S.key_of) self.old number request result self.new }
         ensures since { IsClientSince self.old self.new }
     {
         match self.message(alloc, number, k, request) {
@@ -251,9 +235,7 @@ impl<S: Service> Client<S> {
     /// The shard's record after all that the client then has seen.
     pub fn look(&mut self, k: ShardId) -> Record
         requires { k < self.old.pass.board.limits.count }
-        ensures seen { PassLooks self.old.pass self.new.pass }
-        ensures state { result ≡ record_of self.new.pass k }
-        ensures unchanged { self.new ≡ client_seeing self.old self.new.pass }
+        ensures { HasLooked self.old k result self.new }
     {
         self.ground.board.look(&mut self.pass, k)
     }
@@ -261,20 +243,14 @@ impl<S: Service> Client<S> {
     /// The route of the key's shard that was published last of those that the client's router has then seen, or none
     /// where it has seen none, or the read is refused.
     pub fn route(&mut self, key: &[u8]) -> Option<Route>
-        ensures later { Extends self.new.router.seen self.old.router.seen }
-        ensures route { (result ≡ routes_of self.new.router.seen (shard_of self.old.bounds key.now))
-            ⊎ ((result ≡ None) × (self.new.router.seen ≡ self.old.router.seen)) }
-        ensures unchanged { self.new ≡ client_reading self.old self.new.router }
+        ensures { HasReadRoute self.old (shard_of self.old.bounds key.now) result self.new }
     {
         self.router.route(&self.ground.layout, key)
     }
 
     // `route`, for who has found the key's shard.
     fn shard_route(&mut self, k: ShardId) -> Option<Route>
-        ensures later { Extends self.new.router.seen self.old.router.seen }
-        ensures route { (result ≡ routes_of self.new.router.seen k)
-            ⊎ ((result ≡ None) × (self.new.router.seen ≡ self.old.router.seen)) }
-        ensures unchanged { self.new ≡ client_reading self.old self.new.router }
+        ensures { HasReadRoute self.old k result self.new }
     {
         self.router.shard_route(k)
     }
@@ -288,9 +264,7 @@ impl<S: Service> Client<S> {
           reply = answer.reply;
           place = answer.place;
         } }
-        ensures seen { PassLooks self.old.pass self.new.pass }
-        ensures met { IsMet answer.note.number answer.note.seen self.new.pass.seen }
-        ensures unchanged { self.new ≡ client_seeing self.old self.new.pass }
+        ensures heard { HasHeard self.old answer.note self.new }
     {
         let number = answer.number();
         let server = answer.server();
@@ -308,9 +282,7 @@ impl<S: Service> Client<S> {
     /// Tells the client what a note tells.
     pub(crate) fn hear(&mut self, note: Note<S>)
         requires { note.board ≡ self.old.pass.board }
-        ensures seen { PassLooks self.old.pass self.new.pass }
-        ensures met { IsMet note.number note.seen self.new.pass.seen }
-        ensures unchanged { self.new ≡ client_seeing self.old self.new.pass }
+        ensures { HasHeard self.old note self.new }
     {
         self.ground.board.meet(&mut self.pass, note);
     }

@@ -130,7 +130,7 @@ fn inc_each<S: Service, C: Counting<S::Request, S::Reply>, R: Wait>(
 }
 
 // Makes an inc, and says whether it was answered by a count.
-#[tactic(auto, using(crate::proofs::Acking::since_same, crate::proofs::Acking::since_since))]
+#[tactic(auto, using(crate::specs::lemmas::Since::since_same, crate::specs::lemmas::Since::since_since))]
 fn inc<S: Service, C: Counting<S::Request, S::Reply>, R: Wait>(
     rt: &R,
     alloc: Global,
@@ -153,7 +153,7 @@ fn inc<S: Service, C: Counting<S::Request, S::Reply>, R: Wait>(
 }
 
 // The count that a call gives, 0 where it gives none; or nothing where it is refused.
-#[tactic(auto, using(crate::proofs::Acking::since_same, crate::proofs::Acking::since_since))]
+#[tactic(auto, using(crate::specs::lemmas::Since::since_same, crate::specs::lemmas::Since::since_since))]
 fn count<S: Service, C: Counting<S::Request, S::Reply>, R: Wait>(
     rt: &R,
     alloc: Global,
@@ -176,7 +176,7 @@ fn count<S: Service, C: Counting<S::Request, S::Reply>, R: Wait>(
 
 // The reply to the request, which is made anew where its shard was admitted for another one; or nothing where it is
 // refused.
-#[tactic(auto, using(crate::proofs::Acking::since_same, crate::proofs::Acking::since_since))]
+#[tactic(auto, using(crate::specs::lemmas::Since::since_same, crate::specs::lemmas::Since::since_since))]
 fn ask<S: Service, R: Wait>(
     rt: &R,
     alloc: Global,

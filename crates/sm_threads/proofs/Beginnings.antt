@@ -7,7 +7,6 @@ use Rattle.sm_cluster.specs.declared.TheConstants.{MAX_WORKERS}
 use Rattle.sm_cluster.specs.Clusters.{ClusterValue}
 use Rattle.sm_desk.specs.Desk.{DeskView}
 use Rattle.sm_session.specs.Beginning.{settings_desk}
-use Rattle.sm_publish.specs.Publishing.{MapView}
 use Rattle.sm_service.specs.Service.{TextLog}
 use Rattle.sm_settings.specs.SettingsLine.{SettingsValues}
 use Rattle.sm_service.specs.declared.request.Request.{Request}
@@ -36,9 +35,6 @@ few_workers settings desk workers desk_is same few =
     ⊎_elim (λ much. absurd (few (subst (λ n. MAX_WORKERS < n) (sym many) much))) (λ most. most)
     (cases_lt MAX_WORKERS (length settings.servers * settings.workers))
 
-abbrev new_map : ℕ → MapView
-new_map count = record { count = count; published = [] }
-
 -- the session of a cluster that was started from the settings' parts
 pub is_begun : (settings : SettingsValues) (session : SessionValue) (cluster : ClusterValue Request) (desk : DeskView)
     (bodies : List TextLog) (count : ℕ)
@@ -48,7 +44,8 @@ pub is_begun : (settings : SettingsValues) (session : SessionValue) (cluster : C
     → cluster.control.chair.board.limits.ceiling ≡ settings.ceiling
     → cluster.control.chair.board.limits.bodies ≡ map (λ (body : TextLog). body.limit) bodies
     → cluster.bounds ≡ settings.bounds → cluster.holds ≡ replicate (length bodies) None
-    → cluster.map.map ≡ new_map (length bodies) → cluster.control.chair.board.limits.count ≡ length bodies
+    → cluster.map.map ≡ record { count = length bodies; published = [] }
+    → cluster.control.chair.board.limits.count ≡ length bodies
     → IsNewClientOf cluster session.client → All (IsNewClientOf cluster) session.loaders
     → length session.loaders ≡ LOADERS
     → length settings.servers * settings.workers ≤ MAX_WORKERS → IsBegun settings session
@@ -67,7 +64,8 @@ is_begun settings session cluster desk bodies count counted desk_is bodies_are s
       kept = ap (λ (c : ClusterValue Request). c.control.chair.board.limits.bodies) same ∙ (limits ∙ kept);
       bounds = ap (λ (c : ClusterValue Request). c.bounds) same ∙ bounds;
       holds = ap (λ (c : ClusterValue Request). c.holds) same ∙ (holds ∙ ap (λ (n : ℕ). replicate n None) many);
-      map = ap (λ (c : ClusterValue Request). c.map.map) same ∙ (map_is ∙ ap new_map many);
+      map = ap (λ (c : ClusterValue Request). c.map.map) same
+          ∙ subst (λ (n : ℕ). cluster.map.map ≡ record { count = n; published = [] }) many map_is;
       workers = workers;
       shards = ap (λ (c : ClusterValue Request). c.control.chair.board.limits.count) same ∙ (shards ∙ many);
       client = subst (λ (c : ClusterValue Request). IsNewClientOf c session.client) (sym same) client;

@@ -4,7 +4,7 @@ use Rattle.std.proofs.Common.{replicate, take, drop, pos, refl, sym, ap, ◌∙�
 use Rattle.std.specs.Prelude.{slice_index_or, ◌⊎◌}
 use Rattle.std.specs.Option.{option_to_list}
 use Rattle.std.proofs.lemmas.Bool.{cases_lt}
-use Rattle.std.proofs.lemmas.List.{append-nil, get_or_append_left, get_or-append_right, length-map}
+use Rattle.std.proofs.lemmas.List.{get_or_append_left, get_or-append_right, length-map}
 use Rattle.std.proofs.Math.ListN.{get_or-map}
 use Rattle.std.proofs.lemmas.List.Elements.{All-pop, All-replicate, All-weaker}
 use Rattle.sm_cluster.specs.Calls.{ClientValue}
@@ -13,13 +13,12 @@ use Rattle.sm_cluster.specs.Loads.{AreClientsSince, HaveLoaded, IsClientSince}
 use Rattle.sm_cluster.specs.declared.loading.LoadReport.{LoadReport}
 use Rattle.std.proofs.Math.Seq.{take-append_seam, drop-append_seam}
 use Rattle.sm_session.specs.Service.{counter_text}
-use Rattle.sm_publish.specs.Seen.{RouterView}
-use Rattle.sm_rule.specs.Boards.{BoardValue}
-use Rattle.sm_rule.specs.Views.{Begins}
+use Rattle.sm_cluster.specs.Seen.{RouterView}
+use Rattle.sm_cluster.specs.lemmas.Since.{since_same}
 use Rattle.sm_service.specs.declared.request.Request.{Request}
 use Rattle.sm_service.specs.declared.request.Request.TheVariants.{Get, Inc}
 use Rattle.sm_threads.specs.Loads.{IsLoadOf, count_replied}
-use Rattle.sm_threads.specs.Sessions.{IsNewClientOf, IsWhole}
+use Rattle.sm_threads.specs.Sessions.{IsNewClientOf}
 
 pub stays_client : (before after : ClusterValue Request) (client : ClientValue Request)
     → after.control.chair.board ≡ before.control.chair.board → after.bounds ≡ before.bounds
@@ -32,42 +31,6 @@ pub stay_clients : (before after : ClusterValue Request) (clients : List (Client
 stay_clients before after clients board bounds all =
     All-weaker (IsClientOf before) (IsClientOf after)
     (λ (client : ClientValue Request) is. stays_client before after client board bounds is) clients all
-
--- a session whose cluster has made a call, and has then told its client
-pub whole_told : (before after : ClusterValue Request) (client told : ClientValue Request)
-    (loaders : List (ClientValue Request)) → after.control.chair.board ≡ before.control.chair.board
-    → after.bounds ≡ before.bounds → told.pass.board ≡ client.pass.board → told.bounds ≡ client.bounds
-    → Begins after.told told.pass.seen
-    → IsWhole (record { cluster = before; client = client; loaders = loaders }) × All (IsClientOf before) loaders
-    × (length loaders ≡ 17)
-    → IsWhole (record { cluster = after; client = told; loaders = loaders }) × All (IsClientOf after) loaders
-    × (length loaders ≡ 17)
-whole_told before after client told loaders board bounds same_board same_bounds seen is =
-    let own = stays_client before after client board bounds is.0.0 in (
-      (
-        (same_board ∙ own.0, same_bounds ∙ own.1),
-        ap (λ (one : BoardValue). one.limits.count) board ∙ (is.0.1 ∙ sym (ap length bounds)),
-        seen,
-      ),
-      stay_clients before after loaders board bounds is.1,
-      is.2,
-    )
-
--- so does a client that has learned what its call gave
-pub learned_client : (cluster : ClusterValue Request) (client given learned : ClientValue Request)
-    → given.pass.board ≡ client.pass.board → given.bounds ≡ client.bounds
-    → learned.pass.board ≡ given.pass.board → learned.bounds ≡ given.bounds → IsClientOf cluster client
-    → IsClientOf cluster learned
-learned_client cluster client given learned board bounds same_board same_bounds is =
-    (same_board ∙ (board ∙ is.0), same_bounds ∙ (bounds ∙ is.1))
-
-since_same : (client : ClientValue Request) → IsClientSince client client
-since_same client = record {
-  board = refl;
-  bounds = refl;
-  seen = ([], sym (append-nil client.pass.seen));
-  read = ([], sym (append-nil client.router.seen));
-}
 
 -- clients behind which others stay as they are
 front_at : (before after back : List (ClientValue Request)) → AreClientsSince before after

@@ -1,19 +1,17 @@
 -- Sessions whose client is told after a call of the cluster.
 use Rattle.std.proofs.Common.{◌≡◌, ℕ, List, All, Result, Ok, Err, IfErr, length, ap, subst, sym, ◌∙◌}
 use Rattle.std.specs.Prelude.{OnErr, OnOk}
-use Rattle.sm_cluster.specs.Calls.{ClientValue, client_reading, client_seeing}
-use Rattle.sm_cluster.specs.Clusters.{ClusterValue, HasFreed, HasHeld, HoldRefused, IsClientOf, TellsMore}
+use Rattle.sm_cluster.specs.Calls.{ClientValue}
+use Rattle.sm_cluster.specs.Clusters.{ClusterValue, HasFreed, HasHeld, HasTold, HoldRefused, IsClientOf, TellsMore}
+use Rattle.sm_cluster.specs.Loads.{IsClientSince}
+use Rattle.sm_cluster.specs.lemmas.Since.{client_since, knows_since, since_looks}
 use Rattle.sm_cluster.specs.declared.hold_fault.HoldFault.{HoldFault}
 use Rattle.sm_cluster.specs.declared.hold_fault.HoldFault.TheVariants.{UnknownShard, UnknownServer, Admit, NotHeld}
 use Rattle.sm_cluster.specs.declared.hold_fault.HoldFault.TheVariants.{NoMemory}
-use Rattle.sm_rule.specs.Passes.{PassLooks, PassValue}
-use Rattle.sm_rule.specs.Views.{Begins}
-use Rattle.sm_rule.specs.lemmas.Passing.{begins_begins, looks_begins}
 use Rattle.sm_service.specs.declared.request.Request.{Request}
-use Rattle.sm_threads.specs.Calls.{TellsClient}
 use Rattle.sm_threads.specs.Sessions.{IsWhole}
 use Rattle.sm_threads.proofs.Answering.{session_with}
-use Rattle.sm_threads.proofs.Clients.{whole_told}
+use Rattle.sm_threads.proofs.Clients.{stay_clients, stays_client}
 
 -- the board and the bounds stay
 abbrev pub Keeps : ClusterValue Request → ClusterValue Request → Type 0
@@ -54,47 +52,34 @@ freed_keeps before after shard (Ok done) freed same = (
 )
 freed_keeps before after shard (Err fault) freed same = same_keeps before after same
 
+-- what is known of each session
+abbrev pub IsKept : ClusterValue Request → List (ClientValue Request) → ClientValue Request → Type 0
+IsKept cluster loaders client =
+    IsWhole (session_with cluster loaders client) × All (IsClientOf cluster) loaders × (length loaders ≡ 17)
+
 -- a cluster made a call, which kept board and bounds, and then told the client
-module _ (before middle after : ClusterValue Request) (client told : ClientValue Request) (same : after ≡ middle)
-    (looks : PassLooks client.pass told.pass) (is : told ≡ client_seeing client told.pass)
-    (seen : Begins middle.told told.pass.seen) where
-  pub told_whole : (loaders : List (ClientValue Request)) → Keeps before middle
-      → IsWhole (session_with before loaders client) × All (IsClientOf before) loaders × (length loaders ≡ 17)
-      → IsWhole (session_with after loaders told) × All (IsClientOf after) loaders × (length loaders ≡ 17)
-  told_whole loaders keeps whole =
-      subst (λ (c : ClusterValue Request). IsWhole (session_with c loaders told) × All (IsClientOf c) loaders
-      × (length loaders ≡ 17)) (sym same)
-      (whole_told before middle client told loaders keeps.0 keeps.1 (ap (λ (pass : PassValue Request). pass.board)
-      looks.1) (ap (λ (c : ClientValue Request). c.bounds) is) seen whole)
+module _ (before middle after : ClusterValue Request) (client told : ClientValue Request)
+    (loaders : List (ClientValue Request)) (same : after ≡ middle) (is : HasTold middle client told) where
+  pub told_whole : Keeps before middle → IsKept before loaders client → IsKept after loaders told
+  told_whole keeps whole =
+      let since = since_looks client told is.0 is.3 in
+      let own = client_since before client told since whole.0.0 in
+      subst (λ (c : ClusterValue Request). IsKept c loaders told) (sym same) (
+        (
+          stays_client before middle told keeps.0 keeps.1 own,
+          (λ i. (keeps.0 i).limits.count) ∙ (whole.0.1 ∙ sym (ap length keeps.1)),
+          is.1,
+        ),
+        stay_clients before middle loaders keeps.0 keeps.1 whole.1,
+        whole.2,
+      )
 
-  pub told_client : (loaders : List (ClientValue Request)) → Begins middle.control.chair.seen told.pass.seen
-      → TellsClient (session_with before loaders client) (session_with middle loaders told)
-  told_client loaders control =
-      (looks, seen, control, ap (λ (c : ClientValue Request). session_with middle loaders c) is)
-
--- the client has looked
-pub whole_looks : (cluster : ClusterValue Request) (client after : ClientValue Request)
-    (loaders : List (ClientValue Request)) → PassLooks client.pass after.pass → after ≡ client_seeing client after.pass
-    → IsWhole (session_with cluster loaders client) × All (IsClientOf cluster) loaders × (length loaders ≡ 17)
-    → IsWhole (session_with cluster loaders after) × All (IsClientOf cluster) loaders × (length loaders ≡ 17)
-whole_looks cluster client after loaders looks is whole = (
-  (
-    (
-      ap (λ (pass : PassValue Request). pass.board) looks.1 ∙ whole.0.0.0,
-      ap (λ (c : ClientValue Request). c.bounds) is ∙ whole.0.0.1,
-    ),
-    whole.0.1,
-    begins_begins cluster.told client.pass.seen after.pass.seen whole.0.2 (looks_begins client.pass after.pass looks),
-  ),
+-- the client has seen no less
+pub whole_since : (cluster : ClusterValue Request) (client after : ClientValue Request)
+    (loaders : List (ClientValue Request)) → IsClientSince client after → IsKept cluster loaders client
+    → IsKept cluster loaders after
+whole_since cluster client after loaders since whole = (
+  (client_since cluster client after since whole.0.0, whole.0.1, knows_since cluster client after since whole.0.2),
   whole.1,
   whole.2,
 )
-
--- the client has read a route
-pub whole_reads : (cluster : ClusterValue Request) (client after : ClientValue Request)
-    (loaders : List (ClientValue Request)) → after ≡ client_reading client after.router
-    → IsWhole (session_with cluster loaders client) × All (IsClientOf cluster) loaders × (length loaders ≡ 17)
-    → IsWhole (session_with cluster loaders after) × All (IsClientOf cluster) loaders × (length loaders ≡ 17)
-whole_reads cluster client after loaders is whole =
-    subst (λ (c : ClientValue Request). IsWhole (session_with cluster loaders c) × All (IsClientOf cluster) loaders
-    × (length loaders ≡ 17)) (sym is) whole

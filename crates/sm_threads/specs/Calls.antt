@@ -1,32 +1,26 @@
 -- What a cluster answers to each call of a script, and the session that it leaves.
-use Rattle.std.specs.Prelude.{ℕ, Bool, true, false, ◌+◌, ◌*◌, ◌≡◌, ◌<◌, ◌≤◌, ◌⊎◌, Option, Some, None, Result, Ok, Err}
-use Rattle.std.specs.Prelude.{OnOk, OnErr, IfErr, List, [], length, if◌then◌else◌}
+use Rattle.std.specs.Prelude.{ℕ, Bool, true, false, ◌+◌, ◌*◌, ◌≡◌, ◌<◌, ◌≤◌, Option, Some, None, Result, Ok, Err}
+use Rattle.std.specs.Prelude.{OnOk, OnErr, IfErr, List, length, if◌then◌else◌}
 use Rattle.std.specs.Option.{option_map}
-use Rattle.sm_cluster.specs.Basing.{IsBasedBy}
-use Rattle.sm_cluster.specs.Publications.{Published}
-use Rattle.sm_cluster.specs.declared.hold_fault.HoldFault.TheVariants as hold
-use Rattle.sm_ownership.specs.declared.route_fault.RouteFault.{RouteFault}
-use Rattle.sm_control.specs.Routes.{route_fault}
-use Rattle.sm_rule.specs.declared.permit.Front.{Front}
-use Rattle.sm_cluster.specs.Calls.{ClientValue, FaultAt, FaultByRoute, Gives, client_reading, client_seeing}
-use Rattle.sm_cluster.specs.Clusters.{ClusterValue, FreeRefused, HasFreed, HasHeld, HoldRefused, TellsMore}
-use Rattle.sm_cluster.specs.Clusters.{cluster_commanded}
-use Rattle.sm_cluster.specs.declared.call_refused.CallFault.{CallFault}
+use Rattle.sm_cluster.specs.Basing.{HasBased}
+use Rattle.sm_cluster.specs.Calls.{CallResult, Called, CalledAt, ClientValue, HasHeard, HasLooked, HasReadRoute}
+use Rattle.sm_cluster.specs.Calls.{shard_asked}
+use Rattle.sm_cluster.specs.Clusters.{FreeRefused, HasFreed, HasHeld, HasTold, HoldRefused}
+use Rattle.sm_cluster.specs.Commands.{HasCommanded}
+use Rattle.sm_cluster.specs.Front.{Front}
+use Rattle.sm_cluster.specs.Publications.{HasPublished}
 use Rattle.sm_cluster.specs.declared.hold_fault.HoldFault.{HoldFault}
-use Rattle.sm_control.specs.Controls.{Commanded}
+use Rattle.sm_cluster.specs.declared.loading.LoadReport.{LoadReport}
+use Rattle.sm_desk.specs.Desk.{is_known}
 use Rattle.sm_desk.specs.declared.command.Command.{Command}
 use Rattle.sm_desk.specs.declared.command.CommandFault.{CommandFault}
-use Rattle.sm_desk.specs.Desk.{desk_fault, is_known}
-use Rattle.sm_session.specs.Service.{counter_text}
-use Rattle.sm_ownership.specs.Routes.{routes_of}
 use Rattle.sm_ownership.specs.declared.admit_fault.AdmitFault.TheVariants.{Vacant}
+use Rattle.sm_ownership.specs.declared.record.Record.{Record}
 use Rattle.sm_ownership.specs.declared.route.Route.{Route}
+use Rattle.sm_ownership.specs.declared.route_fault.RouteFault.{RouteFault}
 use Rattle.sm_place.specs.Plans.{assign_plan, drain_plan}
-use Rattle.sm_publish.specs.Seen.{Extends}
 use Rattle.sm_ranges.specs.Ranges.{shard_of}
 use Rattle.sm_ranges.specs.Stand.{owner_of}
-use Rattle.sm_rule.specs.Passes.{PassLooks, PassValue, record_of}
-use Rattle.sm_rule.specs.Views.{Begins, IsMet}
 use Rattle.sm_script.specs.declared.line_answer.LineAnswer.{LineAnswer}
 use Rattle.sm_script.specs.declared.line_answer.LineAnswer.TheVariants.{Made, Refused as IsRefused, Seen, Executed}
 use Rattle.sm_script.specs.declared.line_answer.LineAnswer.TheVariants.{Planned, Way, Loaded}
@@ -34,12 +28,10 @@ use Rattle.sm_script.specs.declared.call.Call.{Call}
 use Rattle.sm_script.specs.declared.call.Call.TheVariants as call
 use Rattle.sm_script.specs.declared.refused.Refused.{Refused}
 use Rattle.sm_script.specs.declared.refused.Refused.TheVariants as refused
-use Rattle.sm_server.specs.Answers.{AnswerValue}
-use Rattle.sm_service.specs.Service.{key_of_request}
 use Rattle.sm_service.specs.declared.reply.Reply.{Reply}
 use Rattle.sm_service.specs.declared.request.Request.{Request}
+use Rattle.sm_session.specs.Service.{counter_text}
 use Rattle.sm_threads.specs.Loads.{IsLoadOf, IsVerdictOn}
-use Rattle.sm_cluster.specs.declared.loading.LoadReport.{LoadReport}
 use Rattle.sm_threads.specs.Refusals.{call_refused, hold_refused, publish_refused}
 use Rattle.sm_threads.specs.Sessions.{SessionValue}
 
@@ -54,32 +46,24 @@ may_answer refusal (Err fault) = option_map IsRefused (refusal fault)
 
 -- ---- requests
 
--- the request was executed by an answer that the cluster promises this client, which then has met the answer's history
-pub record WasExecuted (client : ClientValue Request) (request : Request) (reply : Reply) (server place : ℕ)
-    (after : ClientValue Request) : Type 0 where
-  pub answer : AnswerValue Request Reply
-  pub given : Gives counter_text client 0 request answer
-  pub reply_is : reply ≡ answer.reply
-  pub server_is : server ≡ answer.server
-  pub place_is : place ≡ answer.place
-  pub looks : PassLooks client.pass after.pass
-  pub met : IsMet answer.note.number answer.note.seen after.pass.seen
-  pub others : after ≡ client_seeing client after.pass
+-- what a call of a client gave is answered: an answer, of which the client has heard the note, or why there is none
+abbrev pub AnsweredResult : ClientValue Request → CallResult Request Reply → LineAnswer → ClientValue Request → Type 0
+AnsweredResult before (Ok given) answer after =
+    HasHeard before given.note after × (answer ≡ Executed given.reply given.server given.place)
+AnsweredResult before (Err why) answer after =
+    (option_map IsRefused (call_refused why.fault) ≡ Some answer) × (after ≡ before)
 
--- what a request of this client is answered: it was executed, or refused for a fault that its call may have
-abbrev pub WasAnswered : (ClientValue Request → CallFault → Type 0) → ClientValue Request → Request → LineAnswer
-    → ClientValue Request → Type 0
-WasAnswered may client request (Executed reply server place) after = WasExecuted client request reply server place after
-WasAnswered may client request (IsRefused why) after =
-    (fault : CallFault) × may after fault × (call_refused fault ≡ Some why)
-WasAnswered may client request answer after = ⊥
+-- what a call of the session's client gave, and so left the client, is answered; nothing else has changed
+abbrev pub AnsweredCall : (CallResult Request Reply → ClientValue Request → Type 0) → SessionValue → LineAnswer
+    → SessionValue → Type 0
+AnsweredCall called before answer after =
+    (given : CallResult Request Reply) × (asked : ClientValue Request)
+    × called given asked × AnsweredResult asked given answer after.client × (after ≡ with_client before after.client)
 
 -- a request goes to a server that exists, or is refused
 abbrev pub AnsweredWhere : Bool → SessionValue → Request → LineAnswer → SessionValue → Type 0
 AnsweredWhere true before request answer after =
-    WasAnswered
-    (λ client. FaultAt counter_text before.client client 0 request) before.client request answer after.client
-    × (after ≡ with_client before after.client)
+    AnsweredCall (CalledAt counter_text before.client 0 request) before answer after
 AnsweredWhere false before request answer after = (answer ≡ IsRefused refused.UnknownServer) × (after ≡ before)
 
 -- a request goes to this server
@@ -93,43 +77,33 @@ AnsweredByOwner before None request answer after =
     (answer ≡ IsRefused (refused.Admit Vacant)) × (after ≡ before)
 AnsweredByOwner before (Some owner) request answer after = AnsweredAt before owner request answer after
 
--- the session whose client has seen this
-abbrev pub looking : SessionValue → PassValue Request → SessionValue
-looking session pass = with_client session (client_seeing session.client pass)
-
 -- ---- calls
 
 -- a record is that of all that the client then has seen
 abbrev pub Looked : SessionValue → ℕ → LineAnswer → SessionValue → Type 0
 Looked before shard (Seen state) after =
-    (shard < length before.cluster.bounds) × PassLooks before.client.pass after.client.pass
-    × (state ≡ record_of after.client.pass shard) × (after ≡ looking before after.client.pass)
+    (shard < length before.cluster.bounds) × HasLooked before.client shard state after.client
+    × (after ≡ with_client before after.client)
 Looked before shard answer after =
     (length before.cluster.bounds ≤ shard) × (answer ≡ IsRefused refused.UnknownShard) × (after ≡ before)
 
--- a route is the last one of the key's shard that the client's router then has seen, or the read was refused
+-- a route is that of the key's shard which the client's router has read
 abbrev pub RoutedKey : SessionValue → List ℕ → LineAnswer → SessionValue → Type 0
 RoutedKey before key (Way route) after =
-    Extends after.client.router.seen before.client.router.seen
-    × ((route ≡ routes_of after.client.router.seen (shard_of before.client.bounds key))
-    ⊎ ((route ≡ None) × (after.client.router.seen ≡ before.client.router.seen)))
-    × (after ≡ with_client before (client_reading before.client after.client.router))
+    HasReadRoute before.client (shard_of before.client.bounds key) route after.client
+    × (after ≡ with_client before after.client)
 RoutedKey before key answer after = ⊥
 
--- a call leaves the session with this cluster, whose client has then seen all that the cluster tells or its control has
+-- the cluster has changed, and has then told the client
 abbrev pub TellsClient : SessionValue → SessionValue → Type 0
 TellsClient before after =
-    PassLooks before.client.pass after.client.pass × Begins after.cluster.told after.client.pass.seen
-    × Begins after.cluster.control.chair.seen after.client.pass.seen
-    × (after ≡ record (looking before after.client.pass) { cluster = after.cluster })
+    HasTold after.cluster before.client after.client
+    × (after ≡ record before { cluster = after.cluster; client = after.client })
 
--- a command was made or refused as the cluster's control says
+-- a command was made or refused as the cluster says
 abbrev pub WasCommanded : SessionValue → Command → LineAnswer → SessionValue → Type 0
 WasCommanded before command answer after =
-    (made : Result (Unit {0}) CommandFault)
-    × Commanded
-    (desk_fault before.cluster.control.desk command) before.cluster.control after.cluster.control command made
-    × TellsMore (cluster_commanded before.cluster after.cluster.control) after.cluster
+    (made : Result (Unit {0}) CommandFault) × HasCommanded before.cluster command made after.cluster
     × (may_answer (λ fault. Some (refused.Command fault)) made ≡ Some answer) × TellsClient before after
 
 -- a hold was made or refused as the cluster says, and its end
@@ -151,36 +125,26 @@ WasFreed before shard answer after =
 -- a checkpoint was made or refused as the cluster says
 abbrev pub WasBased : SessionValue → ℕ → ℕ → LineAnswer → SessionValue → Type 0
 WasBased before shard server answer after =
-    let control = before.cluster.control in
-    (made : Result Front HoldFault)
-    × (control.chair.board.limits.count ≤ shard → (made ≡ Err hold.UnknownShard) × (after.cluster ≡ before.cluster))
-    × (shard < control.chair.board.limits.count → is_known control.desk.books.servers server ≡ false
-    → (made ≡ Err hold.UnknownServer) × (after.cluster ≡ before.cluster))
-    × (shard < control.chair.board.limits.count → is_known control.desk.books.servers server ≡ true
-    → IsBasedBy before.cluster shard server made after.cluster)
+    (made : Result Front HoldFault) × HasBased before.cluster shard server made after.cluster
     × (may_answer hold_refused made ≡ Some answer) × TellsClient before after
 
 -- a shard's route was published or refused as the cluster says
 abbrev pub WasPublished : SessionValue → ℕ → LineAnswer → SessionValue → Type 0
 WasPublished before shard answer after =
-    (made : Result Route RouteFault)
-    × Published (route_fault before.cluster.control.desk.books shard) before.cluster after.cluster shard made
+    (made : Result Route RouteFault) × HasPublished before.cluster shard made after.cluster
     × (may_answer publish_refused made ≡ Some answer) × TellsClient before after
 
 -- a request goes to the owner in the record that the client then sees
 abbrev pub WasRequested : SessionValue → Request → LineAnswer → SessionValue → Type 0
 WasRequested before request answer after =
-    (seen : PassValue Request) × PassLooks before.client.pass seen
-    × AnsweredByOwner (looking before seen)
-    (owner_of (record_of seen (shard_of before.client.bounds (key_of_request request))).stand) request answer after
+    (seen : ClientValue Request) × (state : Record)
+    × HasLooked before.client (shard_asked counter_text before.client request) state seen
+    × AnsweredByOwner (with_client before seen) (owner_of state.stand) request answer after
 
 -- a request goes by the published route
 abbrev pub WasRouted : SessionValue → Request → LineAnswer → SessionValue → Type 0
 WasRouted before request answer after =
-    Extends after.client.router.seen before.client.router.seen
-    × WasAnswered (λ client. FaultByRoute counter_text before.client client 0 request)
-    (client_reading before.client after.client.router) request answer after.client
-    × (after ≡ with_client before after.client)
+    AnsweredCall (Called counter_text before.client 0 request) before answer after
 
 -- so many clients of the session made so many additions each, of which each was acknowledged or refused, and the answer
 -- says whether the counts that another one was told differ by the acknowledged. Nothing else in the session has changed

@@ -1,5 +1,8 @@
 -- The answers to calls that a cluster refused. Want of memory has none, as it ends the run.
 use Rattle.std.specs.Prelude.{Option, Some, None}
+use Rattle.sm_cluster.specs.AdmitRefusal.{AdmitRefusal}
+use Rattle.sm_cluster.specs.AdmitRefusal.TheVariants as admit
+use Rattle.sm_cluster.specs.Refusal.TheVariants as server
 use Rattle.sm_cluster.specs.declared.call_refused.CallFault.{CallFault}
 use Rattle.sm_cluster.specs.declared.call_refused.CallFault.TheVariants as call
 use Rattle.sm_cluster.specs.declared.hold_fault.HoldFault.{HoldFault}
@@ -8,13 +11,10 @@ use Rattle.sm_cluster.specs.declared.start_fault.StartFault.{StartFault}
 use Rattle.sm_cluster.specs.declared.start_fault.StartFault.TheVariants as start
 use Rattle.sm_ownership.specs.declared.route_fault.RouteFault.{RouteFault}
 use Rattle.sm_ownership.specs.declared.route_fault.RouteFault.TheVariants as route
-use Rattle.sm_rule.specs.declared.admit_refusal.AdmitRefusal.{AdmitRefusal}
-use Rattle.sm_rule.specs.declared.admit_refusal.AdmitRefusal.TheVariants as admit
 use Rattle.sm_run.specs.declared.begin_fault.BeginFault.{BeginFault}
 use Rattle.sm_run.specs.declared.begin_fault.BeginFault.TheVariants as begin
 use Rattle.sm_script.specs.declared.refused.Refused.{Refused}
 use Rattle.sm_script.specs.declared.refused.Refused.TheVariants as refused
-use Rattle.sm_server.specs.declared.refusal.Refusal.TheVariants as server
 use Rattle.sm_settings.specs.declared.settings_fault.SettingsFault.TheVariants.{TooManyWorkers}
 
 -- why no session was begun where its cluster wasn't started

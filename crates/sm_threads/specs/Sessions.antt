@@ -1,10 +1,9 @@
 -- A session on a cluster as contracts see it, and with what it begins.
 use Rattle.std.specs.Prelude.{◌≡◌, ◌*◌, ◌<◌, ◌≤◌, ⊤, All, List, None, [], length, replicate}
 use Rattle.sm_cluster.specs.Calls.{ClientValue}
-use Rattle.sm_cluster.specs.Clusters.{ClusterValue, IsClientOf}
+use Rattle.sm_cluster.specs.Clusters.{ClusterValue, IsClientOf, KnowsAll}
 use Rattle.sm_cluster.specs.declared.TheConstants.{MAX_WORKERS}
 use Rattle.sm_session.specs.Beginning.{settings_desk}
-use Rattle.sm_rule.specs.Views.{Begins}
 use Rattle.sm_run.specs.declared.begin_fault.BeginFault.{BeginFault}
 use Rattle.sm_run.specs.declared.begin_fault.BeginFault.TheVariants as begin
 use Rattle.sm_service.specs.declared.request.Request.{Request}
@@ -23,7 +22,7 @@ abbrev pub IsWhole : SessionValue → Type 0
 IsWhole session =
     IsClientOf session.cluster session.client
     × (session.cluster.control.chair.board.limits.count ≡ length session.cluster.bounds)
-    × Begins session.cluster.told session.client.pass.seen
+    × KnowsAll session.cluster session.client
 
 -- a client of the cluster that has read no route: of its board, with its bounds, and with a router of its map
 abbrev pub IsNewClientOf : ClusterValue Request → ClientValue Request → Type 0

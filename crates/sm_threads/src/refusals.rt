@@ -6,14 +6,12 @@ ghost use Rattle.sm_threads.specs.Calls.{may_answer};
 ghost use Rattle.sm_threads.specs.Refusals.{admit_refused, begin_fault, call_refused};
 ghost use Rattle.sm_threads.specs.Refusals.{hold_refused, publish_refused};
 
-use sm_cluster::{CallFault, HoldFault, StartFault};
+use sm_cluster::{AdmitRefusal, CallFault, HoldFault, Refusal, StartFault};
 use sm_desk::CommandFault;
 use sm_ownership::route::Route;
 use sm_ownership::route_fault::RouteFault;
-use sm_rule::admit_refusal::AdmitRefusal;
 use sm_run::BeginFault;
 use sm_script::{LineAnswer, Refused};
-use sm_server::Refusal;
 use sm_settings::SettingsFault;
 use std::alloc::AllocError;
 

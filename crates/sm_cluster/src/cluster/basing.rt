@@ -1,7 +1,6 @@
 //! Checkpoints, each by a new pass.
-ghost use Rattle.std.specs.Prelude.{◌≡◌, ◌<◌, ◌≤◌, Err, false, true};
-ghost use Rattle.sm_desk.specs.Desk.{is_known};
-ghost use Rattle.sm_cluster.specs.Basing.{IsBasedBy};
+ghost use Rattle.std.specs.Prelude.{◌≡◌, ◌<◌};
+ghost use Rattle.sm_cluster.specs.Basing.{HasBased, IsBasedBy};
 ghost use Rattle.sm_cluster.specs.Clusters.{TellsMore};
 ghost use Rattle.sm_cluster.specs.Passes.{IsNewPass};
 
@@ -19,14 +18,7 @@ impl<S: Service> Cluster<S> {
     /// request; or answers the first reason that applies. The admission is by a new pass, which has seen all that the
     /// cluster told; the cluster then tells what that pass has seen.
     pub fn checkpoint(&mut self, k: ShardId, a: ServerId) -> Result<Front, HoldFault>
-        ensures unknown_shard { self.old.control.chair.board.limits.count ≤ k
-            → (result ≡ Err HoldFault.UnknownShard) × (self.new ≡ self.old) }
-        ensures unknown_server { k < self.old.control.chair.board.limits.count
-            → is_known self.old.control.desk.books.servers a ≡ false
-            → (result ≡ Err HoldFault.UnknownServer) × (self.new ≡ self.old) }
-        ensures known { k < self.old.control.chair.board.limits.count
-            → is_known self.old.control.desk.books.servers a ≡ true
-            → IsBasedBy self.old k a result self.new }
+        ensures based { HasBased self.old k a result self.new }
         ensures unchanged { TellsMore self.old self.new }
     {
         if k.index() >= self.ground.board.count() as usize {
@@ -35,6 +27,14 @@ impl<S: Service> Cluster<S> {
         if !self.control.desk().knows(a) {
             return Err(HoldFault::UnknownServer);
         }
+        self.base(k, a)
+    }
+
+    // `checkpoint`, where the shard and the server exist.
+    fn base(&mut self, k: ShardId, a: ServerId) -> Result<Front, HoldFault>
+        requires { k < self.old.control.chair.board.limits.count }
+        ensures { IsBasedBy self.old k a result self.new }
+    {
         let mut pass = self.pass_of(a);
         let made = checkpoint(&self.ground.board, &mut pass, k);
         self.ground.board.meet(&mut self.teller, pass.into_note());

@@ -1,12 +1,10 @@
 //! Commands, plans and publications.
 ghost use Rattle.std.specs.Prelude.{◌≡◌, Err, IfOk, IsOkUnless, None, Some, false, true};
-ghost use Rattle.sm_control.specs.Controls.{Commanded};
-ghost use Rattle.sm_control.specs.Routes.{route_fault};
-ghost use Rattle.sm_desk.specs.Desk.{desk_fault, is_known};
+ghost use Rattle.sm_desk.specs.Desk.{is_known};
 ghost use Rattle.sm_place.specs.Plans.{KeepsRoom, assign_plan, drain_plan, servers_but, shards_to_move};
 ghost use Rattle.sm_rule.specs.Views.{Begins};
-ghost use Rattle.sm_cluster.specs.Clusters.{TellsMore, cluster_commanded};
-ghost use Rattle.sm_cluster.specs.Publications.{Published};
+ghost use Rattle.sm_cluster.specs.Commands.{HasCommanded};
+ghost use Rattle.sm_cluster.specs.Publications.{HasPublished};
 
 use super::Cluster;
 use super::telling::report;
@@ -25,11 +23,9 @@ impl<S: Service> Cluster<S> {
     /// Makes the command, or answers the first fault that applies. A server's door shuts where it failed or was
     /// stopped, and opens where it is back. The cluster then tells all that the control has seen.
     pub fn command(&mut self, command: Command) -> Result<(), CommandFault>
-        ensures answer { Commanded
-            (desk_fault self.old.control.desk command) self.old.control self.new.control command result }
+        ensures commanded { HasCommanded self.old command result self.new }
         ensures board { self.new.control.chair.board ≡ self.old.control.chair.board }
         ensures told { Begins self.new.control.chair.seen self.new.told }
-        ensures unchanged { TellsMore (cluster_commanded self.old self.new.control) self.new }
     {
         let made = self.control.command(&self.ground.board, command);
         report(&self.ground.board, &mut self.control, &mut self.teller);
@@ -47,7 +43,7 @@ impl<S: Service> Cluster<S> {
     /// Publishes the shard's owner and its generation, and gives that route; or answers why there is none, or why it
     /// isn't published. It may wait for clients that are reading. The cluster then tells all that the control has seen.
     pub fn publish<R: Wait>(&mut self, rt: &R, k: ShardId) -> Result<Route, RouteFault>
-        ensures published { Published (route_fault self.old.control.desk.books k) self.old self.new k result }
+        ensures published { HasPublished self.old k result self.new }
         ensures told { Begins self.new.control.chair.seen self.new.told }
     {
         let Route {

@@ -2,7 +2,7 @@
 ghost use Rattle.std.specs.Prelude.{◌≡◌};
 ghost use Rattle.sm_rule.specs.Passes.{PassLooks};
 ghost use Rattle.sm_rule.specs.Views.{Begins};
-ghost use Rattle.sm_cluster.specs.Calls.{client_seeing};
+ghost use Rattle.sm_cluster.specs.Clusters.{HasTold};
 
 use super::Cluster;
 use crate::client::Client;
@@ -16,10 +16,7 @@ impl<S: Service> Cluster<S> {
     /// and by what each hold, each checkpoint and each end of a hold was made or refused.
     pub fn tell(&mut self, client: &mut Client<S>)
         requires { client.old.pass.board ≡ self.old.control.chair.board }
-        ensures looks { PassLooks client.old.pass client.new.pass }
-        ensures told { Begins self.old.told client.new.pass.seen }
-        ensures control { Begins self.old.control.chair.seen client.new.pass.seen }
-        ensures client { client.new ≡ client_seeing client.old client.new.pass }
+        ensures told { HasTold self.old client.old client.new }
         ensures unchanged { self.new ≡ self.old }
     {
         let note = self.ground.board.note(&mut self.teller);

@@ -4,7 +4,7 @@ ghost use Rattle.std.specs.Prelude.{◌≡◌};
 use super::ClusterBackend;
 use super::requests::{learned, load_by, verdict_on};
 use crate::refusals::{command_answer, hold_answer, publish_answer};
-use sm_control::DrainFault;
+use sm_cluster::DrainFault;
 use sm_desk::Command;
 use sm_ownership::admit_fault::AdmitFault;
 use sm_ranges::key::Key;
@@ -12,7 +12,6 @@ use sm_ranges::server_id::ServerId;
 use sm_ranges::shard_id::ShardId;
 use sm_script::{LineAnswer, LoadClients, Refused};
 use sm_service::request::Request;
-use sm_service::{CounterText, Service};
 use sm_session::Backend;
 use std::alloc::AllocError;
 use std::sync::Wait;
@@ -64,7 +63,7 @@ impl<R: Threads + Wait + Sync> Backend for ClusterBackend<R> {
         if shard.index() >= self.cluster.layout().count() {
             return Ok(LineAnswer::Refused(Refused::UnknownShard));
         }
-        Ok(LineAnswer::Seen(self.client.look(shard)))
+        Ok(LineAnswer::Seen(self.record(shard)))
     }
 
     fn load(
@@ -103,19 +102,16 @@ impl<R: Threads + Wait + Sync> Backend for ClusterBackend<R> {
     }
 
     fn request(&mut self, request: Request) -> Result<LineAnswer, AllocError> {
-        let shard = self.cluster.layout().shard_of(CounterText::key(&request));
-        match self.owner(shard) {
-            Some(owner) => self.request_at(owner, request),
+        let shard = self.client.shard_of(&request);
+        match self.record(shard).stand.owner() {
+            Some(owner) => self.ask_at(shard, owner, request),
             None => Ok(LineAnswer::Refused(Refused::Admit(AdmitFault::Vacant))),
         }
     }
 
     fn request_at(&mut self, server: ServerId, request: Request) -> Result<LineAnswer, AllocError> {
-        if self.cluster.desk().knows(server) {
-            self.send(server, request)
-        } else {
-            Ok(LineAnswer::Refused(Refused::UnknownServer))
-        }
+        let shard = self.client.shard_of(&request);
+        self.ask_at(shard, server, request)
     }
 
     fn request_by_route(&mut self, request: Request) -> Result<LineAnswer, AllocError> {

@@ -1,25 +1,21 @@
 //! How a cluster's client makes requests and loads.
-ghost use Rattle.std.specs.Prelude.{◌≡◌, ◌+◌, ◌*◌, ◌<◌, ◌≤◌, ◌^◌, IfErr, IfOk, Some, length};
-ghost use Rattle.sm_cluster.specs.Calls.{FaultAt, Gives};
-ghost use Rattle.sm_ranges.specs.Stand.{owner_of};
-ghost use Rattle.std.specs.Option.{option_map};
-ghost use Rattle.sm_rule.specs.Passes.{PassLooks, record_of};
-ghost use Rattle.sm_rule.specs.Views.{Begins};
-ghost use Rattle.sm_script.specs.declared.line_answer.LineAnswer.TheVariants.{Refused as IsRefused};
-ghost use Rattle.sm_session.specs.Service.{counter_text};
-ghost use Rattle.sm_threads.specs.Calls.{WasAnswered, looking, with_client};
+ghost use Rattle.std.specs.Prelude.{◌≡◌, ◌+◌, ◌*◌, ◌<◌, ◌≤◌, ◌^◌, IfOk, length};
+ghost use Rattle.sm_cluster.specs.Calls.{HasLooked};
+ghost use Rattle.sm_cluster.specs.Loads.{IsClientSince};
+ghost use Rattle.sm_ranges.specs.Ranges.{shard_of};
+ghost use Rattle.sm_service.specs.Service.{key_of_request};
+ghost use Rattle.sm_threads.specs.Calls.{AnsweredAt, AnsweredResult, with_client};
 ghost use Rattle.sm_threads.specs.Loads.{IsLoadOf, IsVerdictOn};
-ghost use Rattle.sm_threads.specs.Refusals.{call_refused};
 
 use super::ClusterBackend;
 use crate::key_count::KeyCount;
 use crate::refusals::call_refused;
-use sm_cluster::{CallRefused, Client, LoadReport, load};
+use sm_cluster::{Answer, CallRefused, Client, LoadReport, load};
+use sm_ownership::record::Record;
 use sm_ranges::key::Key;
 use sm_ranges::server_id::ServerId;
 use sm_ranges::shard_id::ShardId;
-use sm_script::{LineAnswer, LoadVerdict};
-use sm_server::Answer as Given;
+use sm_script::{LineAnswer, LoadVerdict, Refused};
 use sm_service::CounterText;
 use sm_service::request::Request;
 use std::alloc::{AllocError, Global};
@@ -27,30 +23,32 @@ use std::sync::Wait;
 use std::thread::Threads;
 
 impl<R: Wait> ClusterBackend<R> {
-    /// The shard's owner in the record that the client then sees.
-    pub(super) fn owner(&mut self, shard: ShardId) -> Option<ServerId>
-        requires { shard < length self.old.cluster.bounds }
-        ensures owner { result ≡ owner_of (record_of self.new.client.pass shard).stand }
-        ensures seen { PassLooks self.old.client.pass self.new.client.pass }
-        ensures unchanged { self.new ≡ looking self.old self.new.client.pass }
+    /// The shard's record, which the client then sees.
+    pub(super) fn record(&mut self, shard: ShardId) -> Record
+        requires { shard < length self.old.client.bounds }
+        ensures looked { HasLooked self.old.client shard result self.new.client }
+        ensures unchanged { self.new ≡ with_client self.old self.new.client }
     {
-        self.client.look(shard).stand.owner()
+        self.client.look(shard)
     }
 
-    /// Sends the request to a server that exists; an error is want of memory.
-    pub(super) fn send(
+    /// Has the server answer the request of this shard, where there is such a server; an error is want of memory.
+    pub(super) fn ask_at(
         &mut self,
+        shard: ShardId,
         server: ServerId,
         request: Request,
     ) -> Result<LineAnswer, AllocError>
-        ensures answered { IfOk result
-            (λ answer. WasAnswered (λ client. FaultAt counter_text self.old.client client 0 request)
-            self.old.client request answer self.new.client) }
-        ensures unchanged { self.new ≡ with_client self.old self.new.client }
+        requires within { shard < length self.old.client.bounds }
+        requires shard { shard ≡ shard_of self.old.client.bounds (key_of_request request) }
+        ensures { IfOk result (λ answer. AnsweredAt self.old server request answer self.new) }
     {
+        if !self.cluster.desk().knows(server) {
+            return Ok(LineAnswer::Refused(Refused::UnknownServer));
+        }
         let given = self
             .client
-            .call_at(&self.rt, self.alloc, server, 0, request);
+            .call_shard_at(&self.rt, self.alloc, server, 0, shard, request);
         learned(&mut self.client, given)
     }
 }
@@ -77,17 +75,11 @@ pub(super) fn load_by<R: Threads + Wait + Sync>(
 /// Has the client learn what its call gave, and answers that; an error is want of memory.
 pub(super) fn learned(
     client: &mut Client<CounterText>,
-    given: Result<Given<CounterText>, CallRefused<Request>>,
+    given: Result<Answer<CounterText>, CallRefused<Request>>,
 ) -> Result<LineAnswer, AllocError>
     requires { IfOk given (λ answer. answer.note.board ≡ client.old.pass.board) }
-    ensures board { client.new.pass.board ≡ client.old.pass.board }
-    ensures bounds { client.new.bounds ≡ client.old.bounds }
-    ensures router { client.new.router ≡ client.old.router }
-    ensures seen { Begins client.old.pass.seen client.new.pass.seen }
-    ensures answered { (request : Request) → IfOk given (λ answer. Gives counter_text client.old 0 request answer
-        → IfOk result (λ answer. WasAnswered (λ _ _. ⊥) client.old request answer client.new)) }
-    ensures refused { IfErr given (λ refused. IfOk result (λ answer.
-        (option_map IsRefused (call_refused refused.fault) ≡ Some answer) × (client.new ≡ client.old))) }
+    ensures answered { IfOk result (λ answer. AnsweredResult client.old given answer client.new) }
+    ensures since { IsClientSince client.old client.new }
 {
     match given {
         Ok(answer) => {

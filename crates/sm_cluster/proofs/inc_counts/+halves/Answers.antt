@@ -1,4 +1,4 @@
-use Rattle.std.proofs.Common.{◌≡◌, ◌+◌, ◌<◌, ◌^◌, ℕ, List, length, rules, subst, length-append}
+use Rattle.std.proofs.Common.{◌+◌, ◌<◌, ◌^◌, List, length, rules, subst, length-append}
 use Rattle.sm_cluster.specs.IncCounts.{MayCount}
 use Rattle.sm_cluster.proofs.Adding.{sums_fit, both_of}
 use Rattle.sm_cluster.proofs.inc_counts.+halves.Goals as goal

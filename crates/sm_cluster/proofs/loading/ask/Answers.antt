@@ -1,7 +1,8 @@
 use Rattle.std.proofs.Common.{refl, subst}
 use Rattle.sm_body.specs.Service.{meaning_of}
 use Rattle.sm_cluster.specs.Loads.{HasLearnedReply}
-use Rattle.sm_cluster.proofs.Acking.{reply_before, since_same}
+use Rattle.sm_cluster.specs.lemmas.Since.{since_same}
+use Rattle.sm_cluster.proofs.Acking.{reply_before}
 use Rattle.sm_cluster.proofs.loading.ask.Goals as goal
 
 pub loop-retry-init : goal.loop-retry-init

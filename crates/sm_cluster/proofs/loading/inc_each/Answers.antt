@@ -1,6 +1,7 @@
-use Rattle.std.proofs.Common.{◌≡◌, ◌+◌, refl}
+use Rattle.std.proofs.Common.{refl}
 use Rattle.sm_body.specs.Service.{meaning_of}
-use Rattle.sm_cluster.proofs.Acking.{one_more, since_same}
+use Rattle.sm_cluster.specs.lemmas.Since.{since_same}
+use Rattle.sm_cluster.proofs.Acking.{one_more}
 use Rattle.sm_cluster.proofs.loading.inc_each.Goals as goal
 
 pub loop-number-init : goal.loop-number-init

@@ -1,6 +1,7 @@
 use Rattle.sm_body.specs.Service.{meaning_of}
 use Rattle.sm_cluster.specs.Loads.{HasAdded, IsClientSince}
-use Rattle.sm_cluster.proofs.Acking.{counts_since, since_since}
+use Rattle.sm_cluster.specs.lemmas.Since.{since_since}
+use Rattle.sm_cluster.proofs.Acking.{counts_since}
 use Rattle.sm_cluster.proofs.Adding.{as_many, at_each, sums_up}
 use Rattle.sm_cluster.proofs.loading.load_by.Goals as goal
 

@@ -1,4 +1,4 @@
-use Rattle.std.proofs.Common.{◌≡◌, ◌+◌, ℕ, length, pos, subst}
+use Rattle.std.proofs.Common.{ℕ, pos, subst}
 use Rattle.sm_cluster.specs.Loads.{HaveLoaded}
 use Rattle.sm_session.specs.Service.{counter_text}
 use Rattle.sm_service.specs.declared.request.Request.TheVariants.{Get, Inc}

@@ -1,4 +1,4 @@
-use Rattle.std.proofs.Common.{◌≡◌, IfOk, Some, subst, sym}
+use Rattle.std.proofs.Common.{◌≡◌, IfOk, Some, refl, subst, sym}
 use Rattle.std.proofs.lemmas.Result.{IfOk-weaker}
 use Rattle.sm_cluster.specs.Clusters.{ClusterValue}
 use Rattle.sm_script.specs.declared.line_answer.LineAnswer.{LineAnswer}
@@ -7,17 +7,16 @@ use Rattle.sm_threads.specs.Calls.{WasBased, may_answer}
 use Rattle.sm_threads.specs.Refusals.{hold_refused}
 use Rattle.sm_threads.specs.Sessions.{SessionValue}
 use Rattle.sm_threads.proofs.Answering.{session_with}
-use Rattle.sm_threads.proofs.Telling.{more_keeps, told_client, told_whole}
+use Rattle.sm_threads.proofs.Telling.{more_keeps, told_whole}
 use Rattle.sm_threads.proofs.cluster_backend.calls.ClusterBackendBackend.checkpoint.Goals as goal
 
 pub invariant_of-self : goal.invariant_of-self
 invariant_of-self g c =
     let before = c.self.inside.cluster in
-    let made = c.checkpoint-made.new.self in
-    let told = c.tell.ensures in
-    told_whole before made c.tell.new.self c.self.inside.client c.tell.new.client told.unchanged told.looks told.client
-    told.told c.self.inside.loaders.items
-    (more_keeps before made c.checkpoint-made.ensures.unchanged) c.self.invariant
+    let middle = c.checkpoint-made.new.self in
+    let made = c.checkpoint-made.ensures in
+    told_whole before middle c.tell.new.self c.self.inside.client c.tell.new.client c.self.inside.loaders.items
+    c.tell.ensures.unchanged c.tell.ensures.told (more_keeps before middle made.unchanged) c.self.invariant
 
 pub returns-clause-answers : goal.returns-clause-answers
 returns-clause-answers g c =
@@ -34,12 +33,9 @@ returns-clause-answers g c =
     subst (λ (cluster : ClusterValue Request). WasBased (session_with before loaders client) c.args.shard c.args.server
     answer (session_with cluster loaders c.tell.new.client)) (sym told.unchanged) (
       c.checkpoint-made.result,
-      made.unknown_shard,
-      made.unknown_server,
-      made.known,
+      made.based,
       says,
-      told_client before middle c.tell.new.self client c.tell.new.client told.unchanged told.looks told.client told.told
-          loaders told.control,
+      (told.told, refl),
     ) in
     subst (λ (s : SessionValue). IfOk c.hold_answer.result (Was s)) c.self.view_is
     (IfOk-weaker c.hold_answer.result Says

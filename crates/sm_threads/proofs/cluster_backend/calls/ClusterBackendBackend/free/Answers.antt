@@ -1,4 +1,4 @@
-use Rattle.std.proofs.Common.{◌≡◌, IfOk, Some, subst, sym}
+use Rattle.std.proofs.Common.{◌≡◌, IfOk, Some, refl, subst, sym}
 use Rattle.std.proofs.lemmas.Result.{IfOk-weaker}
 use Rattle.sm_cluster.specs.Clusters.{ClusterValue}
 use Rattle.sm_script.specs.declared.line_answer.LineAnswer.{LineAnswer}
@@ -7,17 +7,17 @@ use Rattle.sm_threads.specs.Calls.{WasFreed, may_answer}
 use Rattle.sm_threads.specs.Refusals.{hold_refused}
 use Rattle.sm_threads.specs.Sessions.{SessionValue}
 use Rattle.sm_threads.proofs.Answering.{session_with}
-use Rattle.sm_threads.proofs.Telling.{freed_keeps, told_client, told_whole}
+use Rattle.sm_threads.proofs.Telling.{freed_keeps, told_whole}
 use Rattle.sm_threads.proofs.cluster_backend.calls.ClusterBackendBackend.free.Goals as goal
 
 pub invariant_of-self : goal.invariant_of-self
 invariant_of-self g c =
+    let before = c.self.inside.cluster in
+    let middle = c.free-made.new.self in
     let made = c.free-made.ensures in
-    let told = c.tell.ensures in
-    told_whole c.self.inside.cluster c.free-made.new.self c.tell.new.self c.self.inside.client c.tell.new.client
-    told.unchanged told.looks told.client told.told c.self.inside.loaders.items
-    (freed_keeps c.self.inside.cluster c.free-made.new.self c.args.shard c.free-made.result made.freed made.unchanged)
-    c.self.invariant
+    told_whole before middle c.tell.new.self c.self.inside.client c.tell.new.client c.self.inside.loaders.items
+    c.tell.ensures.unchanged c.tell.ensures.told
+    (freed_keeps before middle c.args.shard c.free-made.result made.freed made.unchanged) c.self.invariant
 
 pub returns-clause-answers : goal.returns-clause-answers
 returns-clause-answers g c =
@@ -38,8 +38,7 @@ returns-clause-answers g c =
       made.refused,
       made.unchanged,
       says,
-      told_client before middle c.tell.new.self client c.tell.new.client told.unchanged told.looks told.client told.told
-          loaders told.control,
+      (told.told, refl),
     ) in
     subst (λ (s : SessionValue). IfOk c.hold_answer.result (Was s)) c.self.view_is
     (IfOk-weaker c.hold_answer.result Says

@@ -1,4 +1,4 @@
-use Rattle.std.proofs.Common.{◌≡◌, IfOk, Some, subst, sym}
+use Rattle.std.proofs.Common.{◌≡◌, IfOk, Some, refl, subst, sym}
 use Rattle.std.proofs.lemmas.Result.{IfOk-weaker}
 use Rattle.sm_cluster.specs.Clusters.{ClusterValue}
 use Rattle.sm_script.specs.declared.line_answer.LineAnswer.{LineAnswer}
@@ -7,17 +7,17 @@ use Rattle.sm_threads.specs.Calls.{WasPublished, may_answer}
 use Rattle.sm_threads.specs.Refusals.{publish_refused}
 use Rattle.sm_threads.specs.Sessions.{SessionValue}
 use Rattle.sm_threads.proofs.Answering.{published_keeps, session_with}
-use Rattle.sm_threads.proofs.Telling.{told_client, told_whole}
+use Rattle.sm_threads.proofs.Telling.{told_whole}
 use Rattle.sm_threads.proofs.cluster_backend.calls.ClusterBackendBackend.publish.Goals as goal
 
 pub invariant_of-self : goal.invariant_of-self
 invariant_of-self g c =
     let before = c.self.inside.cluster in
-    let made = c.publish-made.new.self in
-    let told = c.tell.ensures in
-    told_whole before made c.tell.new.self c.self.inside.client c.tell.new.client told.unchanged told.looks told.client
-    told.told c.self.inside.loaders.items
-    (published_keeps _ before made c.args.shard c.publish-made.result c.publish-made.ensures.published) c.self.invariant
+    let middle = c.publish-made.new.self in
+    let made = c.publish-made.ensures in
+    told_whole before middle c.tell.new.self c.self.inside.client c.tell.new.client c.self.inside.loaders.items
+    c.tell.ensures.unchanged c.tell.ensures.told
+    (published_keeps _ before middle c.args.shard c.publish-made.result made.published) c.self.invariant
 
 pub returns-clause-answers : goal.returns-clause-answers
 returns-clause-answers g c =
@@ -25,18 +25,18 @@ returns-clause-answers g c =
     let middle = c.publish-made.new.self in
     let client = c.self.inside.client in
     let loaders = c.self.inside.loaders.items in
+    let made = c.publish-made.ensures in
     let told = c.tell.ensures in
     let Says : LineAnswer → Type 0 = λ answer. may_answer publish_refused c.publish-made.result ≡ Some answer in
     let after = session_with c.tell.new.self loaders c.tell.new.client in
     let Was : SessionValue → LineAnswer → Type 0 = λ s answer. WasPublished s c.args.shard answer after in
     let was : (answer : LineAnswer) → Says answer → Was (session_with before loaders client) answer = λ answer says.
-    subst (λ (cluster : ClusterValue Request). WasPublished (session_with before loaders client) c.args.shard answer
-    (session_with cluster loaders c.tell.new.client)) (sym told.unchanged) (
+    subst (λ (cluster : ClusterValue Request). WasPublished (session_with before loaders client) c.args.shard
+    answer (session_with cluster loaders c.tell.new.client)) (sym told.unchanged) (
       c.publish-made.result,
-      c.publish-made.ensures.published,
+      made.published,
       says,
-      told_client before middle c.tell.new.self client c.tell.new.client told.unchanged told.looks told.client told.told
-          loaders told.control,
+      (told.told, refl),
     ) in
     subst (λ (s : SessionValue). IfOk c.publish_answer.result (Was s)) c.self.view_is
     (IfOk-weaker c.publish_answer.result Says

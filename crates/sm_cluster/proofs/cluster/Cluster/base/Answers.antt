@@ -7,12 +7,12 @@ use Rattle.sm_rule.specs.lemmas.Passing.{looks_begins, met_begins}
 use Rattle.sm_cluster.specs.Basing.{IsBasedBy, hold_fault_of}
 use Rattle.sm_cluster.specs.Clusters.{ClusterValue}
 use Rattle.sm_cluster.proofs.Telling.{tells_more}
-use Rattle.sm_cluster.proofs.cluster.Cluster.checkpoint.Goals as goal
+use Rattle.sm_cluster.proofs.cluster.Cluster.base.Goals as goal
 
-pub returns-in_err-made-clause-known : goal.returns-in_err-made-clause-known
-returns-in_err-made-clause-known g c within known =
+pub returns-in_err-made : goal.returns-in_err-made
+returns-in_err-made g c =
     let fault = err_from_is_err_and c.from_residual.result c.from_residual.ensures.1 in
-    let inside = c.self-2.inside in
+    let inside = c.self.inside in
     let told = c.meet.new.pass.seen in
     let later : ClusterValue g.row.S-Request.Denot = record {
       control = inside.control;
@@ -30,13 +30,13 @@ returns-in_err-made-clause-known g c within known =
       told =
           subst (λ (pass : PassValue g.row.S-Request.Denot). Begins pass.seen told) c.into_note.ensures
           (met_begins c.into_note.result.number c.into_note.result.seen told c.meet.ensures.met);
-      others = tells_more _ c.args.self.now told (c.self-2.view_is ∙ c.pass_of-pass.ensures.unchanged)
+      others = tells_more _ c.args.self.now told (c.self.view_is ∙ c.pass_of-pass.ensures.unchanged)
           (looks_begins inside.teller c.meet.new.pass c.meet.ensures.looks);
     } in
     rw (fault.1, fault.2) based
 
-pub returns-clause-known : goal.returns-clause-known
-returns-clause-known g c within known =
+pub returns : goal.returns
+returns g c =
     let is = c.in_ok-made.ensures in
     let told = c.meet.new.pass.seen in
     record {
@@ -47,6 +47,6 @@ returns-clause-known g c within known =
       told =
           subst (λ (pass : PassValue g.row.S-Request.Denot). Begins pass.seen told) c.into_note.ensures
           (met_begins c.into_note.result.number c.into_note.result.seen told c.meet.ensures.met);
-      others = tells_more _ c.args.self.now told (c.self-2.view_is ∙ c.pass_of-pass.ensures.unchanged)
-          (looks_begins c.self-2.inside.teller c.meet.new.pass c.meet.ensures.looks);
+      others = tells_more _ c.args.self.now told (c.self.view_is ∙ c.pass_of-pass.ensures.unchanged)
+          (looks_begins c.self.inside.teller c.meet.new.pass c.meet.ensures.looks);
     }

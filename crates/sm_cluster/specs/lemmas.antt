@@ -1,0 +1,3 @@
+-- Lemmas that the proofs of crates above cite.
+pub mod Calling
+pub mod Since
