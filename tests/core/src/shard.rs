@@ -141,7 +141,11 @@ fn starts_from_a_base(rt: HostRuntime) {
     let state = Vec::from_slice(alloc, sending.parts[0].state()).expect(&rt, "memory");
     let lasts = Vec::from_slice(alloc, sending.parts[0].lasts()).expect(&rt, "memory");
     let mut parts = Vec::new(alloc);
-    assert!(rt; parts.push(BasePart::new(state, lasts, sending.parts[0].floor())).is_ok());
+    assert!(rt;
+        parts
+            .push(BasePart::new(state, lasts, sending.parts[0].floor()))
+            .is_ok()
+    );
     server.on_parts_made();
     assert!(rt; matches!(server.flush(alloc), Ok(true)));
     let named = NamedBase {
@@ -237,7 +241,14 @@ fn forwards_so_far(rt: HostRuntime) {
         owner: two,
         previous: ServerId::of(1),
     };
-    let again = server.on_record(alloc, Record { stand, ..serving(two) }, 5);
+    let again = server.on_record(
+        alloc,
+        Record {
+            stand,
+            ..serving(two)
+        },
+        5,
+    );
     assert!(rt; again.waiting.is_empty());
     let first = server.on_request(item(7, 5));
     assert!(rt; matches!(first, Ok(Decision::Forwards(to, 1)) if to == two));
@@ -252,8 +263,9 @@ fn serves_all_shards(rt: HostRuntime) {
     let (alloc, one) = (rt.alloc(), ServerId::of(1));
     let made = StoreServer::new(alloc, one, 8, LIMITS).expect(&rt, "memory");
     let mut server: StoreServer<Sum, u64, u64> = made.expect(&rt, "8 shards");
-    let none: Option<StoreServer<Sum, u64, u64>> =
-        StoreServer::new(alloc, one, 4097, LIMITS).expect(&rt, "memory");
+    let none: Option<StoreServer<Sum, u64, u64>> = StoreServer::new(
+        alloc, one, 4097, LIMITS,
+    ).expect(&rt, "memory");
     assert!(rt; none.is_none());
     let seventh = ShardId::new(7).expect(&rt, "a shard");
     let read = ShardInput::Read {
