@@ -27,40 +27,46 @@ use Rattle.sm_codec.proofs.FieldLemmas.{bind_to, version_again, version_takes, w
 use Rattle.sm_codec.proofs.Heads.{taken_all}
 
 -- a request of these fields
-abbrev item_of : ℕ → ℕ → Mode → ℕ → List ℕ → Item (List ℕ)
-item_of client number mode hops request =
-    record { client = client; number = number; mode = mode; hops = hops; request = request }
+abbrev item_of : ℕ → ℕ → Mode → ℕ → ℕ → List ℕ → Item (List ℕ)
+item_of client number mode hops forgets request =
+    record { client = client; number = number; mode = mode; hops = hops; forgets = forgets; request = request }
 
 item_takes : (bytes : List ℕ) (x : Item (List ℕ) × List ℕ) → IsBytes bytes → item_in bytes ≡ Ok x
     → Takes bytes (item_bytes x.0) x.1 × FitsItem x.0
 unfolding item_in
 item_takes bytes x fits e =
     let a = bind_ok (number_in w64 bytes) (λ client. number_in w64 client.1 >>= λ number. mode_in number.1 >>= λ mode.
-    byte_in mode.1 >>= λ hops. string_in hops.1 >>= λ request.
-    Ok (item_of client.0 number.0 mode.0 hops.0 request.0, request.1)) x e in
+    byte_in mode.1 >>= λ hops. number_in w64 hops.1 >>= λ forgets. string_in forgets.1 >>= λ request.
+    Ok (item_of client.0 number.0 mode.0 hops.0 forgets.0 request.0, request.1)) x e in
     let b = bind_ok (number_in w64 a.0.1) (λ number. mode_in number.1 >>= λ mode. byte_in mode.1 >>= λ hops.
-    string_in hops.1 >>= λ request. Ok (item_of a.0.0 number.0 mode.0 hops.0 request.0, request.1)) x a.2 in
-    let c = bind_ok (mode_in b.0.1) (λ mode. byte_in mode.1 >>= λ hops. string_in hops.1 >>= λ request.
-    Ok (item_of a.0.0 b.0.0 mode.0 hops.0 request.0, request.1)) x b.2 in
-    let h = bind_ok (byte_in c.0.1) (λ hops. string_in hops.1 >>= λ request.
-    Ok (item_of a.0.0 b.0.0 c.0.0 hops.0 request.0, request.1)) x c.2 in
-    let d = bind_ok (string_in h.0.1) (λ request.
-    Ok (item_of a.0.0 b.0.0 c.0.0 h.0.0 request.0, request.1)) x h.2 in
+    number_in w64 hops.1 >>= λ forgets. string_in forgets.1 >>= λ request.
+    Ok (item_of a.0.0 number.0 mode.0 hops.0 forgets.0 request.0, request.1)) x a.2 in
+    let c = bind_ok (mode_in b.0.1) (λ mode. byte_in mode.1 >>= λ hops. number_in w64 hops.1 >>= λ forgets.
+    string_in forgets.1 >>= λ request.
+    Ok (item_of a.0.0 b.0.0 mode.0 hops.0 forgets.0 request.0, request.1)) x b.2 in
+    let h = bind_ok (byte_in c.0.1) (λ hops. number_in w64 hops.1 >>= λ forgets. string_in forgets.1 >>= λ request.
+    Ok (item_of a.0.0 b.0.0 c.0.0 hops.0 forgets.0 request.0, request.1)) x c.2 in
+    let f = bind_ok (number_in w64 h.0.1) (λ forgets. string_in forgets.1 >>= λ request.
+    Ok (item_of a.0.0 b.0.0 c.0.0 h.0.0 forgets.0 request.0, request.1)) x h.2 in
+    let d = bind_ok (string_in f.0.1) (λ request.
+    Ok (item_of a.0.0 b.0.0 c.0.0 h.0.0 f.0.0 request.0, request.1)) x f.2 in
     let t0 = number_takes w64 (2 ^ 64) wide64 bytes a.0.0 a.0.1 fits a.1 in
     let t1 = number_takes w64 (2 ^ 64) wide64 a.0.1 b.0.0 b.0.1 t0.0.rest_fits b.1 in
     let t2 = mode_takes b.0.1 c.0 t1.0.rest_fits c.1 in
     let th = byte_takes c.0.1 h.0 t2.0.rest_fits h.1 in
-    let t3 = string_takes h.0.1 d.0.0 d.0.1 th.rest_fits d.1 in
-    let eh3 = Takes-then c.0.1 (h.0.0 ∷ []) h.0.1 (string_bytes d.0.0) d.0.1 th t3.0 in
-    let e23 = Takes-then b.0.1 (to_be_bytes w32 (mode_number c.0.0)) c.0.1 (h.0.0 ∷ string_bytes d.0.0) d.0.1 t2.0
-    eh3 in
+    let tf = number_takes w64 (2 ^ 64) wide64 h.0.1 f.0.0 f.0.1 th.rest_fits f.1 in
+    let t3 = string_takes f.0.1 d.0.0 d.0.1 tf.0.rest_fits d.1 in
+    let tail = to_be_bytes w64 f.0.0 ++ string_bytes d.0.0 in
+    let ef3 = Takes-then h.0.1 (to_be_bytes w64 f.0.0) f.0.1 (string_bytes d.0.0) d.0.1 tf.0 t3.0 in
+    let eh3 = Takes-then c.0.1 (h.0.0 ∷ []) h.0.1 tail d.0.1 th ef3 in
+    let e23 = Takes-then b.0.1 (to_be_bytes w32 (mode_number c.0.0)) c.0.1 (h.0.0 ∷ tail) d.0.1 t2.0 eh3 in
     let e13 = Takes-then a.0.1 (to_be_bytes w64 b.0.0) b.0.1
-    (to_be_bytes w32 (mode_number c.0.0) ++ (h.0.0 ∷ string_bytes d.0.0)) d.0.1 t1.0 e23 in
+    (to_be_bytes w32 (mode_number c.0.0) ++ (h.0.0 ∷ tail)) d.0.1 t1.0 e23 in
     let e03 = Takes-then bytes (to_be_bytes w64 a.0.0) a.0.1
-    (to_be_bytes w64 b.0.0 ++ (to_be_bytes w32 (mode_number c.0.0) ++ (h.0.0 ∷ string_bytes d.0.0))) d.0.1 t0.0 e13 in
-    let made : Item (List ℕ) × List ℕ = (item_of a.0.0 b.0.0 c.0.0 h.0.0 d.0.0, d.0.1) in
+    (to_be_bytes w64 b.0.0 ++ (to_be_bytes w32 (mode_number c.0.0) ++ (h.0.0 ∷ tail))) d.0.1 t0.0 e13 in
+    let made : Item (List ℕ) × List ℕ = (item_of a.0.0 b.0.0 c.0.0 h.0.0 f.0.0 d.0.0, d.0.1) in
     subst (λ (y : Item (List ℕ) × List ℕ). Takes bytes (item_bytes y.0) y.1 × FitsItem y.0) (ok_is made x d.2)
-    (e03, record { client = t0.1; number = t1.1; mode = t2.1; request = t3.1 })
+    (e03, record { client = t0.1; number = t1.1; mode = t2.1; forgets = tf.1; request = t3.1 })
 
 item_again : (item : Item (List ℕ)) (rest : List ℕ) → FitsItem item → item_in (item_bytes item ++ rest) ≡ Ok (
   item,
@@ -71,18 +77,21 @@ item_again item rest fits =
     let client = to_be_bytes w64 item.client in
     let number = to_be_bytes w64 item.number in
     let mode = to_be_bytes w32 (mode_number item.mode) in
+    let forgets = to_be_bytes w64 item.forgets in
     let request = string_bytes item.request in
-    let hops = item.hops ∷ request in
-    let left = item.hops ∷ (request ++ rest) in
+    let hops = item.hops ∷ (forgets ++ request) in
+    let left = item.hops ∷ (forgets ++ (request ++ rest)) in
     let regrouped : item_bytes item ++ rest ≡ client ++ (number ++ (mode ++ left)) =
     append_assoc client (number ++ (mode ++ hops)) rest
     ∙ ap (λ (x : List ℕ). client ++ x) (append_assoc number (mode ++ hops) rest
-    ∙ ap (λ (x : List ℕ). number ++ x) (append_assoc mode hops rest)) in
+    ∙ ap (λ (x : List ℕ). number ++ x) (append_assoc mode hops rest
+    ∙ ap (λ (x : List ℕ). mode ++ (item.hops ∷ x)) (append_assoc forgets request rest))) in
     ap item_in regrouped
     ∙ rw (
       number_again w64 (2 ^ 64) wide64 item.client (number ++ (mode ++ left)) fits.client,
       number_again w64 (2 ^ 64) wide64 item.number (mode ++ left) fits.number,
       mode_again item.mode left fits.mode,
+      number_again w64 (2 ^ 64) wide64 item.forgets (request ++ rest) fits.forgets,
       string_again item.request rest fits.request,
     ) refl
 
@@ -192,27 +201,32 @@ request_fits items fits =
     All-from_recursion (λ (item : Item (Vec ℕ)). length item.request.items < 2 ^ 32) items (requests_fit items fits)
 
 -- the numbers of a request, and then its bytes
-pub item_joined : (item : Item (Vec ℕ)) (code : ℕ) → code ≡ mode_number item.mode → (old front far new bytes : List ℕ)
-    → bytes ≡ item.request.items
+pub item_joined : (item : Item (Vec ℕ)) (code : ℕ) → code ≡ mode_number item.mode
+    → (old front far most new bytes : List ℕ) → bytes ≡ item.request.items
     → front ≡ old ++ (to_be_bytes w64 item.client ++ (to_be_bytes w64 item.number ++ to_be_bytes w32 code))
-    → far ≡ front ++ item.hops ∷ [] → new ≡ far ++ string_bytes bytes → new ≡ old ++ item_bytes (item_view item)
-item_joined item code code_is old front far new bytes bytes_is first hopped second =
+    → far ≡ front ++ item.hops ∷ [] → most ≡ far ++ to_be_bytes w64 item.forgets → new ≡ most ++ string_bytes bytes
+    → new ≡ old ++ item_bytes (item_view item)
+item_joined item code code_is old front far most new bytes bytes_is first hopped forgot second =
     let client = to_be_bytes w64 item.client in
     let number = to_be_bytes w64 item.number in
     let mode = to_be_bytes w32 code in
-    let rest = item.hops ∷ string_bytes bytes in
+    let forgets = to_be_bytes w64 item.forgets in
+    let tail = forgets ++ string_bytes bytes in
+    let rest = item.hops ∷ tail in
     let joined : new ≡ old ++ (client ++ (number ++ (mode ++ rest))) =
-    second ∙ ap (λ (x : List ℕ). x ++ string_bytes bytes) hopped
-    ∙ append_assoc front (item.hops ∷ []) (string_bytes bytes)
+    second ∙ ap (λ (x : List ℕ). x ++ string_bytes bytes) forgot
+    ∙ append_assoc far forgets (string_bytes bytes)
+    ∙ ap (λ (x : List ℕ). x ++ tail) hopped
+    ∙ append_assoc front (item.hops ∷ []) tail
     ∙ ap (λ (x : List ℕ). x ++ rest) first
     ∙ append_assoc old (client ++ (number ++ mode)) rest
     ∙ ap (λ (x : List ℕ). old ++ x) (append_assoc client (number ++ mode) rest
     ∙ ap (λ (x : List ℕ). client ++ x) (append_assoc number mode rest)) in
     subst (λ (k : ℕ). new ≡ old ++ (client ++ (number ++ (to_be_bytes w32 k
-    ++ (item.hops ∷ string_bytes item.request.items)))))
+    ++ (item.hops ∷ (forgets ++ string_bytes item.request.items))))))
     code_is
-    (subst (λ (x : List ℕ). new ≡ old ++ (client ++ (number ++ (mode ++ (item.hops ∷ string_bytes x))))) bytes_is
-    joined)
+    (subst (λ (x : List ℕ). new ≡ old ++ (client ++ (number ++ (mode
+    ++ (item.hops ∷ (forgets ++ string_bytes x)))))) bytes_is joined)
 
 -- the bytes of one request more
 pub put_more : (front : List (Item (Vec ℕ))) (item : Item (Vec ℕ))

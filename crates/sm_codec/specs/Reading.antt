@@ -152,13 +152,15 @@ item_in bytes = do
   number ← number_in w64 client.1
   mode ← mode_in number.1
   hops ← byte_in mode.1
-  request ← string_in hops.1
+  forgets ← number_in w64 hops.1
+  request ← string_in forgets.1
   Ok (
     record {
       client = client.0;
       number = number.0;
       mode = mode.0;
       hops = hops.0;
+      forgets = forgets.0;
       request = request.0;
     },
     request.1,
@@ -185,7 +187,8 @@ batch_in bytes = do
 unfoldable pub part_in : List ℕ → Result PartText Fault
 part_in bytes = do
   rest ← version_in bytes
-  state ← string_in rest
+  floor ← number_in w64 rest
+  state ← string_in floor.1
   count ← number_in w32 state.1
   lasts ← items_in count.0 count.1
-  all_read (record { state = state.0; lasts = lasts.0 }) lasts.1
+  all_read (record { floor = floor.0; state = state.0; lasts = lasts.0 }) lasts.1

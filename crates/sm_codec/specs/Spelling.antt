@@ -90,7 +90,8 @@ abbrev pub item_bytes : Item (List ℕ) → List ℕ
 item_bytes item =
     to_be_bytes w64 item.client
     ++ (to_be_bytes w64 item.number
-    ++ (to_be_bytes w32 (mode_number item.mode) ++ (item.hops ∷ string_bytes item.request)))
+    ++ (to_be_bytes w32 (mode_number item.mode)
+    ++ (item.hops ∷ (to_be_bytes w64 item.forgets ++ string_bytes item.request))))
 
 -- a batch without where it lies in memory: the server that executed it, and its requests
 pub record Batch : Type 0 where
@@ -105,6 +106,7 @@ item_view item =
       number = item.number;
       mode = item.mode;
       hops = item.hops;
+      forgets = item.forgets;
       request = item.request.items;
     }
 
@@ -131,6 +133,7 @@ pub record FitsItem (item : Item (List ℕ)) : Type 0 where
   pub client : item.client < 2 ^ 64
   pub number : item.number < 2 ^ 64
   pub mode : FitsMode item.mode
+  pub forgets : item.forgets < 2 ^ 64
   pub request : length item.request < 2 ^ 32
 
 -- a batch that has bytes
@@ -139,22 +142,27 @@ pub record FitsBatch (batch : Batch) : Type 0 where
   pub count : length batch.items < 2 ^ 32
   pub items : AllByRecursion FitsItem batch.items
 
--- a part of a base without where it lies in memory: bytes of the machine, and last requests with their replies
+-- a part of a base without where it lies in memory: the number below which clients are forgotten, bytes of the machine,
+-- and last requests with their replies
 pub record PartText : Type 0 where
+  pub floor : ℕ
   pub state : List ℕ
   pub lasts : List (Item (List ℕ))
 
 -- such a part
 abbrev pub part_view : StoredPart → PartText
-part_view stored = record { state = stored.state.items; lasts = item_views stored.lasts.items }
+part_view stored =
+    record { floor = stored.floor; state = stored.state.items; lasts = item_views stored.lasts.items }
 
 -- a part of a base
 abbrev pub part_bytes : PartText → List ℕ
 part_bytes part =
-    1 ∷ (string_bytes part.state ++ (to_be_bytes w32 (length part.lasts) ++ flat_map item_bytes part.lasts))
+    1 ∷ (to_be_bytes w64 part.floor
+    ++ (string_bytes part.state ++ (to_be_bytes w32 (length part.lasts) ++ flat_map item_bytes part.lasts)))
 
 -- a part that has bytes
 pub record FitsPart (part : PartText) : Type 0 where
+  pub floor : part.floor < 2 ^ 64
   pub state : length part.state < 2 ^ 32
   pub count : length part.lasts < 2 ^ 32
   pub lasts : AllByRecursion FitsItem part.lasts

@@ -110,12 +110,14 @@ fn item_of(alloc: Global, bytes: &[u8]) -> Result<(Item<Vec<u8>>, &[u8]), ReadEr
         return Err(ReadError::Fault(Fault::Server));
     };
     let (hops, rest) = byte_at(rest)?;
+    let (forgets, rest) = u64_at(rest)?;
     let (request, rest) = string_of(alloc, rest)?;
     let item = Item {
         client,
         number,
         mode,
         hops,
+        forgets,
         request,
     };
     Ok((item, rest))
@@ -182,6 +184,7 @@ fn part_of(alloc: Global, bytes: &[u8]) -> Result<StoredPart, ReadError>
     ensures { Decodes (λ stored. part_view stored) result (part_in bytes.now) }
 {
     let rest = version_of(bytes)?;
+    let (floor, rest) = u64_at(rest)?;
     let (state, rest) = string_of(alloc, rest)?;
     let (count, rest) = u32_at(rest)?;
     match items_of(alloc, count, rest) {
@@ -189,7 +192,11 @@ fn part_of(alloc: Global, bytes: &[u8]) -> Result<StoredPart, ReadError>
             if !rest.is_empty() {
                 return Err(ReadError::Fault(Fault::Trailing));
             }
-            Ok(StoredPart { state, lasts })
+            Ok(StoredPart {
+                floor,
+                state,
+                lasts,
+            })
         }
         Err(error) => Err(error),
     }

@@ -4,6 +4,8 @@ use sm_store::item::Item;
 /// request.
 #[derive(Drop)]
 pub struct StoredPart {
+    /// The number below which clients are forgotten.
+    pub floor: u64,
     pub state: Vec<u8>,
     pub lasts: Vec<Item<Vec<u8>>>,
 }

@@ -74,6 +74,13 @@ fn put_front(out: &mut Vec<u8>, client: u64, number: u64, code: u32) -> Result<(
     Ok(())
 }
 
+fn put_number(out: &mut Vec<u8>, number: u64) -> Result<(), AllocError>
+    ensures { OnOk result (out.new.items ≡ out.old.items ++ to_be_bytes w64 number) }
+{
+    out.extend_from_slice(&number.to_be_bytes())?;
+    Ok(())
+}
+
 /// Adds a number of bytes, and so many bytes.
 pub(crate) fn put_string(out: &mut Vec<u8>, bytes: &[u8]) -> Result<(), AllocError>
     requires { length bytes.now < 2 ^ 32 }
@@ -91,6 +98,7 @@ fn put_item(out: &mut Vec<u8>, item: &Item<Vec<u8>>) -> Result<(), AllocError>
     let code = mode_code(&item.mode);
     put_front(out, item.client, item.number, code)?;
     out.push(item.hops)?;
+    put_number(out, item.forgets)?;
     put_string(out, &item.request)?;
     Ok(())
 }
@@ -126,6 +134,7 @@ pub fn write_part(alloc: Global, stored: &StoredPart) -> Result<Vec<u8>, AllocEr
 {
     let mut out = Vec::new(alloc);
     out.push(1)?;
+    put_number(&mut out, stored.floor)?;
     put_string(&mut out, &stored.state)?;
     out.extend_from_slice(&(stored.lasts.len() as u32).to_be_bytes())?;
     put_items(&mut out, &stored.lasts)?;

@@ -19,7 +19,7 @@ use Rattle.sm_shard.specs.declared.base_work.NamedBase.{NamedBase}
 use Rattle.sm_store.specs.declared.compare.Compare.{Compare}
 use Rattle.sm_store.specs.declared.head.Head.{Head}
 use Rattle.sm_store.specs.declared.item.Item.{Item}
-use Rattle.sm_store.specs.Clients.{Automaton, last_of, reply_in, state_after}
+use Rattle.sm_store.specs.Clients.{Automaton, ComesNext, IsOver, floor_of, last_of, reply_in, state_after}
 use Rattle.sm_store.specs.Store.{Transaction, all_hold, head_key, made, record_key, revision_of, stored_record}
 use Rattle.sm_store.specs.Deeds.{AreAccepted, Charter, Checking, Executing, Clearing, MayExecute, MayName, MaySend}
 use Rattle.sm_store.specs.Deeds.{Naming, ShardLog, WasFound}
@@ -28,14 +28,15 @@ use Rattle.sm_store.specs.System.{Ask, Claim, IsAmong, IsSo, MayClaim, Overtaken
 use Rattle.sm_store.specs.lemmas.Growth.{so_grows, next_split}
 use Rattle.sm_store.specs.lemmas.Heart.{first_held, stood_then}
 use Rattle.sm_store.specs.lemmas.Logs.{all_among, all_map}
-use Rattle.sm_store.specs.lemmas.Numbers.{last-append, next-append, next_front}
+use Rattle.sm_store.specs.lemmas.Numbers.{floor-append, last-append, next-append, next_front}
 use Rattle.sm_store.specs.lemmas.Views.{log_view}
 use Rattle.sm_shard.specs.declared.shard_limits.ShardLimits.{ShardLimits}
 use Rattle.sm_shard.specs.declared.replica.MadeReply.{MadeReply}
 use Rattle.sm_shard.specs.declared.replica.ReadReply.{ReadReply}
 use Rattle.sm_shard.specs.declared.shard_state.Decision.{Decision}
 use Rattle.sm_shard.specs.declared.shard_state.Decision.TheVariants.{Replied, Passed, Waits, Forwards, Refused}
-use Rattle.sm_shard.specs.declared.shard_state.Decision.TheVariants.{NotRead, TooFar, TooLarge, Busy}
+use Rattle.sm_shard.specs.declared.shard_state.Decision.TheVariants.{Forgotten, NotRead, TooFar, TooLarge}
+use Rattle.sm_shard.specs.declared.shard_state.Decision.TheVariants.{TooManyClients, Busy}
 use Rattle.sm_shard.specs.declared.shard_state.ShardState.{ShardState}
 use Rattle.sm_shard.specs.Decisions.{batch_from, batch_length, begins_base, decided_by_number, goes_with, client_number}
 use Rattle.sm_shard.specs.Decisions.{asking_after, is_behind, named_by}
@@ -144,14 +145,18 @@ module _ {Q : Type 0} where
   -- one more request that is accepted, and comes next
   pub accepted_push : (state : Record) (server : ℕ) (before items : List (Item Q)) (item : Item Q)
       → AreAccepted state server before items → IsTrue (accepts state server item.mode)
-      → last_of item.client before < item.number → last_of item.client items ≡ 0
+      → ComesNext before item → last_of item.client items ≡ 0 → floor_of items ≤ item.client
       → AreAccepted state server before (items ++ item ∷ [])
-  accepted_push state server before items item are accepted above none =
+  accepted_push state server before items item are accepted comes none kept =
       let both = last-append item.client before items in
+      let floors = floor-append before items in
+      let above = comes.above in
+      let known = comes.known in
+      let next : ComesNext (before ++ items) item = record { known = omega arith; above = omega arith } in
       record {
         accepted = all-append (λ (one : Item Q). IsTrue (accepts state server one.mode)) items (item ∷ []) are.accepted
             (accepted, tt);
-        next = next-append before items (item ∷ []) are.next (omega arith, tt);
+        next = next-append before items (item ∷ []) are.next (next, tt);
       }
 
   pub accepted_front : (state : Record) (server : ℕ) (before xs ys : List (Item Q))
@@ -227,19 +232,28 @@ module _ {Q : Type 0} (limits : ShardLimits) (size : Q → ℕ) where
       → batch_from limits size count room (item ∷ items) ≡ 0
   batch_full count room item items full = rw full refl
 
+-- what was looked up of the requests here doesn't let the client be forgotten
+pub floor_below : {Q : Type 0} (client floor : ℕ) (items list : List (Item Q)) → floor ≡ floor_of list → list ≡ items
+    → floor ≤ client → floor_of items ≤ client
+floor_below client floor items list is same within = subst (λ (k : ℕ). k ≤ client) (is ∙ ap floor_of same) within
+
 module _ {M Q R : Type 0} (service : Automaton M Q R) where
   -- one more request waits
   pub ready_push : (me : ℕ) (before : List (Item Q)) (item : Item Q) (old new : ShardState M Q R) → new.state
       ≡ old.state → new.replica ≡ old.replica → new.sent.items ≡ old.sent.items → new.waiting.items
       ≡ old.waiting.items ++ item ∷ [] → IsTrue (accepts old.state me item.mode) → last_of item.client old.sent.items
-      ≡ 0 → last_of item.client old.waiting.items ≡ 0 → (IsReplica service before old.replica
-      → last_of item.client before < item.number) → IsShardState service me before old
-      → IsShardState service me before new
-  ready_push me before item old new state_is book_is sent_is waiting_is accepted unsent unwaiting next ready =
+      ≡ 0 → last_of item.client old.waiting.items ≡ 0 → floor_of old.sent.items ≤ item.client
+      → floor_of old.waiting.items ≤ item.client → (IsReplica service before old.replica
+      → (floor_of before ≤ item.client) × (last_of item.client before < item.number))
+      → IsShardState service me before old → IsShardState service me before new
+  ready_push me before item old new state_is book_is sent_is waiting_is accepted unsent unwaiting first second next
+      ready =
       let both = last-append item.client old.sent.items old.waiting.items in
+      let floors = floor-append old.sent.items old.waiting.items in
+      let now = next ready.replica in
       let one : AreAccepted old.state me before ((old.sent.items ++ old.waiting.items) ++ item ∷ []) =
       accepted_push old.state me before (old.sent.items ++ old.waiting.items) item ready.accepted accepted
-      (next ready.replica) (omega arith) in
+      (record { known = now.0; above = now.1 }) (omega arith) (omega arith) in
       let items_are : (old.sent.items ++ old.waiting.items) ++ item ∷ [] ≡ new.sent.items ++ new.waiting.items =
       append_assoc old.sent.items old.waiting.items (item ∷ []) ∙ ap (λ (list : List (Item Q)). old.sent.items ++ list)
       (sym waiting_is) ∙ ap (λ (list : List (Item Q)). list ++ new.waiting.items) (sym sent_is) in
@@ -262,13 +276,13 @@ module _ {M Q R : Type 0} (service : Automaton M Q R) where
       (sym found.was) is))
 
   pub overtaken_so : (shard : ℕ) (system : StoreSystem Q R) (read : ShardLog Q) (revision client number : ℕ)
-      → WasFound (shard_log shard) (head_key shard) system.log read revision → number < last_of client read.items
+      → WasFound (shard_log shard) (head_key shard) system.log read revision → IsOver client number read.items
       → MayClaim service system (Overtaken shard client number)
   overtaken_so shard system read revision client number found is =
       subst (λ (list : StoreLog Q R). IsSo service system.asked list (Overtaken shard client number))
       (sym found.is)
       (so_grows service system.asked found.later found.past (Overtaken shard client number)
-      (subst (λ (l : ShardLog Q). number < last_of client l.items) (sym found.was) is))
+      (subst (λ (l : ShardLog Q). IsOver client number l.items) (sym found.was) is))
 
   pub answers_so : (shard : ℕ) (system : StoreSystem Q R) (read : ShardLog Q) (revision : ℕ)
       → WasFound (shard_log shard) (head_key shard) system.log read revision → (answers : List (MadeReply R))
@@ -289,13 +303,16 @@ module _ {M Q R : Type 0} (service : Automaton M Q R) where
   decided_so shard me system state read revision client number found (Replied answer) is =
       (reply_so shard system read revision client number answer found is, tt)
   decided_so shard me system state read revision client number found Passed is =
-      (overtaken_so shard system read revision client number found is, tt)
+      (overtaken_so shard system read revision client number found (inl is), tt)
+  decided_so shard me system state read revision client number found Forgotten is =
+      (overtaken_so shard system read revision client number found (inr is), tt)
   decided_so shard me system state read revision client number found Waits is = tt
   decided_so shard me system state read revision client number found (Forwards to hops) is = tt
   decided_so shard me system state read revision client number found TooFar is = tt
   decided_so shard me system state read revision client number found Refused is = tt
   decided_so shard me system state read revision client number found NotRead is = tt
   decided_so shard me system state read revision client number found TooLarge is = tt
+  decided_so shard me system state read revision client number found TooManyClients is = tt
   decided_so shard me system state read revision client number found Busy is = tt
 
   -- what is sent may be sent

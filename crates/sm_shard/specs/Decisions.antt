@@ -13,10 +13,12 @@ use Rattle.sm_store.specs.declared.item.Item.{Item}
 use Rattle.sm_store.specs.declared.store_key.PassingKey.{PassingKey}
 use Rattle.sm_store.specs.declared.store_key.PassingKey.TheVariants.{Batch, Part}
 use Rattle.sm_shard.specs.declared.shard_limits.ShardLimits.{ShardLimits}
+use Rattle.sm_store.specs.Clients.{floor_of}
 use Rattle.sm_shard.specs.declared.replica.LastRequest.{LastRequest}
+use Rattle.sm_shard.specs.declared.replica.Replica.{Replica}
 use Rattle.sm_shard.specs.declared.shard_state.Decision.{Decision}
 use Rattle.sm_shard.specs.declared.shard_state.Decision.TheVariants.{Replied, Passed, Waits, Forwards, Refused}
-use Rattle.sm_shard.specs.declared.shard_state.Decision.TheVariants.{NotRead, TooFar}
+use Rattle.sm_shard.specs.declared.shard_state.Decision.TheVariants.{Forgotten, NotRead, TooFar, TooManyClients}
 use Rattle.sm_shard.specs.declared.shard_state.Decision.TheVariants.{TooLarge, Busy}
 use Rattle.sm_shard.specs.declared.base_work.BaseStage.{BaseStage}
 use Rattle.sm_shard.specs.declared.base_work.BaseStage.TheVariants.{Written, Naming}
@@ -52,22 +54,41 @@ abbrev pub decided_by_number : {R : Type 0} → ℕ → Option ℕ → Option (D
 decided_by_number number None = None
 decided_by_number number (Some other) = if other == number then Some Waits else Some Refused
 
--- what is decided of one that is new here, where so many wait
-abbrev pub decided_by_room : {R : Type 0} → ShardLimits → ℕ → ℕ → Decision R
-decided_by_room limits bytes waiting =
-    if nat_lt limits.batch_bytes bytes then TooLarge else if nat_le limits.waiting waiting then Busy else Waits
+-- what is decided of one whose client is forgotten below this number, once what was sent or waits here is made
+abbrev pub decided_by_floor : {R : Type 0} → ℕ → ℕ → Option (Decision R)
+decided_by_floor client floor = if nat_lt client floor then Some Refused else None
 
--- the decision by the client's last request, if that decides
+-- it would be one client more than may be kept
+abbrev pub is_crowded : {M R : Type 0} → ShardLimits → Replica M R → ℕ → Bool
+is_crowded limits replica client =
+    is_none (get nat_cmp replica.lasts client) && nat_le limits.clients (length replica.lasts.entries)
+
+-- what is decided of one that is new here, where so many wait, and where there may be no more clients
+abbrev pub decided_by_room : {R : Type 0} → ShardLimits → ℕ → ℕ → Bool → Decision R
+decided_by_room limits bytes waiting crowded =
+    if nat_lt limits.batch_bytes bytes then TooLarge
+    else if nat_le limits.waiting waiting then Busy
+    else if crowded then TooManyClients
+    else Waits
+
+-- the decision by the requests that are made, if they decide: the client is forgotten, or by its last request
+abbrev pub by_made : {M R : Type 0} → Replica M R → ℕ → ℕ → Option (Decision R)
+by_made replica client number =
+    if nat_lt client replica.floor then Some Forgotten else decided_by_last number (get nat_cmp replica.lasts client)
+
+-- the decision by the requests that are made, if they decide
 abbrev pub by_last : {M Q R : Type 0} → ShardState M Q R → Item Q → Option (Decision R)
-by_last ready item = decided_by_last item.number (get nat_cmp ready.replica.lasts item.client)
+by_last ready item = by_made ready.replica item.client item.number
 
 -- the decision by what was sent or waits of the client, if that decides
 abbrev pub by_waiting : {M Q R : Type 0} → ShardState M Q R → Item Q → Option (Decision R)
 by_waiting ready item =
     option_or (decided_by_number item.number (client_number item.client ready.sent.items))
-    (decided_by_number item.number (client_number item.client ready.waiting.items))
+    (option_or (decided_by_number item.number (client_number item.client ready.waiting.items))
+    (option_or (decided_by_floor item.client (floor_of ready.sent.items))
+    (decided_by_floor item.client (floor_of ready.waiting.items))))
 
--- the decision on a request: by its client's last one; else where the record accepts it here, by what was sent or waits
+-- the decision on a request: by those that are made; else where the record accepts it here, by what was sent or waits
 -- of its client, and by the room that is left; else it goes to whom the record forwards it, if it may go that far, or
 -- is refused
 abbrev pub decision_of : {M Q R : Type 0} → ShardLimits → (Q → ℕ) → ShardState M Q R → ℕ → Item Q → Decision R
@@ -75,7 +96,8 @@ decision_of limits size ready me item =
     decided_or (by_last ready item)
     (if accepts ready.state me item.mode
     then decided_or (by_waiting ready item)
-    (decided_by_room limits (size item.request) (length ready.waiting.items))
+    (decided_by_room limits (size item.request) (length ready.waiting.items)
+    (is_crowded limits ready.replica item.client))
     else decided_by_forward item.hops (forward_to ready.state me))
 
 -- it is new, and there is room for it
@@ -84,7 +106,8 @@ is_taken limits size ready me item =
     is_none (by_last ready item)
     && (accepts ready.state me item.mode
     && (is_none (by_waiting ready item)
-    && not (nat_lt limits.batch_bytes (size item.request) || nat_le limits.waiting (length ready.waiting.items))))
+    && not (nat_lt limits.batch_bytes (size item.request) || (nat_le limits.waiting (length ready.waiting.items)
+    || is_crowded limits ready.replica item.client))))
 
 -- what waits after the decision
 abbrev pub waiting_after : {M Q R : Type 0} → ShardLimits → (Q → ℕ) → ShardState M Q R → ℕ → Item Q → List (Item Q)

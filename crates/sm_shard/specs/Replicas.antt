@@ -1,7 +1,7 @@
 -- What a server makes of a shard's requests: the machine after them, and the last request and reply of each client.
 use Rattle.std.specs.Prelude.{ℕ, Bool, Option, Some, None, ◌≡◌, List, [], ◌∷◌, if◌then◌else◌}
 use Rattle.sm_store.specs.declared.item.Item.{Item}
-use Rattle.sm_store.specs.Clients.{Automaton, AreNext, state_after}
+use Rattle.sm_store.specs.Clients.{Automaton, AreNext, floor_of, state_after}
 use Rattle.sm_shard.specs.Bases.{lasts_of}
 use Rattle.sm_shard.specs.declared.replica.MadeReply.{MadeReply}
 use Rattle.sm_shard.specs.declared.replica.ReadReply.{ReadReply}
@@ -25,6 +25,7 @@ pub record IsReplica {M Q R : Type 0} (service : Automaton M Q R) (items : List 
     (replica : Replica M R) : Type 0 where
   pub machine : replica.machine ≡ state_after service service.start items
   pub lasts : replica.lasts.entries ≡ lasts_of service items
+  pub floor : replica.floor ≡ floor_of items
   pub next : AreNext [] items
 
 -- what is answered to a question: the machine's reply where the request only reads, and none where it is another

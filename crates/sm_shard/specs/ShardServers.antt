@@ -11,7 +11,7 @@ use Rattle.sm_shard.specs.declared.base_work.BaseWork.{BaseWork}
 use Rattle.sm_shard.specs.declared.base_work.NamedBase.{NamedBase}
 use Rattle.sm_store.specs.declared.head.Head.{Head}
 use Rattle.sm_store.specs.declared.item.Item.{Item}
-use Rattle.sm_store.specs.Clients.{Automaton, last_of, reply_in}
+use Rattle.sm_store.specs.Clients.{Automaton, floor_of, last_of, reply_in}
 use Rattle.sm_store.specs.Store.{Transaction, all_hold, head_key, part_at, part_key, record_key, stored_record}
 use Rattle.sm_store.specs.Deeds.{AreAccepted, Basing, Checking, Executing, HasRequests, Naming as Names, WasFound, at}
 use Rattle.sm_store.specs.Deeds.{shard_log, transaction_of}
@@ -23,7 +23,7 @@ use Rattle.sm_shard.specs.declared.shard_server.PartsSending.{PartsSending}
 use Rattle.sm_shard.specs.declared.shard_server.ShardServer.{ShardServer}
 use Rattle.sm_shard.specs.declared.shard_state.Decision.{Decision}
 use Rattle.sm_shard.specs.declared.shard_state.Decision.TheVariants.{Replied, Passed, Waits, Forwards, Refused}
-use Rattle.sm_shard.specs.declared.shard_state.Decision.TheVariants.{NotRead, TooFar}
+use Rattle.sm_shard.specs.declared.shard_state.Decision.TheVariants.{Forgotten, NotRead, TooFar, TooManyClients}
 use Rattle.sm_shard.specs.declared.shard_state.Decision.TheVariants.{TooLarge, Busy}
 use Rattle.sm_shard.specs.declared.shard_state.ShardState.{ShardState}
 use Rattle.sm_shard.specs.declared.shard_limits.ShardLimits.{ShardLimits}
@@ -108,13 +108,9 @@ abbrev pub IsDecided : {M Q R : Type 0} → Automaton M Q R → Record → ℕ �
 IsDecided service state me before client number (Replied answer) =
     reply_in service service.start before client number ≡ Some answer
 IsDecided service state me before client number Passed = number < last_of client before
-IsDecided service state me before client number Waits = Unit {0}
+IsDecided service state me before client number Forgotten = client < floor_of before
 IsDecided service state me before client number (Forwards to hops) = forward_to state me ≡ Some to
-IsDecided service state me before client number Refused = Unit {0}
-IsDecided service state me before client number NotRead = Unit {0}
-IsDecided service state me before client number TooFar = Unit {0}
-IsDecided service state me before client number TooLarge = Unit {0}
-IsDecided service state me before client number Busy = Unit {0}
+IsDecided service state me before client number _ = Unit {0}
 
 -- a base that is there is to be named now
 abbrev pub naming_next : {R : Type 0} → Option (BaseWork R) → Option (BaseWork R)
@@ -182,6 +178,7 @@ pub record IsUnflushed {M Q R : Type 0} (old new : ShardState M Q R) : Type 0 wh
 abbrev pub claimed_by : {Q R : Type 0} → ℕ → ℕ → ℕ → Decision R → List (Claim Q R)
 claimed_by shard client number (Replied answer) = Replies shard client number answer ∷ []
 claimed_by shard client number Passed = Overtaken shard client number ∷ []
+claimed_by shard client number Forgotten = Overtaken shard client number ∷ []
 claimed_by shard client number _ = []
 
 -- what replies claim to the clients

@@ -1,7 +1,7 @@
 ghost use Rattle.std.specs.Prelude.{◌≡◌, List, [], take, drop, IfOk, OnOk};
 ghost use Rattle.sm_store.specs.declared.item.Item.{Item as ItemValue};
 ghost use Rattle.sm_store.specs.Clients.{AreNext};
-ghost use Rattle.sm_shard.specs.Bases.{base_of, cut, part_count, parts_holding, put_in};
+ghost use Rattle.sm_shard.specs.Bases.{base_of, cut, floor_in, part_count, parts_holding, put_in};
 ghost use Rattle.sm_shard.specs.Replicas.{IsReplica};
 
 use crate::base_part::{BasePart, PART_BYTES, PART_CLIENTS};
@@ -45,31 +45,33 @@ fn rest_of<T>(items: &[T], most: usize) -> &[T]
 // The part with the first bytes and last requests.
 fn first_part<R: Copy + Drop>(
     alloc: Global,
+    floor: u64,
     state: &[u8],
     lasts: &[(u64, LastRequest<R>)],
 ) -> Result<BasePart<R>, AllocError>
     ensures { IfOk result (λ part. part
-        ≡ record { state = take PART_BYTES state.now; lasts = take PART_CLIENTS lasts.now }) }
+        ≡ record { state = take PART_BYTES state.now; lasts = take PART_CLIENTS lasts.now; floor = floor }) }
 {
     let bytes = Vec::from_slice(alloc, first_of(state, PART_BYTES))?;
     let clients = Vec::from_slice(alloc, first_of(lasts, PART_CLIENTS))?;
-    Ok(BasePart::new(bytes, clients))
+    Ok(BasePart::new(bytes, clients, floor))
 }
 
 // Cuts bytes and last requests into so many parts.
 fn cut<R: Copy + Drop>(
     alloc: Global,
+    floor: u64,
     count: usize,
     state: &[u8],
     lasts: &[(u64, LastRequest<R>)],
 ) -> Result<Vec<BasePart<R>>, AllocError>
-    ensures { IfOk result (λ parts. parts.items ≡ cut count state.now lasts.now) }
+    ensures { IfOk result (λ parts. parts.items ≡ cut floor count state.now lasts.now) }
 {
     let mut parts = Vec::new(alloc);
     let mut state = state;
     let mut lasts = lasts;
     for _ in 0..count {
-        let part = first_part(alloc, state, lasts)?;
+        let part = first_part(alloc, floor, state, lasts)?;
         parts.push(part)?;
         let more = rest_of(state, PART_BYTES);
         let others = rest_of(lasts, PART_CLIENTS);
@@ -89,13 +91,14 @@ fn part_count<R: Copy + Drop>(state: &[u8], lasts: &[(u64, LastRequest<R>)]) -> 
 // The parts that hold bytes and last requests.
 fn parts_holding<R: Copy + Drop>(
     alloc: Global,
+    floor: u64,
     state: &[u8],
     lasts: &[(u64, LastRequest<R>)],
 ) -> Result<Vec<BasePart<R>>, AllocError>
-    ensures { IfOk result (λ parts. parts.items ≡ parts_holding state.now lasts.now) }
+    ensures { IfOk result (λ parts. parts.items ≡ parts_holding floor state.now lasts.now) }
 {
     let count = part_count(state, lasts);
-    cut(alloc, count, state, lasts)
+    cut(alloc, floor, count, state, lasts)
 }
 
 /// The parts of the base that stands for a replica's requests, each of at most [`PART_BYTES`] bytes of the machine and
@@ -109,7 +112,7 @@ pub fn base_of<Q: Drop, R: Copy + Drop, M: StoreMachine<Q, R>>(
 {
     let state = replica.machine.save(alloc)?;
     let lasts = entries_of(alloc, &replica.lasts)?;
-    parts_holding(alloc, &state, &lasts)
+    parts_holding(alloc, replica.floor, &state, &lasts)
 }
 
 // Puts last requests into a table.
@@ -123,6 +126,16 @@ fn put_all<R: Copy + Drop>(
         lasts.insert(*client, *last)?;
     }
     Ok(())
+}
+
+// The number below which clients are forgotten, by the parts of a base.
+fn floor_in<R: Copy + Drop>(parts: &[BasePart<R>]) -> u64
+    ensures { result ≡ floor_in parts.now }
+{
+    match parts {
+        [part, ..] => part.floor(),
+        [] => 0,
+    }
 }
 
 /// The replica of the requests for which a base of these parts stands, or why they are no base.
@@ -140,7 +153,11 @@ pub fn replica_of<Q: Drop, R: Copy + Drop, M: StoreMachine<Q, R>>(
         put_all(&mut lasts, part.lasts())?;
     }
     match M::load(alloc, &state)? {
-        Some(machine) => Ok(Replica { machine, lasts }),
+        Some(machine) => Ok(Replica {
+            machine,
+            lasts,
+            floor: floor_in(parts),
+        }),
         None => Err(ReplayFault::Unreadable),
     }
 }

@@ -7,11 +7,13 @@ pub const PART_BYTES: usize = 524_288;
 /// The clients that a part of a base has at most.
 pub const PART_CLIENTS: usize = 4_096;
 
-/// A part of a shard's base: bytes of the machine, and last requests, by client.
+/// A part of a shard's base: bytes of the machine, last requests, by client, and the number below which clients are
+/// forgotten.
 #[derive(Drop)]
 pub struct BasePart<R> {
     state: Vec<u8>,
     lasts: Vec<(u64, LastRequest<R>)>,
+    floor: u64,
 }
 
 impl<R> Model for BasePart<R> {
@@ -19,17 +21,21 @@ impl<R> Model for BasePart<R> {
 
     ghost Value = { Part R };
 
-    ghost view = { λ part. record { state = part.state.items; lasts = part.lasts.items } };
+    ghost view = { λ part. record { state = part.state.items; lasts = part.lasts.items; floor = part.floor } };
 }
 
 impl<R: Copy + Drop> BasePart<R> {
     ghost use Rattle.std.specs.Prelude.{◌≡◌};
 
-    /// The part with these bytes and these last requests.
-    pub fn new(state: Vec<u8>, lasts: Vec<(u64, LastRequest<R>)>) -> BasePart<R>
-        ensures { result ≡ record { state = state.items; lasts = lasts.items } }
+    /// The part with these bytes and these last requests, and this number.
+    pub fn new(state: Vec<u8>, lasts: Vec<(u64, LastRequest<R>)>, floor: u64) -> BasePart<R>
+        ensures { result ≡ record { state = state.items; lasts = lasts.items; floor = floor } }
     {
-        BasePart { state, lasts }
+        BasePart {
+            state,
+            lasts,
+            floor,
+        }
     }
 
     /// Its bytes of the machine.
@@ -37,6 +43,13 @@ impl<R: Copy + Drop> BasePart<R> {
         ensures { result.now ≡ self.now.state }
     {
         &self.state
+    }
+
+    /// The number below which clients are forgotten.
+    pub fn floor(&self) -> u64
+        ensures { result ≡ self.now.floor }
+    {
+        self.floor
     }
 
     /// Its last requests, by client.

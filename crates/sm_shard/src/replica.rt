@@ -1,8 +1,9 @@
-ghost use Rattle.std.specs.Prelude.{◌≡◌, ◌<◌, ◌++◌, List, [], ◌∷◌, map, IfNone, IfOk, IfSome, OnOk};
-ghost use Rattle.std.specs.BTreeMap.{get};
+ghost use Rattle.std.specs.Prelude.{◌≡◌, ◌≤◌, ◌++◌, List, [], ◌∷◌, map, max, IfNone, IfOk, IfSome, OnOk};
+ghost use Rattle.std.specs.BTreeMap.{get, insert_entry};
 ghost use Rattle.std.specs.Ordering.{nat_cmp};
 ghost use Rattle.sm_store.specs.declared.item.Item.{Item as ItemValue};
-ghost use Rattle.sm_store.specs.Clients.{last_of, AreNext, reply_in, state_after};
+ghost use Rattle.sm_store.specs.Clients.{floor_of, last_of, AreNext, ComesNext, reply_in, state_after};
+ghost use Rattle.sm_shard.specs.Bases.{kept_from};
 ghost use Rattle.sm_shard.specs.Replicas.{IsReplica, last_number, read_of, replies_of};
 
 use crate::store_machine::StoreMachine;
@@ -15,7 +16,7 @@ use std::collections::BTreeMap;
 pub enum ReplayFault {
     /// Memory was refused.
     Memory,
-    /// The number of a request isn't above those of its client before it.
+    /// The number of a request isn't above those of its client before it, or the client is forgotten.
     OutOfOrder,
     /// There are as many batches as a head can count.
     TooMany,
@@ -70,11 +71,13 @@ impl<T: Drop> From<AllocFailed<T>> for ReplayFault {
     }
 }
 
-/// The machine after a shard's requests, and the last request of each client.
+/// The machine after a shard's requests, the last request of each client, and the number below which clients are
+/// forgotten.
 #[derive(Drop)]
 pub struct Replica<M, R> {
     pub machine: M,
     pub lasts: BTreeMap<u64, LastRequest<R>>,
+    pub floor: u64,
 }
 
 /// The replica of no requests.
@@ -84,6 +87,7 @@ pub fn empty<Q: Drop, R: Copy + Drop, M: StoreMachine<Q, R>>(alloc: Global) -> R
     Replica {
         machine: M::new(alloc),
         lasts: BTreeMap::new(alloc),
+        floor: 0,
     }
 }
 
@@ -104,10 +108,10 @@ pub fn last_request<Q: Drop, R: Copy + Drop, M: StoreMachine<Q, R>>(
 ) -> Option<LastRequest<R>>
     ensures exact { result ≡ get nat_cmp replica.now.lasts client }
     ensures some { IfSome result (λ last. (before : List (ItemValue Q)) → IsReplica M.service before replica.now
-        → (last_of client before ≡ last.number)
+        → floor_of before ≤ client → (last_of client before ≡ last.number)
         × (reply_in M.service M.service.start before client last.number ≡ Some last.reply)) }
     ensures none { IfNone result ((before : List (ItemValue Q)) → IsReplica M.service before replica.now
-        → last_of client before ≡ 0) }
+        → floor_of before ≤ client → last_of client before ≡ 0) }
 {
     let last = found_in(&replica.lasts, client);
     last
@@ -126,6 +130,43 @@ fn last_number<Q: Drop, R: Copy + Drop, M: StoreMachine<Q, R>>(
     }
 }
 
+// Forgets the clients below a number.
+fn forget<R: Copy + Drop>(
+    lasts: &mut BTreeMap<u64, LastRequest<R>>,
+    floor: u64,
+) -> Result<(), AllocError>
+    ensures { OnOk result (lasts.new.entries ≡ kept_from floor lasts.old.entries) }
+{
+    if floor == 0 {
+        return Ok(());
+    }
+    let kept = lasts.split_off(&floor)?;
+    *lasts = kept;
+    Ok(())
+}
+
+// Notes a client's last request, and then forgets the clients below a number.
+fn note<R: Copy + Drop>(
+    lasts: &mut BTreeMap<u64, LastRequest<R>>,
+    client: u64,
+    last: LastRequest<R>,
+    floor: u64,
+) -> Result<(), ReplayFault>
+    ensures { OnOk result (lasts.new.entries
+        ≡ kept_from floor (insert_entry nat_cmp lasts.old.entries client last)) }
+{
+    lasts.insert(client, last)?;
+    forget(lasts, floor)?;
+    Ok(())
+}
+
+/// The greater of two numbers.
+pub fn greater(first: u64, second: u64) -> u64
+    ensures { result ≡ max first second }
+{
+    first.max(second)
+}
+
 /// Makes the next request, or says why it can't be followed; then nothing is said of the replica.
 pub fn make<Q: Drop, R: Copy + Drop, M: StoreMachine<Q, R>>(
     alloc: Global,
@@ -135,9 +176,11 @@ pub fn make<Q: Drop, R: Copy + Drop, M: StoreMachine<Q, R>>(
     ensures answer { IfOk result (λ answer. answer ≡ M.service.reply replica.old.machine item.now.request) }
     ensures machine { OnOk result (replica.new.machine ≡ M.service.after replica.old.machine item.now.request) }
     ensures replica { OnOk result ((before : List (ItemValue Q)) → IsReplica M.service before replica.old
-        → IsReplica M.service (before ++ item.now ∷ []) replica.new
-        × (last_of item.now.client before < item.now.number)) }
+        → IsReplica M.service (before ++ item.now ∷ []) replica.new × ComesNext before item.now) }
 {
+    if item.client < replica.floor {
+        return Err(ReplayFault::OutOfOrder);
+    }
     if item.number <= last_number::<Q, R, M>(replica, item.client) {
         return Err(ReplayFault::OutOfOrder);
     }
@@ -146,10 +189,9 @@ pub fn make<Q: Drop, R: Copy + Drop, M: StoreMachine<Q, R>>(
         number: item.number,
         reply,
     };
-    match replica.lasts.insert(item.client, next) {
-        Ok(_) => Ok(reply),
-        Err(_) => Err(ReplayFault::Memory),
-    }
+    note(&mut replica.lasts, item.client, next, item.forgets)?;
+    replica.floor = greater(replica.floor, item.forgets);
+    Ok(reply)
 }
 
 /// Makes requests one after the other, and answers them.

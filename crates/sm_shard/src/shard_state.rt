@@ -1,15 +1,13 @@
 ghost use Rattle.std.specs.Prelude.{◌≡◌, ◌≤◌, ◌++◌, ◌+◌, List, [], ◌<◌, false, IsTrue, IfOk, OnOk, OnErr, IfSome};
 ghost use Rattle.std.specs.Prelude.{IfNone};
 ghost use Rattle.std.specs.Prelude.{ℕ, length, take, drop, vec_len};
-ghost use Rattle.std.specs.BTreeMap.{get};
-ghost use Rattle.std.specs.Ordering.{nat_cmp};
 ghost use Rattle.sm_ownership.specs.declared.record.Record.{Record as RecordValue};
 ghost use Rattle.sm_ownership.specs.Rules.{forward_to};
 ghost use Rattle.sm_store.specs.declared.item.Item.{Item as ItemValue};
-ghost use Rattle.sm_store.specs.Clients.{last_of, AreNext};
+ghost use Rattle.sm_store.specs.Clients.{floor_of, last_of, AreNext};
 ghost use Rattle.sm_shard.specs.Decisions.{asking_after, batch_from, batch_length, begins_base, decided_by_forward};
 ghost use Rattle.sm_shard.specs.Decisions.{is_behind, is_named_next, is_under_way, named_by};
-ghost use Rattle.sm_shard.specs.Decisions.{decided_by_last};
+ghost use Rattle.sm_shard.specs.Decisions.{by_made, is_crowded};
 ghost use Rattle.sm_shard.specs.Decisions.{decided_by_number, decision_of, goes_with, client_number, read_decision_of};
 ghost use Rattle.sm_shard.specs.Decisions.{sends_now};
 ghost use Rattle.sm_shard.specs.Decisions.{waiting_after};
@@ -19,7 +17,7 @@ ghost use Rattle.sm_shard.specs.ShardServers.{IsWorkTrue, StoreLog, named_now, n
 
 use crate::base::base_of;
 use crate::base_work::{BaseStage, BaseWork, NamedBase};
-use crate::replica::{MadeReply, ReplayFault, Replica, last_request, make_all};
+use crate::replica::{MadeReply, ReplayFault, Replica, greater, last_request, make_all};
 use crate::shard_limits::ShardLimits;
 use crate::store_machine::StoreMachine;
 use sm_envelope::envelope::MOST_HOPS;
@@ -39,13 +37,16 @@ pub enum Decision<R> {
     Replied(R),
     /// A later request of its client is made, so this one won't be made any more.
     Passed,
+    /// Its client is forgotten, so it won't be made any more.
+    Forgotten,
     /// It waits for the next transaction, or is in one.
     Waits,
     /// This server executes it, to which it was then forwarded so often.
     Forwards(ServerId, u8),
     /// Another server executes it, but it was forwarded as often as it may be: [`MOST_HOPS`] times.
     TooFar,
-    /// Not here and now, or another number of its client waits here. This isn't final.
+    /// Not here and now, or another number of its client waits here, or what does will let its client be forgotten.
+    /// This isn't final.
     Refused,
     /// The server hasn't read the shard. This isn't final.
     NotRead,
@@ -53,6 +54,8 @@ pub enum Decision<R> {
     TooLarge,
     /// As many wait as may. This isn't final.
     Busy,
+    /// As many clients are kept as may, and its client isn't among them. This isn't final.
+    TooManyClients,
 }
 
 /// The shard as the server last read it, and what it does there.
@@ -127,10 +130,13 @@ fn known<Q: Drop, R: Copy + Drop, M: StoreMachine<Q, R>>(
     ensures known { IfSome result (λ decision. (state : RecordValue) (me : ℕ) (before : List (ItemValue Q))
         → IsReplica M.service before replica.now
         → IsDecided M.service state me before client number decision) }
-    ensures exact { result ≡ decided_by_last number (get nat_cmp replica.now.lasts client) }
+    ensures exact { result ≡ by_made replica.now client number }
     ensures next { IfNone result ((before : List (ItemValue Q)) → IsReplica M.service before replica.now
-        → last_of client before < number) }
+        → (floor_of before ≤ client) × (last_of client before < number)) }
 {
+    if client < replica.floor {
+        return Some(Decision::Forgotten);
+    }
     match last_request::<Q, R, M>(replica, client) {
         Some(last) => if number == last.number {
             Some(Decision::Replied(last.reply))
@@ -145,6 +151,28 @@ fn known<Q: Drop, R: Copy + Drop, M: StoreMachine<Q, R>>(
             None
         },
     }
+}
+
+// The number below which these let clients be forgotten.
+fn floor_among<Q: Drop>(items: &[Item<Q>]) -> u64
+    ensures { result ≡ floor_of items.now }
+{
+    let mut floor = 0;
+    for item in items {
+        floor = greater(floor, item.forgets);
+    }
+    floor
+}
+
+// Whether it would be one client more than may be kept.
+fn is_crowded<Q: Drop, R: Copy + Drop, M: StoreMachine<Q, R>>(
+    limits: ShardLimits,
+    replica: &Replica<M, R>,
+    client: u64,
+) -> bool
+    ensures { result ≡ is_crowded limits replica.now client }
+{
+    last_request::<Q, R, M>(replica, client).is_none() && limits.clients <= replica.lasts.len()
 }
 
 /// Decides on a request, which waits where it is to be made.
@@ -183,11 +211,20 @@ pub fn take<Q: Drop, R: Copy + Drop, M: StoreMachine<Q, R>>(
     if let Some(decision) = repeated(item.number, client_number(&ready.waiting, item.client)) {
         return Ok(decision);
     }
+    if item.client < floor_among(&ready.sent) {
+        return Ok(Decision::Refused);
+    }
+    if item.client < floor_among(&ready.waiting) {
+        return Ok(Decision::Refused);
+    }
     if limits.batch_bytes < M::size_of(&item.request) {
         return Ok(Decision::TooLarge);
     }
     if limits.waiting <= ready.waiting.len() {
         return Ok(Decision::Busy);
+    }
+    if is_crowded::<Q, R, M>(limits, &ready.replica, item.client) {
+        return Ok(Decision::TooManyClients);
     }
     ready.waiting.push(item)?;
     Ok(Decision::Waits)

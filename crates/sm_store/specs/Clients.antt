@@ -1,5 +1,6 @@
 -- A shard's requests by client: which number comes next, and what each is answered.
-use Rattle.std.specs.Prelude.{ℕ, Bool, Option, Some, None, ◌==◌, ◌&&◌, ◌<◌, ◌+◌, List, [], ◌∷◌, ◌++◌, if◌then◌else◌}
+use Rattle.std.specs.Prelude.{ℕ, Bool, Option, Some, None, ◌==◌, ◌&&◌, ◌<◌, ◌≤◌, ◌⊎◌, ◌+◌, List, [], ◌∷◌, ◌++◌}
+use Rattle.std.specs.Prelude.{if◌then◌else◌}
 use Rattle.std.specs.Prelude.{max}
 use Rattle.sm_store.specs.declared.item.Item.{Item}
 
@@ -17,10 +18,24 @@ last_of client [] = 0
 last_of client (item ∷ items) =
     if item.client == client then max item.number (last_of client items) else last_of client items
 
--- each of the requests has a greater number than those of its client before it
+-- the number below which clients are forgotten after these
+abbrev pub floor_of : {Q : Type 0} → List (Item Q) → ℕ
+floor_of [] = 0
+floor_of (item ∷ items) = max item.forgets (floor_of items)
+
+-- its client isn't forgotten, and it has a greater number than those of its client before it
+pub record ComesNext {Q : Type 0} (before : List (Item Q)) (item : Item Q) : Type 0 where
+  pub known : floor_of before ≤ item.client
+  pub above : last_of item.client before < item.number
+
+-- each of the requests comes next after those before it
 abbrev pub AreNext : {Q : Type 0} → List (Item Q) → List (Item Q) → Type 0
 AreNext before [] = Unit {0}
-AreNext before (item ∷ items) = (last_of item.client before < item.number) × AreNext (before ++ item ∷ []) items
+AreNext before (item ∷ items) = ComesNext before item × AreNext (before ++ item ∷ []) items
+
+-- the client's request of this number isn't made from here on: a later one is made, or the client is forgotten
+abbrev pub IsOver : {Q : Type 0} → ℕ → ℕ → List (Item Q) → Type 0
+IsOver client number items = (number < last_of client items) ⊎ (client < floor_of items)
 
 -- it is the client's request of this number
 abbrev pub is_from : {Q : Type 0} → ℕ → ℕ → Item Q → Bool

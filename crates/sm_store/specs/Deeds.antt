@@ -206,21 +206,17 @@ MayClear charter log _ = ⊥
 
 -- a process may do this; who is elected, when a lease ends, and what is written elsewhere, is left to others
 abbrev pub MayDo : {Q P : Type 0} → Charter Q P → List (Transaction Q P) → Deed Q P → Type 0
-MayDo charter log (Electing process) = Unit {0}
 MayDo charter log (Expiring key) = IsTrue (is_leased key)
 MayDo charter log (Changing process shard change next elected placed) =
     MayChange charter log process shard change next elected placed
 MayDo charter log (Restarting process server state elected placed) =
     MayRestart charter log process server state elected placed
-MayDo charter log (Settling settings) = Unit {0}
 MayDo charter log (Executing shard server items head stood logged) =
     MayExecute charter log shard server items head stood logged
 MayDo charter log (Basing shard number place part) = MayBase charter log shard number place part
 MayDo charter log (Naming shard head number parts logged) = MayName charter log shard head number parts logged
 MayDo charter log (Clearing key) = MayClear charter log key
-MayDo charter log (Following server revision) = Unit {0}
-MayDo charter log (Checking compares) = Unit {0}
-MayDo charter log Foreign = Unit {0}
+MayDo charter log _ = Unit {0}
 
 -- the transaction is that of a deed that a process may do
 pub record MaySend {Q P : Type 0} (charter : Charter Q P) (log : List (Transaction Q P))
@@ -285,7 +281,6 @@ IsBehind charter log _ = ⊥
 
 -- the deed is right for the store as it is
 abbrev pub IsRight : {Q P : Type 0} → Charter Q P → List (Transaction Q P) → Deed Q P → Type 0
-IsRight charter log (Electing process) = Unit {0}
 IsRight charter log (Expiring key) = IsTrue (is_leased key)
 IsRight charter log (Changing process shard change next elected placed) =
     IsRightChange charter log process shard change next
@@ -295,9 +290,7 @@ IsRight charter log (Executing shard server items head stood logged) = IsRightBa
 IsRight charter log (Basing shard number place part) = IsRightPart charter log shard number place part
 IsRight charter log (Naming shard head number parts logged) = IsRightBase charter log shard head number parts
 IsRight charter log (Clearing key) = IsBehind charter log key
-IsRight charter log (Following server revision) = Unit {0}
-IsRight charter log (Checking compares) = Unit {0}
-IsRight charter log Foreign = Unit {0}
+IsRight charter log _ = Unit {0}
 
 -- the transaction is that of a deed that is right
 pub record WasRight {Q P : Type 0} (charter : Charter Q P) (log : List (Transaction Q P))

@@ -5,7 +5,7 @@ use Rattle.std.specs.Prelude.{ℕ, Option, Some, None, ◌≡◌, ◌≤◌, ◌
 use Rattle.std.specs.Prelude.{if◌then◌else◌}
 use Rattle.std.specs.List.{AllByRecursion}
 use Rattle.sm_store.specs.declared.item.Item.{Item}
-use Rattle.sm_store.specs.Clients.{Automaton, last_of, reply_in, state_after, times}
+use Rattle.sm_store.specs.Clients.{Automaton, IsOver, reply_in, state_after, times}
 use Rattle.sm_store.specs.Store.{Transaction, Write, all_hold, head_key, made}
 use Rattle.sm_store.specs.Deeds.{AreRight, Charter, MaySend, WasFound, at}
 use Rattle.sm_store.specs.Whole.{IsLogWhole}
@@ -22,7 +22,7 @@ pub record Ask (Q : Type 0) : Type 0 where
 pub data Claim (Q R : Type 0) : Type 0 where
   -- the client's request of this number is made, with this reply
   Replies : (shard client number : ℕ) (reply : R) → Claim Q R
-  -- a later one of the client is made, so this one won't be
+  -- a later one of the client is made, or the client is forgotten, so this one won't be
   Overtaken : (shard client number : ℕ) → Claim Q R
   -- the client's request of this number, which only reads, has this reply
   Reads : (shard client number : ℕ) (reply : R) → Claim Q R
@@ -68,12 +68,9 @@ abbrev pub after_reaching : {Q P R : Type 0} → System Q P R → Option (SentTr
 after_reaching system None = system
 after_reaching system (Some sent) =
     if all_hold system.log sent.txn.compares
-    then record {
+    then record system {
       log = extended sent.txn sent.txn.writes system.log;
-      asked = system.asked;
-      sent = system.sent;
       held = record { txn = sent.txn; since = sent.since; moment = system.log } ∷ system.held;
-      claims = system.claims;
     }
     else system
 
@@ -100,13 +97,12 @@ pub record IsReadSince {Q P R S : Type 0} (service : Automaton S Q R) (asked : L
   pub since : ask.since ≤ length past
   pub answer_is : answer ≡ service.reply (state_after service service.start (made shard past)) ask.request
 
--- it is so: the reply is that of one thread's run over the requests that are made, in order; what won't be made is
--- overtaken by a greater number of its client
+-- it is so: the reply is that of one thread's run over the requests that are made, in order; what won't be made is over
 abbrev pub IsSo : {Q P R S : Type 0} → Automaton S Q R → List (Ask Q) → List (Transaction Q P)
     → Claim Q R → Type 0
 IsSo service asked log (Replies shard client number answer) =
     reply_in service service.start (made shard log) client number ≡ Some answer
-IsSo service asked log (Overtaken shard client number) = number < last_of client (made shard log)
+IsSo service asked log (Overtaken shard client number) = IsOver client number (made shard log)
 IsSo service asked log (Reads shard client number answer) =
     IsReadSince service asked log shard client number answer
 
@@ -126,53 +122,26 @@ pub record MayRead {Q P R S : Type 0} (service : Automaton S Q R) (system : Syst
 
 -- what a process may claim: what is so in the store that it has read, and a read by `MayRead`
 abbrev pub MayClaim : {Q P R S : Type 0} → Automaton S Q R → System Q P R → Claim Q R → Type 0
-MayClaim service system (Replies shard client number answer) =
-    IsSo service system.asked system.log (Replies shard client number answer)
-MayClaim service system (Overtaken shard client number) =
-    IsSo service system.asked system.log (Overtaken shard client number)
-MayClaim service system (Reads shard client number answer) =
-    MayRead service system shard client number answer
+MayClaim service system (Reads shard client number answer) = MayRead service system shard client number answer
+MayClaim service system claim = IsSo service system.asked system.log claim
 
 -- what may happen: a process sends what it may, and claims what it knows
 abbrev pub May : {Q P R S : Type 0} → Automaton S Q R → Charter Q P → System Q P R → Event Q P R → Type 0
-May service charter system (Comes shard client number request) = Unit {0}
 May service charter system (Sends txn) = MaySend charter system.log txn
-May service charter system (Reaches which) = Unit {0}
 May service charter system (Claims claim) = MayClaim service system claim
+May service charter system _ = Unit {0}
 
 -- the system after an event
 abbrev pub happens : {Q P R : Type 0} → System Q P R → Event Q P R → System Q P R
 happens system (Comes shard client number request) =
-    record {
-      log = system.log;
-      asked = record {
-        shard = shard;
-        client = client;
-        number = number;
-        request = request;
-        since = length system.log;
-      } ∷ system.asked;
-      sent = system.sent;
-      held = system.held;
-      claims = system.claims;
+    record system {
+      asked = record { shard = shard; client = client; number = number; request = request; since = length system.log }
+          ∷ system.asked;
     }
 happens system (Sends txn) =
-    record {
-      log = system.log;
-      asked = system.asked;
-      sent = record { txn = txn; since = length system.log } ∷ system.sent;
-      held = system.held;
-      claims = system.claims;
-    }
+    record system { sent = record { txn = txn; since = length system.log } ∷ system.sent }
 happens system (Reaches which) = after_reaching system (slice_get system.sent which)
-happens system (Claims claim) =
-    record {
-      log = system.log;
-      asked = system.asked;
-      sent = system.sent;
-      held = system.held;
-      claims = claim ∷ system.claims;
-    }
+happens system (Claims claim) = record system { claims = claim ∷ system.claims }
 
 -- the system after these events, the latest first
 abbrev pub system_after : {Q P R : Type 0} → List (Event Q P R) → System Q P R

@@ -32,6 +32,7 @@ fn reads_a_batch_again(rt: HostRuntime) {
         number: 1,
         mode: Mode::Forwarded(ServerId::of(2)),
         hops: 3,
+        forgets: 0,
         request,
     };
     assert!(rt; items.push(item).is_ok());
@@ -40,7 +41,7 @@ fn reads_a_batch_again(rt: HostRuntime) {
         items,
     };
     let mut bytes = write_batch(rt.alloc(), &batch).expect(&rt, "memory");
-    assert!(rt; bytes.len() == 39);
+    assert!(rt; bytes.len() == 47);
     let again = read_batch(rt.alloc(), &bytes).ok().expect(&rt, "a batch");
     assert!(rt; again.server == ServerId::of(1));
     assert!(rt; again.items[0].mode == Mode::Forwarded(ServerId::of(2)));
@@ -121,12 +122,19 @@ fn reads_a_part_again(rt: HostRuntime) {
         number: 1,
         mode: Mode::Direct,
         hops: 0,
+        forgets: 0,
         request,
     };
     assert!(rt; lasts.push(last).is_ok());
     let state = Vec::from_slice(rt.alloc(), b"sum 5").expect(&rt, "memory");
-    let bytes = write_part(rt.alloc(), &StoredPart { state, lasts }).expect(&rt, "memory");
+    let part = StoredPart {
+        floor: 6,
+        state,
+        lasts,
+    };
+    let bytes = write_part(rt.alloc(), &part).expect(&rt, "memory");
     let again = read_part(rt.alloc(), &bytes).ok().expect(&rt, "a part");
+    assert!(rt; again.floor == 6);
     assert!(rt; again.state.as_slice() == b"sum 5".as_slice());
     assert!(rt; again.lasts[0].client == 7);
     assert!(rt; again.lasts[0].request.as_slice() == b"5".as_slice());

@@ -13,6 +13,7 @@ const LIMITS: ShardLimits = ShardLimits {
     batch_bytes: 16,
     batch_requests: 8,
     waiting: 3,
+    clients: 4,
 };
 
 fn item(client: u64, request: u64) -> Item<u64> {
@@ -21,6 +22,7 @@ fn item(client: u64, request: u64) -> Item<u64> {
         number: 1,
         mode: Mode::Direct,
         hops: 0,
+        forgets: 0,
         request,
     }
 }
@@ -139,7 +141,11 @@ fn starts_from_a_base(rt: HostRuntime) {
     let state = Vec::from_slice(alloc, sending.parts[0].state()).expect(&rt, "memory");
     let lasts = Vec::from_slice(alloc, sending.parts[0].lasts()).expect(&rt, "memory");
     let mut parts = Vec::new(alloc);
-    assert!(rt; parts.push(BasePart::new(state, lasts)).is_ok());
+    assert!(rt;
+        parts
+            .push(BasePart::new(state, lasts, sending.parts[0].floor()))
+            .is_ok()
+    );
     server.on_parts_made();
     assert!(rt; matches!(server.flush(alloc), Ok(true)));
     let named = NamedBase {
@@ -235,7 +241,14 @@ fn forwards_so_far(rt: HostRuntime) {
         owner: two,
         previous: ServerId::of(1),
     };
-    let again = server.on_record(alloc, Record { stand, ..serving(two) }, 5);
+    let again = server.on_record(
+        alloc,
+        Record {
+            stand,
+            ..serving(two)
+        },
+        5,
+    );
     assert!(rt; again.waiting.is_empty());
     let first = server.on_request(item(7, 5));
     assert!(rt; matches!(first, Ok(Decision::Forwards(to, 1)) if to == two));
@@ -250,8 +263,9 @@ fn serves_all_shards(rt: HostRuntime) {
     let (alloc, one) = (rt.alloc(), ServerId::of(1));
     let made = StoreServer::new(alloc, one, 8, LIMITS).expect(&rt, "memory");
     let mut server: StoreServer<Sum, u64, u64> = made.expect(&rt, "8 shards");
-    let none: Option<StoreServer<Sum, u64, u64>> =
-        StoreServer::new(alloc, one, 4097, LIMITS).expect(&rt, "memory");
+    let none: Option<StoreServer<Sum, u64, u64>> = StoreServer::new(
+        alloc, one, 4097, LIMITS,
+    ).expect(&rt, "memory");
     assert!(rt; none.is_none());
     let seventh = ShardId::new(7).expect(&rt, "a shard");
     let read = ShardInput::Read {
@@ -274,4 +288,37 @@ fn serves_all_shards(rt: HostRuntime) {
     assert!(rt; server.shard(seventh).expect(&rt, "one").sending().is_some());
     assert!(rt; server.shard(sixth).expect(&rt, "one").sending().is_none());
     assert!(rt; server.shard(eighth).is_none());
+}
+
+// A request after which clients below this number are forgotten.
+fn forgetting(client: u64, forgets: u64) -> Item<u64> {
+    Item {
+        forgets,
+        ..item(client, 5)
+    }
+}
+
+#[test]
+fn forgets_clients(rt: HostRuntime) {
+    let alloc = rt.alloc();
+    let mut server = ready(&rt, alloc);
+    for client in 6..10 {
+        executes(&rt, alloc, &mut server, client, 5, client);
+    }
+    assert!(rt; matches!(server.on_request(item(10, 5)), Ok(Decision::TooManyClients)));
+    let mut next = forgetting(9, 8);
+    next.number = 2;
+    assert!(rt; matches!(server.on_request(next), Ok(Decision::Waits)));
+    let mut other = item(7, 5);
+    other.number = 2;
+    assert!(rt; matches!(server.on_request(other), Ok(Decision::Refused)));
+    assert!(rt; matches!(server.flush(alloc), Ok(true)));
+    let told = server.on_made(alloc, 10).ok().expect(&rt, "answers");
+    assert!(rt; told.made[0].reply == 25);
+    assert!(rt; matches!(server.on_request(item(7, 5)), Ok(Decision::Forgotten)));
+    assert!(rt; matches!(server.on_request(item(8, 5)), Ok(Decision::Replied(15))));
+    assert!(rt; matches!(server.on_request(item(10, 5)), Ok(Decision::Waits)));
+    assert!(rt; matches!(server.begin_base(alloc), Ok(true)));
+    let sending = server.parts().expect(&rt, "parts");
+    assert!(rt; (sending.parts[0].floor(), sending.parts[0].lasts().len()) == (8, 2));
 }

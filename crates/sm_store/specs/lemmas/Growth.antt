@@ -1,20 +1,20 @@
 -- What the store's growth leaves: what was read, what may be sent, and what was claimed.
 use Rattle.std.proofs.Common.{◌≡◌, ℕ, Bool, true, false, List, [], ◌∷◌, ◌++◌, refl, sym, ap, subst, ◌∙◌, arith}
 use Rattle.std.proofs.Common.{⊎_elim, inr, append_assoc, append-nil}
-use Rattle.std.specs.Prelude.{◌==◌, max, if◌then◌else◌}
+use Rattle.std.specs.Prelude.{◌==◌, if◌then◌else◌}
 use Rattle.std.proofs.lemmas.Bool.{eqb-true, cases_Bool}
 use Rattle.sm_store.specs.declared.item.Item.{Item}
 use Rattle.sm_store.specs.declared.store_key.PassingKey.{PassingKey}
 use Rattle.sm_store.specs.declared.store_key.PassingKey.TheVariants.{Leader, Server, Batch, Part, Other}
 use Rattle.sm_store.specs.declared.store_key.StoreKey.{StoreKey}
-use Rattle.sm_store.specs.Clients.{Automaton, last_of, AreNext, reply_in}
+use Rattle.sm_store.specs.Clients.{Automaton, AreNext, reply_in}
 use Rattle.sm_store.specs.Store.{Transaction, head_key, made, made_by, touches}
 use Rattle.sm_store.specs.Deeds.{AreRight, Charter, Deed, Electing, Expiring, Changing, Executing, Basing, Naming}
 use Rattle.sm_store.specs.Deeds.{Clearing, Following, Restarting, Settling, Checking, Foreign, HasLed, HasRequests}
 use Rattle.sm_store.specs.Deeds.{IsRight, MayClear, MayDo, MaySend}
 use Rattle.sm_store.specs.Deeds.{WasFound, transaction_of}
 use Rattle.sm_store.specs.System.{Ask, Claim, Replies, Overtaken, Reads, IsSo, WasAsked}
-use Rattle.sm_store.specs.lemmas.Numbers.{last-append, next-append, reply-append}
+use Rattle.sm_store.specs.lemmas.Numbers.{next-append, over_grows, reply-append}
 
 next_none : {Q : Type 0} (before : List (Item Q)) (b : Bool) (items : List (Item Q)) → items ≡ []
     → AreNext before (if b then items else [])
@@ -177,10 +177,7 @@ module _ {Q P R S : Type 0} (service : Automaton S Q R) where
       ∙ reply-append service service.start (made shard log) grown.0 client number answer so
   so_grows asked more log (Overtaken shard client number) so =
       let grown = made_grows shard more log in
-      let longer : last_of client (made shard (more ++ log)) ≡ max (last_of client (made shard log))
-      (last_of client grown.0) =
-      ap (last_of client) grown.1 ∙ last-append client (made shard log) grown.0 in
-      omega arith
+      over_grows client number (made shard log) grown.0 (made shard (more ++ log)) grown.1 so
   so_grows asked more log (Reads shard client number answer) so = record {
     ask = so.ask;
     was_asked = so.was_asked;

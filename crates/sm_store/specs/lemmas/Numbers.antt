@@ -1,10 +1,11 @@
 -- The numbers of a client's requests grow, so none is made twice, and what is passed over isn't made later.
 use Rattle.std.proofs.Common.{◌≡◌, ℕ, ◌+◌, ◌<◌, Bool, true, false, List, [], ◌∷◌, ◌++◌, refl, sym, subst, arith}
+use Rattle.std.proofs.Common.{◌∙◌, ap, inl, inr, ⊎_elim}
 use Rattle.std.proofs.Common.{append_assoc, append-nil}
 use Rattle.std.specs.Prelude.{Option, Some, ◌==◌, ◌&&◌, if◌then◌else◌, max}
 use Rattle.std.proofs.lemmas.Bool.{eqb-true}
 use Rattle.sm_store.specs.declared.item.Item.{Item}
-use Rattle.sm_store.specs.Clients.{Automaton, last_of, AreNext, is_from, times, reply_in}
+use Rattle.sm_store.specs.Clients.{Automaton, IsOver, last_of, floor_of, AreNext, is_from, times, reply_in}
 
 last_step : (b : Bool) (n x y z : ℕ) → z ≡ max x y → (if b then max n z else z) ≡ max (if b then max n x else x) y
 last_step true n x y z is = omega arith
@@ -27,6 +28,26 @@ module _ {Q : Type 0} where
       ≡ times client number xs + times client number ys
   times-append client number [] ys = omega arith
   times-append client number (item ∷ items) ys = let rest = times-append client number items ys in omega arith
+
+  pub floor-append : (xs ys : List (Item Q)) → floor_of (xs ++ ys) ≡ max (floor_of xs) (floor_of ys)
+  floor-append [] ys = omega arith
+  floor-append (item ∷ items) ys = let rest = floor-append items ys in omega arith
+
+  -- what is over stays so
+  pub over_grows : (client number : ℕ) (items more all : List (Item Q)) → all ≡ items ++ more
+      → IsOver client number items → IsOver client number all
+  over_grows client number items more all is over =
+      ⊎_elim
+      (λ (later : number < last_of client items).
+      let both : last_of client all ≡ max (last_of client items) (last_of client more) =
+      ap (last_of client) is ∙ last-append client items more in
+      let now : number < last_of client all = omega arith in
+      inl now)
+      (λ (gone : client < floor_of items).
+      let both : floor_of all ≡ max (floor_of items) (floor_of more) = ap floor_of is ∙ floor-append items more in
+      let now : client < floor_of all = omega arith in
+      inr now)
+      over
 
   -- the requests come next one part after the other
   pub next-append : (before xs ys : List (Item Q)) → AreNext before xs → AreNext (before ++ xs) ys

@@ -1,6 +1,6 @@
 use Rattle.std.proofs.Common.{refl, sym, ◌∙◌, ap}
 use Rattle.sm_store.specs.Clients.{last_of}
-use Rattle.sm_shard.proofs.ShardServers.{ready_push, unnumbered}
+use Rattle.sm_shard.proofs.ShardServers.{floor_below, ready_push, unnumbered}
 use Rattle.sm_shard.proofs.shard_state.take.Goals as goal
 
 pub returns-in-Some-clause-decided : goal.returns-in-Some-clause-decided
@@ -31,5 +31,9 @@ returns-clause-kept g c = λ before ready.
     (ap (last_of c.args.item.client) (sym c.deref-2.ensures.value)
     ∙ unnumbered {R = g.row.R.Denot} c.args.item.number c.client_number-2.result c.in_default-repeated-2.ensures
     c.client_number-2.ensures.none)
+    (floor_below c.args.item.client c.floor_among.result c.args.ready.now.sent.items c.deref-3.result.now
+    c.floor_among.ensures c.deref-3.ensures.value c.if-item-floor_among.false)
+    (floor_below c.args.item.client c.floor_among-2.result c.args.ready.now.waiting.items c.deref-4.result.now
+    c.floor_among-2.ensures c.deref-4.ensures.value c.if-item-floor_among-2.false)
     (c.in_default.ensures.next before)
     ready
