@@ -1,13 +1,14 @@
-/* A proved server of one shard over a store that machines share: what it decides, what it sends and what it tells. It has
- * no input or output of its own: the caller reads the store, sends the transactions, and says what became of them.
+/* A proved server of one shard over a store that machines share: what it decides, what it sends and what it tells.
+ * It has no input or output of its own: the caller reads the store, sends the transactions, and says what became of
+ * them. A program may link it beside the calls of durkenzo.h.
  *
- * Every call answers 0 or a code. Where that is none that the call speaks of, as for want of memory, close the handle and
- * make another server. A handle begins as bytes of 0, isn't copied, and is used by one call at a time.
+ * Every call answers 0 or a code. Where that is none that the call speaks of, as for want of memory, close the handle
+ * and make another server. A handle begins as bytes of 0, isn't copied, and is used by one call at a time.
  *
  * The loop of a driver, for each shard:
- *  1. Read the shard's record and the head of its log, with their revisions, and the batches that the head counts: give
- *     each by durkenzo_server_batch, and then durkenzo_server_read. A record that was never written is 0x01 and 16 bytes
- *     of 0, a head 0x01 and 24, both at revision 0.
+ *  1. Read the shard's record and the head of its log, with their revisions, and the batches that the head counts:
+ *     give each by durkenzo_server_batch, and then durkenzo_server_read. A record that was never written is 0x01 and
+ *     16 bytes of 0, a head 0x01 and 24, both at revision 0.
  *  2. Give each request by durkenzo_server_take. It is answered now, goes to another server, is refused for now, or
  *     waits; keep what waits.
  *  3. durkenzo_server_flush; where it sends, durkenzo_server_sending says the transaction: compare the revisions of the
@@ -55,8 +56,9 @@ typedef struct {
     void *owned;
 } durkenzo_server_handle;
 
-/* The kind is 0 where the key holds nothing, 1 done, 2 a text of `value` bytes, 3 the count with these bits, 5 a value of
- * the wrong kind, 6 a count that would be too large, 7 a text that would be too long, 8 where the bytes are no request. */
+/* The kind is 0 where the key holds nothing, 1 done, 2 a text of `value` bytes, 3 the count with these bits, 5 a value
+ * of the wrong kind, 6 a count that would be too large, 7 a text that would be too long, 8 where the bytes are no
+ * request. */
 typedef struct {
     uint64_t value;
     uint8_t kind;
@@ -70,7 +72,7 @@ typedef struct {
     uint64_t number;
     size_t head_length;
     size_t batch_length;
-} durkenzo_sent;
+} durkenzo_sent_numbers;
 
 /* An answer: whose request it is, its number, its reply, and how many bytes its text has, where it is a read of one. */
 typedef struct {
@@ -106,7 +108,8 @@ uint32_t durkenzo_server_take(durkenzo_server_handle *server, uint64_t client, u
 uint32_t durkenzo_server_flush(durkenzo_server_handle *server, bool *sends);
 
 /* Writes what is sent: the bytes for the head, and behind them those for the batch. */
-uint32_t durkenzo_server_sending(durkenzo_server_handle *server, durkenzo_sent *sent, uint8_t *into, size_t room);
+uint32_t durkenzo_server_sending(durkenzo_server_handle *server, durkenzo_sent_numbers *sent, uint8_t *into,
+                                 size_t room);
 
 /* What was sent was made at this revision; where it only compares, its compares have held. So many answers to requests
  * that were made, and to reads, are to be told. */

@@ -1,4 +1,4 @@
-//! Three servers, two controls, two clients and a store, and what happens to them by chance.
+//! Three servers, one of which runs twice, two controls, two clients and a store, and what happens to them by chance.
 use crate::bug::Bug;
 use crate::chance::Chance;
 use crate::claim::{Claim, Said};
@@ -8,6 +8,8 @@ use crate::server::{Deed, Driver, Envelope};
 use crate::store::{Key, Store, Txn};
 
 const SERVERS: u16 = 3;
+/// One more than there are servers: one that is believed dead goes on.
+const PROCESSES: u16 = 4;
 const SHARDS: u16 = 2;
 const CONTROLS: u64 = 2;
 const CLIENTS: u64 = 2;
@@ -75,7 +77,9 @@ pub struct World {
     texts: u64,
 }
 
-fn drivers(me: u16, bug: Option<Bug>) -> Vec<Driver> {
+/// What a process keeps when it starts.
+fn drivers(process: u16, bug: Option<Bug>) -> Vec<Driver> {
+    let me = process % SERVERS + 1;
     (0..SHARDS)
         .map(|shard| Driver::new(me, shard, u64::from(SHARDS), bug))
         .collect()
@@ -87,10 +91,10 @@ pub fn run(seed: u64, bug: Option<Bug>) -> (Tally, Result<(), Broken>) {
         chance: Chance::new(seed),
         bug,
         store: Store::default(),
-        servers: (1..=SERVERS)
-            .map(|me| Process {
+        servers: (0..PROCESSES)
+            .map(|process| Process {
                 life: 0,
-                shards: drivers(me, bug),
+                shards: drivers(process, bug),
             })
             .collect(),
         controls: (0..CONTROLS).map(|_| Control { elected: None }).collect(),
@@ -168,7 +172,7 @@ impl World {
     }
 
     fn one_shard(&mut self) -> (usize, usize) {
-        let server = self.chance.below(u64::from(SERVERS)) as usize;
+        let server = self.chance.below(u64::from(PROCESSES)) as usize;
         (server, self.chance.below(u64::from(SHARDS)) as usize)
     }
 
@@ -285,7 +289,11 @@ impl World {
         if self.chance.is_true(1, 20) {
             return;
         }
-        let (server, shard) = (usize::from(envelope.to) - 1, usize::from(envelope.shard));
+        let mut server = envelope.to - 1;
+        if server + SERVERS < PROCESSES && self.chance.is_true(1, 2) {
+            server += SERVERS;
+        }
+        let (server, shard) = (usize::from(server), usize::from(envelope.shard));
         let mut deeds = Vec::new();
         self.servers[server].shards[shard].take(envelope, &mut deeds);
         self.perform(server, shard, deeds);
@@ -377,10 +385,10 @@ impl World {
 
     /// A server stops and starts again, and has forgotten everything.
     fn crash(&mut self) {
-        let server = self.chance.below(u64::from(SERVERS)) as usize;
-        let process = &mut self.servers[server];
+        let at = self.chance.below(u64::from(PROCESSES)) as usize;
+        let process = &mut self.servers[at];
         process.life += 1;
-        process.shards = drivers(server as u16 + 1, self.bug);
+        process.shards = drivers(at as u16, self.bug);
     }
 
     /// A control is elected; who led before doesn't hear of it.
