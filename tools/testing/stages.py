@@ -4,7 +4,7 @@ import shutil
 
 import beside
 import sources
-from testing import alone, front, layout, library, server, tests
+from testing import alone, front, layout, library, server, simulation, tests
 from testing.part import Part, verdict
 from testing.program import EXAMPLES, Program, opens_nothing, tool
 
@@ -168,6 +168,7 @@ def proved(say):
         Part("./sm", front.words),
         Part("library", library.passed),
         Part("server", server.passed),
+        Part("simulation", simulation.passed),
         *faults(say),
     ]
     return [

@@ -36,4 +36,6 @@ pub use stored_part::StoredPart;
 pub use stored_record::StoredRecord;
 pub use stored_server::{MAX_ADDRESS, StoredServer};
 pub use stored_state::StoredState;
-pub use writing::{write_batch, write_head, write_part, write_record, write_settings};
+pub use writing::{
+    write_batch, write_head, write_part, write_record, write_requests, write_settings,
+};

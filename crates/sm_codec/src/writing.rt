@@ -11,6 +11,7 @@ use crate::stored_batch::StoredBatch;
 use crate::stored_part::StoredPart;
 use crate::stored_record::StoredRecord;
 use sm_ownership::mode::Mode;
+use sm_ranges::server_id::ServerId;
 use sm_store::head::Head;
 use sm_store::item::Item;
 use sm_word::word::pack;
@@ -113,17 +114,30 @@ fn put_items(out: &mut Vec<u8>, items: &[Item<Vec<u8>>]) -> Result<(), AllocErro
     Ok(())
 }
 
+/// The bytes of a batch of these requests, fewer than 2 ^ 32, each of fewer bytes than that, which the server executed.
+pub fn write_requests(
+    alloc: Global,
+    server: ServerId,
+    items: &[Item<Vec<u8>>],
+) -> Result<Vec<u8>, AllocError>
+    requires { FitsBatch (record { server = server; items = item_views items.now }) }
+    ensures { IfOk result (λ bytes. bytes.items ≡ batch_bytes
+        (record { server = server; items = item_views items.now })) }
+{
+    let mut out = Vec::new(alloc);
+    out.push(1)?;
+    out.extend_from_slice(&u32::from(server.number()).to_be_bytes())?;
+    out.extend_from_slice(&(items.len() as u32).to_be_bytes())?;
+    put_items(&mut out, items)?;
+    Ok(out)
+}
+
 /// The bytes of a batch that has fewer than 2 ^ 32 requests, each of fewer bytes than that.
 pub fn write_batch(alloc: Global, stored: &StoredBatch) -> Result<Vec<u8>, AllocError>
     requires { FitsBatch (batch_view stored.now) }
     ensures { IfOk result (λ bytes. bytes.items ≡ batch_bytes (batch_view stored.now)) }
 {
-    let mut out = Vec::new(alloc);
-    out.push(1)?;
-    out.extend_from_slice(&u32::from(stored.server.number()).to_be_bytes())?;
-    out.extend_from_slice(&(stored.items.len() as u32).to_be_bytes())?;
-    put_items(&mut out, &stored.items)?;
-    Ok(out)
+    write_requests(alloc, stored.server, &stored.items)
 }
 
 /// The bytes of a part of a base that has fewer than 2 ^ 32 bytes and last requests, each reply of fewer bytes than

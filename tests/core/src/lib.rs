@@ -20,4 +20,6 @@ mod store;
 #[cfg(test)]
 mod sum;
 #[cfg(test)]
+mod texts;
+#[cfg(test)]
 mod word;

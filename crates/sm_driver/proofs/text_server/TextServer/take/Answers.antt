@@ -1,0 +1,19 @@
+use Rattle.sm_driver.proofs.text_server.TextServer.take.Goals as goal
+
+pub returns-in-Decided : goal.returns-in-Decided
+returns-in-Decided c =
+    let step = c.in_ok-output.ensures in
+    record {
+      decided = (
+        c.in_ok-output.output,
+        c.in-Decided.is,
+        record {
+          input = c.coming-input.result;
+          input_is = c.coming-input.ensures;
+          call = step.call;
+          me = step.me;
+          shard = step.shard;
+          count = step.count;
+        },
+      );
+    }

@@ -1,0 +1,4 @@
+pub mod Calls
+pub mod Lending
+pub mod Owns
+pub mod Servers

@@ -1,0 +1,160 @@
+-- What a call does to a server of a shard: a step of the protocol, on what the bytes that it was given spell.
+use Rattle.std.specs.Prelude.{ℕ, Bool, true, false, ◌≡◌, ◌+◌, ◌++◌, ◌∷◌, [], List, Option, Some, None, IfSome, map}
+use Rattle.std.specs.Prelude.{Ok, if◌then◌else◌}
+use Rattle.std.specs.Global.{Vec}
+use Rattle.sm_ownership.specs.declared.record.Record.{Record}
+use Rattle.sm_map.specs.KeyMap.{KeyPair, held_at, text_of}
+use Rattle.sm_store.specs.declared.head.Head.{Head}
+use Rattle.sm_store.specs.declared.item.Item.{Item}
+use Rattle.sm_store.specs.Deeds.{Charter, MaySend}
+use Rattle.sm_store.specs.Store.{Transaction}
+use Rattle.sm_codec.specs.Spelling.{batch_bytes, head_bytes, item_views, record_bytes}
+use Rattle.sm_shard.specs.Bases.{Part, base_of}
+use Rattle.sm_shard.specs.declared.base_work.NamedBase.{NamedBase}
+use Rattle.sm_shard.specs.declared.shard_limits.ShardLimits.{ShardLimits}
+use Rattle.sm_shard.specs.declared.shard_server.BatchSending.{BatchSending}
+use Rattle.sm_shard.specs.declared.shard_server.ShardServer.{ShardServer}
+use Rattle.sm_shard.specs.declared.steps.ShardInput.{ShardInput}
+use Rattle.sm_shard.specs.declared.steps.ShardInput.TheVariants.{Read, Record as RecordRead, Request, Question}
+use Rattle.sm_shard.specs.declared.steps.ShardInput.TheVariants.{Made}
+use Rattle.sm_shard.specs.declared.steps.ShardOutput.{ShardOutput}
+use Rattle.sm_shard.specs.declared.steps.ShardOutput.TheVariants.{Sends, Answers}
+use Rattle.sm_shard.specs.ShardServers.{IsTrueOf, StoreLog, sending_transaction, sent_transaction}
+use Rattle.sm_shard.specs.Steps.{IsStepOf}
+use Rattle.sm_texts.specs.declared.text_reply.TextReply.{TextReply}
+use Rattle.sm_texts.specs.Saves.{texts_service}
+use Rattle.sm_texts.specs.Texts.{is_read, parts_in}
+use Rattle.sm_driver.specs.declared.sent_bytes.SentBytes.{SentBytes}
+use Rattle.sm_driver.specs.declared.text_server.TextServer.{TextServer}
+
+-- what comes to a server of the sample service
+abbrev pub TextInput : Type 0
+TextInput = ShardInput (Vec ℕ) TextReply
+
+-- what it does
+abbrev pub TextOutput : Type 0
+TextOutput = ShardOutput (Vec ℕ) TextReply
+
+-- the server of a shard
+abbrev pub TextCore : Type 0
+TextCore = ShardServer (List KeyPair) (Vec ℕ) TextReply
+
+-- a server that has just started, of this shard among so many
+abbrev pub IsNewServer : ℕ → ℕ → ℕ → ShardLimits → TextServer → Type 0
+IsNewServer me shard count limits server =
+    (server.core.me ≡ me) × (server.core.shard ≡ shard) × (server.core.count ≡ count)
+    × (server.core.limits ≡ limits) × ((log : StoreLog (Vec ℕ) TextReply) → IsTrueOf texts_service log server.core)
+
+-- on such an input it made a step of the protocol, of which this came
+pub record StepsOn (old : TextServer) (is_input : TextInput → Type 0) (output : TextOutput)
+    (new : TextServer) : Type 0 where
+  pub input : TextInput
+  pub input_is : is_input input
+  pub call : IsStepOf texts_service old.core input (Ok output) new.core
+  pub me : new.core.me ≡ old.core.me
+  pub shard : new.core.shard ≡ old.core.shard
+  pub count : new.core.count ≡ old.core.count
+
+-- it did, and such came of it
+abbrev pub DoneOn : TextServer → (TextInput → Type 0) → (TextOutput → Type 0) → TextServer → Type 0
+DoneOn old is_input is_output new =
+    (output : TextOutput) × is_output output × StepsOn old is_input output new
+
+-- whatever came of it
+abbrev pub IsAny : TextOutput → Type 0
+IsAny output = Unit {0}
+
+-- the bytes spell the batch that was added to those that were read
+abbrev pub AddsBatch : List (Vec (Item (Vec ℕ))) → List ℕ → List (Vec (Item (Vec ℕ))) → Type 0
+AddsBatch old bytes new =
+    (batch : Vec (Item (Vec ℕ))) × (server : ℕ) × (new ≡ old ++ batch ∷ [])
+    × (bytes ≡ batch_bytes (record { server = server; items = item_views batch.items }))
+
+-- the bytes spell the record
+abbrev pub SpellsRecord : List ℕ → Record → Type 0
+SpellsRecord bytes state = (process : ℕ) × (bytes ≡ record_bytes (record { state = state; process = process }))
+
+-- the shard was read: its record and the head of its log by these bytes, at these revisions, and the batches
+abbrev pub IsReading : TextServer → List ℕ → ℕ → List ℕ → ℕ → TextInput → Type 0
+IsReading server record_text stood head_text logged (Read state stood' head logged' parts batches) =
+    SpellsRecord record_text state × (stood' ≡ stood) × (head_text ≡ head_bytes head) × (logged' ≡ logged)
+    × (parts.now ≡ []) × (batches.now ≡ server.batches.items)
+IsReading server record_text stood head_text logged input = ⊥
+
+-- the shard's record alone was read
+abbrev pub IsRecordReading : List ℕ → ℕ → TextInput → Type 0
+IsRecordReading record_text stood (RecordRead state stood') = SpellsRecord record_text state × (stood' ≡ stood)
+IsRecordReading record_text stood input = ⊥
+
+-- the request came, as one that is made or as one that only reads
+abbrev pub IsComing : Item (Vec ℕ) → TextInput → Type 0
+IsComing item input = input ≡ (if is_read item.request.items then Question item else Request item)
+
+-- it sends what waits
+abbrev pub is_sending : TextOutput → Bool
+is_sending Sends = true
+is_sending output = false
+
+-- the bytes that a server's transaction writes to the head of the log
+abbrev pub head_written : List (Item (Vec ℕ)) → Option NamedBase → Head → List ℕ
+head_written [] None head = []
+head_written [] (Some base) head =
+    head_bytes (record { batches = head.batches; base = base.number; parts = base.parts })
+head_written (item ∷ items) base head =
+    head_bytes (record { batches = head.batches + 1; base = head.base; parts = head.parts })
+
+-- the bytes that it writes to the next batch
+abbrev pub batch_written : ℕ → List (Item (Vec ℕ)) → List ℕ
+batch_written server [] = []
+batch_written server (item ∷ items) =
+    batch_bytes (record { server = server; items = item_views (item ∷ items) })
+
+-- the number of that batch, 0 for none
+abbrev pub number_written : List (Item (Vec ℕ)) → Head → ℕ
+number_written [] head = 0
+number_written (item ∷ items) head = head.batches + 1
+
+-- these are the revisions that a transaction compares, and the bytes that it writes
+pub record IsSpelled (sending : BatchSending (Vec ℕ)) (sent : SentBytes) : Type 0 where
+  pub stood : sent.stood ≡ sending.stood
+  pub logged : sent.logged ≡ sending.logged
+  pub number : sent.number ≡ number_written sending.items.now sending.head
+  pub head : sent.head.items ≡ head_written sending.items.now sending.base sending.head
+  pub batch : sent.batch.items ≡ batch_written sending.server sending.items.now
+
+-- the transaction may be sent by one of so many shards
+abbrev pub MayBeSent : TextCore → Transaction (Vec ℕ) (Part TextReply) → Type 0
+MayBeSent core txn =
+    (charter : Charter (Vec ℕ) (Part TextReply)) (log : StoreLog (Vec ℕ) TextReply) → charter.count ≡ core.count
+    → charter.parts ≡ base_of texts_service → IsTrueOf texts_service log core
+    → MaySend charter log txn
+
+-- they are those of the transaction that the server sends, which may be sent
+abbrev pub SpellsSending : TextServer → SentBytes → Type 0
+SpellsSending server sent =
+    (sending : BatchSending (Vec ℕ)) × IsSpelled sending sent
+    × IfSome server.core.ready (λ ready.
+    sending_transaction sending ≡ sent_transaction server.core.me server.core.shard ready)
+    × MayBeSent server.core (sending_transaction sending)
+
+-- the text that the request asks for, where its key holds one
+abbrev pub text_for : List KeyPair → Option (ℕ × List ℕ × List ℕ) → List ℕ
+text_for pairs None = []
+text_for pairs (Some (kind, key, rest)) = text_of (held_at pairs key)
+
+-- the texts that reads ask for
+abbrev pub texts_for : List KeyPair → List (Item (Vec ℕ)) → List (List ℕ)
+texts_for pairs items = map (λ item. text_for pairs (parts_in item.request.items)) items
+
+-- the texts of the reads that a transaction carries, by the map that they read
+abbrev pub AreTexts : TextServer → List (Vec ℕ) → Type 0
+AreTexts server texts =
+    IfSome server.core.ready (λ ready.
+    map (λ text. text.items) texts ≡ texts_for ready.replica.machine ready.carried.items)
+
+-- the answers are those of the transaction that was made, and the texts those that its reads asked for
+abbrev pub TellsAnswers : TextServer → ℕ → TextServer → Type 0
+TellsAnswers old revision new =
+    DoneOn old (λ input. input ≡ Made revision)
+    (λ output. output ≡ Answers (record { made = new.made; read = new.read })) new
+    × AreTexts old new.texts.items

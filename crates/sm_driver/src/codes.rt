@@ -1,0 +1,125 @@
+//! The codes by which calls answer C.
+ghost use Rattle.std.specs.Prelude.{◌≡◌, ◌≢◌, ◌<◌, ◌≤◌, false, true};
+ghost use Rattle.sm_driver.specs.Calls.{TellsDecision, is_decided};
+
+use crate::driver_fault::DriverFault;
+use crate::text_forward::TextForward;
+use sm_shard::{Decision, ReplayFault};
+use sm_texts::TextReply;
+
+// By tools/library-codes, the codes of library/codes.txt:
+
+/// The handle keeps no server.
+pub(crate) const WRONG_HANDLE: u32 = 1;
+
+/// A server is out of bounds.
+pub(crate) const BAD_ARGUMENT: u32 = 2;
+
+/// Memory was refused.
+pub(crate) const NO_MEMORY: u32 = 3;
+
+/// There is no such shard.
+pub(crate) const UNKNOWN_SHARD: u32 = 10;
+
+/// What would be written is longer than the room for it.
+pub(crate) const TOO_SHORT: u32 = 55;
+
+/// There is no such answer.
+pub(crate) const NO_MORE: u32 = 56;
+
+/// The request waits for the next transaction, or is in one.
+pub(crate) const WAITS: u32 = 70;
+
+/// A later request of its client is made, so this one won't be made.
+pub(crate) const PASSED: u32 = 71;
+
+/// Another server executes the request.
+pub(crate) const FORWARDS: u32 = 72;
+
+/// Not here and now, or another number of its client waits here.
+pub(crate) const REFUSED: u32 = 73;
+
+/// The request takes more bytes than a batch may.
+pub(crate) const REQUEST_TOO_LARGE: u32 = 74;
+
+/// As many requests wait as may.
+pub(crate) const CROWDED: u32 = 75;
+
+/// Another server executes the request, but it was forwarded as often as it may be.
+pub(crate) const TOO_FAR: u32 = 76;
+
+/// Its client is forgotten, so it won't be made any more.
+pub(crate) const FORGOTTEN: u32 = 77;
+
+/// As many clients are kept as may, and its client isn't among them.
+pub(crate) const TOO_MANY_CLIENTS: u32 = 78;
+
+/// The server hasn't read the shard.
+pub(crate) const NOT_READ: u32 = 79;
+
+/// The server has read nothing yet.
+pub(crate) const UNREAD: u32 = 80;
+
+/// What lies at a key is wrong.
+pub(crate) const BAD_BYTES: u32 = 81;
+
+/// The log can't be followed.
+pub(crate) const BAD_LOG: u32 = 82;
+
+/// A batch, or a part of the base, isn't there: the log is to be read again.
+pub(crate) const MISSING: u32 = 83;
+
+/// A batch has more bytes than can be spelled.
+pub(crate) const TOO_LARGE: u32 = 84;
+// End of them.
+
+/// The code of why a call on a server did nothing.
+pub(crate) fn code_of_fault(fault: DriverFault) -> u32
+    ensures refused { result ≢ 0 }
+    ensures undecided { is_decided result ≡ false }
+{
+    match fault {
+        DriverFault::Memory => NO_MEMORY,
+        DriverFault::Bytes(_) => BAD_BYTES,
+        DriverFault::Replay(fault) => match fault {
+            ReplayFault::Memory => NO_MEMORY,
+            ReplayFault::Missing => MISSING,
+            _ => BAD_LOG,
+        },
+        DriverFault::Unread => UNREAD,
+        DriverFault::TooLarge => TOO_LARGE,
+    }
+}
+
+/// The code of a decision, with the reply, or where the request goes on.
+pub(crate) fn code_of_decision(
+    decision: Decision<TextReply>,
+    reply: &mut TextReply,
+    forward: &mut TextForward,
+) -> u32
+    ensures tells { TellsDecision decision result reply.new forward.new }
+    ensures decided { is_decided result ≡ true }
+{
+    match decision {
+        Decision::Replied(made) => {
+            *reply = made;
+            0
+        }
+        Decision::Passed => PASSED,
+        Decision::Forgotten => FORGOTTEN,
+        Decision::Waits => WAITS,
+        Decision::Forwards(server, hops) => {
+            *forward = TextForward {
+                server: server.number(),
+                hops,
+            };
+            FORWARDS
+        }
+        Decision::TooFar => TOO_FAR,
+        Decision::Refused => REFUSED,
+        Decision::NotRead => NOT_READ,
+        Decision::TooLarge => REQUEST_TOO_LARGE,
+        Decision::Busy => CROWDED,
+        Decision::TooManyClients => TOO_MANY_CLIENTS,
+    }
+}

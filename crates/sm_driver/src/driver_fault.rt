@@ -1,0 +1,51 @@
+use sm_codec::{Fault, ReadError};
+use sm_shard::ReplayFault;
+use std::alloc::{AllocError, AllocFailed};
+
+/// Why a call on a server did nothing, or the server has forgotten what it read.
+#[derive(Clone, Copy, Debug, PartialEq, Eq, Drop)]
+pub enum DriverFault {
+    /// Memory was refused.
+    Memory,
+    /// What lies at a key is wrong.
+    Bytes(Fault),
+    /// The log can't be followed.
+    Replay(ReplayFault),
+    /// The server has read nothing yet.
+    Unread,
+    /// A request or a batch has too many bytes.
+    TooLarge,
+}
+
+impl From<AllocError> for DriverFault {
+    ghost use Rattle.std.specs.Prelude.{◌≡◌};
+    ghost use Rattle.sm_driver.specs.declared.driver_fault.DriverFault.TheVariants.{Memory};
+
+    ghost from_gives = { λ _ fault. fault ≡ Memory };
+
+    fn from(_: AllocError) -> DriverFault {
+        DriverFault::Memory
+    }
+}
+
+impl<T: Drop> From<AllocFailed<T>> for DriverFault {
+    ghost use Rattle.std.specs.Prelude.{◌≡◌};
+    ghost use Rattle.sm_driver.specs.declared.driver_fault.DriverFault.TheVariants.{Memory};
+
+    ghost from_gives = { λ _ fault. fault ≡ Memory };
+
+    fn from(_: AllocFailed<T>) -> DriverFault {
+        DriverFault::Memory
+    }
+}
+
+impl From<ReplayFault> for DriverFault {
+    ghost use Rattle.std.specs.Prelude.{◌≡◌};
+    ghost use Rattle.sm_driver.specs.declared.driver_fault.DriverFault.TheVariants.{Replay};
+
+    ghost from_gives = { λ why fault. fault ≡ Replay why };
+
+    fn from(why: ReplayFault) -> DriverFault {
+        DriverFault::Replay(why)
+    }
+}

@@ -1,0 +1,428 @@
+//! A server's core over a shared store, for callers in C, C++, Python and Rust: what it decides, what it sends and
+//! what it tells, with no input or output of its own. The caller reads the store, sends the transactions and says what
+//! became of them. Each call answers 0, or a code of library/codes.txt; where that is none that the call speaks of,
+//! the server is to be closed, and another one to be made. A handle begins as bytes of 0; it may pass from thread to
+//! thread, and is used by one call at a time.
+#![tactic(auto)]
+
+ghost use Rattle.std.specs.Prelude.{◌≡◌, ◌≢◌, ◌++◌, true, None, IfOk, IfSome, length};
+ghost use Rattle.sm_shard.specs.declared.steps.ShardInput.TheVariants.{Flush as FlushInput, Lost as LostInput};
+ghost use Rattle.sm_shard.specs.declared.steps.ShardInput.TheVariants.{Made as MadeInput};
+ghost use Rattle.sm_driver.specs.Calls.{Between, ComesFrom, IsDecidedAs, IsMadeAnswer, IsReadAnswer, IsRequestInput};
+ghost use Rattle.sm_driver.specs.Calls.{KeepsServer};
+ghost use Rattle.sm_driver.specs.Calls.{MakesOn, TellsRead, WritesSending, WritesSent, is_decided};
+ghost use Rattle.sm_driver.specs.Servers.{AddsBatch, IsAny, IsNewServer, IsReading, IsRecordReading, TellsAnswers};
+ghost use Rattle.sm_driver.specs.Servers.{is_sending};
+
+mod boxed_parts;
+mod codes;
+mod driver_fault;
+mod owned_server;
+mod sending;
+pub mod sent_bytes;
+pub mod sent_numbers;
+pub mod server_handle;
+pub mod text_answer;
+pub mod text_forward;
+pub mod text_server;
+mod written;
+
+use codes::{
+    BAD_ARGUMENT, NO_MEMORY, NO_MORE, TOO_SHORT, UNKNOWN_SHARD, WRONG_HANDLE, code_of_decision,
+    code_of_fault,
+};
+use sent_bytes::SentBytes;
+pub use sent_numbers::SentNumbers;
+pub use server_handle::ServerHandle;
+use sm_ownership::mode::Mode;
+use sm_ranges::server_id::ServerId;
+use sm_ranges::shard_id::ShardId;
+use sm_shard::{ReadReply, ShardLimits};
+use sm_store::item::Item;
+use sm_texts::TextReply;
+use std::alloc::{AllocError, Global};
+pub use text_answer::TextAnswer;
+pub use text_forward::TextForward;
+pub use text_server::TextServer;
+use written::write;
+
+/// Makes a server of the shard, one of so many, that has read nothing yet. A batch takes at most so many bytes and
+/// requests, so many requests wait at most, and of so many clients the last request is kept. The handle keeps it, in
+/// place of what it kept.
+#[unsafe(no_mangle)]
+pub extern "C" fn durkenzo_server(
+    alloc: Global,
+    server: &mut ServerHandle,
+    me: u16,
+    shard: u16,
+    count: u64,
+    batch_bytes: u64,
+    batch_requests: usize,
+    waiting: usize,
+    clients: usize,
+) -> u32
+    ensures made { result ≡ 0 → KeepsServer (IsNewServer me shard count (record {
+      batch_bytes = batch_bytes;
+      batch_requests = batch_requests;
+      waiting = waiting;
+      clients = clients;
+    })) server.new.owned.state }
+    ensures kept { result ≢ 0 → server.new.owned.state ≡ server.old.owned.state }
+{
+    let Some(me) = ServerId::new(me) else {
+        return BAD_ARGUMENT;
+    };
+    let Some(shard) = ShardId::new(shard) else {
+        return UNKNOWN_SHARD;
+    };
+    let limits = ShardLimits {
+        batch_bytes,
+        batch_requests,
+        waiting,
+        clients,
+    };
+    let Some(made) = TextServer::new(alloc, me, shard, count, limits) else {
+        return UNKNOWN_SHARD;
+    };
+    match server.keep(alloc, made) {
+        Ok(()) => 0,
+        Err(_) => NO_MEMORY,
+    }
+}
+
+/// Adds the next batch that was read, in the order of their numbers, before `durkenzo_server_read`.
+#[unsafe(no_mangle)]
+pub extern "C" fn durkenzo_server_batch(
+    alloc: Global,
+    server: &mut ServerHandle,
+    bytes: &[u8],
+) -> u32
+    ensures made { result ≡ 0 → Between (λ old new. (new.core ≡ old.core)
+        × AddsBatch old.batches.items bytes.now new.batches.items) server.old.owned.state server.new.owned.state }
+{
+    if !server.full {
+        return WRONG_HANDLE;
+    }
+    match server.owned.state_mut().add_batch(alloc, bytes) {
+        Ok(()) => 0,
+        Err(fault) => code_of_fault(fault),
+    }
+}
+
+/// The shard was read: the bytes of its record and of the head of its log, with their revisions, and the batches that
+/// were added, which are let go.
+#[unsafe(no_mangle)]
+pub extern "C" fn durkenzo_server_read(
+    alloc: Global,
+    server: &mut ServerHandle,
+    standing: &[u8],
+    stood: u64,
+    head: &[u8],
+    logged: u64,
+) -> u32
+    ensures made { result ≡ 0 → MakesOn server.old.owned.state
+        (λ old. IsReading old standing.now stood head.now logged) IsAny server.new.owned.state }
+{
+    if !server.full {
+        return WRONG_HANDLE;
+    }
+    match server
+        .owned
+        .state_mut()
+        .read(alloc, standing, stood, head, logged)
+    {
+        Ok(()) => 0,
+        Err(fault) => code_of_fault(fault),
+    }
+}
+
+/// The shard's record alone was read, or seen by the watch. What waits at the server is to be decided again.
+#[unsafe(no_mangle)]
+pub extern "C" fn durkenzo_server_record(
+    alloc: Global,
+    server: &mut ServerHandle,
+    standing: &[u8],
+    stood: u64,
+) -> u32
+    ensures made { result ≡ 0 → MakesOn server.old.owned.state (λ old. IsRecordReading standing.now stood) IsAny
+        server.new.owned.state }
+{
+    if !server.full {
+        return WRONG_HANDLE;
+    }
+    match server.owned.state_mut().record(alloc, standing, stood) {
+        Ok(()) => 0,
+        Err(fault) => code_of_fault(fault),
+    }
+}
+
+/// A request came, directly (`from` 0) or from that server, forwarded so often: 0 where it was made, with its reply;
+/// else what is decided of it. Once it is made, clients below `forgets` are forgotten. One that waits is answered when a
+/// transaction is made that was sent later.
+#[unsafe(no_mangle)]
+pub extern "C" fn durkenzo_server_take(
+    alloc: Global,
+    server: &mut ServerHandle,
+    client: u64,
+    number: u64,
+    from: u16,
+    hops: u8,
+    forgets: u64,
+    request: &[u8],
+    reply: &mut TextReply,
+    forward: &mut TextForward,
+) -> u32
+    ensures decided { is_decided result ≡ true → MakesOn server.old.owned.state
+        (IsRequestInput client number from hops forgets request.now) (IsDecidedAs result reply.new forward.new)
+        server.new.owned.state }
+{
+    if !server.full {
+        return WRONG_HANDLE;
+    }
+    let Some(mode) = mode_of(from) else {
+        return BAD_ARGUMENT;
+    };
+    let Ok(request) = Vec::from_slice(alloc, request) else {
+        return NO_MEMORY;
+    };
+    let item = Item {
+        client,
+        number,
+        mode,
+        hops,
+        forgets,
+        request,
+    };
+    match server.owned.state_mut().take(alloc, item) {
+        Ok(decision) => code_of_decision(decision, reply, forward),
+        Err(fault) => code_of_fault(fault),
+    }
+}
+
+/// Lets what waits be sent, where nothing is under way. `sends` says whether there is something to send now.
+#[unsafe(no_mangle)]
+pub extern "C" fn durkenzo_server_flush(
+    alloc: Global,
+    server: &mut ServerHandle,
+    sends: &mut bool,
+) -> u32
+    ensures made { result ≡ 0 → MakesOn server.old.owned.state (λ old input. input ≡ FlushInput)
+        (λ output. is_sending output ≡ sends.new) server.new.owned.state }
+{
+    if !server.full {
+        return WRONG_HANDLE;
+    }
+    match server.owned.state_mut().flush(alloc) {
+        Ok(found) => {
+            *sends = found;
+            0
+        }
+        Err(fault) => code_of_fault(fault),
+    }
+}
+
+/// Writes what the transaction that was sent compares and writes: its numbers, and the bytes for the head and behind
+/// them those for the batch.
+#[unsafe(no_mangle)]
+pub extern "C" fn durkenzo_server_sending(
+    alloc: Global,
+    server: &mut ServerHandle,
+    numbers: &mut SentNumbers,
+    into: &mut [u8],
+) -> u32
+    ensures written { result ≡ 0 → KeepsServer (WritesSending numbers.new into.new) server.old.owned.state }
+    ensures unchanged { server.new.owned.state ≡ server.old.owned.state }
+{
+    if !server.full {
+        return WRONG_HANDLE;
+    }
+    sent_by(alloc, server.owned.state_mut(), numbers, into)
+}
+
+/// The transaction was made, or where it only compares has held, at this revision. There are so many answers to
+/// requests that were made, and to reads, which the next calls tell.
+#[unsafe(no_mangle)]
+pub extern "C" fn durkenzo_server_made(
+    alloc: Global,
+    server: &mut ServerHandle,
+    revision: u64,
+    made: &mut usize,
+    read: &mut usize,
+) -> u32
+    ensures made { result ≡ 0 → Between (λ old. TellsAnswers old revision) server.old.owned.state
+        server.new.owned.state }
+    ensures counts { result ≡ 0 → KeepsServer (λ new. (made.new ≡ length new.made.items)
+        × (read.new ≡ length new.read.items)) server.new.owned.state }
+{
+    if !server.full {
+        return WRONG_HANDLE;
+    }
+    let kept = server.owned.state_mut();
+    match kept.on_made(alloc, revision) {
+        Ok(()) => {
+            *made = kept.made.len();
+            *read = kept.read.len();
+            0
+        }
+        Err(fault) => code_of_fault(fault),
+    }
+}
+
+/// Tells the answer at this place to a request that was made.
+#[unsafe(no_mangle)]
+pub extern "C" fn durkenzo_server_answer(
+    server: &mut ServerHandle,
+    at: usize,
+    answer: &mut TextAnswer,
+) -> u32
+    ensures told { result ≡ 0 → KeepsServer (λ server. IsMadeAnswer server at answer.new) server.old.owned.state }
+    ensures unchanged { server.new.owned.state ≡ server.old.owned.state }
+{
+    if !server.full {
+        return WRONG_HANDLE;
+    }
+    answer_in(server.owned.state_mut(), at, answer)
+}
+
+/// Tells the answer at this place to a read, with its text.
+#[unsafe(no_mangle)]
+pub extern "C" fn durkenzo_server_text(
+    server: &mut ServerHandle,
+    at: usize,
+    answer: &mut TextAnswer,
+    into: &mut [u8],
+) -> u32
+    ensures told { result ≡ 0 → KeepsServer (IsReadAnswer at answer.new into.new) server.old.owned.state }
+    ensures unchanged { server.new.owned.state ≡ server.old.owned.state }
+{
+    if !server.full {
+        return WRONG_HANDLE;
+    }
+    text_in(server.owned.state_mut(), at, answer, into)
+}
+
+/// The compares of the transaction that was sent didn't hold, or what became of it isn't known. The server has
+/// forgotten what it read, and what it held is to be decided again.
+#[unsafe(no_mangle)]
+pub extern "C" fn durkenzo_server_lost(alloc: Global, server: &mut ServerHandle) -> u32
+    ensures made { result ≡ 0 → MakesOn server.old.owned.state (λ old input. input ≡ LostInput) IsAny
+        server.new.owned.state }
+{
+    if !server.full {
+        return WRONG_HANDLE;
+    }
+    match server.owned.state_mut().on_lost(alloc) {
+        Ok(()) => 0,
+        Err(fault) => code_of_fault(fault),
+    }
+}
+
+/// Lets go the server that the handle keeps.
+#[unsafe(no_mangle)]
+pub extern "C" fn durkenzo_server_close(alloc: Global, server: &mut ServerHandle)
+    ensures { server.new.owned.state ≡ None }
+{
+    server.close(alloc);
+}
+
+// How a request came: directly for 0, or from this server.
+fn mode_of(from: u16) -> Option<Mode>
+    ensures { IfSome result (ComesFrom from) }
+{
+    if from == 0 {
+        return Some(Mode::Direct);
+    }
+    match ServerId::new(from) {
+        Some(server) => Some(Mode::Forwarded(server)),
+        None => None,
+    }
+}
+
+// Writes what the server's transaction compares and writes.
+fn sent_by(alloc: Global, server: &TextServer, numbers: &mut SentNumbers, into: &mut [u8]) -> u32
+    ensures { result ≡ 0 → WritesSending numbers.new into.new server.now }
+{
+    match server.sending(alloc) {
+        Ok(sent) => write_sent(sent, numbers, into),
+        Err(fault) => code_of_fault(fault),
+    }
+}
+
+fn write_sent(sent: SentBytes, numbers: &mut SentNumbers, into: &mut [u8]) -> u32
+    ensures { result ≡ 0 → WritesSent sent numbers.new into.new }
+{
+    let written = SentNumbers {
+        stood: sent.stood,
+        logged: sent.logged,
+        number: sent.number,
+        head_length: sent.head.len(),
+        batch_length: sent.batch.len(),
+    };
+    match joined(sent.head, &sent.batch) {
+        Ok(bytes) => if write(&bytes, into) {
+            *numbers = written;
+            0
+        } else {
+            TOO_SHORT
+        },
+        Err(_) => NO_MEMORY,
+    }
+}
+
+// The bytes, and behind them those of the tail.
+fn joined(bytes: Vec<u8>, tail: &[u8]) -> Result<Vec<u8>, AllocError>
+    ensures { IfOk result (λ all. all.items ≡ bytes.items ++ tail.now) }
+{
+    let mut all = bytes;
+    all.extend_from_slice(tail)?;
+    Ok(all)
+}
+
+fn answer_in(server: &TextServer, at: usize, answer: &mut TextAnswer) -> u32
+    ensures { result ≡ 0 → IsMadeAnswer server.now at answer.new }
+{
+    let Some(made) = server.made.get(at) else {
+        return NO_MORE;
+    };
+    *answer = TextAnswer {
+        client: made.client,
+        number: made.number,
+        value: made.reply.number,
+        length: 0,
+        kind: made.reply.kind,
+    };
+    0
+}
+
+fn text_in(server: &TextServer, at: usize, answer: &mut TextAnswer, into: &mut [u8]) -> u32
+    ensures { result ≡ 0 → IsReadAnswer at answer.new into.new server.now }
+{
+    match (server.read.get(at), server.texts.get(at)) {
+        (Some(read), Some(text)) => tell_read(read, text, answer, into),
+        _ => NO_MORE,
+    }
+}
+
+fn tell_read(
+    read: &ReadReply<TextReply>,
+    text: &Vec<u8>,
+    answer: &mut TextAnswer,
+    into: &mut [u8],
+) -> u32
+    ensures { result ≡ 0 → TellsRead read.now text.now answer.new into.new }
+{
+    let Some(reply) = read.reply else {
+        return NO_MORE;
+    };
+    if !write(text, into) {
+        return TOO_SHORT;
+    }
+    *answer = TextAnswer {
+        client: read.client,
+        number: read.number,
+        value: reply.number,
+        length: text.len(),
+        kind: reply.kind,
+    };
+    0
+}

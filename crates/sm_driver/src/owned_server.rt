@@ -1,0 +1,71 @@
+ghost use Rattle.std.specs.Prelude.{◌≡◌, Some, None, Option, is_some, true};
+ghost use Rattle.sm_driver.specs.declared.text_server.TextServer.{TextServer as StateValue};
+ghost use Rattle.sm_driver.specs.Owns.{server_owns, server_coded};
+
+use crate::boxed_parts::BoxedParts;
+use crate::text_server::TextServer;
+use std::alloc::Global;
+use std::marker::Model;
+
+/// A pointer that owns a state, or nothing.
+#[repr(C)]
+#[derive(Drop)]
+pub struct OwnedServer {
+    ptr: *mut u8,
+    alloc: Global,
+    pub ghost state: { Option StateValue } by { server_coded },
+}
+
+impl Model for OwnedServer {
+    ghost also_owns = { λ h. server_owns h.alloc h.ptr h.state };
+}
+
+impl OwnedServer {
+    /// What owns nothing.
+    pub(crate) fn empty(alloc: Global) -> OwnedServer
+        ensures { result.state ≡ None }
+    {
+        OwnedServer {
+            ptr: std::ptr::null_mut(),
+            alloc,
+        }
+    }
+
+    /// What owns the state of a box.
+    pub(crate) fn of_parts(parts: BoxedParts<TextServer, Global>) -> OwnedServer
+        ensures { result.state ≡ Some parts.value }
+    {
+        let BoxedParts { ptr, alloc } = parts;
+        OwnedServer {
+            ptr: ptr as *mut u8,
+            alloc,
+        }
+    }
+
+    /// The box of the state that is owned.
+    pub(crate) fn into_parts(self) -> BoxedParts<TextServer, Global>
+        requires { is_some self.state ≡ true }
+        ensures { self.state ≡ Some result.value }
+    {
+        let OwnedServer { ptr, alloc } = self;
+        BoxedParts {
+            ptr: ptr as *mut TextServer,
+            alloc,
+        }
+    }
+}
+
+impl OwnedServer {
+    ghost use Rattle.std.specs.Borrow.{sem};
+    ghost use Rattle.std.specs.Prelude.{◌≡◌, Some, is_some, true};
+    ghost use Rattle.sm_driver.specs.Lending.{LendsServer};
+
+    /// The state that is owned, to change it in its place.
+    pub(crate) fn state_mut(&mut self) -> &mut TextServer
+        requires { is_some self.old.state ≡ true }
+        ensures* writes_back { sem 𝓛 (LendsServer self.entry result) }
+        ensures value { self.old.state ≡ Some result.now }
+    {
+        unsafe { &mut *(self.ptr as *mut TextServer) }
+    }
+}

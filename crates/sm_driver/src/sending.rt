@@ -1,0 +1,198 @@
+//! What a server sends, as bytes.
+ghost use Rattle.std.specs.Prelude.{◌≡◌, ◌<◌, ◌^◌, IfOk, IfSome, IsTrue, Option, None, map};
+ghost use Rattle.sm_codec.specs.Spelling.{FitsBatch, FitsItem, FitsMode, item_view, item_views};
+ghost use Rattle.sm_shard.specs.declared.base_work.NamedBase.{NamedBase as NamedValue};
+ghost use Rattle.sm_texts.specs.Texts.{parts_in};
+ghost use Rattle.sm_driver.specs.Servers.{AreTexts, IsSpelled, batch_written, head_written, number_written, text_for};
+ghost use Rattle.sm_driver.specs.Servers.{texts_for};
+
+use crate::driver_fault::DriverFault;
+use crate::sent_bytes::SentBytes;
+use crate::text_server::TextServer;
+use sm_codec::{write_head, write_requests};
+use sm_ownership::mode::Mode;
+use sm_ranges::server_id::ServerId;
+use sm_shard::{BatchSending, NamedBase};
+use sm_store::head::Head;
+use sm_store::item::Item;
+use sm_texts::{StoreTexts, Val, parts_of};
+use std::alloc::{AllocError, Global};
+
+/// What the transaction compares and writes.
+pub(crate) fn spelled(
+    alloc: Global,
+    sending: &BatchSending<'_, Vec<u8>>,
+) -> Result<SentBytes, DriverFault>
+    ensures { IfOk result (IsSpelled sending.now) }
+{
+    let number = number_of(sending.items, &sending.head)?;
+    let head = head_of(alloc, sending.items, sending.base, &sending.head)?;
+    let batch = batch_of(alloc, sending.server, sending.items)?;
+    Ok(SentBytes {
+        stood: sending.stood,
+        logged: sending.logged,
+        number,
+        head,
+        batch,
+    })
+}
+
+// The number of the batch that is written, 0 for none.
+fn number_of(items: &[Item<Vec<u8>>], head: &Head) -> Result<u64, DriverFault>
+    ensures { IfOk result (λ number. number ≡ number_written items.now head.now) }
+{
+    match items {
+        [] => Ok(0),
+        [_, ..] => match head.batches.checked_add(1) {
+            Some(number) => Ok(number),
+            None => Err(DriverFault::TooLarge),
+        },
+    }
+}
+
+// What is written to the head.
+fn head_of(
+    alloc: Global,
+    items: &[Item<Vec<u8>>],
+    base: Option<NamedBase>,
+    head: &Head,
+) -> Result<Vec<u8>, DriverFault>
+    ensures { IfOk result (λ bytes. bytes.items ≡ head_written items.now base head.now) }
+{
+    match items {
+        [] => match base {
+            Some(base) => {
+                let bytes = write_head(
+                    alloc,
+                    &Head {
+                        batches: head.batches,
+                        base: base.number,
+                        parts: base.parts,
+                    },
+                )?;
+                Ok(bytes)
+            }
+            None => Ok(Vec::new(alloc)),
+        },
+        [_, ..] => {
+            let Some(batches) = head.batches.checked_add(1) else {
+                return Err(DriverFault::TooLarge);
+            };
+            let bytes = write_head(
+                alloc,
+                &Head {
+                    batches,
+                    base: head.base,
+                    parts: head.parts,
+                },
+            )?;
+            Ok(bytes)
+        }
+    }
+}
+
+// What is written to the batch.
+fn batch_of(
+    alloc: Global,
+    server: ServerId,
+    items: &[Item<Vec<u8>>],
+) -> Result<Vec<u8>, DriverFault>
+    ensures { IfOk result (λ bytes. bytes.items ≡ batch_written server items.now) }
+{
+    match items {
+        [] => Ok(Vec::new(alloc)),
+        [_, ..] => {
+            if !do_fit(server, items) {
+                return Err(DriverFault::TooLarge);
+            }
+            let bytes = write_requests(alloc, server, items)?;
+            Ok(bytes)
+        }
+    }
+}
+
+// Whether the requests have bytes as a batch.
+fn do_fit(server: ServerId, items: &[Item<Vec<u8>>]) -> bool
+    ensures { IsTrue result → FitsBatch (record { server = server; items = item_views items.now }) }
+{
+    let _server = server.number();
+    if items.len() > u32::MAX as usize {
+        return false;
+    }
+    for item in items {
+        if !does_fit(item) {
+            return false;
+        }
+    }
+    true
+}
+
+fn does_fit(item: &Item<Vec<u8>>) -> bool
+    ensures { IsTrue result → FitsItem (item_view item.now) }
+{
+    is_wide(item.client);
+    is_wide(item.number);
+    is_wide(item.forgets);
+    names_server(item.mode);
+    item.request.len() <= u32::MAX as usize
+}
+
+// A number of 64 bits is one. Reading it tells the proof so, and does nothing else.
+fn is_wide(number: u64)
+    ensures { number < 2 ^ 64 }
+{
+    let _ = number;
+}
+
+// The server that a request came by is numbered as servers are.
+fn names_server(mode: Mode)
+    ensures { FitsMode mode }
+{
+    match mode {
+        Mode::Direct => {}
+        Mode::Forwarded(from) => {
+            let _ = from.number();
+        }
+    }
+}
+
+/// The texts that the reads of the transaction that was sent ask for.
+pub(crate) fn texts_of(alloc: Global, server: &TextServer) -> Result<Vec<Vec<u8>>, DriverFault>
+    ensures { IfOk result (λ texts. AreTexts server.now texts.items) }
+{
+    match &server.core.ready {
+        Some(ready) => {
+            let texts = texts_in(alloc, &ready.replica.machine, &ready.carried)?;
+            Ok(texts)
+        }
+        None => Ok(Vec::new(alloc)),
+    }
+}
+
+fn texts_in(
+    alloc: Global,
+    machine: &StoreTexts,
+    items: &[Item<Vec<u8>>],
+) -> Result<Vec<Vec<u8>>, AllocError>
+    ensures { IfOk result (λ texts. map (λ text. text.items) texts.items ≡ texts_for machine.now items.now) }
+{
+    let mut texts = Vec::new(alloc);
+    for item in items {
+        let text = text_in(alloc, machine, &item.request)?;
+        texts.push(text)?;
+    }
+    Ok(texts)
+}
+
+// The text that the request asks for, where its key holds one.
+fn text_in(alloc: Global, machine: &StoreTexts, request: &[u8]) -> Result<Vec<u8>, AllocError>
+    ensures { IfOk result (λ text. text.items ≡ text_for machine.now (parts_in request.now)) }
+{
+    match parts_of(request) {
+        Some((_, key, _)) => match machine.look(key) {
+            Some(Val::Text(text)) => Vec::from_slice(alloc, text),
+            _ => Ok(Vec::new(alloc)),
+        },
+        None => Ok(Vec::new(alloc)),
+    }
+}

@@ -1,0 +1,246 @@
+//! The law, checked of what a store made and what was told: by the documents alone, with nothing of the proved library.
+use crate::claim::{Claim, Said};
+use crate::reading::{self, Item, Map, Record, Replied};
+use crate::store::{Key, Txn};
+use std::collections::{HashMap, HashSet};
+
+/// How often a request is forwarded at most.
+const MOST_HOPS: u64 = 4;
+
+/// What was broken, and by what.
+#[derive(Debug)]
+pub struct Broken {
+    pub law: &'static str,
+    pub by: String,
+}
+
+fn broken<T>(law: &'static str, by: String) -> Result<T, Broken> {
+    Err(Broken { law, by })
+}
+
+fn found<T>(read: Option<T>, by: &Txn) -> Result<T, Broken> {
+    read.map_or_else(|| broken("bytes can be read", format!("{by:?}")), Ok)
+}
+
+#[derive(Default)]
+struct Shard {
+    record: Record,
+    batches: u64,
+    map: Map,
+    /// What each client asked last.
+    lasts: HashMap<u64, u64>,
+    /// The number below which clients are forgotten, since each revision that changed it.
+    floors: Vec<(u64, u64)>,
+    /// The reply to each request, and the revision at which it was made.
+    made: HashMap<(u64, u64), (Replied, u64)>,
+    /// The map since each revision that changed it.
+    past: Vec<(u64, Map)>,
+}
+
+impl Shard {
+    fn floor_at(&self, revision: u64) -> u64 {
+        let until = self.floors.iter().filter(|it| it.0 <= revision);
+        until.map(|it| it.1).max().unwrap_or(0)
+    }
+
+    fn map_at(&self, revision: u64) -> Map {
+        let found = self.past.iter().rev().find(|it| it.0 <= revision);
+        found.map_or_else(Map::default, |it| it.1.clone())
+    }
+}
+
+#[derive(Default)]
+struct World {
+    leader: u64,
+    shards: HashMap<u16, Shard>,
+    /// The bodies of all requests that carry a text of their own.
+    bodies: HashSet<Vec<u8>>,
+}
+
+/// Checks all that was made, in order, and all that was told.
+pub fn check(made: &[(u64, Txn)], claims: &[Claim]) -> Result<(), Broken> {
+    let mut world = World::default();
+    for (revision, txn) in made {
+        world.make(*revision, txn)?;
+    }
+    claims.iter().try_for_each(|it| world.judge(it))
+}
+
+impl World {
+    fn make(&mut self, revision: u64, txn: &Txn) -> Result<(), Broken> {
+        let heads = txn
+            .puts
+            .iter()
+            .filter(|it| matches!(it.0, Key::Head(_)))
+            .count();
+        let batches = txn
+            .puts
+            .iter()
+            .filter(|it| matches!(it.0, Key::Batch(..)))
+            .count();
+        if heads != batches {
+            return broken("a batch is written with its head", format!("{txn:?}"));
+        }
+        for (key, bytes) in &txn.puts {
+            match *key {
+                Key::Leader => {}
+                Key::Placement => {}
+                Key::Record(shard) => self.change(shard, bytes, txn)?,
+                Key::Head(shard) => self.head(shard, bytes, txn)?,
+                Key::Batch(shard, number) => self.batch(shard, number, bytes, revision, txn)?,
+            }
+        }
+        if txn.puts.iter().any(|it| it.0 == Key::Leader) {
+            self.leader = txn.process;
+        }
+        Ok(())
+    }
+
+    fn change(&mut self, shard: u16, bytes: &[u8], txn: &Txn) -> Result<(), Broken> {
+        let next = found(Record::of(bytes), txn)?;
+        if txn.process != self.leader || next.process != self.leader {
+            return broken(
+                "who leads changes records",
+                format!("{} led, {txn:?}", self.leader),
+            );
+        }
+        let shard = self.shards.entry(shard).or_default();
+        if !shard.record.may_become(&next) {
+            return broken(
+                "a change is legal",
+                format!("{:?} to {next:?}", shard.record),
+            );
+        }
+        shard.record = next;
+        Ok(())
+    }
+
+    fn head(&mut self, shard: u16, bytes: &[u8], txn: &Txn) -> Result<(), Broken> {
+        let [batches, ..] = found(reading::head(bytes), txn)?;
+        let before = self.shards.entry(shard).or_default().batches;
+        if batches != before + 1 {
+            return broken(
+                "a batch is the next one",
+                format!("{before} batches, then {batches}"),
+            );
+        }
+        Ok(())
+    }
+
+    fn batch(
+        &mut self,
+        shard: u16,
+        number: u64,
+        bytes: &[u8],
+        revision: u64,
+        txn: &Txn,
+    ) -> Result<(), Broken> {
+        let (server, items) = found(reading::batch(bytes), txn)?;
+        for item in &items {
+            self.item(shard, server, item, revision)?;
+        }
+        let shard = self.shards.entry(shard).or_default();
+        if number != shard.batches + 1 {
+            return broken(
+                "a batch is the next one",
+                format!("{} batches, then {number}", shard.batches),
+            );
+        }
+        shard.batches = number;
+        let map = shard.map.clone();
+        shard.past.push((revision, map));
+        Ok(())
+    }
+
+    fn item(&mut self, shard: u16, server: u64, item: &Item, revision: u64) -> Result<(), Broken> {
+        let body = &item.request;
+        // A text of four bytes or more is of one request alone.
+        if matches!(body.first(), Some(2 | 3)) && !self.bodies.insert(body.clone()) {
+            return broken("a client's request is made once", format!("{item:?}"));
+        }
+        let shard = self.shards.entry(shard).or_default();
+        if !shard.record.accepts(server, item.from) {
+            return broken(
+                "the accepted server executes",
+                format!("{server}, {:?}, {item:?}", shard.record),
+            );
+        }
+        if item.client < shard.floor_at(revision) {
+            return broken("a forgotten client asks nothing", format!("{item:?}"));
+        }
+        if item.hops > MOST_HOPS {
+            return broken(
+                "a request is forwarded so often at most",
+                format!("{item:?}"),
+            );
+        }
+        shard.floors.push((revision, item.forgets));
+        let last = shard.lasts.insert(item.client, item.number).unwrap_or(0);
+        if item.number <= last {
+            return broken("a client's numbers rise", format!("{last}, then {item:?}"));
+        }
+        let reply = shard.map.answer(body);
+        shard
+            .made
+            .insert((item.client, item.number), (reply, revision));
+        Ok(())
+    }
+
+    fn judge(&mut self, claim: &Claim) -> Result<(), Broken> {
+        let shard = self.shards.entry(claim.shard).or_default();
+        let made = shard.made.get(&(claim.client, claim.number));
+        match &claim.said {
+            Said::Replied { kind, value } => match made {
+                Some((reply, since))
+                    if *since <= claim.at && (reply.0, reply.1) == (*kind, *value) =>
+                {
+                    Ok(())
+                }
+                _ => broken(
+                    "a reply that was told is that of one thread",
+                    format!("{claim:?}, {made:?}"),
+                ),
+            },
+            Said::Passed => {
+                let later = shard.made.iter().any(|(request, (_, since))| {
+                    request.0 == claim.client && request.1 > claim.number && *since <= claim.at
+                });
+                let is_made = made.is_some_and(|it| it.1 > claim.at);
+                if later && !is_made {
+                    return Ok(());
+                }
+                broken("what is passed isn't made", format!("{claim:?}, {made:?}"))
+            }
+            Said::Forgotten => {
+                let is_made = made.is_some_and(|it| it.1 > claim.at);
+                if shard.floor_at(claim.at) > claim.client && !is_made {
+                    return Ok(());
+                }
+                broken("who is forgotten was to be", format!("{claim:?}, {made:?}"))
+            }
+            Said::NotMade => match made {
+                None => Ok(()),
+                Some(_) => broken(
+                    "what wasn't made isn't made",
+                    format!("{claim:?}, {made:?}"),
+                ),
+            },
+            Said::Read {
+                key,
+                kind,
+                value,
+                text,
+                asked,
+            } => {
+                let told = (*kind, *value, text.clone());
+                if (*asked..=claim.at).any(|revision| shard.map_at(revision).get(key) == told) {
+                    return Ok(());
+                }
+                broken(
+                    "a read is of a moment after it was asked",
+                    format!("{claim:?}"),
+                )
+            }
+        }
+    }
+}

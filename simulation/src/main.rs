@@ -1,0 +1,59 @@
+//! Runs schedules, and says what was broken, with the seed that shows it again.
+//!
+//!     simulation [--schedules N] [--seed S] [--bug NAME] [--seconds T]
+use simulation::bug::{Bug, BUGS};
+use simulation::world::{run, Tally};
+use std::process::ExitCode;
+use std::time::{Duration, Instant};
+
+struct Wanted {
+    schedules: u64,
+    seed: u64,
+    seconds: u64,
+    bug: Option<Bug>,
+}
+
+fn wanted() -> Option<Wanted> {
+    let mut wanted = Wanted {
+        schedules: 10_000,
+        seed: 1,
+        seconds: u64::MAX,
+        bug: None,
+    };
+    let mut words = std::env::args().skip(1);
+    while let Some(word) = words.next() {
+        let value = words.next()?;
+        match word.as_str() {
+            "--schedules" => wanted.schedules = value.parse().ok()?,
+            "--seed" => wanted.seed = value.parse().ok()?,
+            "--seconds" => wanted.seconds = value.parse().ok()?,
+            "--bug" => wanted.bug = Some(*BUGS.iter().find(|it| format!("{it:?}") == value)?),
+            _ => return None,
+        }
+    }
+    Some(wanted)
+}
+
+fn main() -> ExitCode {
+    let Some(wanted) = wanted() else {
+        eprintln!("usage: simulation [--schedules N] [--seed S] [--seconds T] [--bug NAME]; bugs: {BUGS:?}");
+        return ExitCode::from(2);
+    };
+    let (begun, mut all, mut count) = (Instant::now(), Tally::default(), 0);
+    let limit = Duration::from_secs(wanted.seconds.min(1 << 40));
+    while count < wanted.schedules && begun.elapsed() < limit {
+        let seed = wanted.seed.wrapping_add(count);
+        let (tally, verdict) = run(seed, wanted.bug);
+        count += 1;
+        all.add(&tally);
+        if let Err(broken) = verdict {
+            println!(
+                "broken by seed {seed}, schedule {count}: {}: {}",
+                broken.law, broken.by
+            );
+            return ExitCode::FAILURE;
+        }
+    }
+    println!("{count} schedules kept the law: {all:?}");
+    ExitCode::SUCCESS
+}
