@@ -67,8 +67,7 @@ impl BusyPoll {
     fn next(&self) -> (Stage, u32) {
         match self.stage {
             Stage::TryPolling => (Stage::TrySleeping(self.spent), TRIAL),
-            // By a twentieth, as it uses a processor.
-            Stage::TrySleeping(polling) if 20 * polling < 19 * self.spent => (Stage::Poll, TERM),
+            Stage::TrySleeping(polling) if polling < self.spent => (Stage::Poll, TERM),
             Stage::TrySleeping(_) => (Stage::Sleep, TERM),
             Stage::Poll | Stage::Sleep => (Stage::TryPolling, TRIAL),
         }
