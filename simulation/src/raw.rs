@@ -232,7 +232,7 @@ impl Server {
             71 => Decision::Passed,
             72 => Decision::Forwards(forward.server, forward.hops),
             77 => Decision::Forgotten,
-            73..=79 => Decision::Refused(code),
+            73..=79 => Decision::Refused,
             _ => panic!("a request: code {code}"),
         }
     }

@@ -157,8 +157,8 @@ pub extern "C" fn durkenzo_server_record(
 }
 
 /// A request came, directly (`from` 0) or from that server, forwarded so often: 0 where it was made, with its reply;
-/// else what is decided of it. Once it is made, clients below `forgets` are forgotten. One that waits is answered when a
-/// transaction is made that was sent later.
+/// else what is decided of it. Once it is made, clients below `forgets` are forgotten.
+/// One that waits is answered when a transaction is made that was sent later.
 #[unsafe(no_mangle)]
 pub extern "C" fn durkenzo_server_take(
     alloc: Global,
