@@ -15,6 +15,7 @@ def passed(room):
     if not PROVED.is_file() or not shutil.which("cargo"):
         return
     env = {"CARGO_TARGET_DIR": pathlib.Path(room) / "target"}
-    schedules = ["cargo", "run", "--quiet", "--release", "--offline", "--", "--schedules", 10**9, "--seconds", SECONDS]
+    limits = ["--schedules", 10**9, "--seconds", SECONDS]
+    schedules = ["cargo", "run", "--quiet", "--release", "--offline", "--", *limits]
     yield ran("planted bugs are found", ["cargo", "test", "--release", "--offline"], FOLDER, **env)
     yield ran("schedules over a store keep the law", schedules, FOLDER, **env)
