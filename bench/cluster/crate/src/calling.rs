@@ -21,7 +21,9 @@ pub(crate) fn call_all<R: Threads + Wait + Clock + Sync>(
     clients: &mut [Client<CounterText>],
     run: &Progress,
 ) {
-    let each = |at: usize, client: &mut Client<CounterText>| { call_each(rt, alloc, run, at, client) };
+    let each = |at: usize, client: &mut Client<CounterText>| {
+        call_each(rt, alloc, run, at, client)
+    };
     thread::for_each_mut(rt, clients, MOST_THREADS, &each);
 }
 
