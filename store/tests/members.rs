@@ -1,7 +1,7 @@
 //! What a store on etcd says where members don't answer, or refuse. Nothing is tried where etcd isn't installed.
 mod beside;
 
-use beside::{free_port, Folder, Member};
+use beside::{free_port, Folder, Member, PATIENCE};
 use durkenzo_store::{
     Access, Etcd, Outcome, ReadError, Revision, Seen, StartError, Store, Transaction, WriteError,
 };
@@ -13,11 +13,12 @@ use std::sync::mpsc;
 use std::thread;
 use std::time::{Duration, Instant};
 
-const ASIDE: Duration = Duration::from_secs(20);
+const ASIDE: Duration = Duration::from_secs(60);
+const SHORT: Duration = Duration::from_secs(2);
 
-fn on(endpoints: &[&str]) -> Etcd {
+fn on(endpoints: &[&str], patience: Duration) -> Etcd {
     let access = Access {
-        patience: Duration::from_secs(2),
+        patience,
         ..Access::new(endpoints.iter().copied())
     };
     Etcd::new(access).expect("addresses")
@@ -55,7 +56,7 @@ fn reads_addresses() {
 
 #[test]
 fn says_that_no_member_got_it() {
-    let store = on(&[&nobody(), &nobody()]);
+    let store = on(&[&nobody(), &nobody()], PATIENCE);
     let made = store.make(Transaction::new().put("a", "1"));
     assert!(matches!(made, Err(WriteError::Unreachable(_))), "{made:?}");
     assert!(matches!(
@@ -80,7 +81,7 @@ fn says_that_an_outcome_is_not_known() {
                 }
             }
         });
-        let made = on(&[&endpoint, &nobody()]).make(Transaction::new().put("a", "1"));
+        let made = on(&[&endpoint, &nobody()], SHORT).make(Transaction::new().put("a", "1"));
         assert!(matches!(made, Err(WriteError::Unknown(_))), "{made:?}");
     }
 }
@@ -90,7 +91,7 @@ fn passes_over_members_that_are_not_there() {
     let Some(member) = Member::start(&[]) else {
         return;
     };
-    let store = on(&[&nobody(), &member.endpoint, &nobody()]);
+    let store = on(&[&nobody(), &member.endpoint, &nobody()], PATIENCE);
     for _ in 0..4 {
         store
             .make(Transaction::new().put("a", "1"))
@@ -190,6 +191,7 @@ fn gives_its_name_and_password() {
         let user = Some(("root".to_owned(), password.to_owned()));
         Etcd::new(Access {
             user,
+            patience: PATIENCE,
             ..Access::new([member.endpoint.as_str()])
         })
         .expect("an address")

@@ -11,6 +11,9 @@ use std::sync::atomic::{AtomicU32, Ordering};
 use std::thread;
 use std::time::{Duration, Instant};
 
+/// How long an answer is waited for, on a machine that may be busy.
+pub const PATIENCE: Duration = Duration::from_secs(30);
+
 /// A folder that is gone when it is dropped.
 pub struct Folder(PathBuf);
 
@@ -91,7 +94,7 @@ impl Member {
     }
 
     fn wait_until_up(&self) {
-        let end = Instant::now() + Duration::from_secs(30);
+        let end = Instant::now() + Duration::from_secs(60);
         while let Err(ReadError::Unavailable(reason)) = self.store().read(&[b"up"]) {
             assert!(Instant::now() < end, "etcd doesn't begin: {reason}");
             thread::sleep(Duration::from_millis(100));
@@ -99,7 +102,11 @@ impl Member {
     }
 
     pub fn store(&self) -> Etcd {
-        Etcd::new(Access::new([self.endpoint.as_str()])).expect("an address")
+        let access = Access {
+            patience: PATIENCE,
+            ..Access::new([self.endpoint.as_str()])
+        };
+        Etcd::new(access).expect("an address")
     }
 
     /// Calls its gateway.
