@@ -32,6 +32,7 @@ CHANGES = """durkenzo ({version}) unstable; urgency=medium
 """
 COPYRIGHT = """Format: https://www.debian.org/doc/packaging-manuals/copyright-format/1.0/
 Upstream-Name: durkenzo
+Comment: Of other people's crates in durkenzo-server, NOTICES has the licences.
 
 Files: *
 Copyright: {holder}

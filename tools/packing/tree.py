@@ -5,7 +5,7 @@ import subprocess
 from collections import namedtuple
 
 import exported
-from packing import completions, made, manual, told
+from packing import completions, made, manual, notices, told
 
 TOP = made.TOP
 FOLDER = TOP / "library"
@@ -112,6 +112,11 @@ def texts(names):
         yield f"{DOCS}/{name}", File((TOP / name).read_bytes())
 
 
+def licences():
+    """The licences of what is in the server of other people."""
+    yield f"{DOCS}/NOTICES", File(notices.text().encode())
+
+
 def docs():
     """The names of all pages and pictures."""
     found = sorted(it for it in (TOP / "docs").rglob("*") if it.suffix in (".md", ".svg"))
@@ -125,6 +130,7 @@ def of_archive(room, given):
         **dict(libraries(room, given)),
         **dict(pages(room, given, "site-functions")),
         **dict(examples()),
+        **dict(licences()),
         **dict(texts(docs())),
         "lib/systemd/system/durkenzo.service": unit("/usr/local"),
     }
@@ -136,5 +142,6 @@ def of_debian(room, given):
         **dict(programs(room, given)),
         **dict(pages(room, given, "vendor-completions")),
         **dict(examples()),
+        **dict(licences()),
         **dict(texts(["README.md", "SECURITY.md"])),
     }
