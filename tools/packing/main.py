@@ -84,7 +84,6 @@ def pack(is_proved, into):
     """Packs all into the folder, which then has nothing else; returns the files."""
     shutil.rmtree(into, ignore_errors=True)
     into.mkdir(parents=True)
-    os.umask(0o022)
     with tempfile.TemporaryDirectory(prefix="sm-dist-") as folder:
         room = tree.Room(folder, epoch())
         given = made.proved(room.folder) if is_proved else made.unproved(room.folder)
@@ -102,6 +101,8 @@ def main():
     parser.add_argument("--unproved", action="store_true", help="packs what is built without proof, and says so")
     parser.add_argument("--into", type=pathlib.Path, default=INTO, help="a folder of its own, by default out/dist")
     given = parser.parse_args()
+    # What pip puts into a wheel has the modes of its files.
+    os.umask(0o022)
     try:
         for file in pack(not given.unproved, given.into.resolve()):
             print(file)
