@@ -40,12 +40,12 @@ def bash_values(options):
 
 def bash_words(told):
     """The lines that say which words may come: of the command that was given, or of the program."""
-    offered = joined([*(it.name.split()[-1] for it in told.commands), *names_of(told.options)])
+    offered = joined([*(it.word for it in told.commands), *names_of(told.options)])
     if not told.commands:
         return [f"    local words='{offered}'"]
     lines = [f"    local words='{offered}'", "    case ${COMP_WORDS[1]} in"]
     for it in told.commands:
-        lines.append(f"    {it.name.split()[-1]}) ((COMP_CWORD > 1)) && words='{joined(names_of(it.options))}' ;;")
+        lines.append(f"    {it.word}) ((COMP_CWORD > 1)) && words='{joined(names_of(it.options))}' ;;")
     return [*lines, "    esac"]
 
 
@@ -92,11 +92,11 @@ def zsh(told):
     if not told.commands:
         return "\n".join([*lines, "_arguments \\", *continued(zsh_specs(told.options))]) + "\n"
     lines += ["local -a commands=("]
-    lines += [f"  '{it.name.split()[-1]}:{zsh_text(it.about[0])}'" for it in told.commands]
+    lines += [f"  '{it.word}:{zsh_text(it.about[0])}'" for it in told.commands]
     lines += [")", "if ((CURRENT == 2)); then", "  _describe command commands"]
     lines += ["  _arguments \\", *continued(zsh_specs(told.options), "    "), "  return", "fi", "case $words[2] in"]
     for it in told.commands:
-        lines += [f"  {it.name.split()[-1]}) _arguments \\", *continued(zsh_specs(it.options), "    "), "    ;;"]
+        lines += [f"  {it.word}) _arguments \\", *continued(zsh_specs(it.options), "    "), "    ;;"]
     return "\n".join([*lines, "esac"]) + "\n"
 
 
@@ -124,9 +124,8 @@ def fish(told):
     lines = [f"# Made of what {told.name} says by --help.", f"complete -c {told.name} -f"]
     condition = " -n __fish_use_subcommand" if told.commands else ""
     for it in told.commands:
-        word = it.name.split()[-1]
-        lines.append(f"complete -c {told.name} -n __fish_use_subcommand -a {word} -d {fish_quoted(it.about[0])}")
-        seen = f" -n '__fish_seen_subcommand_from {word}'"
+        lines.append(f"complete -c {told.name} -n __fish_use_subcommand -a {it.word} -d {fish_quoted(it.about[0])}")
+        seen = f" -n '__fish_seen_subcommand_from {it.word}'"
         lines += [fish_option(told.name, one, seen) for one in it.options]
     lines += [fish_option(told.name, it, condition) for it in told.options]
     return "\n".join(lines) + "\n"

@@ -92,6 +92,6 @@ def page(told, version, epoch, script_page):
 
 def command(told):
     """A command of a program with its options."""
-    yield from [f'.SS "{escaped(told.name.split()[-1])}"', escaped(" ".join(told.about))]
+    yield from [f'.SS "{escaped(told.word)}"', escaped(" ".join(told.about))]
     for it in told.options:
         yield from entry(it)

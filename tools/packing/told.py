@@ -18,6 +18,13 @@ class Entry:
     term: str
     said: list[str] = field(default_factory=list)
 
+    def take(self, line, is_apart):
+        """Takes a further line, which goes on with the last paragraph, but where it stands apart or is of a list."""
+        if is_apart or not self.said or line.startswith("- "):
+            self.said.append(line)
+        else:
+            self.said[-1] += f" {line}"
+
     @property
     def names(self):
         """The spellings of an option."""
@@ -65,6 +72,11 @@ class Told:
     commands: list["Told"] = field(default_factory=list)
 
     @property
+    def word(self):
+        """The last word of the name: of a command that by which it is given."""
+        return self.name.split()[-1]
+
+    @property
     def options(self):
         return [it for section in self.sections if section.has_options for it in section.entries]
 
@@ -76,7 +88,7 @@ def paragraphs(lines):
 
 def sections_of(lines):
     """The sections with their entries; a paragraph at the margin stands in a section without a heading."""
-    found = []
+    found, is_apart = [], True
     for line in lines:
         if heading := HEADING.fullmatch(line):
             found.append(Section(heading[1]))
@@ -87,7 +99,8 @@ def sections_of(lines):
                 found.append(Section(""))
             found[-1].entries.append(Entry(entry[1], [entry[2]] if entry[2] else []))
         elif line.strip():
-            found[-1].entries[-1].said.append(line.strip())
+            found[-1].entries[-1].take(line.strip(), is_apart)
+        is_apart = not line.strip()
     return found
 
 
