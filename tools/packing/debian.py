@@ -3,6 +3,7 @@ import email.utils
 import hashlib
 import os
 import re
+import subprocess
 
 from packing import archives, made, tree
 
@@ -66,18 +67,26 @@ def copyright_of():
     return COPYRIGHT.format(holder=holder, text=text)
 
 
+def owner_of(path):
+    """The package that has this library, which may stand below /usr there."""
+    for name in (path, f"/usr{path}"):
+        ran = subprocess.run(["dpkg-query", "-S", name], capture_output=True, text=True)
+        if not ran.returncode:
+            return ran.stdout.partition(":")[0]
+    raise made.NotMade(f"no package has {path}, which the programs load")
+
+
 def depends(room, given):
-    """The libraries of Debian that the programs load, and of libc the oldest version that has all."""
-    needed, newest = set(), (2, 17)
-    for path in (given.program, given.server):
-        told = room.run("objdump", "-p", path)
-        needed |= set(re.findall(r"NEEDED +(\S+)", told))
+    """The packages of the libraries that the programs load, and of libc the oldest version that has all that they
+    call."""
+    packages, newest = set(), (2, 17)
+    for program in (given.program, given.server):
+        told, loaded = room.run("objdump", "-p", program), room.run("ldd", program)
         newest = max([newest, *((int(a), int(b)) for a, b in re.findall(r"GLIBC_(\d+)\.(\d+)", told))])
-    other = sorted(needed - {"libc.so.6", "libm.so.6", "libgcc_s.so.1", "ld-linux-x86-64.so.2"})
-    if other:
-        raise made.NotMade(f"the programs need {', '.join(other)}, of which the package knows no package")
-    found = [f"libc6 (>= {newest[0]}.{newest[1]})"]
-    return ", ".join([*found, *(["libgcc-s1 (>= 3.0)"] if "libgcc_s.so.1" in needed else [])])
+        path_of = dict(re.findall(r"(\S+) => (/\S+)", loaded))
+        packages |= {owner_of(path_of[it]) for it in re.findall(r"NEEDED +(\S+)", told) if it in path_of}
+    least = f" (>= {newest[0]}.{newest[1]})"
+    return ", ".join(f"{it}{least if it == 'libc6' else ''}" for it in sorted(packages))
 
 
 def files_of(room, given):
