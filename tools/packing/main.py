@@ -80,10 +80,18 @@ def package(room, given, into):
     return debian.package(room, given, into)
 
 
+def clear(into):
+    """Makes the folder, or takes away what was packed there before, and nothing else."""
+    into.mkdir(parents=True, exist_ok=True)
+    before = into / SUMS
+    for line in before.read_text(encoding="utf-8").splitlines() if before.is_file() else []:
+        (into / pathlib.Path(line.split()[1]).name).unlink(missing_ok=True)
+    before.unlink(missing_ok=True)
+
+
 def pack(is_proved, into):
-    """Packs all into the folder, which then has nothing else; returns the files."""
-    shutil.rmtree(into, ignore_errors=True)
-    into.mkdir(parents=True)
+    """Packs all into the folder, in place of what was packed there before; returns the files."""
+    clear(into)
     with tempfile.TemporaryDirectory(prefix="sm-dist-") as folder:
         room = tree.Room(folder, epoch())
         given = made.proved(room.folder) if is_proved else made.unproved(room.folder)
@@ -99,7 +107,7 @@ def main():
         prog="./dist", description=__doc__, formatter_class=argparse.RawDescriptionHelpFormatter
     )
     parser.add_argument("--unproved", action="store_true", help="packs what is built without proof, and says so")
-    parser.add_argument("--into", type=pathlib.Path, default=INTO, help="a folder of its own, by default out/dist")
+    parser.add_argument("--into", type=pathlib.Path, default=INTO, help="in place of out/dist")
     given = parser.parse_args()
     # What pip puts into a wheel has the modes of its files.
     os.umask(0o022)
