@@ -7,9 +7,30 @@ use std::alloc::Global;
 pub(crate) struct Hints {
     // How many bytes are passed over.
     skip: usize,
-    starts: Vec<u128>,
+    starts: Vec<Start>,
     // How many blocks were noted, also those that there was no memory for.
     noted: usize,
+}
+
+// Thirty-two bytes of a key, as numbers, in the order of keys.
+#[derive(Clone, Copy)]
+struct Start {
+    high: u128,
+    low: u128,
+}
+
+impl Start {
+    // The bytes past so many, with zeros behind the key's end.
+    fn of(key: &[u8], skip: usize) -> Start {
+        Start {
+            high: sixteen_of(key, skip),
+            low: sixteen_of(key, skip.saturating_add(16)),
+        }
+    }
+
+    fn is_at_most(self, other: Start) -> bool {
+        (self.high < other.high) | ((self.high == other.high) & (self.low <= other.low))
+    }
 }
 
 impl Hints {
@@ -33,13 +54,13 @@ impl Hints {
 
     // The block that has the key, if the hints are right.
     pub(crate) fn block_of(&self, key: &[u8]) -> usize {
-        let start = start_of(key, self.skip);
+        let start = Start::of(key, self.skip);
         let mut low = 0;
         let mut size = self.starts.len();
         // Which half is next is computed: a branch on it would often be mispredicted.
         while size > 1 {
             let half = size / 2;
-            low += half * (self.starts[low + half] <= start) as usize;
+            low += half * self.starts[low + half].is_at_most(start) as usize;
             size -= half;
         }
         low
@@ -49,7 +70,7 @@ impl Hints {
     pub(crate) fn note(&mut self, at: usize, key: &[u8]) {
         self.noted = self.noted.saturating_add(1);
         if at <= self.starts.len() {
-            let start = start_of(key, self.skip);
+            let start = Start::of(key, self.skip);
             let _ = self.starts.insert(at, start);
         }
     }
@@ -81,13 +102,13 @@ pub(crate) fn alike(first: &[u8], second: &[u8]) -> usize {
     both
 }
 
-// The number that sixteen bytes of a key past so many spell, the greatest first, with zeros behind its end.
-fn start_of(key: &[u8], skip: usize) -> u128 {
-    let (high, low) = (eight_of(key, skip), eight_of(key, skip.saturating_add(8)));
-    (high as u128) << 64 | low as u128
+// The number that sixteen bytes of a key past so many spell, as the next function says.
+fn sixteen_of(key: &[u8], skip: usize) -> u128 {
+    (eight_of(key, skip) as u128) << 64 | eight_of(key, skip.saturating_add(8)) as u128
 }
 
-// The same of eight bytes. Those before the key's end are read at once, and what is before them shifted out.
+// The number that eight bytes of a key past so many spell, the greatest first, with zeros behind its end. Those before
+// the end are read at once, and what is before them is shifted out.
 fn eight_of(key: &[u8], skip: usize) -> u64 {
     let Some(last) = key.len().checked_sub(8) else {
         return eight_of_few(key.get(skip..).unwrap_or(&[]));
