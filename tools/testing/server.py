@@ -14,6 +14,7 @@ from testing.program import tool
 FOLDER = sources.TOP / "server"
 SCRIPTS = ("commands", "moves", "dumps", "hostile", "scripts", "site")
 REDIS = ("redis-server", "redis-cli", "redis-benchmark")
+SYSTEMD = "systemd-analyze"
 HEADINGS = ("Network:", "Servers and shards:", "Data:", "Threads and waiting:", "Log:")
 PASSED, FAILED, REASON = "passed: ", "FAILED: ", "    "
 
@@ -40,6 +41,8 @@ def skipped(say):
         say("cargo finds no crates: the server for Redis clients isn't tried; tools/setup installs them")
     elif absent := lacking():
         say(f"no {', '.join(absent)}: of the server for Redis clients unit tests run alone; tools/setup installs them")
+    elif not shutil.which(SYSTEMD):
+        say(f"{SYSTEMD} isn't installed: the server's unit is not verified")
 
 
 def by_cargo(serve, name, *words):
@@ -79,8 +82,19 @@ def installed(room):
     yield verdict("make install of the server", not ran.status, ran.complaint.decode(errors="replace"))
     if not ran.status:
         told = runs.finished([f"{root}/usr/bin/durkenzo-server", "--version"]).output
-        names = "ExecStart=/usr/bin/durkenzo-server" in open(unit, encoding="utf-8").read()
+        text = open(unit, encoding="utf-8").read()
+        names = "ExecStart=/usr/bin/durkenzo-server" in text
         yield verdict("the installed server and its unit", b"sm serve" in told and names, told.decode())
+        if shutil.which(SYSTEMD):
+            yield verified(text.replace("/usr/bin/", f"{root}/usr/bin/"), f"{room}/durkenzo.service")
+
+
+def verified(text, unit):
+    """Whether systemd takes the unit, of which it would only say what it doesn't know."""
+    with open(unit, "w", encoding="utf-8") as file:
+        file.write(text)
+    ran = runs.finished([SYSTEMD, "verify", unit])
+    return verdict("systemd-analyze verify", not ran.status and not ran.complaint, ran.complaint.decode())
 
 
 def passed(room):
