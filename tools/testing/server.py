@@ -73,7 +73,7 @@ def said_by(script, python, program):
 
 
 def installed(room):
-    """What `make install` puts into a folder, and what systemd thinks of the unit."""
+    """What `make install` puts into a folder."""
     root, unit = f"{room}/root", f"{room}/root/etc/systemd/system/durkenzo.service"
     ran = runs.finished(["make", "-C", FOLDER, "install", f"DESTDIR={root}", "PREFIX=/usr"])
     yield verdict("make install of the server", not ran.status, ran.complaint.decode(errors="replace"))
