@@ -24,7 +24,7 @@ const HALF_ENTRIES: usize = 32;
 pub(crate) struct Block {
     entries: Vec<KeyEntry>,
     // Of the keys, in the same order.
-    tags: Tags,
+    tags: Box<Tags>,
 }
 
 impl Model for Block {
@@ -47,7 +47,7 @@ impl Block {
     {
         Ok(Block {
             entries: Vec::with_capacity(alloc, room)?,
-            tags: Tags::NONE,
+            tags: Box::new(alloc, Tags::NONE)?,
         })
     }
 
@@ -173,7 +173,7 @@ impl Block {
             .entries
             .extend_from_slice(&self.entries[HALF_ENTRIES..]);
         self.entries.truncate(HALF_ENTRIES);
-        upper.tags = self.tags.upper();
+        *upper.tags = self.tags.upper();
         upper
     }
 
