@@ -1,4 +1,5 @@
-ghost use Rattle.std.specs.Prelude.{◌≡◌, ◌<◌, ◌≤◌, ◌+◌, ◌-◌, [], length, take, drop, slice_set, IfOk, IfErr, IfSome, OnOk};
+ghost use Rattle.std.specs.Prelude.{◌≡◌, ◌<◌, ◌≤◌, ◌+◌, ◌-◌, [], length, take, drop, slice_set};
+ghost use Rattle.std.specs.Prelude.{IfOk, IfErr, IfSome, OnOk};
 ghost use Rattle.std.specs.List.{HoldsAt, between, insert, remove};
 ghost use Rattle.sm_map.specs.KeyMap.{key_of, IsKeyMap};
 ghost use Rattle.sm_ranges.specs.Keyed.{IsKeyPlace, IsKeyGap};
@@ -24,7 +25,7 @@ const HALF_ENTRIES: usize = 32;
 pub(crate) struct Block {
     entries: Vec<KeyEntry>,
     // Of the keys, in the same order.
-    tags: Tags,
+    tags: Box<Tags>,
 }
 
 impl Model for Block {
@@ -47,7 +48,7 @@ impl Block {
     {
         Ok(Block {
             entries: Vec::with_capacity(alloc, room)?,
-            tags: Tags::NONE,
+            tags: Box::new(alloc, Tags::NONE)?,
         })
     }
 
@@ -173,7 +174,7 @@ impl Block {
             .entries
             .extend_from_slice(&self.entries[HALF_ENTRIES..]);
         self.entries.truncate(HALF_ENTRIES);
-        upper.tags = self.tags.upper();
+        *upper.tags = self.tags.upper();
         upper
     }
 

@@ -328,7 +328,7 @@ fn first_key<'a>(blocks: &[Block], at: usize, arena: &'a Arena) -> &'a [u8]
     arena.get(blocks[at].entry(0).key)
 }
 
-// Notes all blocks behind those that are known.
+// Notes where each block begins.
 fn note_all(hints: &mut Hints, blocks: &[Block], arena: &Arena)
     requires filled { All IsSized blocks.now }
     requires keys { HasKeys arena.now.placed (entries_in blocks.now) }
