@@ -17,13 +17,14 @@
  *  2. At one revision of the store read the key of commands, whose revision is `placed`, the record of each shard and
  *     the state of each server: give the records by durkenzo_director_record, in the order of the shards, and the
  *     states by durkenzo_director_state, in the order of durkenzo_director_server. Then durkenzo_director_read.
- *  3. Give the servers whose keys are there, with the revisions up to which they have read the store, by
- *     durkenzo_director_follower; anew, after durkenzo_director_forget_followers, whenever one of those keys changes.
+ *  3. Read no earlier than that which servers' keys are there, and up to which revisions they say that they have read
+ *     the store: durkenzo_director_follower. Do so anew, after durkenzo_director_forget_followers, whenever one of
+ *     those keys changes, and after each command that was made.
  *  4. Ask durkenzo_director_fallen and the calls durkenzo_director_next_of_.. what is to be done, or take what somebody
  *     asks for, and give that to durkenzo_director_command.
  *  5. Where it is to be sent, durkenzo_director_sending says the transaction: compare the revisions of the leader's key
  *     and of the key of commands, and put both keys.
- *  6. Made: durkenzo_director_made with the store's revision, then from 4. A compare didn't hold, or the outcome isn't
+ *  6. Made: durkenzo_director_made with the store's revision, then from 3. A compare didn't hold, or the outcome isn't
  *     known: durkenzo_director_lost, then from 2, or from 1 where another one leads. */
 #ifndef DURKENZO_CONTROL_H
 #define DURKENZO_CONTROL_H
@@ -70,7 +71,8 @@ enum durkenzo_director_code {
     DURKENZO_DIRECTOR_NOT_SENT = 92,       /* no command was sent */
     DURKENZO_DIRECTOR_BAD_BYTES = 93,      /* what lies at a key is wrong */
     DURKENZO_DIRECTOR_UNREACHED = 94,      /* no commands lead to the records and states that were read */
-    DURKENZO_DIRECTOR_DIFFERENT = 95       /* the records or states are others than commands lead to, or of another number */
+    DURKENZO_DIRECTOR_DIFFERENT = 95,      /* the records or states are others than commands lead to, or of another number */
+    DURKENZO_DIRECTOR_NOT_FOLLOWED = 96    /* a follower hasn't read that the shard is taken */
     /* End of them. */
 };
 
@@ -150,7 +152,7 @@ uint32_t durkenzo_director_read(durkenzo_director_handle *director, uint64_t pla
 
 /* Judges the command of this kind, for the shard and the server that it names: 0 where it is to be sent, and nothing
  * else until its outcome is told; or else the first fault that applies. Errors: WRONG_HANDLE, BAD_ARGUMENT (also where
- * what isn't named isn't 0), UNREAD, UNDER_WAY, and the faults 10 to 14 and 30 to 49. */
+ * what isn't named isn't 0), UNREAD, UNDER_WAY, NOT_FOLLOWED for DROP_SHARD, and the faults 10 to 14 and 30 to 49. */
 uint32_t durkenzo_director_command(durkenzo_director_handle *director, uint8_t kind, uint16_t shard, uint16_t server);
 
 /* Writes what is sent: the bytes for the record or the state, and behind them those for the key of commands; 26 bytes
