@@ -1,4 +1,4 @@
-ghost use Rattle.std.specs.Prelude.{◌≡◌, ◌≢◌, ◌<◌, Err, IfErr, IfOk, OnErr, OnOk, None};
+ghost use Rattle.std.specs.Prelude.{◌≡◌, ◌≢◌, ◌<◌, Err, IfErr, IfOk, IsTrue, OnErr, OnOk, None};
 ghost use Rattle.sm_lead.specs.Commands.{read_at};
 ghost use Rattle.sm_lead.specs.NextSteps.{IsAllowed, fallen, server_step, shard_step};
 ghost use Rattle.sm_place.specs.Books.{state_of};
@@ -7,7 +7,7 @@ ghost use Rattle.sm_director.specs.declared.director_fault.DirectorFault.TheVari
 ghost use Rattle.sm_director.specs.declared.director_stage.DirectorStage.TheVariants.{Stands as StandsAs};
 ghost use Rattle.sm_director.specs.Calls.{SpellsSent};
 ghost use Rattle.sm_director.specs.Directors.{AddsFollower, AddsRecord, AddsState, ForgetsAll, ForgetsFollowers};
-ghost use Rattle.sm_director.specs.Directors.{HasControl, IsNewDirector, LoadsControl, MakesCommand, RefusesCommand};
+ghost use Rattle.sm_director.specs.Directors.{HasControl, IsFollowed, IsNewDirector, LoadsControl, MakesCommand, RefusesCommand};
 ghost use Rattle.sm_director.specs.Directors.{SendsCommand, desk_of_settings, drain_step};
 
 use crate::command_numbers::CommandNumbers;
@@ -17,7 +17,9 @@ use crate::spelling::spell;
 use sm_codec::{read_record, read_state};
 use sm_desk::{Command, Desk};
 use sm_lead::laws::commands_may_be_sent;
-use sm_lead::{all_follow, Follower, Judged, Leadership, NextStep, RecordRead, SendOutcome, StoreControl};
+use sm_lead::{
+    Follower, Judged, Leadership, NextStep, RecordRead, SendOutcome, StoreControl, all_follow,
+};
 use sm_ownership::change::Change;
 use sm_place::{Books, ServerState};
 use sm_ranges::server_id::ServerId;
@@ -313,10 +315,13 @@ fn is_followed(control: &StoreControl, followers: &[Follower], command: &Command
     ensures { IsTrue result → IsFollowed control.now followers.now command.now }
 {
     match command {
-        Command::Change(k, Change::DropShard) => match control.records.get(k.index()) {
-            Some(read) => all_follow(followers, read.stood),
-            None => true,
-        },
+        Command::Change(k, Change::DropShard) => {
+            let stood = match control.records.get(k.index()) {
+                Some(read) => read.stood,
+                None => 0,
+            };
+            all_follow(followers, stood)
+        }
         _ => true,
     }
 }

@@ -2,8 +2,7 @@
 ghost use Rattle.std.specs.Prelude.{◌≡◌, IfSome, unwrap_or};
 ghost use Rattle.sm_codec.specs.Spelling.{state_number};
 ghost use Rattle.sm_ownership.specs.Rules.{newly_named};
-ghost use Rattle.sm_lead.specs.declared.next_step.NextStep.TheVariants.{Takes};
-ghost use Rattle.sm_director.specs.Kinds.{change_kind, step_parts};
+ghost use Rattle.sm_director.specs.Kinds.{change_kind, command_parts, step_parts};
 
 use crate::step_parts::StepParts;
 use sm_desk::Command;
@@ -15,13 +14,15 @@ use sm_ranges::shard_id::ShardId;
 
 /// The command of these parts, if there is one.
 pub(crate) fn command_of(parts: &StepParts) -> Option<Command>
-    ensures { IfSome result (λ command. step_parts (Takes command) ≡ parts.now) }
+    ensures { IfSome result (λ command. command_parts command ≡ parts.now) }
 {
-    let command = named(parts)?;
-    if parts_of(&NextStep::Takes(command)) == *parts {
-        Some(command)
-    } else {
-        None
+    match named(parts) {
+        Some(command) => if command_parts(&command) == *parts {
+            Some(command)
+        } else {
+            None
+        },
+        None => None,
     }
 }
 
@@ -63,17 +64,21 @@ pub(crate) fn parts_of(step: &NextStep) -> StepParts
 {
     match step {
         NextStep::Nothing => parts(0, 0, 0),
-        NextStep::Takes(command) => match command {
-            Command::Change(shard, change) => {
-                parts(shard.number(), server_of(change), kind_of(change))
-            }
-            Command::Ask(server) => parts(0, server.number(), 10),
-            Command::Approve(server) => parts(0, server.number(), 11),
-            Command::Stopped(server) => parts(0, server.number(), 12),
-            Command::Back(server) => parts(0, server.number(), 13),
-            Command::Fail(server) => parts(0, server.number(), 14),
-        },
+        NextStep::Takes(command) => command_parts(command),
         NextStep::Waits => parts(0, 0, 15),
+    }
+}
+
+fn command_parts(command: &Command) -> StepParts
+    ensures { result ≡ command_parts command.now }
+{
+    match command {
+        Command::Change(shard, change) => parts(shard.number(), server_of(change), kind_of(change)),
+        Command::Ask(server) => parts(0, server.number(), 10),
+        Command::Approve(server) => parts(0, server.number(), 11),
+        Command::Stopped(server) => parts(0, server.number(), 12),
+        Command::Back(server) => parts(0, server.number(), 13),
+        Command::Fail(server) => parts(0, server.number(), 14),
     }
 }
 
