@@ -7,8 +7,8 @@ ghost use Rattle.sm_director.specs.declared.director_fault.DirectorFault.TheVari
 ghost use Rattle.sm_director.specs.declared.director_stage.DirectorStage.TheVariants.{Stands as StandsAs};
 ghost use Rattle.sm_director.specs.Calls.{SpellsSent};
 ghost use Rattle.sm_director.specs.Directors.{AddsFollower, AddsRecord, AddsState, ForgetsAll, ForgetsFollowers};
-ghost use Rattle.sm_director.specs.Directors.{HasControl, IsFollowed, IsNewDirector, LoadsControl, MakesCommand, RefusesCommand};
-ghost use Rattle.sm_director.specs.Directors.{SendsCommand, desk_of_settings, drain_step};
+ghost use Rattle.sm_director.specs.Directors.{HasControl, IsFollowed, IsNewDirector, LoadsControl, MakesCommand};
+ghost use Rattle.sm_director.specs.Directors.{RefusesCommand, SendsCommand, desk_of_settings, drain_step};
 
 use crate::command_numbers::CommandNumbers;
 use crate::director_fault::DirectorFault;

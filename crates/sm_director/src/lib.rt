@@ -208,8 +208,8 @@ pub extern "C" fn durkenzo_director_command(
     }
 }
 
-/// Writes what the command that was sent compares and writes: its numbers, and the bytes for the record or the state and
-/// behind them those for the key of commands.
+/// Writes what the command that was sent compares and writes: its numbers, and the bytes for the record or the state
+/// and behind them those for the key of commands.
 #[unsafe(no_mangle)]
 pub extern "C" fn durkenzo_director_sending(
     alloc: Global,
