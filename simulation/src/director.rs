@@ -60,6 +60,13 @@ extern "C" {
         servers: *mut usize,
     ) -> u32;
     fn durkenzo_director_server(director: *mut Handle, at: usize, server: *mut u16) -> u32;
+    #[cfg(test)]
+    fn durkenzo_director_shard_of(
+        director: *mut Handle,
+        key: *const u8,
+        length: usize,
+        shard: *mut u16,
+    ) -> u32;
     fn durkenzo_director_record(
         director: *mut Handle,
         bytes: *const u8,
@@ -288,5 +295,86 @@ impl Director {
             "a server's state",
         );
         state
+    }
+}
+
+#[cfg(test)]
+mod tests {
+    use super::*;
+    use crate::control::{SETTINGS, UNWRITTEN};
+
+    #[test]
+    fn keys_have_shards() {
+        let mut core = Director::new(SETTINGS, 7, 1);
+        assert_eq!((core.shards, core.servers.clone()), (2, vec![1, 2, 3]));
+        for (key, wanted) in [("", 0), ("lynx", 0), ("m", 1), ("zebra", 1)] {
+            let mut shard = 9;
+            let (bytes, length) = (key.as_ptr(), key.len());
+            must(
+                unsafe { durkenzo_director_shard_of(&mut core.handle, bytes, length, &mut shard) },
+                "a key's shard",
+            );
+            assert_eq!(shard, wanted, "{key}");
+        }
+    }
+
+    #[test]
+    fn refusals_have_codes() {
+        let (mut handle, mut shards, mut servers) = (Handle::empty(), 0, 0);
+        let mut open = |line: &str, elected| unsafe {
+            let (bytes, length) = (line.as_ptr(), line.len());
+            durkenzo_director(
+                &mut handle,
+                bytes,
+                length,
+                7,
+                elected,
+                &mut shards,
+                &mut servers,
+            )
+        };
+        assert_eq!(open(SETTINGS, 0), 2);
+        assert_eq!(open("{", 1), 71);
+        assert_eq!(open("{}", 1), 72);
+        assert_eq!(unsafe { durkenzo_director_made(&mut handle, 5) }, 1);
+        let mut core = Director::new(SETTINGS, 7, 3);
+        let mut step = Step::default();
+        let handle = &mut core.handle;
+        unsafe {
+            assert_eq!(durkenzo_director_next_of_shard(handle, 0, &mut step), 90);
+            assert_eq!(durkenzo_director_made(handle, 5), 92);
+            assert_eq!(durkenzo_director_record(handle, [1].as_ptr(), 1, 0), 93);
+            assert_eq!(durkenzo_director_read(handle, 0), 95);
+            assert_eq!(durkenzo_director_command(handle, 15, 0, 0), 2);
+            assert_eq!(durkenzo_director_command(handle, ASK, 1, 1), 2);
+            assert_eq!(durkenzo_director_follower(handle, 4096, 1), 2);
+            assert_eq!(durkenzo_director_server(handle, 3, &mut 0), 56);
+        }
+    }
+
+    #[test]
+    fn a_command_is_sent_and_made() {
+        let mut core = Director::new(SETTINGS, 7, 3);
+        core.record(&UNWRITTEN, 0);
+        core.record(&UNWRITTEN, 0);
+        (0..3).for_each(|_| core.state(&UNWRITTEN));
+        core.read(0);
+        let step = core.next_of_drain(0);
+        assert_eq!(step, Step::of_shard(1, 0, 1));
+        assert!(!core.command(Step::of_shard(PAUSE, 0, 0)));
+        assert!(core.command(step));
+        let sent = core.sending();
+        assert_eq!((sent.elected, sent.placed, sent.number), (3, 0, 0));
+        assert_eq!(sent.written[1..9], (1u64 << 61 | 1 << 48 | 1).to_be_bytes());
+        assert_eq!(sent.written[9..], 7u64.to_be_bytes());
+        assert_eq!(sent.commands, [1, 0, 0, 0, 0, 0, 0, 0, 7]);
+        core.made(9);
+        assert_eq!(core.record_of(0), (1 << 61 | 1 << 48 | 1, 9));
+        assert_eq!(core.fallen(), 1);
+        core.follower(1, 9);
+        assert_eq!(core.fallen(), 2);
+        assert!(core.command(Step::of_server(FAIL, 2)));
+        core.made(10);
+        assert_eq!(core.state_of(2), 4);
     }
 }
