@@ -23,6 +23,9 @@
 extern "C" {
 #endif
 
+/* The version of this header and of the library beside it. */
+#define DURKENZO_VERSION "0.1.0"
+
 /* What a caller keeps between calls: nothing, a control, a pass, a pass with an admission, a layout, a plan, or what
  * the sample service has: a map, a reply, an envelope or an answer. */
 typedef struct durkenzo_handle {

@@ -28,6 +28,9 @@
 extern "C" {
 #endif
 
+/* The version of this header and of the library beside it. */
+#define DURKENZO_STORE_VERSION "0.1.0"
+
 enum durkenzo_store_code {
     /* By tools/library-codes, the codes of library/codes.txt: */
     DURKENZO_STORE_OK = 0,                 /* the call was made */

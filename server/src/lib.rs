@@ -30,3 +30,13 @@ pub mod settings;
 pub mod snapshot;
 pub mod stats;
 pub mod wait;
+
+/// What the program calls itself.
+pub const NAME: &str = "durkenzo-server";
+
+/// The version, which tells of a library that wasn't proved.
+pub const VERSION: &str = if durkenzo::IS_PROVED {
+    env!("CARGO_PKG_VERSION")
+} else {
+    concat!(env!("CARGO_PKG_VERSION"), "+unproved")
+};

@@ -1,4 +1,5 @@
 //! The command line.
+use crate::{NAME, VERSION};
 use clap::{Parser, ValueEnum};
 use std::net::IpAddr;
 use std::path::PathBuf;
@@ -9,7 +10,7 @@ const DATA: &str = "Data";
 const THREADS: &str = "Threads and waiting";
 const LOG: &str = "Log";
 const PROVED: &str =
-    "./sm serve takes --proved too: it proves the library first, where that wasn't done.";
+    "In the repository ./sm serve takes --proved too: it proves the library first, where that wasn't done.";
 
 /// A server that Redis clients talk to. Its data lies in memory alone.
 ///
@@ -18,8 +19,8 @@ const PROVED: &str =
 /// `redis-cli -p 7379 sm help` tells how.
 #[derive(Clone, Debug, Parser)]
 #[command(
-    name = "sm serve",
-    version,
+    name = NAME,
+    version = VERSION,
     args_override_self = true,
     verbatim_doc_comment,
     after_help = PROVED

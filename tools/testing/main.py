@@ -77,7 +77,7 @@ def stages_of(given, proofs, room):
     names = [it for it, below in stages.crates_of_tests().items() if not touched or touched & set(below)]
     found = [("without proof", stages.without_proof(room, names, given.proved_tests))]
     if given.quick:
-        return [*found, ("the program without proof", stages.quick_program(room))]
+        return [*found, ("the program without proof", stages.quick_program(room, print))]
     found += [("examples without proof", stages.unproved_program(room)), ("proofs", [Part(proofs.name, proofs.work)])]
     if not given.crates:
         found += [("program", [Part("program", stages.program)]), ("what is proved", stages.proved(print))]

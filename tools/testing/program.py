@@ -81,7 +81,7 @@ class Program:
     def statuses(self, room):
         """The program's other ends: no or unknown words, input that can't be read, output that can't be written."""
         model = [self.path, "model"]
-        yield Verdict("the version", fault_of([self.path, "--version"], 0, b"sm_cli 0.1\n"))
+        yield tool("version", self.path)
         yield tool("doc-forms", self.path)
         yield Verdict("no arguments", fault_of([self.path], 2, b"", "sm_cli"))
         yield Verdict("an unknown word", fault_of([self.path, "unknown"], 2, b"", "unknown"))

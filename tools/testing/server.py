@@ -73,14 +73,14 @@ def said_by(script, python, program):
 
 
 def installed(room):
-    """What `make install` puts into a folder, and what systemd thinks of the unit."""
+    """What `make install` puts into a folder."""
     root, unit = f"{room}/root", f"{room}/root/etc/systemd/system/durkenzo.service"
     ran = runs.finished(["make", "-C", FOLDER, "install", f"DESTDIR={root}", "PREFIX=/usr"])
     yield verdict("make install of the server", not ran.status, ran.complaint.decode(errors="replace"))
     if not ran.status:
-        told = runs.finished([f"{root}/usr/bin/durkenzo-server", "--version"]).output
+        yield tool("version", f"{root}/usr/bin/durkenzo-server")
         names = "ExecStart=/usr/bin/durkenzo-server" in open(unit, encoding="utf-8").read()
-        yield verdict("the installed server and its unit", b"sm serve" in told and names, told.decode())
+        yield verdict("the unit names the installed server", names)
 
 
 def passed(room):

@@ -4,7 +4,7 @@ import shutil
 
 import beside
 import sources
-from testing import alone, front, layout, library, server, simulation, tests
+from testing import alone, front, layout, library, packed, server, simulation, tests
 from testing.part import Part, verdict
 from testing.program import EXAMPLES, Program, opens_nothing, tool
 
@@ -17,7 +17,9 @@ DOCS = (
     "edits",
     "headline",
     "library-codes",
+    "licences",
     "names",
+    "version",
 )
 PROVED = sources.CRATES / "sm_cli/out/sm_cli"
 BY_RATTLE = sources.CRATES / "sm_cli/out/sm_cli.by-rattle"
@@ -86,9 +88,10 @@ def unproved_program(room):
     return [Part("examples, unproved", program.examples), Part("exit statuses, unproved", program.statuses)]
 
 
-def quick_program(room):
+def quick_program(room, say):
     """What tells most of a change of a page or a script in few minutes. The sanitizer's memory can't be refused from
     outside, so that is tried on what is proved."""
+    packed.skipped(say)
     path = f"{room}/sm_cli"
     program = Program(path, "unproved")
     streams = ["failing-streams", "--calls", 5, path, EXAMPLES / "migration.in"]
@@ -100,6 +103,7 @@ def quick_program(room):
         Part("failing streams, unproved", lambda _room: [tool(*streams)]),
         Part("pictures, unproved", program.pictures),
         Part("the shell, unproved", program.shell),
+        Part("packages, unproved", packed.passed("unproved")),
     ]
 
 
@@ -162,6 +166,7 @@ def proved(say):
         say("no python3 has pip, setuptools and wheel: the library's wheel isn't tried")
     server.skipped(say)
     alone.skipped(say)
+    packed.skipped(say)
     parts = [
         Part("pictures, proved", program.pictures),
         Part("the shell, proved", program.shell),
@@ -169,6 +174,7 @@ def proved(say):
         Part("library", library.passed),
         Part("server", server.passed),
         Part("simulation", simulation.passed),
+        Part("packages", packed.passed("proved")),
         *faults(say),
     ]
     return [

@@ -28,8 +28,8 @@ use std::sync::Wait;
 use std::thread::Threads;
 use std::{env, io};
 
-/// What `--version` prints after the program's name; docs and CHANGELOG.md tell it too.
-const VERSION: &str = "0.1";
+/// What `--version` prints after the program's name: the line of the file VERSION.
+const VERSION: &str = "0.1.0";
 
 /// The exit status where the command line isn't accepted, also where that can't be told.
 const REFUSED: u8 = 2;

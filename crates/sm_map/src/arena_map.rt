@@ -18,6 +18,7 @@ use crate::key_entry::KeyEntry;
 use crate::place::Place;
 use crate::position::Position;
 use crate::slot::Slot;
+use crate::tags::tag_of;
 use crate::val::Val;
 use sm_arena::arena::Arena;
 use std::alloc::{AllocError, Global};
@@ -392,7 +393,8 @@ impl ArenaMap {
     {
         let room = self.index.reserve(place)?;
         let entry = KeyEntry::place(&mut self.arena, key, value)?;
-        self.index.insert(place, entry, room);
+        self.index.insert(place, entry, tag_of(key), room);
+        self.index.note(place, &self.arena);
         Ok(())
     }
 

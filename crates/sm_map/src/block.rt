@@ -1,4 +1,4 @@
-ghost use Rattle.std.specs.Prelude.{◌≡◌, ◌<◌, ◌≤◌, ◌+◌, ◌-◌, [], length, take, drop, slice_set, IfOk, IfErr, OnOk};
+ghost use Rattle.std.specs.Prelude.{◌≡◌, ◌<◌, ◌≤◌, ◌+◌, ◌-◌, [], length, take, drop, slice_set, IfOk, IfErr, IfSome, OnOk};
 ghost use Rattle.std.specs.List.{HoldsAt, between, insert, remove};
 ghost use Rattle.sm_map.specs.KeyMap.{key_of, IsKeyMap};
 ghost use Rattle.sm_ranges.specs.Keyed.{IsKeyPlace, IsKeyGap};
@@ -6,6 +6,7 @@ ghost use Rattle.sm_map.specs.KeyEntry.{pairs_of, HasKeys};
 ghost use Rattle.sm_map.specs.Blocks.{IsSplit};
 
 use crate::key_entry::KeyEntry;
+use crate::tags::{Tags, tag_of};
 use sm_arena::arena::Arena;
 use sm_ranges::order::compare;
 use std::alloc::{AllocError, Global};
@@ -22,6 +23,8 @@ const HALF_ENTRIES: usize = 32;
 #[derive(Drop)]
 pub(crate) struct Block {
     entries: Vec<KeyEntry>,
+    // Of the keys, in the same order.
+    tags: Tags,
 }
 
 impl Model for Block {
@@ -44,6 +47,7 @@ impl Block {
     {
         Ok(Block {
             entries: Vec::with_capacity(alloc, room)?,
+            tags: Tags::NONE,
         })
     }
 
@@ -61,6 +65,26 @@ impl Block {
         ensures absent { IfErr result (IsKeyGap key_of (pairs_of arena.now.placed self.now.entries) key.now) }
     {
         search(&self.entries, arena, key)
+    }
+
+    // The place of the entry with the key, where its tag stands.
+    pub(crate) fn find_tagged(&self, arena: &Arena, key: &[u8]) -> Option<usize>
+        requires keys { HasKeys arena.now.placed self.now.entries }
+        requires rising { IsKeyMap (pairs_of arena.now.placed self.now.entries) }
+        ensures { IfSome result (IsKeyPlace key_of (pairs_of arena.now.placed self.now.entries) key.now) }
+    {
+        let mut places = self.tags.places_of(tag_of(key));
+        while places != 0 {
+            let at = places.trailing_zeros() as usize;
+            if at >= self.entries.len() {
+                return None;
+            }
+            if compare(arena.get(self.entries[at].key), key).is_eq() {
+                return Some(at);
+            }
+            places &= places - 1;
+        }
+        None
     }
 
     pub(crate) fn entry(&self, at: usize) -> KeyEntry
@@ -94,18 +118,26 @@ impl Block {
         self.entries.reserve(1)
     }
 
-    pub(crate) fn insert(&mut self, at: usize, entry: KeyEntry)
+    // Puts an entry in, beside the tag of its key.
+    pub(crate) fn insert(&mut self, at: usize, entry: KeyEntry, tag: u8)
         requires place { at ≤ length self.old.entries }
         requires room { 0 < self.old.room }
         ensures { self.new.entries ≡ insert self.old.entries at entry }
     {
         // There is room, so this can't fail.
         let _ = self.entries.insert(at, entry);
+        self.tags.insert(at, tag);
     }
 
     // Puts an entry into a full block, whose upper half goes to a block without entries. An entry behind all others
     // goes there alone, so that keys in rising order leave full blocks.
-    pub(crate) fn insert_split(&mut self, at: usize, entry: KeyEntry, upper: Block) -> Block
+    pub(crate) fn insert_split(
+        &mut self,
+        at: usize,
+        entry: KeyEntry,
+        tag: u8,
+        upper: Block,
+    ) -> Block
         requires place { at ≤ length self.old.entries }
         requires full { length self.old.entries ≡ MOST_ENTRIES }
         requires empty { upper.entries ≡ [] }
@@ -114,15 +146,15 @@ impl Block {
     {
         if at == MOST_ENTRIES {
             let mut upper = upper;
-            upper.insert(0, entry);
+            upper.insert(0, entry, tag);
             return upper;
         }
         let mut upper = self.cut(upper);
         if at <= HALF_ENTRIES {
-            self.insert(at, entry);
+            self.insert(at, entry, tag);
             return upper;
         }
-        upper.insert(at - HALF_ENTRIES, entry);
+        upper.insert(at - HALF_ENTRIES, entry, tag);
         upper
     }
 
@@ -141,6 +173,7 @@ impl Block {
             .entries
             .extend_from_slice(&self.entries[HALF_ENTRIES..]);
         self.entries.truncate(HALF_ENTRIES);
+        upper.tags = self.tags.upper();
         upper
     }
 
@@ -149,6 +182,7 @@ impl Block {
         ensures removed { HoldsAt (λ entry. result ≡ entry) self.old.entries at }
         ensures entries { self.new.entries ≡ remove self.old.entries at }
     {
+        self.tags.remove(at);
         self.entries.remove(at)
     }
 }

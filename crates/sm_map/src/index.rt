@@ -1,5 +1,5 @@
 ghost use Rattle.std.specs.Prelude.{◌≡◌, ◌<◌, ◌≤◌, ◌+◌, ℕ, [], All, length, slice_index, slice_index_or, slice_set};
-ghost use Rattle.std.specs.Prelude.{IfOk, IfErr};
+ghost use Rattle.std.specs.Prelude.{IfOk, IfErr, IfSome};
 ghost use Rattle.std.specs.Vec.{vec_len, vec_capacity};
 ghost use Rattle.std.specs.List.{HoldsAt, insert, remove};
 ghost use Rattle.sm_ranges.specs.Keyed.{IsKeyPlace, IsKeyGap};
@@ -9,6 +9,7 @@ ghost use Rattle.sm_map.specs.Blocks.{entries_in, lengths_in, number_of, HasEntr
 ghost use Rattle.sm_map.specs.Index.{IsReady};
 
 use crate::block::{Block, MOST_ENTRIES};
+use crate::hints::{Hints, alike};
 use crate::key_entry::KeyEntry;
 use crate::place::Place;
 use crate::room::Room;
@@ -23,6 +24,7 @@ use std::marker::Model;
 pub(crate) struct Index {
     alloc: Global,
     blocks: Vec<Block>,
+    hints: Hints,
     len: u128,
 }
 
@@ -48,6 +50,7 @@ impl Index {
         Index {
             alloc,
             blocks: Vec::new(alloc),
+            hints: Hints::new(alloc),
             len: 0,
         }
     }
@@ -85,10 +88,32 @@ impl Index {
         ensures absent { IfErr result (λ place. IsKeyGap key_of (pairs_of arena.now.placed (entries_in self.now.blocks))
             key.now (number_of (lengths_in self.now.blocks) place)) }
     {
-        match search(&self.blocks, arena, key) {
+        let guess = self.hints.block_of(key);
+        if let Some(place) = self.find_guessed(guess, arena, key) {
+            return Ok(place);
+        }
+        match search(&self.blocks, guess, arena, key) {
             Ok(block) => Ok(Place { block, offset: 0 }),
             Err(0) => Err(Place::FIRST),
             Err(count) => self.find_in(count - 1, arena, key),
+        }
+    }
+
+    // The place of the entry with the key, where it is in this block and its tag stands there.
+    fn find_guessed(&self, block: usize, arena: &Arena, key: &[u8]) -> Option<Place>
+        requires keys { HasKeys arena.now.placed (entries_in self.now.blocks) }
+        requires rising { IsKeyMap (pairs_of arena.now.placed (entries_in self.now.blocks)) }
+        ensures entry { IfSome result (HasEntry (lengths_in self.now.blocks)) }
+        ensures found { IfSome result (λ place. IsKeyPlace key_of
+            (pairs_of arena.now.placed (entries_in self.now.blocks)) key.now
+            (number_of (lengths_in self.now.blocks) place)) }
+    {
+        if block >= self.blocks.len() {
+            return None;
+        }
+        match self.blocks[block].find_tagged(arena, key) {
+            Some(offset) => Some(Place { block, offset }),
+            None => None,
         }
     }
 
@@ -221,25 +246,48 @@ impl Index {
         Ok(Room::Beside(Block::with_room(self.alloc, MOST_ENTRIES)?))
     }
 
-    // Puts an entry into the room that was made for it at the place.
-    pub(crate) fn insert(&mut self, place: Place, entry: KeyEntry, room: Room)
+    // Puts an entry into the room that was made for it at the place, beside the tag of its key.
+    pub(crate) fn insert(&mut self, place: Place, entry: KeyEntry, tag: u8, room: Room)
         requires { IsReady self.old place room }
         ensures { entries_in self.new.blocks
             ≡ insert (entries_in self.old.blocks) (number_of (lengths_in self.old.blocks) place) entry }
     {
         self.len += 1;
         match room {
-            Room::Inside => self.blocks[place.block].insert(place.offset, entry),
+            Room::Inside => self.blocks[place.block].insert(place.offset, entry, tag),
             Room::Beside(upper) => {
-                let upper = self.blocks[place.block].insert_split(place.offset, entry, upper);
+                let upper = self.blocks[place.block].insert_split(place.offset, entry, tag, upper);
                 add(&mut self.blocks, place.block + 1, upper);
             }
             Room::Behind(last) => {
                 let mut last = last;
-                last.insert(0, entry);
+                last.insert(0, entry, tag);
                 add(&mut self.blocks, place.block, last);
             }
         }
+    }
+
+    // Notes where the block begins that the last entry, put in at this place, made.
+    pub(crate) fn note(&mut self, place: Place, arena: &Arena)
+        requires keys { HasKeys arena.now.placed (entries_in self.old.blocks) }
+        requires rising { IsKeyMap (pairs_of arena.now.placed (entries_in self.old.blocks)) }
+        ensures { self.new ≡ self.old }
+    {
+        let count = self.blocks.len();
+        if count == 0 || self.hints.noted() == count {
+            return;
+        }
+        let alike = alike(
+            first_key(&self.blocks, 0, arena),
+            first_key(&self.blocks, count - 1, arena),
+        );
+        if self.hints.noted() != count - 1 || !self.hints.serve(alike) {
+            self.hints.restart(alike);
+            note_all(&mut self.hints, &self.blocks, arena);
+            return;
+        }
+        let at = place.block.saturating_add(1).min(count - 1);
+        self.hints.note(at, first_key(&self.blocks, at, arena));
     }
 
     // Removes an entry, and its block where it was the only one there.
@@ -254,6 +302,7 @@ impl Index {
         let entry = self.blocks[place.block].remove(place.offset);
         if self.blocks[place.block].len() == 0 {
             self.blocks.remove(place.block);
+            self.hints.forget(place.block);
         }
         entry
     }
@@ -269,8 +318,30 @@ fn add(blocks: &mut Vec<Block>, at: usize, block: Block)
     let _ = blocks.insert(at, block);
 }
 
-// The block whose first entry has the key, or how many have a first entry below it.
-fn search(blocks: &[Block], arena: &Arena, key: &[u8]) -> Result<usize, usize>
+// The key of a block's first entry.
+fn first_key<'a>(blocks: &[Block], at: usize, arena: &'a Arena) -> &'a [u8]
+    requires within { at < length blocks.now }
+    requires filled { All IsSized blocks.now }
+    requires keys { HasKeys arena.now.placed (entries_in blocks.now) }
+    requires rising { IsKeyMap (pairs_of arena.now.placed (entries_in blocks.now)) }
+{
+    arena.get(blocks[at].entry(0).key)
+}
+
+// Notes all blocks behind those that are known.
+fn note_all(hints: &mut Hints, blocks: &[Block], arena: &Arena)
+    requires filled { All IsSized blocks.now }
+    requires keys { HasKeys arena.now.placed (entries_in blocks.now) }
+    requires rising { IsKeyMap (pairs_of arena.now.placed (entries_in blocks.now)) }
+{
+    for at in 0..blocks.len() {
+        hints.note(at, first_key(blocks, at, arena));
+    }
+}
+
+// The block whose first entry has the key, or how many have a first entry below it: the block that is guessed and the
+// next ones come first, in steps that double, and else each step halves the blocks between low and high.
+fn search(blocks: &[Block], guess: usize, arena: &Arena, key: &[u8]) -> Result<usize, usize>
     requires filled { All IsSized blocks.now }
     requires keys { HasKeys arena.now.placed (entries_in blocks.now) }
     requires rising { IsKeyMap (pairs_of arena.now.placed (entries_in blocks.now)) }
@@ -282,8 +353,12 @@ fn search(blocks: &[Block], arena: &Arena, key: &[u8]) -> Result<usize, usize>
 {
     let mut low = 0;
     let mut high = blocks.len();
+    let mut next = guess;
+    let mut step: usize = 1;
     while low < high {
-        let middle = low + (high - low) / 2;
+        let middle = probe(low, high, next);
+        next = next.saturating_add(step);
+        step = step.saturating_mul(2);
         match compare(arena.get(blocks[middle].entry(0).key), key) {
             Ordering::Less => low = middle + 1,
             Ordering::Equal => return Ok(middle),
@@ -291,4 +366,16 @@ fn search(blocks: &[Block], arena: &Arena, key: &[u8]) -> Result<usize, usize>
         }
     }
     Err(low)
+}
+
+// A place from low on and below high: the wanted one, or else the middle.
+fn probe(low: usize, high: usize, wanted: usize) -> usize
+    requires { low < high }
+    ensures { (low ≤ result) × (result < high) }
+{
+    if low <= wanted && wanted < high {
+        wanted
+    } else {
+        low + (high - low) / 2
+    }
 }

@@ -12,13 +12,16 @@
 
 pub mod arena_map;
 mod block;
+mod hints;
 mod index;
 mod key_entry;
 mod place;
 pub mod position;
 mod room;
 mod slot;
+mod tags;
 pub mod val;
+mod words;
 
 pub use arena_map::ArenaMap;
 pub use position::Position;

@@ -464,6 +464,28 @@ mod tests {
     }
 
     #[test]
+    fn a_command_waits_where_another_thread_has_its_shard() {
+        let (cluster, mut executor) = begun();
+        let mut other = Admission::new(cluster, Arc::new(Stats::new(2))).unwrap();
+        let (mut session, mut replies) = (Session::new(1, true), Replies::default());
+        other
+            .admit(0, |_| {
+                let (text, stop) = told(&mut executor, &mut session, "INCR z\nINCR a\n");
+                assert!(
+                    text == ":1" && matches!(stop, Stop::Wait(Wait::Busy(0))),
+                    "{stop:?}"
+                );
+                executor.refuse(&mut session, b"INCR a\n", Wait::Busy(0), &mut replies);
+            })
+            .unwrap();
+        assert_eq!(
+            replies.unsent(),
+            b"-SHARDBUSY shard 0 was with others all the time: try again\r\n"
+        );
+        assert_eq!(told(&mut executor, &mut session, "INCR a\n").0, ":1");
+    }
+
+    #[test]
     fn a_shard_whose_generations_are_spent_is_refused_by_name() {
         let (_, mut executor) = begun_below(6);
         assert_eq!(

@@ -3,6 +3,7 @@ use super::talk::REDIS_VERSION;
 use crate::cluster::Cluster;
 use crate::resp::Command;
 use crate::stats::Stats;
+use crate::VERSION;
 use std::fmt::Write;
 
 /// A section of INFO: its name, and its lines.
@@ -65,7 +66,7 @@ fn server(cluster: &Cluster) -> String {
     let seconds = cluster.started.elapsed().as_secs();
     lines([
         ("redis_version", REDIS_VERSION.to_owned()),
-        ("durkenzo_version", env!("CARGO_PKG_VERSION").to_owned()),
+        ("durkenzo_version", VERSION.to_owned()),
         ("redis_mode", "standalone".to_owned()),
         ("os", std::env::consts::OS.to_owned()),
         ("arch_bits", usize::BITS.to_string()),

@@ -1,4 +1,4 @@
-use Rattle.std.proofs.Common.{◌≡◌, ℕ, ◌+◌, ◌-◌, ◌/◌, ◌<◌, length, sum, take, refl, sym, subst, arith}
+use Rattle.std.proofs.Common.{◌≡◌, ℕ, ◌+◌, ◌-◌, ◌<◌, length, sum, take, refl, sym, subst, arith}
 use Rattle.std.specs.List.{AllWithin}
 use Rattle.std.specs.declared.cmp.Ordering.TheVariants.{Less, Greater}
 use Rattle.sm_ranges.specs.KeyOrder.{key_cmp}
@@ -20,7 +20,7 @@ loop-low-init c = record {
 
 pub get-requires : goal.get-requires
 get-requires c =
-    let middle = c.loop-low.low + (c.loop-low.high - c.loop-low.low) / 2 in
+    let middle = c.probe-middle.result in
     let lt : middle < length c.args.blocks.now = omega (arith, c.loop-low-test.true, c.loop-low.invariant.within) in
     let some = (subst (λ (x : BlockValue). IsSized x) (sym c.index-blocks-middle.is)
     (c.requires.filled middle c.index-blocks-middle.result lt)).0 in
@@ -29,7 +29,7 @@ get-requires c =
 
 pub loop-low-preserved-in-Less : goal.loop-low-preserved-in-Less
 loop-low-preserved-in-Less c =
-    let middle = c.loop-low.low + (c.loop-low.high - c.loop-low.low) / 2 in
+    let middle = c.probe-middle.result in
     let lt : middle < length c.args.blocks.now = omega (arith, c.loop-low-test.true, c.loop-low.invariant.within) in
     let some = (subst (λ (x : BlockValue). IsSized x) (sym c.index-blocks-middle.is)
     (c.requires.filled middle c.index-blocks-middle.result lt)).0 in
@@ -46,7 +46,7 @@ loop-low-preserved-in-Less c =
 
 pub returns-in-Equal-clause-found : goal.returns-in-Equal-clause-found
 returns-in-Equal-clause-found c =
-    let middle = c.loop-low.low + (c.loop-low.high - c.loop-low.low) / 2 in
+    let middle = c.probe-middle.result in
     let lt : middle < length c.args.blocks.now = omega (arith, c.loop-low-test.true, c.loop-low.invariant.within) in
     let some = (subst (λ (x : BlockValue). IsSized x) (sym c.index-blocks-middle.is)
     (c.requires.filled middle c.index-blocks-middle.result lt)).0 in
@@ -55,7 +55,7 @@ returns-in-Equal-clause-found c =
 
 pub loop-low-preserved : goal.loop-low-preserved
 loop-low-preserved c =
-    let middle = c.loop-low.low + (c.loop-low.high - c.loop-low.low) / 2 in
+    let middle = c.probe-middle.result in
     let lt : middle < length c.args.blocks.now = omega (arith, c.loop-low-test.true, c.loop-low.invariant.within) in
     let some = (subst (λ (x : BlockValue). IsSized x) (sym c.index-blocks-middle.is)
     (c.requires.filled middle c.index-blocks-middle.result lt)).0 in

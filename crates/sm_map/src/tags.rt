@@ -1,0 +1,105 @@
+use crate::words::eight_at;
+
+// A byte of each key's hash, in the order of a block's entries, eight in a word. They are hints: what they name is
+// compared before it is believed, so no proof rests on them.
+#[derive(Clone, Copy)]
+pub(crate) struct Tags {
+    words: [u64; WORDS],
+}
+
+const WORDS: usize = 8;
+
+// One in each byte of a word; all but the highest bit of each; and what brings the lowest bits of all to the highest
+// byte, by a product.
+const ONES: u64 = 0x0101_0101_0101_0101;
+
+const LOWS: u64 = 0x7f7f_7f7f_7f7f_7f7f;
+
+const GATHERING: u64 = 0x0102_0408_1020_4080;
+
+// An odd number with bits of no pattern (the golden ratio's).
+const SPREADING: u64 = 0x9e37_79b9_7f4a_7c15;
+
+impl Tags {
+    pub(crate) const NONE: Tags = Tags { words: [0; WORDS] };
+
+    // The places that have the tag, as bits.
+    pub(crate) fn places_of(&self, tag: u8) -> u64 {
+        let wanted = ONES.wrapping_mul(tag as u64);
+        let mut places = 0;
+        for word in 0..WORDS {
+            let differs = self.words[word] ^ wanted;
+            // The highest bit of each byte that is 0.
+            let same = !((differs & LOWS).wrapping_add(LOWS) | differs | LOWS);
+            places |= (same >> 7).wrapping_mul(GATHERING) >> 56 << (8 * word);
+        }
+        places
+    }
+
+    // Puts a tag in, and moves those behind it.
+    pub(crate) fn insert(&mut self, at: usize, tag: u8) {
+        let mut before = bytes_before(at);
+        let mut carried = (tag as u64) << (at % 8 * 8);
+        for word in at / 8..WORDS {
+            let tags = self.words[word];
+            self.words[word] = tags & before | (tags & !before) << 8 | carried;
+            carried = tags >> 56;
+            before = 0;
+        }
+    }
+
+    // Takes a tag out, and moves those behind it.
+    pub(crate) fn remove(&mut self, at: usize) {
+        let mut before = bytes_before(at);
+        for word in at / 8..WORDS {
+            let next = if word + 1 < WORDS {
+                self.words[word + 1]
+            } else {
+                0
+            };
+            let tags = self.words[word];
+            self.words[word] = tags & before | tags >> 8 & !before | next << 56;
+            before = 0;
+        }
+    }
+
+    // The tags of the upper half.
+    pub(crate) fn upper(&self) -> Tags {
+        let [_, _, _, _, first, second, third, fourth] = self.words;
+        Tags {
+            words: [first, second, third, fourth, 0, 0, 0, 0],
+        }
+    }
+}
+
+// The bytes of a word that are before a place in it.
+fn bytes_before(at: usize) -> u64 {
+    !(u64::MAX << (at % 8 * 8))
+}
+
+// The tag of a key: the highest byte of a hash of all its bytes.
+pub(crate) fn tag_of(key: &[u8]) -> u8 {
+    let Some(last) = key.len().checked_sub(8) else {
+        return short_tag(key);
+    };
+    let mut hash = key.len() as u64;
+    let mut at = 0;
+    while at < last {
+        hash = mixed(hash, u64::from_le_bytes(eight_at(key, at)));
+        at += 8;
+    }
+    (mixed(hash, u64::from_le_bytes(eight_at(key, last))) >> 56) as u8
+}
+
+// The same of a key with fewer than eight bytes.
+fn short_tag(key: &[u8]) -> u8 {
+    let mut hash = key.len() as u64;
+    for byte in key {
+        hash = mixed(hash, *byte as u64);
+    }
+    (hash >> 56) as u8
+}
+
+fn mixed(hash: u64, word: u64) -> u64 {
+    (hash.rotate_left(29) ^ word).wrapping_mul(SPREADING)
+}

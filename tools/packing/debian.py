@@ -1,0 +1,140 @@
+"""The package for Debian, which dpkg-deb makes of a folder."""
+import email.utils
+import hashlib
+import os
+import re
+import subprocess
+
+from packing import archives, made, tree
+
+MAINTAINER = "Durkenzo maintainers <maintainers@users.noreply.durkenzo.example>"
+CONTROL = """Package: durkenzo
+Version: {version}
+Section: database
+Priority: optional
+Architecture: {architecture}
+Maintainer: {maintainer}
+Installed-Size: {size}
+Depends: {depends}
+Suggests: redis-tools
+Description: shard manager in which every function is proved{mark}
+ Each range of keys, a shard, is written by one server at a time: also while it
+ moves, while a server restarts, and where a client holds an old map.
+ .
+ durkenzo-server serves Redis clients from several servers in one process; its
+ unit isn't enabled. sm_cli runs scripts on the same proved parts.
+"""
+MARK = " (built without proof)"
+CHANGES = """durkenzo ({version}) unstable; urgency=medium
+
+  * What changed stands in the repository's CHANGELOG.md.
+
+ -- {maintainer}  {date}
+"""
+COPYRIGHT = """Format: https://www.debian.org/doc/packaging-manuals/copyright-format/1.0/
+Upstream-Name: durkenzo
+Comment: Of other people's crates in durkenzo-server, NOTICES has the licences.
+
+Files: *
+Copyright: {holder}
+License: Expat
+
+License: Expat
+{text}
+"""
+# A removed server ends before its program does; a unit that came or went is read again.
+STOP = """#!/bin/sh
+set -e
+if [ "$1" = remove ] && [ -d /run/systemd/system ]; then
+    deb-systemd-invoke stop durkenzo.service >/dev/null || true
+fi
+"""
+RELOAD = """#!/bin/sh
+set -e
+if [ -d /run/systemd/system ]; then
+    systemctl --system daemon-reload >/dev/null || true
+fi
+"""
+SCRIPTS = {"prerm": STOP, "postinst": RELOAD, "postrm": RELOAD}
+UNIT = "lib/systemd/system/durkenzo.service"
+
+
+def copyright_of():
+    """The licence in Debian's form."""
+    paragraphs = (made.TOP / "LICENSE").read_text(encoding="utf-8").strip().split("\n\n")
+    holder = re.sub(r"^Copyright \(c\) ", "", paragraphs[1])
+    text = "\n .\n".join("\n".join(f" {line}" for line in it.splitlines()) for it in paragraphs[2:])
+    return COPYRIGHT.format(holder=holder, text=text)
+
+
+def owner_of(path):
+    """The package that has this library, which may stand below /usr there."""
+    for name in (path, f"/usr{path}"):
+        ran = subprocess.run(["dpkg-query", "-S", name], capture_output=True, text=True)
+        if not ran.returncode:
+            return ran.stdout.partition(":")[0]
+    raise made.NotMade(f"no package has {path}, which the programs load")
+
+
+def depends(room, given):
+    """The packages of the libraries that the programs load, and of libc the oldest version that has all that they
+    call."""
+    packages, newest = set(), (2, 17)
+    for program in (given.program, given.server):
+        told, loaded = room.run("objdump", "-p", program), room.run("ldd", program)
+        newest = max([newest, *((int(a), int(b)) for a, b in re.findall(r"GLIBC_(\d+)\.(\d+)", told))])
+        path_of = dict(re.findall(r"(\S+) => (/\S+)", loaded))
+        packages |= {owner_of(path_of[it]) for it in re.findall(r"NEEDED +(\S+)", told) if it in path_of}
+    least = f" (>= {newest[0]}.{newest[1]})"
+    return ", ".join(f"{it}{least if it == 'libc6' else ''}" for it in sorted(packages))
+
+
+def files_of(room, given):
+    """All files of the package, below its root."""
+    found = {f"usr/{name}": file for name, file in tree.of_debian(room, given).items()}
+    for name in [it for it in found if it.startswith("usr/share/man/")]:
+        found[f"{name}.gz"] = tree.File(archives.zipped(found.pop(name).content, room.epoch))
+    date = email.utils.formatdate(room.epoch)
+    changes = CHANGES.format(version=given.version, maintainer=MAINTAINER, date=date)
+    found[f"usr/{tree.DOCS}/changelog.gz"] = tree.File(archives.zipped(changes.encode(), 0))
+    found[f"usr/{tree.DOCS}/copyright"] = tree.File(copyright_of().encode())
+    found[UNIT] = tree.unit("/usr")
+    return found
+
+
+def control(room, given, files):
+    """The control files."""
+    size = sum(-(-len(it.content) // 1024) for it in files.values())
+    text = CONTROL.format(
+        version=given.version,
+        architecture=room.run("dpkg", "--print-architecture").strip(),
+        maintainer=MAINTAINER,
+        size=size,
+        depends=depends(room, given),
+        mark=MARK if given.version.endswith(made.UNPROVED) else "",
+    )
+    sums = "".join(f"{hashlib.md5(it.content).hexdigest()}  {name}\n" for name, it in sorted(files.items()))
+    yield "control", tree.File(text.encode())
+    yield "md5sums", tree.File(sums.encode())
+    for name, script in SCRIPTS.items():
+        yield name, tree.File(script.encode(), 0o755)
+
+
+def package(room, given, into):
+    """Writes the package into the folder; returns its path."""
+    root = room.folder / "debian"
+    files = files_of(room, given)
+    every = {**files, **{f"DEBIAN/{name}": it for name, it in control(room, given, files)}}
+    for name, file in every.items():
+        path = root / name
+        path.parent.mkdir(parents=True, exist_ok=True)
+        path.write_bytes(file.content)
+        path.chmod(file.mode)
+    for folder in [root, *root.rglob("*")]:
+        folder.chmod(0o755) if folder.is_dir() else None
+        os.utime(folder, (room.epoch, room.epoch))
+    architecture = re.search(rb"Architecture: (\S+)", every["DEBIAN/control"].content)[1].decode()
+    made_at = into / f"durkenzo_{given.version}_{architecture}.deb"
+    env = {**os.environ, "SOURCE_DATE_EPOCH": str(room.epoch)}
+    room.run("dpkg-deb", "--root-owner-group", "-Zxz", "-z2", "--threads-max=1", "--build", root, made_at, env=env)
+    return made_at
