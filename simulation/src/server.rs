@@ -1,11 +1,11 @@
 //! A server's driver: what a real one does around the proved calls, without its sockets.
 use crate::bug::Bug;
 use crate::claim::Said;
+use crate::control::UNWRITTEN;
 use crate::raw::{Decision, Server, Told};
 use crate::store::{Key, Store, Txn};
 
-/// A key that was never written is read as these bytes: a vacant record, or a log with no batch.
-const VACANT: [u8; 17] = [1, 0, 0, 0, 0, 0, 0, 0, 0, 0, 0, 0, 0, 0, 0, 0, 0];
+/// The head of a log with no batch is read as these bytes.
 const EMPTY: [u8; 25] = {
     let mut bytes = [0; 25];
     bytes[0] = 1;
@@ -94,7 +94,7 @@ impl Driver {
             })
             .collect();
         self.core
-            .read(record.unwrap_or(&VACANT), stood, &head, logged, &found);
+            .read(record.unwrap_or(&UNWRITTEN), stood, &head, logged, &found);
         self.is_read = true;
         self.is_sent = false;
         self.decide_again(deeds);
@@ -104,7 +104,7 @@ impl Driver {
     pub fn record(&mut self, store: &Store, stood_at: u64, deeds: &mut Vec<Deed>) {
         let (record, stood) = store.read_at(Key::Record(self.shard), stood_at);
         let was_sent = self.is_sent;
-        self.core.record(record.unwrap_or(&VACANT), stood);
+        self.core.record(record.unwrap_or(&UNWRITTEN), stood);
         self.is_read = self.is_read && !was_sent;
         self.is_sent = false;
         if self.is_read {
