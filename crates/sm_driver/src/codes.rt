@@ -80,7 +80,7 @@ pub(crate) fn code_of_fault(fault: DriverFault) -> u32
 {
     match fault {
         DriverFault::Memory => NO_MEMORY,
-        DriverFault::Bytes(_) => BAD_BYTES,
+        DriverFault::Bytes(_) | DriverFault::Reply => BAD_BYTES,
         DriverFault::Replay(fault) => match fault {
             ReplayFault::Memory => NO_MEMORY,
             ReplayFault::Missing => MISSING,

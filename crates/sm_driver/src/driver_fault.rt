@@ -9,6 +9,8 @@ pub enum DriverFault {
     Memory,
     /// What lies at a key is wrong.
     Bytes(Fault),
+    /// A last request in a part of a base has no reply.
+    Reply,
     /// The log can't be followed.
     Replay(ReplayFault),
     /// The server has read nothing yet.

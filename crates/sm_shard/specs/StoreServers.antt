@@ -26,7 +26,8 @@ pub record AreAllShards {M Q R : Type 0} (me count number : ℕ) (servers : List
 
 -- the shard's server makes a step, and the others stay
 pub record IsStoreStep {M Q R : Type 0} (service : Automaton M Q R) (reads : Q → Bool) (size : Q → ℕ)
-    (olds : List (ShardServer M Q R)) (shard : ℕ) (input : ShardInput Q R) (result : Result (ShardOutput Q R) ReplayFault)
+    (olds : List (ShardServer M Q R)) (shard : ℕ) (input : ShardInput Q R)
+    (result : Result (ShardOutput Q R) ReplayFault)
     (news : List (ShardServer M Q R)) : Type 0 where
   pub old : ShardServer M Q R
   pub new : ShardServer M Q R
