@@ -24,9 +24,13 @@ pub enum Bug {
     UnsentRead,
     /// A server goes on from a head of one moment with the batches of another.
     TornReading,
+    /// A server deletes what a base stands for before the head names it.
+    EarlyDeletion,
+    /// A base is named for one batch more than it holds.
+    ShortBase,
 }
 
-pub const BUGS: [Bug; 11] = [
+pub const BUGS: [Bug; 13] = [
     Bug::NoRecordCompare,
     Bug::NoHeadCompare,
     Bug::NoLeaderCompare,
@@ -38,4 +42,6 @@ pub const BUGS: [Bug; 11] = [
     Bug::LostAsMade,
     Bug::UnsentRead,
     Bug::TornReading,
+    Bug::EarlyDeletion,
+    Bug::ShortBase,
 ];

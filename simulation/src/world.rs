@@ -20,6 +20,8 @@ const EVENTS: u64 = 240;
 struct Flying {
     txn: Txn,
     sender: Option<(u16, u64, u16, u64)>,
+    /// The place of the part that it writes, where it is one of a base: its ticket is that base's.
+    part: Option<u64>,
 }
 
 struct Process {
@@ -50,6 +52,8 @@ pub struct Tally {
     pub read: u64,
     pub forwarded: u64,
     pub changes: u64,
+    pub bases: u64,
+    pub deleted: u64,
 }
 
 impl Tally {
@@ -63,6 +67,8 @@ impl Tally {
         self.read += more.read;
         self.forwarded += more.forwarded;
         self.changes += more.changes;
+        self.bases += more.bases;
+        self.deleted += more.deleted;
     }
 }
 
@@ -80,6 +86,11 @@ pub struct World {
     claims: Vec<Claim>,
     tally: Tally,
     texts: u64,
+}
+
+/// Whether by the transaction a head comes to name a base.
+fn names_base(txn: &Txn) -> bool {
+    matches!(txn.puts[..], [(Key::Head(_), _)])
 }
 
 /// What a process keeps when it starts.
@@ -143,16 +154,16 @@ impl World {
                 (Key::Placement, vec![1]),
             ];
             self.store.make(&Txn {
-                compares: Vec::new(),
                 puts,
                 process: 1,
+                ..Txn::default()
             });
         }
     }
 
     fn happen(&mut self) {
         self.tally.events += 1;
-        match self.chance.below(100) {
+        match self.chance.below(112) {
             0..=21 => self.ask(),
             22..=48 => self.deliver_envelope(),
             49..=59 => self.read(),
@@ -165,7 +176,9 @@ impl World {
                 let at = self.chance.below(CONTROLS);
                 self.elect(at);
             }
-            _ => self.command(),
+            97..=99 => self.command(),
+            100..=105 => self.base(),
+            _ => self.clear(),
         }
     }
 
@@ -187,15 +200,17 @@ impl World {
         for deed in deeds {
             match deed {
                 Deed::Sends(txn) => {
-                    let process = &self.servers[server];
-                    let sender = Some((
-                        server as u16,
-                        process.life,
-                        shard as u16,
-                        process.shards[shard].ticket,
-                    ));
-                    self.flying.push(Flying { txn, sender });
+                    let ticket = self.servers[server].shards[shard].ticket;
+                    self.send(server, shard, txn, ticket, None);
                 }
+                Deed::Writes(txn, ticket, place) => {
+                    self.send(server, shard, txn, ticket, Some(place));
+                }
+                Deed::Deletes(txn) => self.flying.push(Flying {
+                    txn,
+                    sender: None,
+                    part: None,
+                }),
                 Deed::Forwards(envelope) => {
                     self.tally.forwarded += 1;
                     self.envelopes.push(envelope);
@@ -208,6 +223,12 @@ impl World {
                 } => self.tell(shard, client, number, said),
             }
         }
+    }
+
+    fn send(&mut self, server: usize, shard: usize, txn: Txn, ticket: u64, part: Option<u64>) {
+        let life = self.servers[server].life;
+        let sender = Some((server as u16, life, shard as u16, ticket));
+        self.flying.push(Flying { txn, sender, part });
     }
 
     fn tell(&mut self, shard: u16, client: u64, number: u64, said: Said) {
@@ -376,18 +397,49 @@ impl World {
         {
             self.tally.changes += 1;
         }
+        if made.is_some() {
+            self.tally.deleted += flying.txn.deletes.len() as u64;
+            self.tally.bases += u64::from(names_base(&flying.txn));
+        }
         let Some((server, life, shard, ticket)) = flying.sender else {
             return;
         };
         let (server, shard, now) = (usize::from(server), usize::from(shard), self.store.revision);
         let process = &mut self.servers[server];
         let driver = &mut process.shards[shard];
+        if let Some(place) = flying.part {
+            if process.life == life && !self.chance.is_true(1, 10) {
+                driver.part_made(ticket, place);
+            }
+            return;
+        }
         let is_awaited = process.life == life && driver.is_sent && driver.ticket == ticket;
         if !is_awaited || self.chance.is_true(1, 10) {
             return;
         }
         let mut deeds = Vec::new();
         driver.outcome(made, now, &mut deeds);
+        self.perform(server, shard, deeds);
+    }
+
+    /// A server begins a base, or writes its parts again.
+    fn base(&mut self) {
+        let (server, shard) = self.one_shard();
+        let mut deeds = Vec::new();
+        self.servers[server].shards[shard].base(&mut deeds);
+        self.perform(server, shard, deeds);
+    }
+
+    /// A server deletes what lies behind the base that it knows of.
+    fn clear(&mut self) {
+        let (server, shard) = self.one_shard();
+        let keys = self.store.passing(shard as u16);
+        if keys.is_empty() {
+            return;
+        }
+        let key = keys[self.chance.below(keys.len() as u64) as usize];
+        let mut deeds = Vec::new();
+        self.servers[server].shards[shard].clear(key, &mut deeds);
         self.perform(server, shard, deeds);
     }
 
@@ -416,9 +468,9 @@ impl World {
     fn elect(&mut self, at: u64) {
         let process = at + 1;
         let txn = Txn {
-            compares: Vec::new(),
             puts: vec![(Key::Leader, vec![process as u8])],
             process,
+            ..Txn::default()
         };
         self.controls[at as usize].elected = self.store.make(&txn);
     }
@@ -455,8 +507,13 @@ impl World {
             compares,
             puts,
             process: at + 1,
+            ..Txn::default()
         };
-        self.flying.push(Flying { txn, sender: None });
+        self.flying.push(Flying {
+            txn,
+            sender: None,
+            part: None,
+        });
     }
 
     /// A next record: mostly the next step of a migration.
