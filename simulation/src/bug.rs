@@ -9,7 +9,11 @@ pub enum Bug {
     /// A control's command doesn't compare who leads.
     NoLeaderCompare,
     /// A control's command doesn't compare the key of all commands.
-    NoPlacementCompare,
+    NoCommandsCompare,
+    /// A control takes for granted that all servers have read what it has.
+    EarlyDrop,
+    /// A control takes records of one moment with the key of all commands of another.
+    TornRecords,
     /// A server tells replies before its transaction is made.
     EarlyReply,
     /// A client asks again under a new number.
@@ -30,11 +34,13 @@ pub enum Bug {
     ShortBase,
 }
 
-pub const BUGS: [Bug; 13] = [
+pub const BUGS: [Bug; 15] = [
     Bug::NoRecordCompare,
     Bug::NoHeadCompare,
     Bug::NoLeaderCompare,
-    Bug::NoPlacementCompare,
+    Bug::NoCommandsCompare,
+    Bug::EarlyDrop,
+    Bug::TornRecords,
     Bug::EarlyReply,
     Bug::NewNumber,
     Bug::UnknownAsLost,

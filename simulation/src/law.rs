@@ -25,6 +25,8 @@ fn found<T>(read: Option<T>, by: &Txn) -> Result<T, Broken> {
 #[derive(Default)]
 struct Shard {
     record: Record,
+    /// The revision at which that was written.
+    stood: u64,
     batches: u64,
     /// How many of them the base stands for that the head names.
     base: u64,
@@ -58,6 +60,10 @@ impl Shard {
 #[derive(Default)]
 struct World {
     leader: u64,
+    /// How far the restarts of servers have come, by their numbers.
+    states: HashMap<u64, u64>,
+    /// Up to which revisions servers say that they have read, whose keys are there.
+    followed: HashMap<u16, u64>,
     shards: HashMap<u16, Shard>,
     /// The bodies of all requests that carry a text of their own.
     bodies: HashSet<Vec<u8>>,
@@ -89,9 +95,10 @@ impl World {
         }
         for (key, bytes) in &txn.puts {
             match *key {
-                Key::Leader => {}
-                Key::Placement => {}
-                Key::Record(shard) => self.change(shard, bytes, txn)?,
+                Key::Leader | Key::Commands => {}
+                Key::Server(server) => self.follow(server, bytes),
+                Key::State(server) => self.restart(u64::from(server), bytes, txn)?,
+                Key::Record(shard) => self.change(shard, bytes, revision, txn)?,
                 Key::Head(shard) if batches > 0 => self.head(shard, bytes, txn)?,
                 Key::Head(shard) => self.name(shard, bytes, txn)?,
                 Key::Batch(shard, number) => self.batch(shard, number, bytes, revision, txn)?,
@@ -108,22 +115,82 @@ impl World {
         Ok(())
     }
 
-    fn change(&mut self, shard: u16, bytes: &[u8], txn: &Txn) -> Result<(), Broken> {
-        let next = found(Record::of(bytes), txn)?;
-        if txn.process != self.leader || next.process != self.leader {
+    fn follow(&mut self, server: u16, bytes: &[u8]) {
+        match bytes.is_empty() {
+            true => self.followed.remove(&server),
+            false => self.followed.insert(server, reading::number(bytes)),
+        };
+    }
+
+    /// A command is by who leads, as it says itself, and is written to the key of commands.
+    fn command(&self, process: u64, txn: &Txn) -> Result<(), Broken> {
+        let is_noted = txn
+            .puts
+            .iter()
+            .any(|it| it.0 == Key::Commands && reading::process(&it.1) == Some(process));
+        if txn.process != self.leader || process != self.leader || !is_noted {
             return broken(
-                "who leads changes records",
+                "who leads changes records and states",
                 format!("{} led, {txn:?}", self.leader),
             );
         }
-        let shard = self.shards.entry(shard).or_default();
-        if !shard.record.may_become(&next) {
+        Ok(())
+    }
+
+    fn is_leaving(&self, server: u64) -> bool {
+        self.states.get(&server).is_some_and(|&it| it > 1)
+    }
+
+    fn change(&mut self, shard: u16, bytes: &[u8], revision: u64, txn: &Txn) -> Result<(), Broken> {
+        let next = found(Record::of(bytes), txn)?;
+        self.command(next.process, txn)?;
+        let Shard { record, stood, .. } = *self.shards.entry(shard).or_default();
+        if !record.may_become(&next) {
+            return broken("a change is legal", format!("{record:?} to {next:?}"));
+        }
+        let comes = match (record.phase, next.phase) {
+            (0 | 5, 1) => next.owner,
+            (1, 2) => next.other,
+            _ => 0,
+        };
+        if self.is_leaving(comes) {
             return broken(
-                "a change is legal",
-                format!("{:?} to {next:?}", shard.record),
+                "a server that is leaving gets no shard",
+                format!("{record:?} to {next:?}"),
             );
         }
-        shard.record = next;
+        if record.phase == 4 && self.followed.values().any(|&it| it < stood) {
+            return broken(
+                "a shard is dropped once all have read that it is taken",
+                format!("{:?}, {record:?} at {stood}", self.followed),
+            );
+        }
+        let shard = self.shards.entry(shard).or_default();
+        (shard.record, shard.stood) = (next, revision);
+        Ok(())
+    }
+
+    /// A step of a server's restart, of which one at a time may be approved.
+    fn restart(&mut self, server: u64, bytes: &[u8], txn: &Txn) -> Result<(), Broken> {
+        let (state, process) = found(reading::state(bytes), txn)?;
+        self.command(process, txn)?;
+        let before = self.states.insert(server, state).unwrap_or(0);
+        let is_step = match (before, state) {
+            (0, 1) | (1, 2) | (2, 3) => true,
+            (from, 0) => from != 0,
+            (from, 4) => from != 4,
+            _ => false,
+        };
+        let is_alone = self.states.values().filter(|&&it| it > 1).count() <= 1;
+        let is_idle = self.shards.values().all(|it| {
+            it.record.phase == 5 || it.record.owner != server && it.record.other != server
+        });
+        if !is_step || state == 2 && !is_alone || state == 3 && !is_idle {
+            return broken(
+                "a step of a restart is legal",
+                format!("{server} from {before} to {state}: {:?}", self.states),
+            );
+        }
         Ok(())
     }
 

@@ -1,9 +1,11 @@
 //! Servers, controls and clients over a store in memory, under schedules of chance: processes crash and forget, read
-//! what is old, and go on although another leads; transactions and requests come late, twice or never. Servers decide
-//! by the proved library; what they made and told is checked by a reading of its own.
+//! what is old, and go on although another leads; transactions and requests come late, twice or never. Servers and
+//! controls decide by the proved libraries; what they made and told is checked by a reading of its own.
 pub mod bug;
 pub mod chance;
 pub mod claim;
+mod control;
+mod director;
 pub mod law;
 mod raw;
 pub mod reading;

@@ -2,9 +2,19 @@
 use crate::server::Envelope;
 
 #[repr(C)]
-struct Handle {
+pub struct Handle {
     full: bool,
     owned: *mut u8,
+}
+
+impl Handle {
+    /// One that keeps nothing.
+    pub fn empty() -> Handle {
+        Handle {
+            full: false,
+            owned: std::ptr::null_mut(),
+        }
+    }
 }
 
 #[repr(C)]
@@ -204,19 +214,15 @@ pub fn head_of(bytes: &[u8]) -> Head {
     head
 }
 
-fn must(code: u32, what: &str) {
+pub fn must(code: u32, what: &str) {
     assert!(code == 0, "{what}: code {code}");
 }
 
 // SAFETY, of all calls below: the handle is this value's alone, and slices go with their lengths.
 impl Server {
     pub fn new(me: u16, shard: u16, count: u64, waiting: usize, clients: usize) -> Server {
-        let handle = Handle {
-            full: false,
-            owned: std::ptr::null_mut(),
-        };
         let mut made = Server {
-            handle,
+            handle: Handle::empty(),
             room: vec![0; 4096],
         };
         must(

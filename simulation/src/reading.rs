@@ -12,7 +12,7 @@ pub struct Record {
     pub process: u64,
 }
 
-fn number(bytes: &[u8]) -> u64 {
+pub fn number(bytes: &[u8]) -> u64 {
     bytes
         .iter()
         .fold(0, |all, &byte| (all << 8) | u64::from(byte))
@@ -74,6 +74,18 @@ impl Record {
             _ => false,
         }
     }
+}
+
+/// The process that is elected, or that sent the latest command.
+pub fn process(bytes: &[u8]) -> Option<u64> {
+    Some(fields(bytes, 1)?[0])
+}
+
+/// How far the restart of a server has come, and whose command led to it: 0 up, 1 asked, 2 approved, 3 stopped,
+/// 4 failed.
+pub fn state(bytes: &[u8]) -> Option<(u64, u64)> {
+    let fields = fields(bytes, 2)?;
+    (fields[0] <= 4).then_some((fields[0], fields[1]))
 }
 
 /// How many batches a log has, how many its base stands for, and in how many parts that lies.

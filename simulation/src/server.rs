@@ -1,11 +1,11 @@
 //! A server's driver: what a real one does around the proved calls, without its sockets.
 use crate::bug::Bug;
 use crate::claim::Said;
+use crate::control::UNWRITTEN;
 use crate::raw::{head_of, Decision, Server, Told};
 use crate::store::{Key, Store, Txn};
 
-/// A key that was never written is read as these bytes: a vacant record, or a log with no batch.
-const VACANT: [u8; 17] = [1, 0, 0, 0, 0, 0, 0, 0, 0, 0, 0, 0, 0, 0, 0, 0, 0];
+/// The head of a log with no batch is read as these bytes.
 const EMPTY: [u8; 25] = {
     let mut bytes = [0; 25];
     bytes[0] = 1;
@@ -116,7 +116,7 @@ impl Driver {
         let batches: Vec<&[u8]> = (counts.base + 1..=counts.batches)
             .filter_map(|at| found(Key::Batch(self.shard, at)))
             .collect();
-        let record = record.unwrap_or(&VACANT);
+        let record = record.unwrap_or(&UNWRITTEN);
         self.forget();
         self.is_read = self
             .core
@@ -137,7 +137,7 @@ impl Driver {
     /// Sees the record by the watch.
     pub fn record(&mut self, store: &Store, stood_at: u64, deeds: &mut Vec<Deed>) {
         let (record, stood) = store.read_at(Key::Record(self.shard), stood_at);
-        self.core.record(record.unwrap_or(&VACANT), stood);
+        self.core.record(record.unwrap_or(&UNWRITTEN), stood);
         if self.is_sent {
             self.forget();
         }

@@ -5,8 +5,12 @@ use std::collections::HashMap;
 pub enum Key {
     Leader,
     /// What each command of a control writes.
-    Placement,
+    Commands,
     Record(u16),
+    /// How far the restart of a server has come.
+    State(u16),
+    /// Up to which revision a server has read; no bytes once its lease has ended.
+    Server(u16),
     Head(u16),
     Batch(u16, u64),
     /// A part of the base of so many batches, by its place.

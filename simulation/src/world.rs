@@ -2,6 +2,7 @@
 use crate::bug::Bug;
 use crate::chance::Chance;
 use crate::claim::{Claim, Said};
+use crate::control::Control;
 use crate::law::{check, Broken};
 use crate::reading::Record;
 use crate::server::{Deed, Driver, Envelope};
@@ -13,25 +14,40 @@ const PROCESSES: u16 = 4;
 const SHARDS: u16 = 2;
 const CONTROLS: u64 = 2;
 const CLIENTS: u64 = 2;
-const EVENTS: u64 = 240;
+const EVENTS: u64 = 300;
 
-/// A transaction on its way, of a server in one of its lives, or of a control.
+/// Who sent a transaction, and how many it had sent.
+#[derive(Clone, Copy)]
+enum Sender {
+    /// A server in one of its lives, for a shard.
+    Server {
+        server: usize,
+        life: u64,
+        shard: usize,
+        ticket: u64,
+        /// The place of the part that it writes, where it is one of a base: the ticket is that base's.
+        part: Option<u64>,
+    },
+    Control {
+        at: usize,
+        ticket: u64,
+    },
+    /// Nobody waits for what becomes of it.
+    Nobody,
+}
+
+/// A transaction on its way.
 #[derive(Clone)]
 struct Flying {
     txn: Txn,
-    sender: Option<(u16, u64, u16, u64)>,
-    /// The place of the part that it writes, where it is one of a base: its ticket is that base's.
-    part: Option<u64>,
+    sender: Sender,
 }
 
 struct Process {
     life: u64,
     shards: Vec<Driver>,
-}
-
-struct Control {
-    /// The revision of the latest election that it won, as far as it knows.
-    elected: Option<u64>,
+    /// Up to which revision it has said that it has read, in this life.
+    followed: Option<u64>,
 }
 
 struct Client {
@@ -111,9 +127,12 @@ pub fn run(seed: u64, bug: Option<Bug>) -> (Tally, Result<(), Broken>) {
             .map(|process| Process {
                 life: 0,
                 shards: drivers(process, bug),
+                followed: None,
             })
             .collect(),
-        controls: (0..CONTROLS).map(|_| Control { elected: None }).collect(),
+        controls: (1..=CONTROLS)
+            .map(|process| Control::new(process, bug))
+            .collect(),
         clients: (1..=CLIENTS)
             .map(|name| Client {
                 name,
@@ -137,7 +156,7 @@ pub fn run(seed: u64, bug: Option<Bug>) -> (Tally, Result<(), Broken>) {
 }
 
 impl World {
-    /// A control leads, and each shard has an owner: so that schedules aren't spent on that.
+    /// A control leads, each shard has an owner, and each server follows: so that schedules aren't spent on that.
     fn begin(&mut self) {
         self.elect(0);
         for shard in 0..SHARDS {
@@ -151,7 +170,7 @@ impl World {
             };
             let puts = vec![
                 (Key::Record(shard), first.bytes()),
-                (Key::Placement, vec![1]),
+                (Key::Commands, vec![1, 0, 0, 0, 0, 0, 0, 0, 1]),
             ];
             self.store.make(&Txn {
                 puts,
@@ -159,24 +178,31 @@ impl World {
                 ..Txn::default()
             });
         }
+        for server in 0..usize::from(SERVERS) {
+            self.follow(server);
+        }
     }
 
     fn happen(&mut self) {
         self.tally.events += 1;
         match self.chance.below(112) {
-            0..=21 => self.ask(),
-            22..=48 => self.deliver_envelope(),
-            49..=59 => self.read(),
-            60..=61 => self.watch(),
-            62..=76 => self.flush(),
-            77..=92 => self.deliver_txn(),
-            93..=94 => self.time_out(),
-            95 => self.crash(),
-            96 => {
+            0..=18 => self.ask(),
+            19..=41 => self.deliver_envelope(),
+            42..=50 => self.read(),
+            51..=52 => self.watch(),
+            53..=64 => self.flush(),
+            65..=79 => self.deliver_txn(),
+            80..=81 => self.time_out(),
+            82 => self.crash(),
+            83 => {
                 let at = self.chance.below(CONTROLS);
                 self.elect(at);
             }
-            97..=99 => self.command(),
+            84..=86 => {
+                let server = self.chance.below(u64::from(SERVERS)) as usize;
+                self.follow(server);
+            }
+            87..=99 => self.command(),
             100..=105 => self.base(),
             _ => self.clear(),
         }
@@ -201,15 +227,16 @@ impl World {
             match deed {
                 Deed::Sends(txn) => {
                     let ticket = self.servers[server].shards[shard].ticket;
-                    self.send(server, shard, txn, ticket, None);
+                    let sender = self.sender(server, shard, ticket, None);
+                    self.flying.push(Flying { txn, sender });
                 }
                 Deed::Writes(txn, ticket, place) => {
-                    self.send(server, shard, txn, ticket, Some(place));
+                    let sender = self.sender(server, shard, ticket, Some(place));
+                    self.flying.push(Flying { txn, sender });
                 }
                 Deed::Deletes(txn) => self.flying.push(Flying {
                     txn,
-                    sender: None,
-                    part: None,
+                    sender: Sender::Nobody,
                 }),
                 Deed::Forwards(envelope) => {
                     self.tally.forwarded += 1;
@@ -225,10 +252,14 @@ impl World {
         }
     }
 
-    fn send(&mut self, server: usize, shard: usize, txn: Txn, ticket: u64, part: Option<u64>) {
-        let life = self.servers[server].life;
-        let sender = Some((server as u16, life, shard as u16, ticket));
-        self.flying.push(Flying { txn, sender, part });
+    fn sender(&self, server: usize, shard: usize, ticket: u64, part: Option<u64>) -> Sender {
+        Sender::Server {
+            server,
+            life: self.servers[server].life,
+            shard,
+            ticket,
+            part,
+        }
     }
 
     fn tell(&mut self, shard: u16, client: u64, number: u64, said: Said) {
@@ -392,7 +423,7 @@ impl World {
             .txn
             .puts
             .iter()
-            .any(|it| matches!(it.0, Key::Record(_)))
+            .any(|it| matches!(it.0, Key::Record(_) | Key::State(_)))
             && made.is_some()
         {
             self.tally.changes += 1;
@@ -401,25 +432,45 @@ impl World {
             self.tally.deleted += flying.txn.deletes.len() as u64;
             self.tally.bases += u64::from(names_base(&flying.txn));
         }
-        let Some((server, life, shard, ticket)) = flying.sender else {
+        if self.chance.is_true(1, 10) {
             return;
-        };
-        let (server, shard, now) = (usize::from(server), usize::from(shard), self.store.revision);
-        let process = &mut self.servers[server];
-        let driver = &mut process.shards[shard];
-        if let Some(place) = flying.part {
-            if process.life == life && !self.chance.is_true(1, 10) {
-                driver.part_made(ticket, place);
+        }
+        match flying.sender {
+            Sender::Control { at, ticket } => {
+                let control = &mut self.controls[at];
+                if control.is_sent && control.ticket == ticket {
+                    control.outcome(made);
+                }
             }
-            return;
+            Sender::Nobody => {}
+            Sender::Server {
+                server,
+                life,
+                shard,
+                ticket,
+                part: Some(place),
+            } => {
+                let process = &mut self.servers[server];
+                if process.life == life {
+                    process.shards[shard].part_made(ticket, place);
+                }
+            }
+            Sender::Server {
+                server,
+                life,
+                shard,
+                ticket,
+                part: None,
+            } => {
+                let process = &mut self.servers[server];
+                let driver = &mut process.shards[shard];
+                if process.life == life && driver.is_sent && driver.ticket == ticket {
+                    let mut deeds = Vec::new();
+                    driver.outcome(made, self.store.revision, &mut deeds);
+                    self.perform(server, shard, deeds);
+                }
+            }
         }
-        let is_awaited = process.life == life && driver.is_sent && driver.ticket == ticket;
-        if !is_awaited || self.chance.is_true(1, 10) {
-            return;
-        }
-        let mut deeds = Vec::new();
-        driver.outcome(made, now, &mut deeds);
-        self.perform(server, shard, deeds);
     }
 
     /// A server begins a base, or writes its parts again.
@@ -443,8 +494,15 @@ impl World {
         self.perform(server, shard, deeds);
     }
 
-    /// A server gives up to wait for what became of its transaction.
+    /// A control or a server gives up to wait for what became of its transaction.
     fn time_out(&mut self) {
+        if self.chance.is_true(1, 3) {
+            let at = self.chance.below(CONTROLS) as usize;
+            if self.controls[at].is_sent {
+                self.controls[at].outcome(None);
+            }
+            return;
+        }
         let (server, shard) = self.one_shard();
         let now = self.store.revision;
         let driver = &mut self.servers[server].shards[shard];
@@ -456,12 +514,34 @@ impl World {
         self.perform(server, shard, deeds);
     }
 
-    /// A server stops and starts again, and has forgotten everything.
+    /// A server stops and starts again, and has forgotten everything; its lease ends.
     fn crash(&mut self) {
         let at = self.chance.below(u64::from(PROCESSES)) as usize;
         let process = &mut self.servers[at];
         process.life += 1;
         process.shards = drivers(at as u16, self.bug);
+        if process.followed.take().is_some() {
+            self.put(Key::Server(at as u16 + 1), Vec::new());
+        }
+    }
+
+    /// A server says up to which revision it has read: everything where it has just started.
+    fn follow(&mut self, at: usize) {
+        let moment = self.moment();
+        let process = &mut self.servers[at];
+        let followed = match process.followed {
+            Some(before) => moment.max(before),
+            None => self.store.revision,
+        };
+        process.followed = Some(followed);
+        self.put(Key::Server(at as u16 + 1), followed.to_be_bytes().to_vec());
+    }
+
+    fn put(&mut self, key: Key, bytes: Vec<u8>) {
+        self.store.make(&Txn {
+            puts: vec![(key, bytes)],
+            ..Txn::default()
+        });
     }
 
     /// A control is elected; who led before doesn't hear of it.
@@ -472,72 +552,23 @@ impl World {
             process,
             ..Txn::default()
         };
-        self.controls[at as usize].elected = self.store.make(&txn);
+        if let Some(elected) = self.store.make(&txn) {
+            self.controls[at as usize].lead(elected);
+        }
     }
 
-    /// A control that believes that it leads reads all records as they were at one moment, and sends a change.
+    /// A control that believes that it leads reads, or sends a command.
     fn command(&mut self) {
-        let at = self.chance.below(CONTROLS);
-        let Some(elected) = self.controls[at as usize].elected else {
-            return;
-        };
+        let at = self.chance.below(CONTROLS) as usize;
         let moment = self.moment();
-        let placed = self.store.read_at(Key::Placement, moment).1;
-        let shard = self.chance.below(u64::from(SHARDS)) as u16;
-        let record = self
-            .store
-            .read_at(Key::Record(shard), moment)
-            .0
-            .and_then(Record::of);
-        let Some(next) = self.next_of(record.unwrap_or_default(), at + 1) else {
+        let control = &mut self.controls[at];
+        let Some(txn) = control.act(&self.store, &mut self.chance, moment) else {
             return;
         };
-        let mut compares = Vec::new();
-        if self.bug != Some(Bug::NoLeaderCompare) {
-            compares.push((Key::Leader, elected));
-        }
-        if self.bug != Some(Bug::NoPlacementCompare) {
-            compares.push((Key::Placement, placed));
-        }
-        let puts = vec![
-            (Key::Record(shard), next.bytes()),
-            (Key::Placement, vec![at as u8 + 1]),
-        ];
-        let txn = Txn {
-            compares,
-            puts,
-            process: at + 1,
-            ..Txn::default()
+        let sender = Sender::Control {
+            at,
+            ticket: control.ticket,
         };
-        self.flying.push(Flying {
-            txn,
-            sender: None,
-            part: None,
-        });
-    }
-
-    /// A next record: mostly the next step of a migration.
-    fn next_of(&mut self, record: Record, process: u64) -> Option<Record> {
-        let other = 1 + self.chance.below(u64::from(SERVERS));
-        let gives_up = self.chance.is_true(1, 6);
-        let (phase, owner, other) = match record.phase {
-            0 => (1, other, 0),
-            1 if gives_up => (5, record.owner, 0),
-            1 => (2, record.owner, other),
-            2 | 3 if gives_up => (1, record.owner, 0),
-            2 => (3, record.owner, record.other),
-            3 => (4, record.other, record.owner),
-            4 => (1, record.owner, 0),
-            _ => (1, other, 0),
-        };
-        let next = Record {
-            phase,
-            owner,
-            other,
-            generation: record.generation + 1,
-            is_admitted: false,
-            process,
-        };
-        record.may_become(&next).then_some(next)
+        self.flying.push(Flying { txn, sender });
     }
 }

@@ -1,0 +1,197 @@
+-- What calls do to a director: the control of a shared store by a line of settings, and what was read for it.
+use Rattle.std.specs.Prelude.{ℕ, ◌≡◌, ◌<◌, ◌++◌, ◌∷◌, [], IsTrue, List, Ok, Option, Some, None}
+use Rattle.std.specs.Global.{Vec}
+use Rattle.sm_codec.specs.declared.stored_record.StoredRecord.{StoredRecord}
+use Rattle.sm_codec.specs.declared.stored_state.StoredState.{StoredState}
+use Rattle.sm_codec.specs.Spelling.{record_bytes, state_bytes}
+use Rattle.sm_desk.specs.declared.command.Command.{Command}
+use Rattle.sm_desk.specs.declared.command.Command.TheVariants.{Change as ChangeOf}
+use Rattle.sm_desk.specs.declared.command.CommandFault.{CommandFault}
+use Rattle.sm_desk.specs.Desk.{DeskView}
+use Rattle.sm_lead.specs.declared.follower.Follower.{Follower}
+use Rattle.sm_lead.specs.declared.next_step.NextStep.{NextStep}
+use Rattle.sm_lead.specs.declared.next_step.NextStep.TheVariants.{Takes, Nothing}
+use Rattle.sm_lead.specs.declared.record_read.RecordRead.{RecordRead}
+use Rattle.sm_lead.specs.declared.sent_command.Judged.TheVariants.{Sent as JudgedSent}
+use Rattle.sm_lead.specs.declared.sent_command.SentCommand.{SentCommand}
+use Rattle.sm_lead.specs.declared.store_control.StoreControl.{StoreControl}
+use Rattle.sm_lead.specs.Commands.{IsAfter, command_fault, read_at}
+use Rattle.sm_lead.specs.Controls.{IsLoaded, KnowsStore}
+use Rattle.sm_lead.specs.NextSteps.{all_follow, step_of_drain, unless_refused}
+use Rattle.sm_lead.specs.Placements.{charter_of, rows_of}
+use Rattle.sm_lead.specs.Sendings.{IsJudged, command_transaction, sending_of}
+use Rattle.sm_ownership.specs.declared.change.Change.TheVariants.{Assign, DropShard}
+use Rattle.sm_place.specs.declared.plan.Move.{Move}
+use Rattle.sm_place.specs.declared.server_state.ServerState.{ServerState}
+use Rattle.sm_place.specs.Books.{new_books}
+use Rattle.sm_place.specs.Plans.{assign_plan}
+use Rattle.sm_settings.specs.SettingsLine.{settings_of, values_of}
+use Rattle.sm_store.specs.declared.item.Item.{Item}
+use Rattle.sm_store.specs.Deeds.{MaySend}
+use Rattle.sm_store.specs.Store.{Transaction}
+use Rattle.sm_director.specs.declared.director.Director.{Director}
+use Rattle.sm_director.specs.declared.director_stage.DirectorStage.{DirectorStage}
+use Rattle.sm_director.specs.declared.director_stage.DirectorStage.TheVariants.{Unread, Stands, Sent}
+
+-- a director by this line of settings, of a process that was elected at this revision, which has read nothing
+pub record IsNewDirector (line : List ℕ) (process elected : ℕ) (director : Director) : Type 0 where
+  pub settings : settings_of line ≡ Ok (values_of director.settings)
+  pub caps : director.caps.ops ≡ director.settings.ops
+  pub was_elected : 0 < elected
+  pub process_is : director.lead.process ≡ process
+  pub elected_is : director.lead.elected ≡ elected
+  pub records : director.records.items ≡ []
+  pub states : director.states.items ≡ []
+  pub followers : director.followers.items ≡ []
+  pub stage : director.stage ≡ Unread
+
+-- the director with other records that were added
+abbrev pub with_records : Director → Vec RecordRead → Director
+with_records director records =
+    record {
+      settings = director.settings;
+      caps = director.caps;
+      lead = director.lead;
+      records = records;
+      states = director.states;
+      followers = director.followers;
+      stage = director.stage;
+    }
+
+-- the director with other states that were added
+abbrev pub with_states : Director → Vec ServerState → Director
+with_states director states =
+    record {
+      settings = director.settings;
+      caps = director.caps;
+      lead = director.lead;
+      records = director.records;
+      states = states;
+      followers = director.followers;
+      stage = director.stage;
+    }
+
+-- the director with other followers
+abbrev pub with_followers : Director → Vec Follower → Director
+with_followers director followers =
+    record {
+      settings = director.settings;
+      caps = director.caps;
+      lead = director.lead;
+      records = director.records;
+      states = director.states;
+      followers = followers;
+      stage = director.stage;
+    }
+
+-- the director at another stage
+abbrev pub with_stage : Director → DirectorStage → Director
+with_stage director stage =
+    record {
+      settings = director.settings;
+      caps = director.caps;
+      lead = director.lead;
+      records = director.records;
+      states = director.states;
+      followers = director.followers;
+      stage = stage;
+    }
+
+-- the bytes spell the record that was added, which was last written at this revision
+abbrev pub AddsRecord : List ℕ → ℕ → Director → Director → Type 0
+AddsRecord bytes stood old new =
+    (stored : StoredRecord) × (records : Vec RecordRead) × (bytes ≡ record_bytes stored)
+    × (records.items ≡ old.records.items ++ record { state = stored.state; stood = stood } ∷ [])
+    × (new ≡ with_records old records)
+
+-- the bytes spell the state that was added
+abbrev pub AddsState : List ℕ → Director → Director → Type 0
+AddsState bytes old new =
+    (stored : StoredState) × (states : Vec ServerState) × (bytes ≡ state_bytes stored)
+    × (states.items ≡ old.states.items ++ stored.state ∷ []) × (new ≡ with_states old states)
+
+-- the follower was added
+abbrev pub AddsFollower : ℕ → ℕ → Director → Director → Type 0
+AddsFollower server revision old new =
+    (followers : Vec Follower)
+    × (followers.items ≡ old.followers.items ++ record { server = server; revision = revision } ∷ [])
+    × (new ≡ with_followers old followers)
+
+-- all were forgotten
+abbrev pub ForgetsFollowers : Director → Director → Type 0
+ForgetsFollowers old new =
+    (followers : Vec Follower) × (followers.items ≡ []) × (new ≡ with_followers old followers)
+
+-- the desk of the director's settings, on which nothing has happened
+abbrev pub desk_of_settings : Director → DeskView
+desk_of_settings director =
+    record {
+      books = new_books director.settings.servers.items director.settings.groups.items
+          director.settings.shards.items director.settings.domains.items;
+      caps = director.caps;
+    }
+
+-- the director keeps its settings, its election and its followers, and what was added is let go
+pub record LetsGo (old new : Director) : Type 0 where
+  pub settings : new.settings ≡ old.settings
+  pub caps : new.caps ≡ old.caps
+  pub lead : new.lead ≡ old.lead
+  pub followers : new.followers ≡ old.followers
+  pub records : new.records.items ≡ []
+  pub states : new.states.items ≡ []
+
+-- the control stands that is made of what was added
+abbrev pub LoadsControl : ℕ → Director → Director → Type 0
+LoadsControl placed old new =
+    LetsGo old new × (control : StoreControl) × (new.stage ≡ Stands control)
+    × IsLoaded (desk_of_settings old) old.lead old.settings.ceiling old.records.items old.states.items placed control
+
+-- nothing is read any more
+abbrev pub ForgetsAll : Director → Director → Type 0
+ForgetsAll old new = LetsGo old new × (new.stage ≡ Unread)
+
+-- what is sent may be sent, wherever what the control knows is so in the store
+abbrev pub IsAllowedSend : SentCommand → Type 0
+IsAllowedSend sent =
+    (parts : List (Item (Vec ℕ)) → List (Vec ℕ)) (log : List (Transaction (Vec ℕ) (Vec ℕ)))
+    → KnowsStore log sent.control
+    → MaySend (charter_of (rows_of sent.control.desk.books) sent.control.desk.caps sent.control.ceiling parts) log
+    (command_transaction (sending_of sent.control sent.write))
+
+-- where the command drops a shard, each follower has read that the shard is taken
+abbrev pub IsFollowed : StoreControl → List Follower → Command → Type 0
+IsFollowed control followers (ChangeOf k DropShard) =
+    IsTrue (all_follow followers (read_at control.records.items k).stood)
+IsFollowed control followers command = Unit {0}
+
+-- the control that stands doesn't refuse the command, and has sent it
+abbrev pub SendsCommand : Command → Director → Director → Type 0
+SendsCommand command old new =
+    (control : StoreControl) × (sent : SentCommand) × (old.stage ≡ Stands control)
+    × IsJudged control command (JudgedSent sent) × IsFollowed control old.followers.items command × IsAllowedSend sent
+    × (new ≡ with_stage old (Sent sent))
+
+-- it refuses it, for this first fault
+abbrev pub RefusesCommand : Command → CommandFault → Director → Type 0
+RefusesCommand command fault director =
+    (control : StoreControl) × (director.stage ≡ Stands control) × (command_fault control command ≡ Some fault)
+
+-- the command that was sent was made, at this revision
+abbrev pub MakesCommand : ℕ → Director → Director → Type 0
+MakesCommand revision old new =
+    (sent : SentCommand) × (control : StoreControl) × (old.stage ≡ Sent sent)
+    × IsAfter sent.control sent.command sent.write revision control × (new ≡ with_stage old (Stands control))
+
+-- this holds of the control that stands
+abbrev pub HasControl : (StoreControl → Type 0) → Director → Type 0
+HasControl holds director = (control : StoreControl) × (director.stage ≡ Stands control) × holds control
+
+-- a plan's first move begins
+abbrev pub step_of_assignment : List Move → NextStep
+step_of_assignment [] = Nothing
+step_of_assignment (move ∷ moves) = Takes (ChangeOf move.shard (Assign move.to))
+
+-- how a control goes on with the drain of a server, or without one with the vacant shards
+abbrev pub drain_step : StoreControl → Option ℕ → NextStep
+drain_step control None = unless_refused control (step_of_assignment (assign_plan control.desk.books).moves)
+drain_step control (Some server) = unless_refused control (step_of_drain control.desk.books server)

@@ -1,0 +1,5 @@
+pub mod Calls
+pub mod Directors
+pub mod Kinds
+pub mod Lending
+pub mod Owns

@@ -1,0 +1,342 @@
+ghost use Rattle.std.specs.Prelude.{◌≡◌, ◌≢◌, ◌<◌, Err, IfErr, IfOk, IsTrue, OnErr, OnOk, None};
+ghost use Rattle.sm_lead.specs.Commands.{read_at};
+ghost use Rattle.sm_lead.specs.NextSteps.{IsAllowed, fallen, server_step, shard_step};
+ghost use Rattle.sm_place.specs.Books.{state_of};
+ghost use Rattle.sm_settings.specs.SettingsLine.{settings_of};
+ghost use Rattle.sm_director.specs.declared.director_fault.DirectorFault.TheVariants.{Command as CommandRefused};
+ghost use Rattle.sm_director.specs.declared.director_stage.DirectorStage.TheVariants.{Stands as StandsAs};
+ghost use Rattle.sm_director.specs.Calls.{SpellsSent};
+ghost use Rattle.sm_director.specs.Directors.{AddsFollower, AddsRecord, AddsState, ForgetsAll, ForgetsFollowers};
+ghost use Rattle.sm_director.specs.Directors.{HasControl, IsFollowed, IsNewDirector, LoadsControl, MakesCommand};
+ghost use Rattle.sm_director.specs.Directors.{RefusesCommand, SendsCommand, desk_of_settings, drain_step};
+
+use crate::command_numbers::CommandNumbers;
+use crate::director_fault::DirectorFault;
+use crate::director_stage::DirectorStage;
+use crate::spelling::spell;
+use sm_codec::{read_record, read_state};
+use sm_desk::{Command, Desk};
+use sm_lead::laws::commands_may_be_sent;
+use sm_lead::{
+    Follower, Judged, Leadership, NextStep, RecordRead, SendOutcome, StoreControl, all_follow,
+};
+use sm_ownership::change::Change;
+use sm_place::{Books, ServerState};
+use sm_ranges::server_id::ServerId;
+use sm_ranges::shard_id::ShardId;
+use sm_settings::{Settings, SettingsFault};
+use sm_tasks::Tasks;
+use sm_tasks::laws::all_up_meets_caps;
+use std::alloc::Global;
+
+/// The control of a shared store by its settings, what was read for it, and the servers that follow.
+#[derive(Drop)]
+pub struct Director {
+    pub settings: Settings,
+    /// The caps of restarts that the settings give.
+    pub caps: Tasks,
+    pub lead: Leadership,
+    /// The records and states that were added, to be read.
+    pub records: Vec<RecordRead>,
+    pub states: Vec<ServerState>,
+    pub followers: Vec<Follower>,
+    pub stage: DirectorStage,
+}
+
+impl Director {
+    /// The director of the store that the line of settings describes, by one who was elected. It has read nothing.
+    pub fn new(alloc: Global, line: &[u8], lead: Leadership) -> Result<Director, SettingsFault>
+        requires { 0 < lead.elected }
+        ensures made { IfOk result (IsNewDirector line.now lead.process lead.elected) }
+        ensures fault { IfErr result (λ fault. fault ≢ SettingsFault.NoMemory → settings_of line.now ≡ Err fault) }
+    {
+        match Settings::read(alloc, line) {
+            Ok(settings) => {
+                let caps = Tasks::new(settings.ops);
+                Ok(Director {
+                    settings,
+                    caps,
+                    lead,
+                    records: Vec::new(alloc),
+                    states: Vec::new(alloc),
+                    followers: Vec::new(alloc),
+                    stage: DirectorStage::Unread,
+                })
+            }
+            Err(fault) => Err(fault),
+        }
+    }
+
+    /// Adds the next shard's record, before `read`: these bytes, last written at this revision.
+    pub fn add_record(&mut self, bytes: &[u8], stood: u64) -> Result<(), DirectorFault>
+        ensures added { OnOk result (AddsRecord bytes.now stood self.old self.new) }
+        ensures kept { OnErr result (self.new ≡ self.old) }
+    {
+        let stored = read_record(bytes)?;
+        self.records.push(RecordRead {
+            state: stored.state,
+            stood,
+        })?;
+        Ok(())
+    }
+
+    /// Adds the next server's state, before `read`: these bytes.
+    pub fn add_state(&mut self, bytes: &[u8]) -> Result<(), DirectorFault>
+        ensures added { OnOk result (AddsState bytes.now self.old self.new) }
+        ensures kept { OnErr result (self.new ≡ self.old) }
+    {
+        let stored = read_state(bytes)?;
+        self.states.push(stored.state)?;
+        Ok(())
+    }
+
+    /// Adds a server whose key is there, and the revision up to which it has read the store.
+    pub fn add_follower(&mut self, server: ServerId, revision: u64) -> Result<(), DirectorFault>
+        ensures added { OnOk result (AddsFollower server revision self.old self.new) }
+        ensures kept { OnErr result (self.new ≡ self.old) }
+    {
+        self.followers.push(Follower { server, revision })?;
+        Ok(())
+    }
+
+    /// Forgets all followers.
+    pub fn forget_followers(&mut self, alloc: Global)
+        ensures { ForgetsFollowers self.old self.new }
+    {
+        self.followers = Vec::new(alloc);
+    }
+
+    /// All was read that was added, at one revision, at which the key of commands was last written at this one. What
+    /// was added is let go: the control stands, or where none can be made nothing is read.
+    pub fn read(&mut self, alloc: Global, placed: u64) -> Result<(), DirectorFault>
+        ensures made { OnOk result (LoadsControl placed self.old self.new) }
+        ensures unread { OnErr result (ForgetsAll self.old self.new) }
+    {
+        let records = std::mem::replace(&mut self.records, Vec::new(alloc));
+        let states = std::mem::replace(&mut self.states, Vec::new(alloc));
+        self.stage = DirectorStage::Unread;
+        let desk = self.desk(alloc)?;
+        match StoreControl::read(
+            desk,
+            self.lead,
+            self.settings.ceiling,
+            records,
+            &states,
+            placed,
+        ) {
+            Ok(control) => {
+                self.stage = DirectorStage::Stands(control);
+                Ok(())
+            }
+            Err(fault) => Err(DirectorFault::Load(fault)),
+        }
+    }
+
+    // The desk of the settings, on which nothing has happened.
+    fn desk(&self, alloc: Global) -> Result<Desk, DirectorFault>
+        ensures { IfOk result (λ desk. desk ≡ desk_of_settings self.now) }
+    {
+        let settings = &self.settings;
+        let Ok(books) = Books::new(
+            alloc,
+            &settings.servers,
+            &settings.groups,
+            &settings.shards,
+            &settings.domains,
+        ) else {
+            // Rows of settings keep their rules, so memory alone is refused.
+            return Err(DirectorFault::Memory);
+        };
+        all_up_meets_caps();
+        Ok(Desk::new(books, self.caps))
+    }
+
+    /// Forgets what was read and what was sent: all is to be read again.
+    pub fn forget(&mut self, alloc: Global)
+        ensures { ForgetsAll self.old self.new }
+    {
+        self.records = Vec::new(alloc);
+        self.states = Vec::new(alloc);
+        self.stage = DirectorStage::Unread;
+    }
+
+    /// Judges the command: where the control that stands doesn't refuse it, it is to be sent.
+    pub fn command(&mut self, command: Command) -> Result<(), DirectorFault>
+        ensures sent { OnOk result (SendsCommand command self.old self.new) }
+        ensures refused { IfErr result (λ fault. (why : _) → fault ≡ CommandRefused why
+            → RefusesCommand command why self.old) }
+        ensures kept { OnErr result (self.new ≡ self.old) }
+    {
+        match std::mem::replace(&mut self.stage, DirectorStage::Unread) {
+            DirectorStage::Stands(control) => {
+                if !is_followed(&control, &self.followers, &command) {
+                    self.stage = DirectorStage::Stands(control);
+                    return Err(DirectorFault::NotFollowed);
+                }
+                control.desk.soundness();
+                commands_may_be_sent::<Vec<u8>, Vec<u8>>();
+                match control.command(command) {
+                    Judged::Sent(sent) => {
+                        self.stage = DirectorStage::Sent(sent);
+                        Ok(())
+                    }
+                    Judged::Refused(kept, fault) => {
+                        self.stage = DirectorStage::Stands(kept);
+                        Err(DirectorFault::Command(fault))
+                    }
+                }
+            }
+            DirectorStage::Sent(sent) => {
+                self.stage = DirectorStage::Sent(sent);
+                Err(DirectorFault::UnderWay)
+            }
+            DirectorStage::Unread => Err(DirectorFault::Unread),
+        }
+    }
+
+    /// Writes what the command that was sent compares and writes.
+    pub fn sending(
+        &self,
+        alloc: Global,
+        numbers: &mut CommandNumbers,
+        into: &mut [u8],
+    ) -> Result<(), DirectorFault>
+        ensures { OnOk result (SpellsSent numbers.new into.new self.now) }
+    {
+        match &self.stage {
+            DirectorStage::Sent(sent) => spell(alloc, &sent.sending(), numbers, into),
+            _ => Err(DirectorFault::NotSent),
+        }
+    }
+
+    /// The command that was sent was made, at this revision.
+    pub fn on_made(&mut self, revision: u64) -> Result<(), DirectorFault>
+        ensures made { OnOk result (MakesCommand revision self.old self.new) }
+    {
+        match std::mem::replace(&mut self.stage, DirectorStage::Unread) {
+            DirectorStage::Sent(sent) => match sent.outcome(SendOutcome::Made(revision)) {
+                Some(control) => {
+                    self.stage = DirectorStage::Stands(control);
+                    Ok(())
+                }
+                None => Err(DirectorFault::Unread),
+            },
+            other => {
+                self.stage = other;
+                Err(DirectorFault::NotSent)
+            }
+        }
+    }
+
+    // The control that stands.
+    fn standing(&self) -> Result<&StoreControl, DirectorFault>
+        ensures { IfOk result (λ control. self.now.stage ≡ StandsAs control.now) }
+    {
+        match &self.stage {
+            DirectorStage::Stands(control) => Ok(control),
+            DirectorStage::Sent(_) => Err(DirectorFault::UnderWay),
+            DirectorStage::Unread => Err(DirectorFault::Unread),
+        }
+    }
+
+    /// What comes next of the shard.
+    pub fn next_of_shard(&self, k: ShardId) -> Result<NextStep, DirectorFault>
+        ensures { IfOk result (λ step. HasControl (λ control.
+            (step ≡ shard_step control self.now.followers.items k) × IsAllowed control step) self.now) }
+    {
+        let control = self.standing()?;
+        if k.index() >= control.records.len() {
+            return Err(DirectorFault::UnknownShard);
+        }
+        Ok(control.next_of_shard(k, &self.followers))
+    }
+
+    /// What comes next of the server's restart.
+    pub fn next_of_server(&self, server: ServerId) -> Result<NextStep, DirectorFault>
+        ensures { IfOk result (λ step. HasControl (λ control.
+            (step ≡ server_step control server) × IsAllowed control step) self.now) }
+    {
+        let control = self.standing()?;
+        Ok(control.next_of_server(server))
+    }
+
+    /// What comes next of the drain of the server, or without one of the vacant shards.
+    pub fn next_of_drain(
+        &self,
+        alloc: Global,
+        server: Option<ServerId>,
+    ) -> Result<NextStep, DirectorFault>
+        ensures { IfOk result (λ step. HasControl (λ control.
+            (step ≡ drain_step control server) × IsAllowed control step) self.now) }
+    {
+        let control = self.standing()?;
+        let step = match server {
+            Some(server) => control.next_of_drain(alloc, server)?,
+            None => next_of_vacant(control, alloc)?,
+        };
+        Ok(step)
+    }
+
+    /// The first server to which requests go and that isn't among the followers.
+    pub fn fallen(&self) -> Result<Option<ServerId>, DirectorFault>
+        ensures { IfOk result (λ found. HasControl (λ control.
+            found ≡ fallen control.desk.books self.now.followers.items) self.now) }
+    {
+        let control = self.standing()?;
+        Ok(control.fallen_server(&self.followers))
+    }
+
+    /// The shard's record, and the revision at which it was last written.
+    pub fn record_of(&self, k: ShardId) -> Result<RecordRead, DirectorFault>
+        ensures { IfOk result (λ read. HasControl (λ control. read ≡ read_at control.records.items k) self.now) }
+    {
+        let control = self.standing()?;
+        match control.records.get(k.index()) {
+            Some(read) => Ok(*read),
+            None => Err(DirectorFault::UnknownShard),
+        }
+    }
+
+    /// The server's state.
+    pub fn state_of(&self, server: ServerId) -> Result<ServerState, DirectorFault>
+        ensures { IfOk result (λ state. HasControl (λ control. state ≡ state_of control.desk.books server) self.now) }
+    {
+        let control = self.standing()?;
+        control.desk.soundness();
+        if !control.desk.knows(server) {
+            return Err(DirectorFault::UnknownServer);
+        }
+        Ok(control.desk.books().state(server))
+    }
+}
+
+// Whether each follower has read that the shard is taken, where the command drops it.
+fn is_followed(control: &StoreControl, followers: &[Follower], command: &Command) -> bool
+    ensures { IsTrue result → IsFollowed control.now followers.now command.now }
+{
+    match command {
+        Command::Change(k, Change::DropShard) => {
+            let stood = match control.records.get(k.index()) {
+                Some(read) => read.stood,
+                None => 0,
+            };
+            all_follow(followers, stood)
+        }
+        _ => true,
+    }
+}
+
+// What comes next of the vacant shards.
+fn next_of_vacant(control: &StoreControl, alloc: Global) -> Result<NextStep, DirectorFault>
+    ensures { IfOk result (λ step. (step ≡ drain_step control.now None) × IsAllowed control.now step) }
+{
+    let plan = control.desk.books().plan_assign(alloc)?;
+    let [first, ..] = plan.moves() else {
+        return Ok(NextStep::Nothing);
+    };
+    let command = Command::Change(first.shard, Change::Assign(first.to));
+    match control.judge(&command) {
+        Ok(_) => Ok(NextStep::Takes(command)),
+        Err(_) => Ok(NextStep::Waits),
+    }
+}

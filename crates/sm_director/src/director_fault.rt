@@ -1,0 +1,67 @@
+use sm_codec::ReadError;
+use sm_desk::CommandFault;
+use sm_lead::LoadFault;
+use std::alloc::{AllocError, AllocFailed};
+
+/// Why a call on a director did nothing.
+#[derive(Clone, Copy, Debug, PartialEq, Eq, Drop)]
+pub enum DirectorFault {
+    /// Memory was refused.
+    Memory,
+    /// What lies at a key is wrong.
+    Bytes,
+    /// No control can be made of what was read.
+    Load(LoadFault),
+    /// The command is refused.
+    Command(CommandFault),
+    /// Nothing was read yet, or all is to be read again.
+    Unread,
+    /// A command was sent, of which the outcome wasn't told.
+    UnderWay,
+    /// A follower hasn't read that the shard is taken.
+    NotFollowed,
+    /// No command was sent.
+    NotSent,
+    /// There is no such shard.
+    UnknownShard,
+    /// There is no such server.
+    UnknownServer,
+    /// What would be written is longer than the room for it.
+    TooShort,
+}
+
+impl From<AllocError> for DirectorFault {
+    ghost use Rattle.std.specs.Prelude.{◌≡◌};
+    ghost use Rattle.sm_director.specs.declared.director_fault.DirectorFault.TheVariants.{Memory};
+
+    ghost from_gives = { λ _ fault. fault ≡ Memory };
+
+    fn from(_: AllocError) -> DirectorFault {
+        DirectorFault::Memory
+    }
+}
+
+impl<T: Drop> From<AllocFailed<T>> for DirectorFault {
+    ghost use Rattle.std.specs.Prelude.{◌≡◌};
+    ghost use Rattle.sm_director.specs.declared.director_fault.DirectorFault.TheVariants.{Memory};
+
+    ghost from_gives = { λ _ fault. fault ≡ Memory };
+
+    fn from(_: AllocFailed<T>) -> DirectorFault {
+        DirectorFault::Memory
+    }
+}
+
+impl From<ReadError> for DirectorFault {
+    ghost use Rattle.std.specs.Prelude.{◌≡◌, ◌⊎◌};
+    ghost use Rattle.sm_director.specs.declared.director_fault.DirectorFault.TheVariants.{Bytes, Memory};
+
+    ghost from_gives = { λ _ fault. (fault ≡ Memory) ⊎ (fault ≡ Bytes) };
+
+    fn from(error: ReadError) -> DirectorFault {
+        match error {
+            ReadError::Memory => DirectorFault::Memory,
+            ReadError::Fault(_) => DirectorFault::Bytes,
+        }
+    }
+}

@@ -1,0 +1,62 @@
+ghost use Rattle.std.specs.Prelude.{◌≡◌, Some, None, OnErr, OnOk, is_some, true};
+
+use crate::director::Director;
+use crate::owned_director::OwnedDirector;
+use crate::unboxed_parts::UnboxedParts;
+use std::alloc::{AllocError, Global};
+
+/// What a caller in C keeps, 16 bytes. It begins as bytes of 0, isn't copied, and is used by one call at a time.
+#[repr(C)]
+#[derive(Drop)]
+pub struct DirectorHandle {
+    pub(crate) full: bool,
+    pub(crate) owned: OwnedDirector,
+    ghost tied: { is_some owned.state ≡ full },
+}
+
+impl DirectorHandle {
+    /// A handle that keeps nothing, as one of bytes of 0 does.
+    pub fn new(alloc: Global) -> DirectorHandle
+        ensures { result.owned.state ≡ None }
+    {
+        DirectorHandle {
+            full: false,
+            owned: OwnedDirector::empty(alloc),
+        }
+    }
+
+    /// Keeps the state, and lets go what was kept. It is refused for want of memory alone, and the handle is as it was.
+    pub fn keep(&mut self, alloc: Global, state: Director) -> Result<(), AllocError>
+        ensures kept { OnOk result (self.new.owned.state ≡ Some state) }
+        ensures refused { OnErr result (self.new.owned.state ≡ self.old.owned.state) }
+    {
+        if self.full {
+            *self.owned.state_mut() = state;
+            return Ok(());
+        }
+        let state = Box::new(alloc, state)?;
+        self.put(state);
+        Ok(())
+    }
+
+    /// Keeps the state, where nothing is kept: else that would never be let go.
+    pub(crate) fn put(&mut self, state: Box<Director>)
+        requires { self.old.owned.state ≡ None }
+        ensures { self.new.owned.state ≡ Some state.value }
+    {
+        *self = DirectorHandle {
+            full: true,
+            owned: OwnedDirector::of_parts(UnboxedParts::of(state)),
+        };
+    }
+
+    /// Lets go what is kept.
+    pub fn close(&mut self, alloc: Global)
+        ensures { self.new.owned.state ≡ None }
+    {
+        let DirectorHandle { full, owned } = std::mem::replace(self, DirectorHandle::new(alloc));
+        if full {
+            let _ = owned.into_parts().into_box();
+        }
+    }
+}

@@ -1,0 +1,463 @@
+//! The control of a shared store, for callers in C, C++, Python and Rust: which commands it sends, and what comes next,
+//! with no input or output of its own. The caller is elected, reads the store, sends the transactions and says what
+//! became of them. Each call answers 0, or a code of library/codes.txt. A handle begins as bytes of 0; it may pass from
+//! thread to thread, and is used by one call at a time.
+#![tactic(auto)]
+
+ghost use Rattle.std.specs.Prelude.{◌≡◌, ◌≢◌, ◌<◌, ◌≤◌, None, Some, IfSome, length, slice_get, unwrap_or};
+ghost use Rattle.sm_codec.specs.Spelling.{state_number};
+ghost use Rattle.sm_lead.specs.Commands.{read_at};
+ghost use Rattle.sm_lead.specs.NextSteps.{fallen, server_step, shard_step};
+ghost use Rattle.sm_place.specs.Books.{state_of};
+ghost use Rattle.sm_ranges.specs.Ranges.{shard_of};
+ghost use Rattle.sm_word.specs.Word.{server_of, word_of};
+ghost use Rattle.sm_director.specs.Calls.{BreaksRule, DirectsOn, IsServerAt, KeepsDirector, RefusesParts, SendsParts};
+ghost use Rattle.sm_director.specs.Calls.{SpellsSent, TellsStep};
+ghost use Rattle.sm_director.specs.Directors.{AddsFollower, AddsRecord, AddsState, ForgetsAll, ForgetsFollowers};
+ghost use Rattle.sm_director.specs.Directors.{HasControl, IsNewDirector, LoadsControl, MakesCommand, drain_step};
+
+mod codes;
+pub mod command_numbers;
+pub mod director;
+mod director_fault;
+pub mod director_handle;
+pub mod director_stage;
+mod kinds;
+mod owned_director;
+mod spelling;
+pub mod step_parts;
+mod unboxed_parts;
+mod words;
+mod written;
+
+use codes::{
+    BAD_ARGUMENT, BAD_BYTES, NO_MEMORY, NO_MORE, UNKNOWN_SHARD, WRONG_HANDLE, code_of, code_of_line,
+};
+pub use command_numbers::CommandNumbers;
+pub use director::Director;
+pub use director_handle::DirectorHandle;
+pub use director_stage::DirectorStage;
+use kinds::{command_of, number_of, parts_of, state_number};
+use sm_lead::Leadership;
+use sm_ranges::server_id::ServerId;
+use sm_ranges::shard_id::ShardId;
+use sm_word::word::pack;
+use std::alloc::Global;
+pub use step_parts::StepParts;
+use words::has_word;
+
+/// Makes the control of the store that the line of settings describes, of a process that was elected at this revision.
+/// It has read nothing. The handle keeps it, in place of what it kept, and there are so many shards and servers.
+#[unsafe(no_mangle)]
+pub extern "C" fn durkenzo_director(
+    alloc: Global,
+    director: &mut DirectorHandle,
+    line: &[u8],
+    process: u64,
+    elected: u64,
+    shards: &mut usize,
+    servers: &mut usize,
+) -> u32
+    ensures made { result ≡ 0 → KeepsDirector (IsNewDirector line.now process elected) director.new.owned.state }
+    ensures counts { result ≡ 0 → KeepsDirector (λ made. (shards.new ≡ length made.settings.shards.items)
+        × (servers.new ≡ length made.settings.servers.items)) director.new.owned.state }
+    ensures fault { 70 ≤ result → BreaksRule line.now result }
+    ensures kept { result ≢ 0 → director.new.owned.state ≡ director.old.owned.state }
+{
+    let Some(lead) = Leadership::new(process, elected) else {
+        return BAD_ARGUMENT;
+    };
+    let made = match Director::new(alloc, line, lead) {
+        Ok(made) => made,
+        Err(fault) => return code_of_line(fault),
+    };
+    let counts = (made.settings.shards.len(), made.settings.servers.len());
+    if director.keep(alloc, made).is_err() {
+        return NO_MEMORY;
+    }
+    (*shards, *servers) = counts;
+    0
+}
+
+/// Writes the server at this place of the settings' rows, from 0.
+#[unsafe(no_mangle)]
+pub extern "C" fn durkenzo_director_server(
+    director: &mut DirectorHandle,
+    at: usize,
+    server: &mut u16,
+) -> u32
+    ensures told { result ≡ 0 → KeepsDirector (IsServerAt at server.new) director.old.owned.state }
+    ensures unchanged { director.new.owned.state ≡ director.old.owned.state }
+{
+    if !director.full {
+        return WRONG_HANDLE;
+    }
+    match director.owned.state_mut().settings.servers.get(at) {
+        Some(row) => {
+            *server = row.id.number();
+            0
+        }
+        None => NO_MORE,
+    }
+}
+
+/// Writes the shard of the key, which may be any bytes, by the settings' layout.
+#[unsafe(no_mangle)]
+pub extern "C" fn durkenzo_director_shard_of(
+    director: &mut DirectorHandle,
+    key: &[u8],
+    shard: &mut u16,
+) -> u32
+    ensures told { result ≡ 0 → KeepsDirector (λ kept. shard.new ≡ shard_of kept.settings.layout key.now)
+        director.old.owned.state }
+    ensures unchanged { director.new.owned.state ≡ director.old.owned.state }
+{
+    if !director.full {
+        return WRONG_HANDLE;
+    }
+    let found = director.owned.state_mut().settings.layout.shard_of(key);
+    *shard = found.number();
+    0
+}
+
+/// Adds the next shard's record, as it lies at its key, which was last written at this revision.
+#[unsafe(no_mangle)]
+pub extern "C" fn durkenzo_director_record(
+    director: &mut DirectorHandle,
+    bytes: &[u8],
+    stood: u64,
+) -> u32
+    ensures made { result ≡ 0
+        → DirectsOn (AddsRecord bytes.now stood) director.old.owned.state director.new.owned.state }
+    ensures kept { result ≢ 0 → director.new.owned.state ≡ director.old.owned.state }
+{
+    if !director.full {
+        return WRONG_HANDLE;
+    }
+    match director.owned.state_mut().add_record(bytes, stood) {
+        Ok(()) => 0,
+        Err(fault) => code_of(fault),
+    }
+}
+
+/// Adds the next server's state, as it lies at its key.
+#[unsafe(no_mangle)]
+pub extern "C" fn durkenzo_director_state(director: &mut DirectorHandle, bytes: &[u8]) -> u32
+    ensures made { result ≡ 0 → DirectsOn (AddsState bytes.now) director.old.owned.state director.new.owned.state }
+    ensures kept { result ≢ 0 → director.new.owned.state ≡ director.old.owned.state }
+{
+    if !director.full {
+        return WRONG_HANDLE;
+    }
+    match director.owned.state_mut().add_state(bytes) {
+        Ok(()) => 0,
+        Err(fault) => code_of(fault),
+    }
+}
+
+/// All was read that was added, at one revision, at which the key of commands was last written at this one. The control
+/// stands, or where none can be made nothing is read; what was added is let go.
+#[unsafe(no_mangle)]
+pub extern "C" fn durkenzo_director_read(
+    alloc: Global,
+    director: &mut DirectorHandle,
+    placed: u64,
+) -> u32
+    ensures made { result ≡ 0 → DirectsOn (LoadsControl placed) director.old.owned.state director.new.owned.state }
+    ensures unread { 2 ≤ result → DirectsOn ForgetsAll director.old.owned.state director.new.owned.state }
+{
+    if !director.full {
+        return WRONG_HANDLE;
+    }
+    match director.owned.state_mut().read(alloc, placed) {
+        Ok(()) => 0,
+        Err(fault) => code_of(fault),
+    }
+}
+
+/// Judges the command of this kind, for the shard and the server that it names: 0 where it is to be sent, and nothing
+/// else until its outcome is told; or else the code of the first fault, and nothing has happened.
+#[unsafe(no_mangle)]
+pub extern "C" fn durkenzo_director_command(
+    director: &mut DirectorHandle,
+    kind: u8,
+    shard: u16,
+    server: u16,
+) -> u32
+    ensures sent { result ≡ 0 → DirectsOn (SendsParts (record { shard = shard; server = server; kind = kind }))
+        director.old.owned.state director.new.owned.state }
+    ensures refused { 10 ≤ result → result < 50
+        → KeepsDirector (RefusesParts (record { shard = shard; server = server; kind = kind }) result)
+        director.old.owned.state }
+    ensures kept { result ≢ 0 → director.new.owned.state ≡ director.old.owned.state }
+{
+    let parts = StepParts {
+        shard,
+        server,
+        kind,
+    };
+    let Some(command) = command_of(&parts) else {
+        return BAD_ARGUMENT;
+    };
+    if !director.full {
+        return WRONG_HANDLE;
+    }
+    match director.owned.state_mut().command(command) {
+        Ok(()) => 0,
+        Err(fault) => code_of(fault),
+    }
+}
+
+/// Writes what the command that was sent compares and writes: its numbers, and the bytes for the record or the state
+/// and behind them those for the key of commands.
+#[unsafe(no_mangle)]
+pub extern "C" fn durkenzo_director_sending(
+    alloc: Global,
+    director: &mut DirectorHandle,
+    numbers: &mut CommandNumbers,
+    into: &mut [u8],
+) -> u32
+    ensures written { result ≡ 0 → KeepsDirector (SpellsSent numbers.new into.new) director.old.owned.state }
+    ensures unchanged { director.new.owned.state ≡ director.old.owned.state }
+{
+    if !director.full {
+        return WRONG_HANDLE;
+    }
+    match director.owned.state_mut().sending(alloc, numbers, into) {
+        Ok(()) => 0,
+        Err(fault) => code_of(fault),
+    }
+}
+
+/// The command that was sent was made, at this revision.
+#[unsafe(no_mangle)]
+pub extern "C" fn durkenzo_director_made(director: &mut DirectorHandle, revision: u64) -> u32
+    ensures made { result ≡ 0
+        → DirectsOn (MakesCommand revision) director.old.owned.state director.new.owned.state }
+{
+    if !director.full {
+        return WRONG_HANDLE;
+    }
+    match director.owned.state_mut().on_made(revision) {
+        Ok(()) => 0,
+        Err(fault) => code_of(fault),
+    }
+}
+
+/// A compare of the command that was sent didn't hold, or what became of it isn't known, or something is to be read
+/// again: the director has read nothing.
+#[unsafe(no_mangle)]
+pub extern "C" fn durkenzo_director_lost(alloc: Global, director: &mut DirectorHandle) -> u32
+    ensures forgot { result ≡ 0 → DirectsOn ForgetsAll director.old.owned.state director.new.owned.state }
+    ensures kept { result ≢ 0 → director.new.owned.state ≡ director.old.owned.state }
+{
+    if !director.full {
+        return WRONG_HANDLE;
+    }
+    director.owned.state_mut().forget(alloc);
+    0
+}
+
+/// Adds a server whose key is there, and the revision up to which it has said that it has read the store.
+#[unsafe(no_mangle)]
+pub extern "C" fn durkenzo_director_follower(
+    director: &mut DirectorHandle,
+    server: u16,
+    revision: u64,
+) -> u32
+    ensures made { result ≡ 0
+        → DirectsOn (AddsFollower server revision) director.old.owned.state director.new.owned.state }
+    ensures kept { result ≢ 0 → director.new.owned.state ≡ director.old.owned.state }
+{
+    let Some(server) = ServerId::new(server) else {
+        return BAD_ARGUMENT;
+    };
+    if !director.full {
+        return WRONG_HANDLE;
+    }
+    match director.owned.state_mut().add_follower(server, revision) {
+        Ok(()) => 0,
+        Err(fault) => code_of(fault),
+    }
+}
+
+/// Forgets all followers.
+#[unsafe(no_mangle)]
+pub extern "C" fn durkenzo_director_forget_followers(
+    alloc: Global,
+    director: &mut DirectorHandle,
+) -> u32
+    ensures forgot { result ≡ 0 → DirectsOn ForgetsFollowers director.old.owned.state director.new.owned.state }
+    ensures kept { result ≢ 0 → director.new.owned.state ≡ director.old.owned.state }
+{
+    if !director.full {
+        return WRONG_HANDLE;
+    }
+    director.owned.state_mut().forget_followers(alloc);
+    0
+}
+
+/// Writes what comes next of the shard.
+#[unsafe(no_mangle)]
+pub extern "C" fn durkenzo_director_next_of_shard(
+    director: &mut DirectorHandle,
+    shard: u16,
+    step: &mut StepParts,
+) -> u32
+    ensures told { result ≡ 0 → KeepsDirector (λ kept. HasControl (λ control.
+        TellsStep step.new (shard_step control kept.followers.items shard) control) kept) director.old.owned.state }
+    ensures unchanged { director.new.owned.state ≡ director.old.owned.state }
+{
+    let Some(k) = ShardId::new(shard) else {
+        return UNKNOWN_SHARD;
+    };
+    if !director.full {
+        return WRONG_HANDLE;
+    }
+    match director.owned.state_mut().next_of_shard(k) {
+        Ok(next) => {
+            *step = parts_of(&next);
+            0
+        }
+        Err(fault) => code_of(fault),
+    }
+}
+
+/// Writes what comes next of the server's restart.
+#[unsafe(no_mangle)]
+pub extern "C" fn durkenzo_director_next_of_server(
+    director: &mut DirectorHandle,
+    server: u16,
+    step: &mut StepParts,
+) -> u32
+    ensures told { result ≡ 0 → KeepsDirector (HasControl (λ control.
+        TellsStep step.new (server_step control server) control)) director.old.owned.state }
+    ensures unchanged { director.new.owned.state ≡ director.old.owned.state }
+{
+    let Some(server) = ServerId::new(server) else {
+        return BAD_ARGUMENT;
+    };
+    if !director.full {
+        return WRONG_HANDLE;
+    }
+    match director.owned.state_mut().next_of_server(server) {
+        Ok(next) => {
+            *step = parts_of(&next);
+            0
+        }
+        Err(fault) => code_of(fault),
+    }
+}
+
+/// Writes what comes next of the drain of the server, or for 0 of the vacant shards.
+#[unsafe(no_mangle)]
+pub extern "C" fn durkenzo_director_next_of_drain(
+    alloc: Global,
+    director: &mut DirectorHandle,
+    server: u16,
+    step: &mut StepParts,
+) -> u32
+    ensures told { result ≡ 0 → KeepsDirector (HasControl (λ control.
+        TellsStep step.new (drain_step control (server_of server)) control)) director.old.owned.state }
+    ensures unchanged { director.new.owned.state ≡ director.old.owned.state }
+{
+    let from = ServerId::new(server);
+    if server != 0 && from.is_none() {
+        return BAD_ARGUMENT;
+    }
+    if !director.full {
+        return WRONG_HANDLE;
+    }
+    match director.owned.state_mut().next_of_drain(alloc, from) {
+        Ok(next) => {
+            *step = parts_of(&next);
+            0
+        }
+        Err(fault) => code_of(fault),
+    }
+}
+
+/// Writes the first server to which requests go and that isn't among the followers, 0 for none.
+#[unsafe(no_mangle)]
+pub extern "C" fn durkenzo_director_fallen(director: &mut DirectorHandle, server: &mut u16) -> u32
+    ensures told { result ≡ 0 → KeepsDirector (λ kept. HasControl (λ control.
+        server.new ≡ unwrap_or (fallen control.desk.books kept.followers.items) 0) kept) director.old.owned.state }
+    ensures unchanged { director.new.owned.state ≡ director.old.owned.state }
+{
+    if !director.full {
+        return WRONG_HANDLE;
+    }
+    match director.owned.state_mut().fallen() {
+        Ok(found) => {
+            *server = number_of(found);
+            0
+        }
+        Err(fault) => code_of(fault),
+    }
+}
+
+/// Writes the word of the shard's record, and the revision at which it was last written.
+#[unsafe(no_mangle)]
+pub extern "C" fn durkenzo_director_record_of(
+    director: &mut DirectorHandle,
+    shard: u16,
+    word: &mut u64,
+    stood: &mut u64,
+) -> u32
+    ensures told { result ≡ 0 → KeepsDirector (HasControl (λ control.
+        (word.new ≡ word_of (read_at control.records.items shard).state)
+        × (stood.new ≡ (read_at control.records.items shard).stood))) director.old.owned.state }
+    ensures unchanged { director.new.owned.state ≡ director.old.owned.state }
+{
+    let Some(k) = ShardId::new(shard) else {
+        return UNKNOWN_SHARD;
+    };
+    if !director.full {
+        return WRONG_HANDLE;
+    }
+    match director.owned.state_mut().record_of(k) {
+        Ok(read) => {
+            if !has_word(&read.state) {
+                return BAD_BYTES;
+            }
+            *word = pack(read.state);
+            *stood = read.stood;
+            0
+        }
+        Err(fault) => code_of(fault),
+    }
+}
+
+/// Writes the number of the server's state.
+#[unsafe(no_mangle)]
+pub extern "C" fn durkenzo_director_state_of(
+    director: &mut DirectorHandle,
+    server: u16,
+    state: &mut u8,
+) -> u32
+    ensures told { result ≡ 0 → KeepsDirector (HasControl (λ control.
+        state.new ≡ state_number (state_of control.desk.books server))) director.old.owned.state }
+    ensures unchanged { director.new.owned.state ≡ director.old.owned.state }
+{
+    let Some(server) = ServerId::new(server) else {
+        return BAD_ARGUMENT;
+    };
+    if !director.full {
+        return WRONG_HANDLE;
+    }
+    match director.owned.state_mut().state_of(server) {
+        Ok(found) => {
+            *state = state_number(found);
+            0
+        }
+        Err(fault) => code_of(fault),
+    }
+}
+
+/// Lets go the director that the handle keeps.
+#[unsafe(no_mangle)]
+pub extern "C" fn durkenzo_director_close(alloc: Global, director: &mut DirectorHandle)
+    ensures { director.new.owned.state ≡ None }
+{
+    director.close(alloc);
+}

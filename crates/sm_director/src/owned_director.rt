@@ -1,0 +1,71 @@
+ghost use Rattle.std.specs.Prelude.{◌≡◌, Some, None, Option, is_some, true};
+ghost use Rattle.sm_director.specs.declared.director.Director.{Director as StateValue};
+ghost use Rattle.sm_director.specs.Owns.{director_owns, director_coded};
+
+use crate::director::Director;
+use crate::unboxed_parts::UnboxedParts;
+use std::alloc::Global;
+use std::marker::Model;
+
+/// A pointer that owns a state, or nothing.
+#[repr(C)]
+#[derive(Drop)]
+pub struct OwnedDirector {
+    ptr: *mut u8,
+    alloc: Global,
+    pub ghost state: { Option StateValue } by { director_coded },
+}
+
+impl Model for OwnedDirector {
+    ghost also_owns = { λ h. director_owns h.alloc h.ptr h.state };
+}
+
+impl OwnedDirector {
+    /// What owns nothing.
+    pub(crate) fn empty(alloc: Global) -> OwnedDirector
+        ensures { result.state ≡ None }
+    {
+        OwnedDirector {
+            ptr: std::ptr::null_mut(),
+            alloc,
+        }
+    }
+
+    /// What owns the state of a box.
+    pub(crate) fn of_parts(parts: UnboxedParts<Director, Global>) -> OwnedDirector
+        ensures { result.state ≡ Some parts.value }
+    {
+        let UnboxedParts { ptr, alloc } = parts;
+        OwnedDirector {
+            ptr: ptr as *mut u8,
+            alloc,
+        }
+    }
+
+    /// The box of the state that is owned.
+    pub(crate) fn into_parts(self) -> UnboxedParts<Director, Global>
+        requires { is_some self.state ≡ true }
+        ensures { self.state ≡ Some result.value }
+    {
+        let OwnedDirector { ptr, alloc } = self;
+        UnboxedParts {
+            ptr: ptr as *mut Director,
+            alloc,
+        }
+    }
+}
+
+impl OwnedDirector {
+    ghost use Rattle.std.specs.Borrow.{sem};
+    ghost use Rattle.std.specs.Prelude.{◌≡◌, Some, is_some, true};
+    ghost use Rattle.sm_director.specs.Lending.{LendsDirector};
+
+    /// The state that is owned, to change it in its place.
+    pub(crate) fn state_mut(&mut self) -> &mut Director
+        requires { is_some self.old.state ≡ true }
+        ensures* writes_back { sem 𝓛 (LendsDirector self.entry result) }
+        ensures value { self.old.state ≡ Some result.now }
+    {
+        unsafe { &mut *(self.ptr as *mut Director) }
+    }
+}
