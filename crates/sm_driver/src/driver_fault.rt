@@ -3,7 +3,7 @@ use sm_shard::ReplayFault;
 use std::alloc::{AllocError, AllocFailed};
 
 /// Why a call on a server did nothing, or the server has forgotten what it read.
-#[derive(Clone, Copy, Debug, PartialEq, Eq, Drop)]
+#[derive(Clone, Copy, Drop)]
 pub enum DriverFault {
     /// Memory was refused.
     Memory,
