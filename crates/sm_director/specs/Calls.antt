@@ -1,7 +1,5 @@
 -- What calls do to the director that a handle keeps.
 use Rattle.std.specs.Prelude.{ℕ, true, false, ◌≡◌, ◌+◌, ◌++◌, List, Option, Some, None, Err, length, slice_get, take}
-use Rattle.sm_codec.specs.declared.stored_record.StoredRecord.{StoredRecord}
-use Rattle.sm_codec.specs.declared.stored_state.StoredState.{StoredState}
 use Rattle.sm_codec.specs.Spelling.{process_bytes, record_bytes, state_bytes}
 use Rattle.sm_desk.specs.declared.command.Command.{Command}
 use Rattle.sm_desk.specs.declared.command.CommandFault.{CommandFault}
@@ -18,6 +16,8 @@ use Rattle.sm_settings.specs.declared.settings_fault.SettingsFault.{SettingsFaul
 use Rattle.sm_settings.specs.SettingsLine.{settings_of}
 use Rattle.sm_director.specs.declared.command_numbers.CommandNumbers.{CommandNumbers}
 use Rattle.sm_director.specs.declared.director.Director.{Director}
+use Rattle.sm_director.specs.declared.director_fault.DirectorFault.{DirectorFault}
+use Rattle.sm_director.specs.declared.director_fault.DirectorFault.TheVariants.{Command as CommandRefused}
 use Rattle.sm_director.specs.declared.director_stage.DirectorStage.TheVariants.{Sent}
 use Rattle.sm_director.specs.declared.step_parts.StepParts.{StepParts}
 use Rattle.sm_director.specs.Directors.{RefusesCommand, SendsCommand}
@@ -51,6 +51,10 @@ abbrev pub RefusesParts : StepParts → ℕ → Director → Type 0
 RefusesParts parts code director =
     (command : Command) × (fault : CommandFault) × (command_parts command ≡ parts) × (code ≡ command_code fault)
     × RefusesCommand command fault director
+
+-- the fault is that of a command, and has this code
+abbrev pub IsRefusal : DirectorFault → ℕ → Type 0
+IsRefusal fault code = (why : CommandFault) × (fault ≡ CommandRefused why) × (code ≡ command_code why)
 
 -- the bytes that a command writes to a shard's record, or to a server's state
 abbrev pub written_bytes : ℕ → CommandWrite → List ℕ

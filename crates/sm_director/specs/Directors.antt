@@ -1,5 +1,5 @@
 -- What calls do to a director: the control of a shared store by a line of settings, and what was read for it.
-use Rattle.std.specs.Prelude.{ℕ, ◌≡◌, ◌<◌, ◌++◌, ◌∷◌, [], IsTrue, List, Ok, Option, Some, None}
+use Rattle.std.specs.Prelude.{ℕ, ◌≡◌, ◌<◌, ◌++◌, ◌∷◌, [], IsTrue, List, Ok, Some}
 use Rattle.std.specs.Global.{Vec}
 use Rattle.sm_codec.specs.declared.stored_record.StoredRecord.{StoredRecord}
 use Rattle.sm_codec.specs.declared.stored_state.StoredState.{StoredState}
@@ -10,26 +10,25 @@ use Rattle.sm_desk.specs.declared.command.CommandFault.{CommandFault}
 use Rattle.sm_desk.specs.Desk.{DeskView}
 use Rattle.sm_lead.specs.declared.follower.Follower.{Follower}
 use Rattle.sm_lead.specs.declared.next_step.NextStep.{NextStep}
-use Rattle.sm_lead.specs.declared.next_step.NextStep.TheVariants.{Takes, Nothing}
 use Rattle.sm_lead.specs.declared.record_read.RecordRead.{RecordRead}
 use Rattle.sm_lead.specs.declared.sent_command.Judged.TheVariants.{Sent as JudgedSent}
 use Rattle.sm_lead.specs.declared.sent_command.SentCommand.{SentCommand}
 use Rattle.sm_lead.specs.declared.store_control.StoreControl.{StoreControl}
 use Rattle.sm_lead.specs.Commands.{IsAfter, command_fault, read_at}
 use Rattle.sm_lead.specs.Controls.{IsLoaded, KnowsStore}
-use Rattle.sm_lead.specs.NextSteps.{all_follow, step_of_drain, unless_refused}
+use Rattle.sm_lead.specs.NextSteps.{all_follow, step_of_drain, step_of_vacant, unless_refused}
 use Rattle.sm_lead.specs.Placements.{charter_of, rows_of}
 use Rattle.sm_lead.specs.Sendings.{IsJudged, command_transaction, sending_of}
-use Rattle.sm_ownership.specs.declared.change.Change.TheVariants.{Assign, DropShard}
-use Rattle.sm_place.specs.declared.plan.Move.{Move}
+use Rattle.sm_ownership.specs.declared.change.Change.TheVariants.{DropShard}
 use Rattle.sm_place.specs.declared.server_state.ServerState.{ServerState}
 use Rattle.sm_place.specs.Books.{new_books}
-use Rattle.sm_place.specs.Plans.{assign_plan}
 use Rattle.sm_settings.specs.SettingsLine.{settings_of, values_of}
 use Rattle.sm_store.specs.declared.item.Item.{Item}
 use Rattle.sm_store.specs.Deeds.{MaySend}
 use Rattle.sm_store.specs.Store.{Transaction}
 use Rattle.sm_director.specs.declared.director.Director.{Director}
+use Rattle.sm_director.specs.declared.director_fault.DirectorFault.{DirectorFault}
+use Rattle.sm_director.specs.declared.director_fault.DirectorFault.TheVariants.{Command as CommandRefused}
 use Rattle.sm_director.specs.declared.director_stage.DirectorStage.{DirectorStage}
 use Rattle.sm_director.specs.declared.director_stage.DirectorStage.TheVariants.{Unread, Stands, Sent}
 
@@ -96,6 +95,16 @@ with_stage director stage =
       followers = director.followers;
       stage = stage;
     }
+
+-- the director is as it was
+pub record KeepsAll (old new : Director) : Type 0 where
+  pub settings : new.settings ≡ old.settings
+  pub caps : new.caps ≡ old.caps
+  pub lead : new.lead ≡ old.lead
+  pub records : new.records.items ≡ old.records.items
+  pub states : new.states.items ≡ old.states.items
+  pub followers : new.followers.items ≡ old.followers.items
+  pub stage : new.stage ≡ old.stage
 
 -- the bytes spell the record that was added, which was last written at this revision
 abbrev pub AddsRecord : List ℕ → ℕ → Director → Director → Type 0
@@ -176,6 +185,11 @@ abbrev pub RefusesCommand : Command → CommandFault → Director → Type 0
 RefusesCommand command fault director =
     (control : StoreControl) × (director.stage ≡ Stands control) × (command_fault control command ≡ Some fault)
 
+-- where the fault is a command's, it refuses the command for that
+abbrev pub RefusesFor : Command → Director → DirectorFault → Type 0
+RefusesFor command director (CommandRefused why) = RefusesCommand command why director
+RefusesFor command director fault = Unit {0}
+
 -- the command that was sent was made, at this revision
 abbrev pub MakesCommand : ℕ → Director → Director → Type 0
 MakesCommand revision old new =
@@ -186,12 +200,10 @@ MakesCommand revision old new =
 abbrev pub HasControl : (StoreControl → Type 0) → Director → Type 0
 HasControl holds director = (control : StoreControl) × (director.stage ≡ Stands control) × holds control
 
--- a plan's first move begins
-abbrev pub step_of_assignment : List Move → NextStep
-step_of_assignment [] = Nothing
-step_of_assignment (move ∷ moves) = Takes (ChangeOf move.shard (Assign move.to))
+-- how a control goes on with the drain of a server
+abbrev pub drain_step : StoreControl → ℕ → NextStep
+drain_step control server = unless_refused control (step_of_drain control.desk.books server)
 
--- how a control goes on with the drain of a server, or without one with the vacant shards
-abbrev pub drain_step : StoreControl → Option ℕ → NextStep
-drain_step control None = unless_refused control (step_of_assignment (assign_plan control.desk.books).moves)
-drain_step control (Some server) = unless_refused control (step_of_drain control.desk.books server)
+-- how it goes on with the vacant shards
+abbrev pub vacant_step : StoreControl → NextStep
+vacant_step control = unless_refused control (step_of_vacant control.desk.books)

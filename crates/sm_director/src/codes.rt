@@ -1,6 +1,6 @@
 //! The codes by which calls answer C.
 ghost use Rattle.std.specs.Prelude.{◌≡◌, ◌≢◌, ◌<◌, ◌≤◌};
-ghost use Rattle.sm_director.specs.declared.director_fault.DirectorFault.TheVariants.{Command as CommandRefused};
+ghost use Rattle.sm_director.specs.Calls.{IsRefusal};
 ghost use Rattle.sm_director.specs.Kinds.{change_code, command_code, line_code, place_code, restart_code};
 
 use crate::director_fault::DirectorFault;
@@ -108,7 +108,8 @@ pub(crate) const NOT_FOLLOWED: u32 = 96;
 
 /// The code of why a call on a director did nothing.
 pub(crate) fn code_of(fault: DirectorFault) -> u32
-    ensures { result ≢ 0 }
+    ensures some { result ≢ 0 }
+    ensures refused { 10 ≤ result → result < 50 → IsRefusal fault result }
 {
     match fault {
         DirectorFault::Memory => NO_MEMORY,
@@ -122,8 +123,6 @@ pub(crate) fn code_of(fault: DirectorFault) -> u32
         DirectorFault::UnderWay => UNDER_WAY,
         DirectorFault::NotFollowed => NOT_FOLLOWED,
         DirectorFault::NotSent => NOT_SENT,
-        DirectorFault::UnknownShard => UNKNOWN_SHARD,
-        DirectorFault::UnknownServer => UNKNOWN_SERVER,
         DirectorFault::TooShort => TOO_SHORT,
     }
 }

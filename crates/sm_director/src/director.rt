@@ -3,24 +3,26 @@ ghost use Rattle.sm_lead.specs.Commands.{read_at};
 ghost use Rattle.sm_lead.specs.NextSteps.{IsAllowed, fallen, server_step, shard_step};
 ghost use Rattle.sm_place.specs.Books.{state_of};
 ghost use Rattle.sm_settings.specs.SettingsLine.{settings_of};
-ghost use Rattle.sm_director.specs.declared.director_fault.DirectorFault.TheVariants.{Command as CommandRefused};
 ghost use Rattle.sm_director.specs.declared.director_stage.DirectorStage.TheVariants.{Stands as StandsAs};
 ghost use Rattle.sm_director.specs.Calls.{SpellsSent};
 ghost use Rattle.sm_director.specs.Directors.{AddsFollower, AddsRecord, AddsState, ForgetsAll, ForgetsFollowers};
-ghost use Rattle.sm_director.specs.Directors.{HasControl, IsFollowed, IsNewDirector, LoadsControl, MakesCommand};
-ghost use Rattle.sm_director.specs.Directors.{RefusesCommand, SendsCommand, desk_of_settings, drain_step};
+ghost use Rattle.sm_director.specs.Directors.{HasControl, IsFollowed, IsNewDirector, KeepsAll, LoadsControl};
+ghost use Rattle.sm_director.specs.Directors.{MakesCommand, RefusesFor, SendsCommand, desk_of_settings, drain_step};
+ghost use Rattle.sm_director.specs.Directors.{vacant_step};
 
 use crate::command_numbers::CommandNumbers;
 use crate::director_fault::DirectorFault;
 use crate::director_stage::DirectorStage;
 use crate::spelling::spell;
 use sm_codec::{read_record, read_state};
-use sm_desk::{Command, Desk};
+use sm_desk::{Command, CommandFault, Desk};
 use sm_lead::laws::commands_may_be_sent;
 use sm_lead::{
     Follower, Judged, Leadership, NextStep, RecordRead, SendOutcome, StoreControl, all_follow,
+    read_at,
 };
 use sm_ownership::change::Change;
+use sm_ownership::change_fault::ChangeFault;
 use sm_place::{Books, ServerState};
 use sm_ranges::server_id::ServerId;
 use sm_ranges::shard_id::ShardId;
@@ -70,7 +72,7 @@ impl Director {
     /// Adds the next shard's record, before `read`: these bytes, last written at this revision.
     pub fn add_record(&mut self, bytes: &[u8], stood: u64) -> Result<(), DirectorFault>
         ensures added { OnOk result (AddsRecord bytes.now stood self.old self.new) }
-        ensures kept { OnErr result (self.new ≡ self.old) }
+        ensures kept { OnErr result (KeepsAll self.old self.new) }
     {
         let stored = read_record(bytes)?;
         self.records.push(RecordRead {
@@ -83,7 +85,7 @@ impl Director {
     /// Adds the next server's state, before `read`: these bytes.
     pub fn add_state(&mut self, bytes: &[u8]) -> Result<(), DirectorFault>
         ensures added { OnOk result (AddsState bytes.now self.old self.new) }
-        ensures kept { OnErr result (self.new ≡ self.old) }
+        ensures kept { OnErr result (KeepsAll self.old self.new) }
     {
         let stored = read_state(bytes)?;
         self.states.push(stored.state)?;
@@ -93,7 +95,7 @@ impl Director {
     /// Adds a server whose key is there, and the revision up to which it has read the store.
     pub fn add_follower(&mut self, server: ServerId, revision: u64) -> Result<(), DirectorFault>
         ensures added { OnOk result (AddsFollower server revision self.old self.new) }
-        ensures kept { OnErr result (self.new ≡ self.old) }
+        ensures kept { OnErr result (KeepsAll self.old self.new) }
     {
         self.followers.push(Follower { server, revision })?;
         Ok(())
@@ -163,8 +165,7 @@ impl Director {
     /// Judges the command: where the control that stands doesn't refuse it, it is to be sent.
     pub fn command(&mut self, command: Command) -> Result<(), DirectorFault>
         ensures sent { OnOk result (SendsCommand command self.old self.new) }
-        ensures refused { IfErr result (λ fault. (why : _) → fault ≡ CommandRefused why
-            → RefusesCommand command why self.old) }
+        ensures refused { IfErr result (RefusesFor command self.old) }
         ensures kept { OnErr result (self.new ≡ self.old) }
     {
         match std::mem::replace(&mut self.stage, DirectorStage::Unread) {
@@ -204,7 +205,10 @@ impl Director {
         ensures { OnOk result (SpellsSent numbers.new into.new self.now) }
     {
         match &self.stage {
-            DirectorStage::Sent(sent) => spell(alloc, &sent.sending(), numbers, into),
+            DirectorStage::Sent(sent) => {
+                spell(alloc, &sent.sending(), numbers, into)?;
+                Ok(())
+            }
             _ => Err(DirectorFault::NotSent),
         }
     }
@@ -246,7 +250,7 @@ impl Director {
     {
         let control = self.standing()?;
         if k.index() >= control.records.len() {
-            return Err(DirectorFault::UnknownShard);
+            return Err(unknown_shard());
         }
         Ok(control.next_of_shard(k, &self.followers))
     }
@@ -260,20 +264,23 @@ impl Director {
         Ok(control.next_of_server(server))
     }
 
-    /// What comes next of the drain of the server, or without one of the vacant shards.
-    pub fn next_of_drain(
-        &self,
-        alloc: Global,
-        server: Option<ServerId>,
-    ) -> Result<NextStep, DirectorFault>
+    /// What comes next of the drain of the server.
+    pub fn next_of_drain(&self, alloc: Global, server: ServerId) -> Result<NextStep, DirectorFault>
         ensures { IfOk result (λ step. HasControl (λ control.
             (step ≡ drain_step control server) × IsAllowed control step) self.now) }
     {
         let control = self.standing()?;
-        let step = match server {
-            Some(server) => control.next_of_drain(alloc, server)?,
-            None => next_of_vacant(control, alloc)?,
-        };
+        let step = control.next_of_drain(alloc, server)?;
+        Ok(step)
+    }
+
+    /// What comes next of the vacant shards.
+    pub fn next_of_vacant(&self, alloc: Global) -> Result<NextStep, DirectorFault>
+        ensures { IfOk result (λ step. HasControl (λ control.
+            (step ≡ vacant_step control) × IsAllowed control step) self.now) }
+    {
+        let control = self.standing()?;
+        let step = control.next_of_vacant(alloc)?;
         Ok(step)
     }
 
@@ -291,10 +298,10 @@ impl Director {
         ensures { IfOk result (λ read. HasControl (λ control. read ≡ read_at control.records.items k) self.now) }
     {
         let control = self.standing()?;
-        match control.records.get(k.index()) {
-            Some(read) => Ok(*read),
-            None => Err(DirectorFault::UnknownShard),
+        if k.index() >= control.records.len() {
+            return Err(unknown_shard());
         }
+        Ok(read_at(&control.records, k))
     }
 
     /// The server's state.
@@ -304,7 +311,7 @@ impl Director {
         let control = self.standing()?;
         control.desk.soundness();
         if !control.desk.knows(server) {
-            return Err(DirectorFault::UnknownServer);
+            return Err(DirectorFault::Command(CommandFault::UnknownServer));
         }
         Ok(control.desk.books().state(server))
     }
@@ -316,27 +323,12 @@ fn is_followed(control: &StoreControl, followers: &[Follower], command: &Command
 {
     match command {
         Command::Change(k, Change::DropShard) => {
-            let stood = match control.records.get(k.index()) {
-                Some(read) => read.stood,
-                None => 0,
-            };
-            all_follow(followers, stood)
+            all_follow(followers, read_at(&control.records, *k).stood)
         }
         _ => true,
     }
 }
 
-// What comes next of the vacant shards.
-fn next_of_vacant(control: &StoreControl, alloc: Global) -> Result<NextStep, DirectorFault>
-    ensures { IfOk result (λ step. (step ≡ drain_step control.now None) × IsAllowed control.now step) }
-{
-    let plan = control.desk.books().plan_assign(alloc)?;
-    let [first, ..] = plan.moves() else {
-        return Ok(NextStep::Nothing);
-    };
-    let command = Command::Change(first.shard, Change::Assign(first.to));
-    match control.judge(&command) {
-        Ok(_) => Ok(NextStep::Takes(command)),
-        Err(_) => Ok(NextStep::Waits),
-    }
+fn unknown_shard() -> DirectorFault {
+    DirectorFault::Command(CommandFault::Change(ChangeFault::UnknownShard))
 }

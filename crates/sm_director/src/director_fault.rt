@@ -12,7 +12,7 @@ pub enum DirectorFault {
     Bytes,
     /// No control can be made of what was read.
     Load(LoadFault),
-    /// The command is refused.
+    /// The command is refused; or there is no such shard or server.
     Command(CommandFault),
     /// Nothing was read yet, or all is to be read again.
     Unread,
@@ -22,10 +22,6 @@ pub enum DirectorFault {
     NotFollowed,
     /// No command was sent.
     NotSent,
-    /// There is no such shard.
-    UnknownShard,
-    /// There is no such server.
-    UnknownServer,
     /// What would be written is longer than the room for it.
     TooShort,
 }

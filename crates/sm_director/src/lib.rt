@@ -10,11 +10,12 @@ ghost use Rattle.sm_lead.specs.Commands.{read_at};
 ghost use Rattle.sm_lead.specs.NextSteps.{fallen, server_step, shard_step};
 ghost use Rattle.sm_place.specs.Books.{state_of};
 ghost use Rattle.sm_ranges.specs.Ranges.{shard_of};
-ghost use Rattle.sm_word.specs.Word.{server_of, word_of};
+ghost use Rattle.sm_word.specs.Word.{word_of};
 ghost use Rattle.sm_director.specs.Calls.{BreaksRule, DirectsOn, IsServerAt, KeepsDirector, RefusesParts, SendsParts};
 ghost use Rattle.sm_director.specs.Calls.{SpellsSent, TellsStep};
 ghost use Rattle.sm_director.specs.Directors.{AddsFollower, AddsRecord, AddsState, ForgetsAll, ForgetsFollowers};
-ghost use Rattle.sm_director.specs.Directors.{HasControl, IsNewDirector, LoadsControl, MakesCommand, drain_step};
+ghost use Rattle.sm_director.specs.Directors.{HasControl, IsNewDirector, KeepsAll, LoadsControl, MakesCommand};
+ghost use Rattle.sm_director.specs.Directors.{drain_step, vacant_step};
 
 mod codes;
 pub mod command_numbers;
@@ -129,7 +130,7 @@ pub extern "C" fn durkenzo_director_record(
 ) -> u32
     ensures made { result ≡ 0
         → DirectsOn (AddsRecord bytes.now stood) director.old.owned.state director.new.owned.state }
-    ensures kept { result ≢ 0 → director.new.owned.state ≡ director.old.owned.state }
+    ensures kept { 3 ≤ result → DirectsOn KeepsAll director.old.owned.state director.new.owned.state }
 {
     if !director.full {
         return WRONG_HANDLE;
@@ -144,7 +145,7 @@ pub extern "C" fn durkenzo_director_record(
 #[unsafe(no_mangle)]
 pub extern "C" fn durkenzo_director_state(director: &mut DirectorHandle, bytes: &[u8]) -> u32
     ensures made { result ≡ 0 → DirectsOn (AddsState bytes.now) director.old.owned.state director.new.owned.state }
-    ensures kept { result ≢ 0 → director.new.owned.state ≡ director.old.owned.state }
+    ensures kept { 3 ≤ result → DirectsOn KeepsAll director.old.owned.state director.new.owned.state }
 {
     if !director.full {
         return WRONG_HANDLE;
@@ -267,7 +268,7 @@ pub extern "C" fn durkenzo_director_follower(
 ) -> u32
     ensures made { result ≡ 0
         → DirectsOn (AddsFollower server revision) director.old.owned.state director.new.owned.state }
-    ensures kept { result ≢ 0 → director.new.owned.state ≡ director.old.owned.state }
+    ensures kept { 3 ≤ result → DirectsOn KeepsAll director.old.owned.state director.new.owned.state }
 {
     let Some(server) = ServerId::new(server) else {
         return BAD_ARGUMENT;
@@ -357,18 +358,28 @@ pub extern "C" fn durkenzo_director_next_of_drain(
     server: u16,
     step: &mut StepParts,
 ) -> u32
-    ensures told { result ≡ 0 → KeepsDirector (HasControl (λ control.
-        TellsStep step.new (drain_step control (server_of server)) control)) director.old.owned.state }
+    ensures drain { result ≡ 0 → server ≢ 0 → KeepsDirector (HasControl (λ control.
+        TellsStep step.new (drain_step control server) control)) director.old.owned.state }
+    ensures vacant { result ≡ 0 → server ≡ 0 → KeepsDirector (HasControl (λ control.
+        TellsStep step.new (vacant_step control) control)) director.old.owned.state }
     ensures unchanged { director.new.owned.state ≡ director.old.owned.state }
 {
-    let from = ServerId::new(server);
-    if server != 0 && from.is_none() {
-        return BAD_ARGUMENT;
-    }
     if !director.full {
         return WRONG_HANDLE;
     }
-    match director.owned.state_mut().next_of_drain(alloc, from) {
+    if server == 0 {
+        return match director.owned.state_mut().next_of_vacant(alloc) {
+            Ok(next) => {
+                *step = parts_of(&next);
+                0
+            }
+            Err(fault) => code_of(fault),
+        };
+    }
+    let Some(server) = ServerId::new(server) else {
+        return BAD_ARGUMENT;
+    };
+    match director.owned.state_mut().next_of_drain(alloc, server) {
         Ok(next) => {
             *step = parts_of(&next);
             0

@@ -1,5 +1,6 @@
 //! Records that have words. Each has that was read, and each that a change leads to.
-ghost use Rattle.std.specs.Prelude.{IsTrue};
+ghost use Rattle.std.specs.Prelude.{◌≢◌, IsTrue, Some};
+ghost use Rattle.sm_ranges.specs.ServerId.{IsServer};
 ghost use Rattle.sm_word.specs.Word.{FitsStand, IsWellFormed, NamesServers};
 
 use sm_ownership::record::{MAX_GENERATION, Record};
@@ -27,7 +28,10 @@ fn names_servers(stand: &Stand) -> bool
     }
 }
 
-fn are_apart(one: ServerId, other: ServerId) -> bool {
+fn are_apart(one: ServerId, other: ServerId) -> bool
+    ensures servers { IsServer one × IsServer other }
+    ensures apart { IsTrue result → Some one ≢ Some other }
+{
     one.number() != other.number()
 }
 

@@ -6,12 +6,12 @@ use Rattle.std.specs.Option.{option_map}
 use Rattle.sm_ranges.specs.declared.stand.Stand.{Stand}
 use Rattle.sm_ranges.specs.declared.stand.Stand.TheVariants.{Vacant, Serving, Prepared, Forwarding, Taken, Paused}
 use Rattle.sm_ownership.specs.declared.change.Change.TheVariants.{PrepareAddShard, PrepareDropShard, AddShard}
-use Rattle.sm_ownership.specs.declared.change.Change.TheVariants.{DropShard, Cancel, Pause, Reassign}
+use Rattle.sm_ownership.specs.declared.change.Change.TheVariants.{Assign, DropShard, Cancel, Pause, Reassign}
 use Rattle.sm_place.specs.declared.plan.Move.{Move}
 use Rattle.sm_place.specs.declared.server_state.ServerState.{ServerState}
 use Rattle.sm_place.specs.declared.server_state.ServerState.TheVariants as states
 use Rattle.sm_place.specs.Books.{BooksView, shard_at, state_of}
-use Rattle.sm_place.specs.Plans.{drain_plan}
+use Rattle.sm_place.specs.Plans.{assign_plan, drain_plan}
 use Rattle.sm_place.specs.ServerState.{is_approved, is_failed, is_leaving, is_unreached}
 use Rattle.sm_desk.specs.declared.command.Command.{Command}
 use Rattle.sm_desk.specs.declared.command.Command.TheVariants.{Change, Approve, Stopped}
@@ -78,6 +78,15 @@ step_of_moves approved (move ∷ moves) left = Takes (Change move.shard (Prepare
 abbrev pub step_of_drain : BooksView → ℕ → NextStep
 step_of_drain books server =
     let plan = drain_plan books server in step_of_moves (is_approved (state_of books server)) plan.moves plan.left
+
+-- the first move of a plan is made
+abbrev pub step_of_assignment : List Move → NextStep
+step_of_assignment [] = Nothing
+step_of_assignment (move ∷ moves) = Takes (Change move.shard (Assign move.to))
+
+-- how it goes on with the vacant shards
+abbrev pub step_of_vacant : BooksView → NextStep
+step_of_vacant books = step_of_assignment (assign_plan books).moves
 
 -- it waits where the command is refused
 abbrev pub unless_refused : StoreControl → NextStep → NextStep

@@ -34,6 +34,6 @@ pub use follower::{Follower, all_follow};
 pub use leadership::Leadership;
 pub use load_fault::LoadFault;
 pub use next_step::NextStep;
-pub use record_read::RecordRead;
+pub use record_read::{RecordRead, read_at};
 pub use sent_command::{Judged, SendOutcome, SentCommand};
 pub use store_control::StoreControl;

@@ -13,7 +13,7 @@ pub struct RecordRead {
 }
 
 /// What was read of the shard.
-pub(crate) fn read_at(reads: &[RecordRead], shard: ShardId) -> RecordRead
+pub fn read_at(reads: &[RecordRead], shard: ShardId) -> RecordRead
     ensures { result ≡ read_at reads.now shard }
 {
     match reads.get(shard.index()) {

@@ -7,7 +7,7 @@ ghost use Rattle.sm_place.specs.ServerState.{is_approved, is_failed, is_leaving,
 ghost use Rattle.sm_lead.specs.NextSteps.{IsAllowed, fallen, heir_of, is_following, lets_reassign, reassignment};
 ghost use Rattle.sm_lead.specs.NextSteps.{server_step, shard_step};
 ghost use Rattle.sm_lead.specs.NextSteps.{step_of_drain, step_of_moves, step_of_stand, step_of_state, unless_refused};
-ghost use Rattle.sm_lead.specs.NextSteps.{waits_for};
+ghost use Rattle.sm_lead.specs.NextSteps.{step_of_assignment, step_of_vacant, waits_for};
 
 use crate::follower::{Follower, all_follow, is_following};
 use crate::next_step::NextStep;
@@ -52,6 +52,16 @@ impl StoreControl {
         let plan = self.desk.books().plan_drain(alloc, server)?;
         let approved = is_approved(state_of(&self.desk, server));
         Ok(self.unless_refused(step_of_moves(&plan, approved)))
+    }
+
+    /// How it goes on with the vacant shards: the first move of their plan is made.
+    pub fn next_of_vacant(&self, alloc: Global) -> Result<NextStep, AllocError>
+        ensures exact { IfOk result (λ step. step ≡ unless_refused self.now
+            (step_of_vacant self.now.desk.books)) }
+        ensures allowed { IfOk result (λ step. IsAllowed self.now step) }
+    {
+        let plan = self.desk.books().plan_assign(alloc)?;
+        Ok(self.unless_refused(step_of_assignment(&plan)))
     }
 
     /// The first server whose key isn't there, as its lease ended, though the desk has requests go to it: it is to be
@@ -222,6 +232,16 @@ fn step_of_moves(plan: &Plan, approved: bool) -> NextStep
         } else {
             NextStep::Nothing
         },
+        [] => NextStep::Nothing,
+    }
+}
+
+// The first move of the plan is made.
+fn step_of_assignment(plan: &Plan) -> NextStep
+    ensures { result ≡ step_of_assignment plan.now.moves }
+{
+    match plan.moves() {
+        [first, ..] => NextStep::Takes(Command::Change(first.shard, Change::Assign(first.to))),
         [] => NextStep::Nothing,
     }
 }
