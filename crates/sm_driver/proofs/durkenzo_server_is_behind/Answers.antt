@@ -9,10 +9,11 @@ pub returns-in-Ok : goal.returns-in-Ok
 returns-in-Ok c =
     let done = c.in-Ok.ensures in
     let steps = done.2 in
+    let kept = sym c.state_mut-kept.ensures.value in
     record {
       made = λ _. subst (λ (old : Option TextServer). MakesOn old
           (λ old input. input ≡ ClearInput (passing_key old.core.shard c.args.is_part c.args.number c.args.place))
-          (λ output. is_clearing output ≡ c.in-Ok.found) (Some c.clears.new.self)) (sym c.state_mut-kept.ensures.value) (
+          (λ output. is_clearing output ≡ c.in-Ok.found) (Some c.clears.new.self)) kept (
             done.0,
             done.1,
             record {
