@@ -6,17 +6,23 @@
  * and make another server. A handle begins as bytes of 0, isn't copied, and is used by one call at a time.
  *
  * The loop of a driver, for each shard:
- *  1. Read the shard's record and the head of its log, with their revisions, and the batches that the head counts:
- *     give each by durkenzo_server_batch, and then durkenzo_server_read. A record that was never written is 0x01 and
- *     16 bytes of 0, a head 0x01 and 24, both at revision 0.
+ *  1. Read the shard's record and the head of its log, with their revisions, the parts of the base that the head names,
+ *     and the batches above those that the base stands for: durkenzo_log_head_of says which these are. Give each part
+ *     by durkenzo_server_part_read and each batch by durkenzo_server_batch, and then durkenzo_server_read. A record that
+ *     was never written is 0x01 and 16 bytes of 0, a head 0x01 and 24, both at revision 0.
  *  2. Give each request by durkenzo_server_take. It is answered now, goes to another server, is refused for now, or
  *     waits; keep what waits.
- *  3. durkenzo_server_flush; where it sends, durkenzo_server_sending says the transaction: compare the revisions of the
- *     record and the head, and put the head, and the batch at its number, where there are bytes for them.
+ *  3. durkenzo_server_flush; where it sends, durkenzo_server_sending says the transaction: put the head, and the batch
+ *     at its number, where there are bytes for them. It compares the revisions of the record and the head; where it
+ *     puts a head without a batch, which names a base, that of the head alone.
  *  4. Made: durkenzo_server_made with the store's revision, and tell the answers. A compare didn't hold, or the outcome
  *     isn't known: durkenzo_server_lost, then from 1, and what waited is given again.
  *  5. Where the watch shows a record: durkenzo_server_record, and what waited is given again; read anew where a
- *     transaction was under way. */
+ *     transaction was under way.
+ *  6. Now and then durkenzo_server_base. Where it begins a base, put each of its parts, by durkenzo_server_part, at its
+ *     place below the base's number, by transactions that compare nothing; once all are made durkenzo_server_parts_made,
+ *     and the next transaction names the base. What durkenzo_server_is_behind says of a batch or a part may then be
+ *     deleted, by transactions that compare nothing. Where the server loses, it has forgotten the base: begin another. */
 #ifndef DURKENZO_STORE_H
 #define DURKENZO_STORE_H
 
@@ -39,7 +45,7 @@ enum durkenzo_store_code {
     DURKENZO_STORE_NO_MEMORY = 3,          /* memory was refused */
     DURKENZO_STORE_UNKNOWN_SHARD = 10,     /* there is no such shard */
     DURKENZO_STORE_TOO_SHORT = 55,         /* what would be written is longer than the room for it */
-    DURKENZO_STORE_NO_MORE = 56,           /* there is no such answer */
+    DURKENZO_STORE_NO_MORE = 56,           /* there is no such answer or part */
     DURKENZO_STORE_WAITS = 70,             /* the request waits for the next transaction, or is in one */
     DURKENZO_STORE_PASSED = 71,            /* a later request of its client is made, so this one won't be made */
     DURKENZO_STORE_FORWARDS = 72,          /* another server executes the request */
@@ -54,7 +60,7 @@ enum durkenzo_store_code {
     DURKENZO_STORE_BAD_BYTES = 81,         /* what lies at a key is wrong */
     DURKENZO_STORE_BAD_LOG = 82,           /* the log can't be followed */
     DURKENZO_STORE_MISSING = 83,           /* a batch, or a part of the base, isn't there: the log is to be read again */
-    DURKENZO_STORE_TOO_LARGE = 84          /* a batch has more bytes than can be spelled */
+    DURKENZO_STORE_TOO_LARGE = 84          /* a batch or a part has more bytes than can be spelled */
     /* End of them. */
 };
 
@@ -87,6 +93,25 @@ typedef struct {
     size_t batch_length;
 } durkenzo_sent_numbers;
 
+/* The head of a shard's log: how many batches there are, how many of them, from the first on, the base stands for, and
+ * in how many parts it lies; 0 for no base. */
+typedef struct {
+    uint64_t batches;
+    uint64_t base;
+    uint64_t parts;
+} durkenzo_log_head;
+
+/* A part of the base that a server makes: how many batches the base stands for, which is its number, in how many parts
+ * it lies, and how many bytes this one has. */
+typedef struct {
+    uint64_t number;
+    uint64_t count;
+    size_t length;
+} durkenzo_part_numbers;
+
+/* The bytes that a part of a base has at most. */
+#define DURKENZO_STORE_PART_BYTES 696337
+
 /* An answer: whose request it is, its number, its reply, and how many bytes its text has, where it is a read of one. */
 typedef struct {
     uint64_t client;
@@ -102,10 +127,18 @@ typedef struct {
 uint32_t durkenzo_server(durkenzo_server_handle *server, uint16_t me, uint16_t shard, uint64_t count,
                          uint64_t batch_bytes, size_t batch_requests, size_t waiting, size_t clients);
 
+/* What the bytes at a log's head say: parts 0 to `parts` - 1 of base number `base`, and batches `base` + 1 to `batches`
+ * are to be read. */
+uint32_t durkenzo_log_head_of(const uint8_t *bytes, size_t length, durkenzo_log_head *head);
+
+/* Adds the next part that was read of the base, in the order of their places, before durkenzo_server_read. */
+uint32_t durkenzo_server_part_read(durkenzo_server_handle *server, const uint8_t *bytes, size_t length);
+
 /* Adds the next batch that was read, in the order of their numbers, before durkenzo_server_read. */
 uint32_t durkenzo_server_batch(durkenzo_server_handle *server, const uint8_t *bytes, size_t length);
 
-/* The shard was read: its record, of revision `stood`, the head of its log, of revision `logged`, and the batches. */
+/* The shard was read: its record, of revision `stood`, the head of its log, of revision `logged`, the parts of its base
+ * and the batches; these are let go. */
 uint32_t durkenzo_server_read(durkenzo_server_handle *server, const uint8_t *record, size_t record_length,
                               uint64_t stood, const uint8_t *head, size_t head_length, uint64_t logged);
 
@@ -140,6 +173,22 @@ uint32_t durkenzo_server_text(durkenzo_server_handle *server, size_t at, durkenz
 
 /* A compare of what was sent didn't hold, or what became of it isn't known. */
 uint32_t durkenzo_server_lost(durkenzo_server_handle *server);
+
+/* Begins a base of all that is made, where none is made and there are batches that the last one doesn't stand for:
+ * whether its parts are to be written now. */
+uint32_t durkenzo_server_base(durkenzo_server_handle *server, bool *begins);
+
+/* Writes what is put at the key of this part of the base. NO_MORE where it has no such part. */
+uint32_t durkenzo_server_part(durkenzo_server_handle *server, size_t place, durkenzo_part_numbers *part, uint8_t *into,
+                              size_t room);
+
+/* Each part of the base was put, so that the next transaction names it. */
+uint32_t durkenzo_server_parts_made(durkenzo_server_handle *server);
+
+/* Whether a batch, or where `is_part` a part of a base, of this number is behind the base that the head names, and is
+ * to be deleted; of a batch the place is 0. */
+uint32_t durkenzo_server_is_behind(durkenzo_server_handle *server, bool is_part, uint64_t number, uint64_t place,
+                                   bool *behind);
 
 /* Lets go the server that the handle keeps. */
 void durkenzo_server_close(durkenzo_server_handle *server);

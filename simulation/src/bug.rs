@@ -28,9 +28,13 @@ pub enum Bug {
     UnsentRead,
     /// A server goes on from a head of one moment with the batches of another.
     TornReading,
+    /// A server deletes what a base stands for before the head names it.
+    EarlyDeletion,
+    /// A base is named for one batch more than it holds.
+    ShortBase,
 }
 
-pub const BUGS: [Bug; 13] = [
+pub const BUGS: [Bug; 15] = [
     Bug::NoRecordCompare,
     Bug::NoHeadCompare,
     Bug::NoLeaderCompare,
@@ -44,4 +48,6 @@ pub const BUGS: [Bug; 13] = [
     Bug::LostAsMade,
     Bug::UnsentRead,
     Bug::TornReading,
+    Bug::EarlyDeletion,
+    Bug::ShortBase,
 ];

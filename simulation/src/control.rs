@@ -121,6 +121,7 @@ impl Control {
             compares,
             puts: vec![(written, sent.written), (Key::Commands, sent.commands)],
             process: self.process,
+            ..Txn::default()
         })
     }
 

@@ -1,6 +1,6 @@
 //! The law, checked of what a store made and what was told: by the documents alone, with nothing of the proved library.
 use crate::claim::{Claim, Said};
-use crate::reading::{self, Item, Map, Record, Replied};
+use crate::reading::{self, Item, Made, Map, Record, Replied};
 use crate::store::{Key, Txn};
 use std::collections::{HashMap, HashSet};
 
@@ -28,7 +28,13 @@ struct Shard {
     /// The revision at which that was written.
     stood: u64,
     batches: u64,
-    map: Map,
+    /// How many of them the base stands for that the head names.
+    base: u64,
+    now: Made,
+    /// What the first batches have made, by how many they are, less one.
+    after: Vec<Made>,
+    /// The numbers of the bases that lie there.
+    bases: HashSet<u64>,
     /// What each client asked last.
     lasts: HashMap<u64, u64>,
     /// The number below which clients are forgotten, since each revision that changed it.
@@ -84,7 +90,7 @@ impl World {
             .iter()
             .filter(|it| matches!(it.0, Key::Batch(..)))
             .count();
-        if heads != batches {
+        if heads < batches {
             return broken("a batch is written with its head", format!("{txn:?}"));
         }
         for (key, bytes) in &txn.puts {
@@ -93,9 +99,15 @@ impl World {
                 Key::Server(server) => self.follow(server, bytes),
                 Key::State(server) => self.restart(u64::from(server), bytes, txn)?,
                 Key::Record(shard) => self.change(shard, bytes, revision, txn)?,
-                Key::Head(shard) => self.head(shard, bytes, txn)?,
+                Key::Head(shard) if batches > 0 => self.head(shard, bytes, txn)?,
+                Key::Head(shard) => self.name(shard, bytes, txn)?,
                 Key::Batch(shard, number) => self.batch(shard, number, bytes, revision, txn)?,
+                Key::Part(shard, number, 0) => self.part(shard, number, bytes, txn)?,
+                Key::Part(..) => return broken("a base has one part here", format!("{txn:?}")),
             }
+        }
+        for key in &txn.deletes {
+            self.delete(*key)?;
         }
         if txn.puts.iter().any(|it| it.0 == Key::Leader) {
             self.leader = txn.process;
@@ -183,15 +195,60 @@ impl World {
     }
 
     fn head(&mut self, shard: u16, bytes: &[u8], txn: &Txn) -> Result<(), Broken> {
-        let [batches, ..] = found(reading::head(bytes), txn)?;
-        let before = self.shards.entry(shard).or_default().batches;
-        if batches != before + 1 {
+        let [batches, base, parts] = found(reading::head(bytes), txn)?;
+        let shard = self.shards.entry(shard).or_default();
+        let before = shard.batches;
+        if batches != before + 1 || (base, parts) != (shard.base, shard.base.min(1)) {
             return broken(
                 "a batch is the next one",
-                format!("{before} batches, then {batches}"),
+                format!("{before} batches with base {}, then {txn:?}", shard.base),
             );
         }
         Ok(())
+    }
+
+    /// A head comes to name a base.
+    fn name(&mut self, shard: u16, bytes: &[u8], txn: &Txn) -> Result<(), Broken> {
+        let [batches, base, parts] = found(reading::head(bytes), txn)?;
+        let shard = self.shards.entry(shard).or_default();
+        let is_newer = shard.base < base && base <= batches;
+        if !is_newer || batches != shard.batches || parts != 1 || !shard.bases.contains(&base) {
+            return broken("a base that is named is there", format!("{txn:?}"));
+        }
+        shard.base = base;
+        Ok(())
+    }
+
+    fn part(&mut self, shard: u16, number: u64, bytes: &[u8], txn: &Txn) -> Result<(), Broken> {
+        let holds = found(reading::base(bytes), txn)?;
+        let shard = self.shards.entry(shard).or_default();
+        let made = number
+            .checked_sub(1)
+            .and_then(|at| shard.after.get(at as usize));
+        if made != Some(&holds) {
+            return broken(
+                "a base holds what its batches made",
+                format!("{holds:?} for {made:?}"),
+            );
+        }
+        shard.bases.insert(number);
+        Ok(())
+    }
+
+    fn delete(&mut self, key: Key) -> Result<(), Broken> {
+        let is_behind = match key {
+            Key::Batch(shard, number) => number <= self.shards.entry(shard).or_default().base,
+            Key::Part(shard, number, _) => {
+                let shard = self.shards.entry(shard).or_default();
+                shard.bases.remove(&number);
+                number < shard.base
+            }
+            _ => false,
+        };
+        if is_behind {
+            return Ok(());
+        }
+        broken("what is deleted is behind the base", format!("{key:?}"))
     }
 
     fn batch(
@@ -214,8 +271,8 @@ impl World {
             );
         }
         shard.batches = number;
-        let map = shard.map.clone();
-        shard.past.push((revision, map));
+        shard.after.push(shard.now.clone());
+        shard.past.push((revision, shard.now.map.clone()));
         Ok(())
     }
 
@@ -246,7 +303,11 @@ impl World {
         if item.number <= last {
             return broken("a client's numbers rise", format!("{last}, then {item:?}"));
         }
-        let reply = shard.map.answer(body);
+        let reply = shard.now.map.answer(body);
+        let lasts = &mut shard.now.lasts;
+        lasts.insert(item.client, (item.number, reply.0, reply.1));
+        lasts.retain(|&client, _| client >= item.forgets);
+        shard.now.floor = shard.now.floor.max(item.forgets);
         shard
             .made
             .insert((item.client, item.number), (reply, revision));

@@ -52,6 +52,25 @@ struct Answer {
     kind: u8,
 }
 
+#[repr(C)]
+#[derive(Clone, Copy, Default)]
+pub struct Head {
+    pub batches: u64,
+    pub base: u64,
+    pub parts: u64,
+}
+
+#[repr(C)]
+#[derive(Clone, Copy, Default)]
+struct PartNumbers {
+    number: u64,
+    count: u64,
+    length: usize,
+}
+
+/// A batch, or a part of the base, isn't there.
+const MISSING: u32 = 83;
+
 extern "C" {
     fn durkenzo_server(
         server: *mut Handle,
@@ -64,6 +83,8 @@ extern "C" {
         clients: usize,
     ) -> u32;
     fn durkenzo_server_batch(server: *mut Handle, bytes: *const u8, length: usize) -> u32;
+    fn durkenzo_server_part_read(server: *mut Handle, bytes: *const u8, length: usize) -> u32;
+    fn durkenzo_log_head_of(bytes: *const u8, length: usize, head: *mut Head) -> u32;
     fn durkenzo_server_read(
         server: *mut Handle,
         record: *const u8,
@@ -113,6 +134,22 @@ extern "C" {
         room: usize,
     ) -> u32;
     fn durkenzo_server_lost(server: *mut Handle) -> u32;
+    fn durkenzo_server_base(server: *mut Handle, begins: *mut bool) -> u32;
+    fn durkenzo_server_part(
+        server: *mut Handle,
+        place: usize,
+        part: *mut PartNumbers,
+        into: *mut u8,
+        room: usize,
+    ) -> u32;
+    fn durkenzo_server_parts_made(server: *mut Handle) -> u32;
+    fn durkenzo_server_is_behind(
+        server: *mut Handle,
+        is_part: bool,
+        number: u64,
+        place: u64,
+        behind: *mut bool,
+    ) -> u32;
     fn durkenzo_server_close(server: *mut Handle);
 }
 
@@ -138,6 +175,12 @@ pub struct Sent {
     pub batch: Vec<u8>,
 }
 
+/// A base that a server makes: how many batches it stands for, and its parts.
+pub struct Base {
+    pub number: u64,
+    pub parts: Vec<Vec<u8>>,
+}
+
 /// An answer to a client's request; to a read with its text.
 #[derive(Clone, Debug)]
 pub struct Told {
@@ -158,6 +201,17 @@ impl Drop for Server {
         // SAFETY: the handle is this value's alone.
         unsafe { durkenzo_server_close(&mut self.handle) }
     }
+}
+
+/// What the bytes at a log's head say.
+pub fn head_of(bytes: &[u8]) -> Head {
+    let mut head = Head::default();
+    // SAFETY: the slice goes with its length.
+    must(
+        unsafe { durkenzo_log_head_of(bytes.as_ptr(), bytes.len(), &mut head) },
+        "a head",
+    );
+    head
 }
 
 pub fn must(code: u32, what: &str) {
@@ -189,7 +243,21 @@ impl Server {
         made
     }
 
-    pub fn read(&mut self, record: &[u8], stood: u64, head: &[u8], logged: u64, batches: &[&[u8]]) {
+    /// Whether the log could be followed: not where a batch or a part is missing.
+    pub fn read(
+        &mut self,
+        record: &[u8],
+        stood: u64,
+        head: &[u8],
+        logged: u64,
+        parts: &[&[u8]],
+        batches: &[&[u8]],
+    ) -> bool {
+        for part in parts {
+            let code =
+                unsafe { durkenzo_server_part_read(&mut self.handle, part.as_ptr(), part.len()) };
+            must(code, "a part");
+        }
         for batch in batches {
             let code =
                 unsafe { durkenzo_server_batch(&mut self.handle, batch.as_ptr(), batch.len()) };
@@ -206,7 +274,10 @@ impl Server {
                 logged,
             )
         };
-        must(code, "a reading");
+        if code != MISSING {
+            must(code, "a reading");
+        }
+        code == 0
     }
 
     pub fn record(&mut self, record: &[u8], stood: u64) {
@@ -315,5 +386,50 @@ impl Server {
 
     pub fn lost(&mut self) {
         must(unsafe { durkenzo_server_lost(&mut self.handle) }, "a loss");
+    }
+
+    /// Begins a base, where one is to be made.
+    pub fn base(&mut self) -> Option<Base> {
+        let mut begins = false;
+        must(
+            unsafe { durkenzo_server_base(&mut self.handle, &mut begins) },
+            "a base",
+        );
+        begins.then(|| {
+            let (number, count, first) = self.part(0);
+            let others = (1..count as usize).map(|place| self.part(place).2);
+            let parts = std::iter::once(first).chain(others).collect();
+            Base { number, parts }
+        })
+    }
+
+    fn part(&mut self, place: usize) -> (u64, u64, Vec<u8>) {
+        let mut numbers = PartNumbers::default();
+        let (into, room) = (self.room.as_mut_ptr(), self.room.len());
+        must(
+            unsafe { durkenzo_server_part(&mut self.handle, place, &mut numbers, into, room) },
+            "a part",
+        );
+        let bytes = self.room[..numbers.length].to_vec();
+        (numbers.number, numbers.count, bytes)
+    }
+
+    pub fn parts_made(&mut self) {
+        must(
+            unsafe { durkenzo_server_parts_made(&mut self.handle) },
+            "that parts were made",
+        );
+    }
+
+    /// Whether a batch, or a part of a base, is behind the base that the head names.
+    pub fn is_behind(&mut self, is_part: bool, number: u64, place: u64) -> bool {
+        let mut behind = false;
+        must(
+            unsafe {
+                durkenzo_server_is_behind(&mut self.handle, is_part, number, place, &mut behind)
+            },
+            "what is behind the base",
+        );
+        behind
     }
 }

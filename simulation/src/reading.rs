@@ -1,5 +1,5 @@
 //! What lies in the store and what requests mean, read here anew: nothing of the proved library is used.
-use std::collections::HashMap;
+use std::collections::{BTreeMap, HashMap};
 
 /// A shard's record. The phase is 0 vacant, 1 serving, 2 prepared, 3 forwarding, 4 taken, 5 paused.
 #[derive(Clone, Copy, Debug, Default, PartialEq, Eq)]
@@ -104,34 +104,80 @@ pub struct Item {
     pub request: Vec<u8>,
 }
 
+/// What is left of bytes that are read from front to back.
+struct Rest<'a> {
+    bytes: &'a [u8],
+}
+
+impl<'a> Rest<'a> {
+    /// Behind the version.
+    fn of(bytes: &'a [u8]) -> Option<Rest<'a>> {
+        let bytes = bytes.strip_prefix(&[1])?;
+        Some(Rest { bytes })
+    }
+
+    fn bytes(&mut self, length: u64) -> Option<&'a [u8]> {
+        let (front, after) = self.bytes.split_at_checked(length as usize)?;
+        self.bytes = after;
+        Some(front)
+    }
+
+    fn number(&mut self, length: u64) -> Option<u64> {
+        self.bytes(length).map(number)
+    }
+
+    fn items(&mut self) -> Option<Vec<Item>> {
+        let count = self.number(4)?;
+        (0..count).map(|_| self.item()).collect()
+    }
+
+    fn item(&mut self) -> Option<Item> {
+        Some(Item {
+            client: self.number(8)?,
+            number: self.number(8)?,
+            from: self.number(4)?,
+            hops: self.number(1)?,
+            forgets: self.number(8)?,
+            request: {
+                let length = self.number(4)?;
+                self.bytes(length)?.to_vec()
+            },
+        })
+    }
+}
+
 /// The server that executed a batch, and its requests.
 pub fn batch(bytes: &[u8]) -> Option<(u64, Vec<Item>)> {
-    let mut rest = bytes.strip_prefix(&[1])?;
-    let mut field = |length: usize| {
-        let (front, after) = rest.split_at_checked(length)?;
-        rest = after;
-        Some(front.to_vec())
-    };
-    let server = number(&field(4)?);
-    let count = number(&field(4)?);
-    let mut items = Vec::new();
-    for _ in 0..count {
-        let client = number(&field(8)?);
-        let of_client = number(&field(8)?);
-        let from = number(&field(4)?);
-        let hops = number(&field(1)?);
-        let forgets = number(&field(8)?);
-        let length = number(&field(4)?) as usize;
-        items.push(Item {
-            client,
-            number: of_client,
-            from,
-            hops,
-            forgets,
-            request: field(length)?,
-        });
-    }
-    rest.is_empty().then_some((server, items))
+    let mut rest = Rest::of(bytes)?;
+    let server = rest.number(4)?;
+    let items = rest.items()?;
+    rest.bytes.is_empty().then_some((server, items))
+}
+
+/// What a shard's first requests have made: its map, each client's last number and reply, and the number below which
+/// clients are forgotten.
+#[derive(Clone, Debug, Default, PartialEq, Eq)]
+pub struct Made {
+    pub map: Map,
+    pub lasts: BTreeMap<u64, (u64, u8, u64)>,
+    pub floor: u64,
+}
+
+/// What a base of one part holds.
+pub fn base(bytes: &[u8]) -> Option<Made> {
+    let mut rest = Rest::of(bytes)?;
+    let floor = rest.number(8)?;
+    let length = rest.number(4)?;
+    let map = Map::of(rest.bytes(length)?)?;
+    let items = rest.items()?;
+    let lasts = items.iter().map(|it| {
+        let is_bare = (it.from, it.hops, it.forgets, it.request.len()) == (0, 0, 0, 9);
+        let last = (it.number, it.request[0], number(&it.request[1..]));
+        is_bare.then_some((it.client, last))
+    });
+    let lasts = lasts.collect::<Option<_>>()?;
+    let made = Made { map, lasts, floor };
+    rest.bytes.is_empty().then_some(made)
 }
 
 #[derive(Clone, Debug, PartialEq, Eq)]
@@ -144,7 +190,7 @@ pub enum Value {
 pub type Replied = (u8, u64, Vec<u8>);
 
 /// Texts and counts by key.
-#[derive(Clone, Debug, Default)]
+#[derive(Clone, Debug, Default, PartialEq, Eq)]
 pub struct Map {
     held: HashMap<Vec<u8>, Value>,
 }
@@ -154,6 +200,21 @@ fn bare(kind: u8) -> Replied {
 }
 
 impl Map {
+    /// The map that a base has as these bytes.
+    fn of(bytes: &[u8]) -> Option<Map> {
+        let (mut rest, mut map) = (Rest { bytes }, Map::default());
+        while !rest.bytes.is_empty() {
+            let (kind, keys, number) = (rest.number(1)?, rest.number(8)?, rest.number(8)?);
+            let key = rest.bytes(keys)?.to_vec();
+            let value = match kind {
+                0 => Value::Text(rest.bytes(number)?.to_vec()),
+                _ => Value::Count(number as i64),
+            };
+            map.held.insert(key, value);
+        }
+        Some(map)
+    }
+
     /// The reply to a request, which it carries out.
     pub fn answer(&mut self, request: &[u8]) -> Replied {
         let length = request.get(1).map_or(0, |&it| usize::from(it));

@@ -2,7 +2,7 @@
 use crate::bug::Bug;
 use crate::claim::Said;
 use crate::control::UNWRITTEN;
-use crate::raw::{Decision, Server, Told};
+use crate::raw::{head_of, Decision, Server, Told};
 use crate::store::{Key, Store, Txn};
 
 /// The head of a log with no batch is read as these bytes.
@@ -32,6 +32,9 @@ pub struct Envelope {
 /// What a server does.
 pub enum Deed {
     Sends(Txn),
+    /// It writes the part at this place of the base with this ticket.
+    Writes(Txn, u64, u64),
+    Deletes(Txn),
     Forwards(Envelope),
     Tells {
         shard: u16,
@@ -39,6 +42,15 @@ pub enum Deed {
         number: u64,
         said: Said,
     },
+}
+
+/// A base whose parts are written, until the head names it.
+struct Writing {
+    ticket: u64,
+    number: u64,
+    parts: Vec<Vec<u8>>,
+    /// The places of the parts of which it isn't known that they are there.
+    left: Vec<u64>,
 }
 
 /// What a server keeps of a shard.
@@ -50,6 +62,14 @@ pub struct Driver {
     /// How often it has sent; a transaction is under way.
     pub ticket: u64,
     pub is_sent: bool,
+    /// The number of the batch in it, 0 for none; whether it names a base.
+    number: u64,
+    is_naming: bool,
+    /// How many batches it knows of.
+    batches: u64,
+    /// How many bases it has begun.
+    bases: u64,
+    writing: Option<Writing>,
     /// What the core holds, or is to be decided again.
     pending: Vec<Envelope>,
     bug: Option<Bug>,
@@ -64,6 +84,11 @@ impl Driver {
             is_read: false,
             ticket: 0,
             is_sent: false,
+            number: 0,
+            is_naming: false,
+            batches: 0,
+            bases: 0,
+            writing: None,
             pending: Vec::new(),
             bug,
         }
@@ -77,36 +102,45 @@ impl Driver {
     pub fn read(&mut self, store: &Store, stood_at: u64, logged_at: u64, deeds: &mut Vec<Deed>) {
         let (record, stood) = store.read_at(Key::Record(self.shard), stood_at);
         let (head, logged) = store.read_at(Key::Head(self.shard), logged_at);
-        let head = head.unwrap_or(&EMPTY);
-        let [mut batches, ..] = crate::reading::head(head).expect("a head");
-        let mut head = head.to_vec();
-        if self.has(Bug::TornReading) && batches > 0 {
+        let mut head = head.unwrap_or(&EMPTY).to_vec();
+        let mut counts = head_of(&head);
+        if self.has(Bug::TornReading) && counts.batches > counts.base {
             // It takes the head of the latest moment with the batches of an earlier one.
-            batches -= 1;
-            head[1..9].copy_from_slice(&batches.to_be_bytes());
+            counts.batches -= 1;
+            head[1..9].copy_from_slice(&counts.batches.to_be_bytes());
         }
-        let found: Vec<&[u8]> = (1..=batches)
-            .map(|at| {
-                store
-                    .read_at(Key::Batch(self.shard, at), store.revision)
-                    .0
-                    .expect("a batch")
-            })
+        let found = |key| store.read_at(key, store.revision).0;
+        let parts: Vec<&[u8]> = (0..counts.parts)
+            .filter_map(|place| found(Key::Part(self.shard, counts.base, place)))
             .collect();
-        self.core
-            .read(record.unwrap_or(&UNWRITTEN), stood, &head, logged, &found);
-        self.is_read = true;
+        let batches: Vec<&[u8]> = (counts.base + 1..=counts.batches)
+            .filter_map(|at| found(Key::Batch(self.shard, at)))
+            .collect();
+        let record = record.unwrap_or(&UNWRITTEN);
+        self.forget();
+        self.is_read = self
+            .core
+            .read(record, stood, &head, logged, &parts, &batches);
+        self.batches = counts.batches;
+        if self.is_read {
+            self.decide_again(deeds);
+        }
+    }
+
+    // What the core knew, it has forgotten.
+    fn forget(&mut self) {
+        self.is_read = false;
         self.is_sent = false;
-        self.decide_again(deeds);
+        self.writing = None;
     }
 
     /// Sees the record by the watch.
     pub fn record(&mut self, store: &Store, stood_at: u64, deeds: &mut Vec<Deed>) {
         let (record, stood) = store.read_at(Key::Record(self.shard), stood_at);
-        let was_sent = self.is_sent;
         self.core.record(record.unwrap_or(&UNWRITTEN), stood);
-        self.is_read = self.is_read && !was_sent;
-        self.is_sent = false;
+        if self.is_sent {
+            self.forget();
+        }
         if self.is_read {
             self.decide_again(deeds);
         }
@@ -159,11 +193,17 @@ impl Driver {
         if !self.core.flush() {
             return;
         }
-        let sent = self.core.sending();
+        let mut sent = self.core.sending();
         self.ticket += 1;
         self.is_sent = true;
+        self.number = sent.number;
+        self.is_naming = sent.number == 0 && !sent.head.is_empty();
+        if self.is_naming && self.has(Bug::ShortBase) {
+            let base = head_of(&sent.head).base + 1;
+            sent.head[9..17].copy_from_slice(&base.to_be_bytes());
+        }
         let mut txn = Txn::default();
-        if !self.has(Bug::NoRecordCompare) {
+        if !self.is_naming && !self.has(Bug::NoRecordCompare) {
             txn.compares.push((Key::Record(self.shard), sent.stood));
         }
         if !self.has(Bug::NoHeadCompare) {
@@ -195,6 +235,11 @@ impl Driver {
     fn made(&mut self, revision: u64, deeds: &mut Vec<Deed>) {
         self.is_sent = false;
         let (made, read) = self.core.made(revision);
+        if self.number > 0 {
+            self.batches = self.number;
+        } else if self.is_naming {
+            self.writing = None;
+        }
         for told in made {
             self.pending
                 .retain(|it| (it.client, it.number) != (told.client, told.number));
@@ -233,8 +278,75 @@ impl Driver {
 
     fn lost(&mut self) {
         self.core.lost();
-        self.is_read = false;
-        self.is_sent = false;
+        self.forget();
+    }
+
+    /// Begins a base, and writes what isn't known to be there of the one that it has begun.
+    pub fn base(&mut self, deeds: &mut Vec<Deed>) {
+        if self.writing.is_none() {
+            self.begin();
+        }
+        let is_short = self.has(Bug::ShortBase);
+        let Some(writing) = &self.writing else {
+            return;
+        };
+        if is_short && self.batches <= writing.number {
+            return;
+        }
+        let number = writing.number + u64::from(is_short);
+        for &place in &writing.left {
+            let part = Key::Part(self.shard, number, place);
+            let txn = Txn {
+                puts: vec![(part, writing.parts[place as usize].clone())],
+                ..Txn::default()
+            };
+            deeds.push(Deed::Writes(txn, writing.ticket, place));
+        }
+    }
+
+    fn begin(&mut self) {
+        let Some(base) = self.core.base() else {
+            return;
+        };
+        self.bases += 1;
+        self.writing = Some(Writing {
+            ticket: self.bases,
+            number: base.number,
+            left: (0..base.parts.len() as u64).collect(),
+            parts: base.parts,
+        });
+    }
+
+    /// The part at this place of the base with this ticket is there.
+    pub fn part_made(&mut self, ticket: u64, place: u64) {
+        let Some(writing) = self.writing.as_mut().filter(|it| it.ticket == ticket) else {
+            return;
+        };
+        let were_left = !writing.left.is_empty();
+        writing.left.retain(|&it| it != place);
+        if were_left && writing.left.is_empty() {
+            self.core.parts_made();
+        }
+    }
+
+    /// Deletes what lies at the key, where that is behind the base.
+    pub fn clear(&mut self, key: Key, deeds: &mut Vec<Deed>) {
+        let is_behind = match key {
+            Key::Batch(_, number) => {
+                self.core.is_behind(false, number, 0)
+                    || self.has(Bug::EarlyDeletion)
+                        && self.writing.as_ref().is_some_and(|it| number <= it.number)
+            }
+            Key::Part(_, number, place) => self.core.is_behind(true, number, place),
+            _ => false,
+        };
+        if is_behind {
+            let deletes = vec![key];
+            deeds.push(Deed::Deletes(Txn {
+                deletes,
+                ..Txn::default()
+            }));
+        }
     }
 
     /// It isn't known what became of the transaction that was sent.

@@ -1,7 +1,7 @@
 //! A store in memory: keys with revisions, and transactions that are made as a whole.
 use std::collections::HashMap;
 
-#[derive(Clone, Copy, Debug, PartialEq, Eq, Hash)]
+#[derive(Clone, Copy, Debug, PartialEq, Eq, PartialOrd, Ord, Hash)]
 pub enum Key {
     Leader,
     /// What each command of a control writes.
@@ -13,6 +13,8 @@ pub enum Key {
     Server(u16),
     Head(u16),
     Batch(u16, u64),
+    /// A part of the base of so many batches, by its place.
+    Part(u16, u64, u64),
 }
 
 /// It is made where each key was last written at the revision that is compared, 0 where it never was.
@@ -20,14 +22,18 @@ pub enum Key {
 pub struct Txn {
     pub compares: Vec<(Key, u64)>,
     pub puts: Vec<(Key, Vec<u8>)>,
+    pub deletes: Vec<Key>,
     /// The control that sent it, 0 for a server.
     pub process: u64,
 }
 
+/// The revision that wrote a key, and what it has held since: nothing, where that deleted it.
+type Written = (u64, Option<Vec<u8>>);
+
 #[derive(Default)]
 pub struct Store {
     pub revision: u64,
-    written: HashMap<Key, Vec<(u64, Vec<u8>)>>,
+    written: HashMap<Key, Vec<Written>>,
     /// All that were made and wrote something, with their revisions.
     pub made: Vec<(u64, Txn)>,
 }
@@ -40,9 +46,20 @@ impl Store {
             .get(&key)
             .and_then(|it| it.iter().rev().find(|one| one.0 <= revision));
         match found {
-            Some((written, bytes)) => (Some(bytes), *written),
-            None => (None, 0),
+            Some((written, Some(bytes))) => (Some(bytes), *written),
+            _ => (None, 0),
         }
+    }
+
+    /// The keys of a shard's batches and of the parts of its bases that are there now, in order.
+    pub fn passing(&self, shard: u16) -> Vec<Key> {
+        let of_shard =
+            |key: &Key| matches!(*key, Key::Batch(at, _) | Key::Part(at, ..) if at == shard);
+        let is_there = |key: &Key| self.read_at(*key, self.revision).0.is_some();
+        let all = self.written.keys().copied();
+        let mut found: Vec<Key> = all.filter(of_shard).filter(is_there).collect();
+        found.sort();
+        found
     }
 
     fn revision_of(&self, key: Key) -> u64 {
@@ -58,7 +75,7 @@ impl Store {
         {
             return None;
         }
-        if txn.puts.is_empty() {
+        if txn.puts.is_empty() && txn.deletes.is_empty() {
             return Some(self.revision);
         }
         self.revision += 1;
@@ -66,7 +83,11 @@ impl Store {
             self.written
                 .entry(*key)
                 .or_default()
-                .push((self.revision, bytes.clone()));
+                .push((self.revision, Some(bytes.clone())));
+        }
+        for key in &txn.deletes {
+            let written = self.written.entry(*key).or_default();
+            written.push((self.revision, None));
         }
         self.made.push((self.revision, txn.clone()));
         Some(self.revision)

@@ -25,11 +25,15 @@ enum Sender {
         life: u64,
         shard: usize,
         ticket: u64,
+        /// The place of the part that it writes, where it is one of a base: the ticket is that base's.
+        part: Option<u64>,
     },
     Control {
         at: usize,
         ticket: u64,
     },
+    /// Nobody waits for what becomes of it.
+    Nobody,
 }
 
 /// A transaction on its way.
@@ -64,6 +68,8 @@ pub struct Tally {
     pub read: u64,
     pub forwarded: u64,
     pub changes: u64,
+    pub bases: u64,
+    pub deleted: u64,
 }
 
 impl Tally {
@@ -77,6 +83,8 @@ impl Tally {
         self.read += more.read;
         self.forwarded += more.forwarded;
         self.changes += more.changes;
+        self.bases += more.bases;
+        self.deleted += more.deleted;
     }
 }
 
@@ -94,6 +102,11 @@ pub struct World {
     claims: Vec<Claim>,
     tally: Tally,
     texts: u64,
+}
+
+/// Whether by the transaction a head comes to name a base.
+fn names_base(txn: &Txn) -> bool {
+    matches!(txn.puts[..], [(Key::Head(_), _)])
 }
 
 /// What a process keeps when it starts.
@@ -160,9 +173,9 @@ impl World {
                 (Key::Commands, vec![1, 0, 0, 0, 0, 0, 0, 0, 1]),
             ];
             self.store.make(&Txn {
-                compares: Vec::new(),
                 puts,
                 process: 1,
+                ..Txn::default()
             });
         }
         for server in 0..usize::from(SERVERS) {
@@ -172,7 +185,7 @@ impl World {
 
     fn happen(&mut self) {
         self.tally.events += 1;
-        match self.chance.below(100) {
+        match self.chance.below(112) {
             0..=18 => self.ask(),
             19..=41 => self.deliver_envelope(),
             42..=50 => self.read(),
@@ -189,7 +202,9 @@ impl World {
                 let server = self.chance.below(u64::from(SERVERS)) as usize;
                 self.follow(server);
             }
-            _ => self.command(),
+            87..=99 => self.command(),
+            100..=105 => self.base(),
+            _ => self.clear(),
         }
     }
 
@@ -211,15 +226,18 @@ impl World {
         for deed in deeds {
             match deed {
                 Deed::Sends(txn) => {
-                    let process = &self.servers[server];
-                    let sender = Sender::Server {
-                        server,
-                        life: process.life,
-                        shard,
-                        ticket: process.shards[shard].ticket,
-                    };
+                    let ticket = self.servers[server].shards[shard].ticket;
+                    let sender = self.sender(server, shard, ticket, None);
                     self.flying.push(Flying { txn, sender });
                 }
+                Deed::Writes(txn, ticket, place) => {
+                    let sender = self.sender(server, shard, ticket, Some(place));
+                    self.flying.push(Flying { txn, sender });
+                }
+                Deed::Deletes(txn) => self.flying.push(Flying {
+                    txn,
+                    sender: Sender::Nobody,
+                }),
                 Deed::Forwards(envelope) => {
                     self.tally.forwarded += 1;
                     self.envelopes.push(envelope);
@@ -231,6 +249,16 @@ impl World {
                     said,
                 } => self.tell(shard, client, number, said),
             }
+        }
+    }
+
+    fn sender(&self, server: usize, shard: usize, ticket: u64, part: Option<u64>) -> Sender {
+        Sender::Server {
+            server,
+            life: self.servers[server].life,
+            shard,
+            ticket,
+            part,
         }
     }
 
@@ -400,6 +428,10 @@ impl World {
         {
             self.tally.changes += 1;
         }
+        if made.is_some() {
+            self.tally.deleted += flying.txn.deletes.len() as u64;
+            self.tally.bases += u64::from(names_base(&flying.txn));
+        }
         if self.chance.is_true(1, 10) {
             return;
         }
@@ -410,11 +442,25 @@ impl World {
                     control.outcome(made);
                 }
             }
+            Sender::Nobody => {}
             Sender::Server {
                 server,
                 life,
                 shard,
                 ticket,
+                part: Some(place),
+            } => {
+                let process = &mut self.servers[server];
+                if process.life == life {
+                    process.shards[shard].part_made(ticket, place);
+                }
+            }
+            Sender::Server {
+                server,
+                life,
+                shard,
+                ticket,
+                part: None,
             } => {
                 let process = &mut self.servers[server];
                 let driver = &mut process.shards[shard];
@@ -425,6 +471,27 @@ impl World {
                 }
             }
         }
+    }
+
+    /// A server begins a base, or writes its parts again.
+    fn base(&mut self) {
+        let (server, shard) = self.one_shard();
+        let mut deeds = Vec::new();
+        self.servers[server].shards[shard].base(&mut deeds);
+        self.perform(server, shard, deeds);
+    }
+
+    /// A server deletes what lies behind the base that it knows of.
+    fn clear(&mut self) {
+        let (server, shard) = self.one_shard();
+        let keys = self.store.passing(shard as u16);
+        if keys.is_empty() {
+            return;
+        }
+        let key = keys[self.chance.below(keys.len() as u64) as usize];
+        let mut deeds = Vec::new();
+        self.servers[server].shards[shard].clear(key, &mut deeds);
+        self.perform(server, shard, deeds);
     }
 
     /// A control or a server gives up to wait for what became of its transaction.
@@ -472,9 +539,8 @@ impl World {
 
     fn put(&mut self, key: Key, bytes: Vec<u8>) {
         self.store.make(&Txn {
-            compares: Vec::new(),
             puts: vec![(key, bytes)],
-            process: 0,
+            ..Txn::default()
         });
     }
 
@@ -482,9 +548,9 @@ impl World {
     fn elect(&mut self, at: u64) {
         let process = at + 1;
         let txn = Txn {
-            compares: Vec::new(),
             puts: vec![(Key::Leader, vec![process as u8])],
             process,
+            ..Txn::default()
         };
         if let Some(elected) = self.store.make(&txn) {
             self.controls[at as usize].lead(elected);

@@ -17,10 +17,11 @@ use Rattle.sm_store.specs.declared.item.Item.{Item}
 use Rattle.sm_texts.specs.declared.text_reply.TextReply.{TextReply}
 use Rattle.sm_driver.specs.declared.text_answer.TextAnswer.{TextAnswer}
 use Rattle.sm_driver.specs.declared.text_forward.TextForward.{TextForward}
+use Rattle.sm_driver.specs.declared.part_numbers.PartNumbers.{PartNumbers}
 use Rattle.sm_driver.specs.declared.sent_bytes.SentBytes.{SentBytes}
 use Rattle.sm_driver.specs.declared.sent_numbers.SentNumbers.{SentNumbers}
 use Rattle.sm_driver.specs.declared.text_server.TextServer.{TextServer}
-use Rattle.sm_driver.specs.Servers.{DoneOn, IsComing, SpellsSending, TextInput, TextOutput}
+use Rattle.sm_driver.specs.Servers.{DoneOn, IsComing, IsPartOf, SpellsSending, TextInput, TextOutput}
 
 -- both handles keep servers, between which this holds
 abbrev pub Between : (TextServer → TextServer → Type 0) → Option TextServer → Option TextServer → Type 0
@@ -89,6 +90,10 @@ pub record WritesSent (sent : SentBytes) (numbers : SentNumbers) (written : List
 -- they are those of the transaction that the server sends
 abbrev pub WritesSending : SentNumbers → List ℕ → TextServer → Type 0
 WritesSending numbers written server = (sent : SentBytes) × SpellsSending server sent × WritesSent sent numbers written
+
+-- the numbers and the bytes are those of the part at this place
+abbrev pub WritesPart : ℕ → PartNumbers → List ℕ → TextServer → Type 0
+WritesPart place numbers written server = IsPartOf server place numbers (take numbers.length written)
 
 -- the answer is the one at this place
 abbrev pub IsMadeAnswer : TextServer → ℕ → TextAnswer → Type 0

@@ -1,6 +1,7 @@
 -- What a call does to a server of a shard: a step of the protocol, on what the bytes that it was given spell.
 use Rattle.std.specs.Prelude.{ℕ, Bool, true, false, ◌≡◌, ◌+◌, ◌++◌, ◌∷◌, [], List, Option, Some, None, IfSome, map}
-use Rattle.std.specs.Prelude.{Ok, if◌then◌else◌}
+use Rattle.std.specs.Prelude.{Ok, if◌then◌else◌, length, slice_get}
+use Rattle.std.specs.List.{AllByRecursion}
 use Rattle.std.specs.Global.{Vec}
 use Rattle.sm_ownership.specs.declared.record.Record.{Record}
 use Rattle.sm_map.specs.KeyMap.{KeyPair, held_at, text_of}
@@ -8,22 +9,28 @@ use Rattle.sm_store.specs.declared.head.Head.{Head}
 use Rattle.sm_store.specs.declared.item.Item.{Item}
 use Rattle.sm_store.specs.Deeds.{Charter, MaySend}
 use Rattle.sm_store.specs.Store.{Transaction}
-use Rattle.sm_codec.specs.Spelling.{batch_bytes, head_bytes, item_views, record_bytes}
+use Rattle.sm_codec.specs.Spelling.{batch_bytes, head_bytes, item_views, part_bytes, record_bytes}
 use Rattle.sm_shard.specs.Bases.{Part, base_of}
 use Rattle.sm_shard.specs.declared.base_work.NamedBase.{NamedBase}
 use Rattle.sm_shard.specs.declared.shard_limits.ShardLimits.{ShardLimits}
 use Rattle.sm_shard.specs.declared.shard_server.BatchSending.{BatchSending}
+use Rattle.sm_shard.specs.declared.shard_server.PartsSending.{PartsSending}
 use Rattle.sm_shard.specs.declared.shard_server.ShardServer.{ShardServer}
 use Rattle.sm_shard.specs.declared.steps.ShardInput.{ShardInput}
 use Rattle.sm_shard.specs.declared.steps.ShardInput.TheVariants.{Read, Record as RecordRead, Request, Question}
 use Rattle.sm_shard.specs.declared.steps.ShardInput.TheVariants.{Made}
 use Rattle.sm_shard.specs.declared.steps.ShardOutput.{ShardOutput}
-use Rattle.sm_shard.specs.declared.steps.ShardOutput.TheVariants.{Sends, Answers}
-use Rattle.sm_shard.specs.ShardServers.{IsTrueOf, StoreLog, sending_transaction, sent_transaction}
-use Rattle.sm_shard.specs.Steps.{IsStepOf}
+use Rattle.sm_shard.specs.declared.steps.ShardOutput.TheVariants.{Sends, Answers, Bases, Clears}
+use Rattle.sm_shard.specs.ShardServers.{IsTrueOf, StoreLog, basing_by, parts_transactions, sending_transaction}
+use Rattle.sm_shard.specs.ShardServers.{sent_transaction}
+use Rattle.sm_shard.specs.Steps.{IsOutputOf, IsStepOf}
+use Rattle.sm_store.specs.declared.store_key.PassingKey.{PassingKey}
+use Rattle.sm_store.specs.declared.store_key.PassingKey.TheVariants.{Batch, Part as PartKey}
 use Rattle.sm_texts.specs.declared.text_reply.TextReply.{TextReply}
+use Rattle.sm_texts.specs.Parts.{part_text}
 use Rattle.sm_texts.specs.Saves.{texts_service}
 use Rattle.sm_texts.specs.Texts.{is_read, parts_in}
+use Rattle.sm_driver.specs.declared.part_numbers.PartNumbers.{PartNumbers}
 use Rattle.sm_driver.specs.declared.sent_bytes.SentBytes.{SentBytes}
 use Rattle.sm_driver.specs.declared.text_server.TextServer.{TextServer}
 
@@ -43,17 +50,28 @@ TextCore = ShardServer (List KeyPair) (Vec ℕ) TextReply
 abbrev pub IsNewServer : ℕ → ℕ → ℕ → ShardLimits → TextServer → Type 0
 IsNewServer me shard count limits server =
     (server.core.me ≡ me) × (server.core.shard ≡ shard) × (server.core.count ≡ count)
-    × (server.core.limits ≡ limits) × ((log : StoreLog (Vec ℕ) TextReply) → IsTrueOf texts_service log server.core)
+    × (server.core.limits ≡ limits) × (server.parts.items ≡ []) × (server.batches.items ≡ [])
+    × ((log : StoreLog (Vec ℕ) TextReply) → IsTrueOf texts_service log server.core)
 
--- on such an input it made a step of the protocol, of which this came
+-- the requests that only read
+abbrev pub reads_alone : Vec ℕ → Bool
+reads_alone request = is_read request.items
+
+-- the bytes that a request takes in a batch
+abbrev pub request_size : Vec ℕ → ℕ
+request_size request = length request.items
+
+-- on such an input it made a step of the protocol, of which exactly this comes
 pub record StepsOn (old : TextServer) (is_input : TextInput → Type 0) (output : TextOutput)
     (new : TextServer) : Type 0 where
   pub input : TextInput
   pub input_is : is_input input
+  pub exact : IsOutputOf texts_service reads_alone request_size old.core input output
   pub call : IsStepOf texts_service old.core input (Ok output) new.core
   pub me : new.core.me ≡ old.core.me
   pub shard : new.core.shard ≡ old.core.shard
   pub count : new.core.count ≡ old.core.count
+  pub limits : new.core.limits ≡ old.core.limits
 
 -- it did, and such came of it
 abbrev pub DoneOn : TextServer → (TextInput → Type 0) → (TextOutput → Type 0) → TextServer → Type 0
@@ -70,15 +88,21 @@ AddsBatch old bytes new =
     (batch : Vec (Item (Vec ℕ))) × (server : ℕ) × (new ≡ old ++ batch ∷ [])
     × (bytes ≡ batch_bytes (record { server = server; items = item_views batch.items }))
 
+-- the bytes spell the part that was added to those that were read
+abbrev pub AddsPart : List (Part TextReply) → List ℕ → List (Part TextReply) → Type 0
+AddsPart old bytes new =
+    (part : Part TextReply) × (new ≡ old ++ part ∷ []) × (bytes ≡ part_bytes (part_text part))
+
 -- the bytes spell the record
 abbrev pub SpellsRecord : List ℕ → Record → Type 0
 SpellsRecord bytes state = (process : ℕ) × (bytes ≡ record_bytes (record { state = state; process = process }))
 
--- the shard was read: its record and the head of its log by these bytes, at these revisions, and the batches
+-- the shard was read: its record and the head of its log by these bytes, at these revisions, the parts of its base and
+-- the batches
 abbrev pub IsReading : TextServer → List ℕ → ℕ → List ℕ → ℕ → TextInput → Type 0
 IsReading server record_text stood head_text logged (Read state stood' head logged' parts batches) =
     SpellsRecord record_text state × (stood' ≡ stood) × (head_text ≡ head_bytes head) × (logged' ≡ logged)
-    × (parts.now ≡ []) × (batches.now ≡ server.batches.items)
+    × (parts.now ≡ server.parts.items) × (batches.now ≡ server.batches.items)
 IsReading server record_text stood head_text logged input = ⊥
 
 -- the shard's record alone was read
@@ -94,6 +118,35 @@ IsComing item input = input ≡ (if is_read item.request.items then Question ite
 abbrev pub is_sending : TextOutput → Bool
 is_sending Sends = true
 is_sending output = false
+
+-- it writes the parts of a base
+abbrev pub is_basing : TextOutput → Bool
+is_basing Bases = true
+is_basing output = false
+
+-- it deletes what lies at a key
+abbrev pub is_clearing : TextOutput → Bool
+is_clearing (Clears key) = true
+is_clearing output = false
+
+-- the key of a batch of this number, or of a part of the base of this number
+abbrev pub passing_key : ℕ → Bool → ℕ → ℕ → PassingKey
+passing_key shard is_part number place = if is_part then PartKey shard number place else Batch shard number
+
+-- the bytes are those of the part at this place of the base that the server makes, whose parts may be sent
+pub record IsPartOf (server : TextServer) (place : ℕ) (numbers : PartNumbers) (bytes : List ℕ) : Type 0 where
+  pub sending : PartsSending TextReply
+  pub part : Part TextReply
+  pub found : slice_get sending.parts.now place ≡ Some part
+  pub spelled : bytes ≡ part_bytes (part_text part)
+  pub number : numbers.number ≡ sending.number
+  pub count : numbers.count ≡ length sending.parts.now
+  pub length_is : numbers.length ≡ length bytes
+  pub own : IfSome server.core.ready (λ ready.
+      parts_transactions {Q = Vec ℕ} sending ≡ basing_by server.core.shard ready.work)
+  pub may : (charter : Charter (Vec ℕ) (Part TextReply)) (log : StoreLog (Vec ℕ) TextReply)
+      → charter.parts ≡ base_of texts_service → IsTrueOf texts_service log server.core
+      → AllByRecursion (MaySend charter log) (parts_transactions sending)
 
 -- the bytes that a server's transaction writes to the head of the log
 abbrev pub head_written : List (Item (Vec ℕ)) → Option NamedBase → Head → List ℕ

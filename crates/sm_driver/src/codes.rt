@@ -24,7 +24,7 @@ pub(crate) const UNKNOWN_SHARD: u32 = 10;
 /// What would be written is longer than the room for it.
 pub(crate) const TOO_SHORT: u32 = 55;
 
-/// There is no such answer.
+/// There is no such answer or part.
 pub(crate) const NO_MORE: u32 = 56;
 
 /// The request waits for the next transaction, or is in one.
@@ -69,7 +69,7 @@ pub(crate) const BAD_LOG: u32 = 82;
 /// A batch, or a part of the base, isn't there: the log is to be read again.
 pub(crate) const MISSING: u32 = 83;
 
-/// A batch has more bytes than can be spelled.
+/// A batch or a part has more bytes than can be spelled.
 pub(crate) const TOO_LARGE: u32 = 84;
 // End of them.
 
@@ -80,7 +80,7 @@ pub(crate) fn code_of_fault(fault: DriverFault) -> u32
 {
     match fault {
         DriverFault::Memory => NO_MEMORY,
-        DriverFault::Bytes(_) => BAD_BYTES,
+        DriverFault::Bytes(_) | DriverFault::Reply => BAD_BYTES,
         DriverFault::Replay(fault) => match fault {
             ReplayFault::Memory => NO_MEMORY,
             ReplayFault::Missing => MISSING,

@@ -3,12 +3,14 @@ use sm_shard::ReplayFault;
 use std::alloc::{AllocError, AllocFailed};
 
 /// Why a call on a server did nothing, or the server has forgotten what it read.
-#[derive(Clone, Copy, Debug, PartialEq, Eq, Drop)]
+#[derive(Clone, Copy, Drop)]
 pub enum DriverFault {
     /// Memory was refused.
     Memory,
     /// What lies at a key is wrong.
     Bytes(Fault),
+    /// A last request in a part of a base has no reply.
+    Reply,
     /// The log can't be followed.
     Replay(ReplayFault),
     /// The server has read nothing yet.

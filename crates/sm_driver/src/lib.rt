@@ -6,18 +6,22 @@
 #![tactic(auto)]
 
 ghost use Rattle.std.specs.Prelude.{◌≡◌, ◌≢◌, ◌++◌, true, None, IfOk, IfSome, length};
+ghost use Rattle.sm_shard.specs.declared.steps.ShardInput.TheVariants.{Base as BaseInput, Clear as ClearInput};
 ghost use Rattle.sm_shard.specs.declared.steps.ShardInput.TheVariants.{Flush as FlushInput, Lost as LostInput};
-ghost use Rattle.sm_shard.specs.declared.steps.ShardInput.TheVariants.{Made as MadeInput};
+ghost use Rattle.sm_shard.specs.declared.steps.ShardInput.TheVariants.{PartsMade as PartsInput};
+ghost use Rattle.sm_codec.specs.Spelling.{head_bytes};
 ghost use Rattle.sm_driver.specs.Calls.{Between, ComesFrom, IsDecidedAs, IsMadeAnswer, IsReadAnswer, IsRequestInput};
 ghost use Rattle.sm_driver.specs.Calls.{KeepsServer};
-ghost use Rattle.sm_driver.specs.Calls.{MakesOn, TellsRead, WritesSending, WritesSent, is_decided};
-ghost use Rattle.sm_driver.specs.Servers.{AddsBatch, IsAny, IsNewServer, IsReading, IsRecordReading, TellsAnswers};
-ghost use Rattle.sm_driver.specs.Servers.{is_sending};
+ghost use Rattle.sm_driver.specs.Calls.{MakesOn, TellsRead, WritesPart, WritesSending, WritesSent, is_decided};
+ghost use Rattle.sm_driver.specs.Servers.{AddsBatch, AddsPart, IsAny, IsNewServer, IsReading, IsRecordReading};
+ghost use Rattle.sm_driver.specs.Servers.{TellsAnswers, is_basing, is_clearing, is_sending, passing_key};
 
 mod boxed_parts;
 mod codes;
 mod driver_fault;
+pub mod log_head;
 mod owned_server;
+pub mod part_numbers;
 mod sending;
 pub mod sent_bytes;
 pub mod sent_numbers;
@@ -28,17 +32,21 @@ pub mod text_server;
 mod written;
 
 use codes::{
-    BAD_ARGUMENT, NO_MEMORY, NO_MORE, TOO_SHORT, UNKNOWN_SHARD, WRONG_HANDLE, code_of_decision,
-    code_of_fault,
+    BAD_ARGUMENT, BAD_BYTES, NO_MEMORY, NO_MORE, TOO_SHORT, UNKNOWN_SHARD, WRONG_HANDLE,
+    code_of_decision, code_of_fault,
 };
+pub use log_head::LogHead;
+pub use part_numbers::PartNumbers;
 use sent_bytes::SentBytes;
 pub use sent_numbers::SentNumbers;
 pub use server_handle::ServerHandle;
+use sm_codec::read_head;
 use sm_ownership::mode::Mode;
 use sm_ranges::server_id::ServerId;
 use sm_ranges::shard_id::ShardId;
 use sm_shard::{ReadReply, ShardLimits};
 use sm_store::item::Item;
+use sm_store::store_key::PassingKey;
 use sm_texts::TextReply;
 use std::alloc::{AllocError, Global};
 pub use text_answer::TextAnswer;
@@ -97,7 +105,7 @@ pub extern "C" fn durkenzo_server_batch(
     server: &mut ServerHandle,
     bytes: &[u8],
 ) -> u32
-    ensures made { result ≡ 0 → Between (λ old new. (new.core ≡ old.core)
+    ensures made { result ≡ 0 → Between (λ old new. (new.core ≡ old.core) × (new.parts ≡ old.parts)
         × AddsBatch old.batches.items bytes.now new.batches.items) server.old.owned.state server.new.owned.state }
 {
     if !server.full {
@@ -109,8 +117,49 @@ pub extern "C" fn durkenzo_server_batch(
     }
 }
 
-/// The shard was read: the bytes of its record and of the head of its log, with their revisions, and the batches that
-/// were added, which are let go.
+/// Adds the next part that was read of the base, in the order of their places, before `durkenzo_server_read`.
+#[unsafe(no_mangle)]
+pub extern "C" fn durkenzo_server_part_read(
+    alloc: Global,
+    server: &mut ServerHandle,
+    bytes: &[u8],
+) -> u32
+    ensures made { result ≡ 0 → Between (λ old new. (new.core ≡ old.core) × (new.batches ≡ old.batches)
+        × AddsPart old.parts.items bytes.now new.parts.items) server.old.owned.state server.new.owned.state }
+{
+    if !server.full {
+        return WRONG_HANDLE;
+    }
+    match server.owned.state_mut().add_part(alloc, bytes) {
+        Ok(()) => 0,
+        Err(fault) => code_of_fault(fault),
+    }
+}
+
+/// Tells what the bytes at a log's head say, and so which batches and parts are to be read.
+#[unsafe(no_mangle)]
+pub extern "C" fn durkenzo_log_head_of(bytes: &[u8], head: &mut LogHead) -> u32
+    ensures { result ≡ 0 → bytes.now ≡ head_bytes (record {
+      batches = head.new.batches;
+      base = head.new.base;
+      parts = head.new.parts;
+    }) }
+{
+    match read_head(bytes) {
+        Ok(found) => {
+            *head = LogHead {
+                batches: found.batches,
+                base: found.base,
+                parts: found.parts,
+            };
+            0
+        }
+        Err(_) => BAD_BYTES,
+    }
+}
+
+/// The shard was read: the bytes of its record and of the head of its log, with their revisions, and the parts and the
+/// batches that were added, which are let go.
 #[unsafe(no_mangle)]
 pub extern "C" fn durkenzo_server_read(
     alloc: Global,
@@ -317,6 +366,91 @@ pub extern "C" fn durkenzo_server_lost(alloc: Global, server: &mut ServerHandle)
     }
 }
 
+/// Begins a base of all that is made, where none is made and there are batches that the last one doesn't stand for.
+/// `begins` says whether its parts are to be written now.
+#[unsafe(no_mangle)]
+pub extern "C" fn durkenzo_server_base(
+    alloc: Global,
+    server: &mut ServerHandle,
+    begins: &mut bool,
+) -> u32
+    ensures made { result ≡ 0 → MakesOn server.old.owned.state (λ old input. input ≡ BaseInput)
+        (λ output. is_basing output ≡ begins.new) server.new.owned.state }
+{
+    if !server.full {
+        return WRONG_HANDLE;
+    }
+    match server.owned.state_mut().begin_base(alloc) {
+        Ok(found) => {
+            *begins = found;
+            0
+        }
+        Err(fault) => code_of_fault(fault),
+    }
+}
+
+/// Writes what is put at the key of the part at this place of the base.
+#[unsafe(no_mangle)]
+pub extern "C" fn durkenzo_server_part(
+    alloc: Global,
+    server: &mut ServerHandle,
+    place: usize,
+    part: &mut PartNumbers,
+    into: &mut [u8],
+) -> u32
+    ensures written { result ≡ 0 → KeepsServer (WritesPart place part.new into.new) server.old.owned.state }
+    ensures unchanged { server.new.owned.state ≡ server.old.owned.state }
+{
+    if !server.full {
+        return WRONG_HANDLE;
+    }
+    part_in(alloc, server.owned.state_mut(), place, part, into)
+}
+
+/// Each part of the base was put, so that the next transaction names it.
+#[unsafe(no_mangle)]
+pub extern "C" fn durkenzo_server_parts_made(alloc: Global, server: &mut ServerHandle) -> u32
+    ensures made { result ≡ 0 → MakesOn server.old.owned.state (λ old input. input ≡ PartsInput) IsAny
+        server.new.owned.state }
+{
+    if !server.full {
+        return WRONG_HANDLE;
+    }
+    match server.owned.state_mut().on_parts_made(alloc) {
+        Ok(()) => 0,
+        Err(fault) => code_of_fault(fault),
+    }
+}
+
+/// Says in `behind` whether the batch of this number, or where `is_part` the part at this place of the base of this
+/// number, is behind the base that the head names, and is to be deleted.
+#[unsafe(no_mangle)]
+pub extern "C" fn durkenzo_server_is_behind(
+    alloc: Global,
+    server: &mut ServerHandle,
+    is_part: bool,
+    number: u64,
+    place: u64,
+    behind: &mut bool,
+) -> u32
+    ensures made { result ≡ 0 → MakesOn server.old.owned.state
+        (λ old input. input ≡ ClearInput (passing_key old.core.shard is_part number place))
+        (λ output. is_clearing output ≡ behind.new) server.new.owned.state }
+{
+    if !server.full {
+        return WRONG_HANDLE;
+    }
+    let kept = server.owned.state_mut();
+    let key = passing_key(kept.core.shard, is_part, number, place);
+    match kept.clears(alloc, key) {
+        Ok(found) => {
+            *behind = found;
+            0
+        }
+        Err(fault) => code_of_fault(fault),
+    }
+}
+
 /// Lets go the server that the handle keeps.
 #[unsafe(no_mangle)]
 pub extern "C" fn durkenzo_server_close(alloc: Global, server: &mut ServerHandle)
@@ -335,6 +469,17 @@ fn mode_of(from: u16) -> Option<Mode>
     match ServerId::new(from) {
         Some(server) => Some(Mode::Forwarded(server)),
         None => None,
+    }
+}
+
+// The key of a batch of this number, or of a part of the base of this number.
+fn passing_key(shard: ShardId, is_part: bool, number: u64, place: u64) -> PassingKey
+    ensures { result ≡ passing_key shard is_part number place }
+{
+    if is_part {
+        PassingKey::Part(shard, number, place)
+    } else {
+        PassingKey::Batch(shard, number)
     }
 }
 
@@ -366,6 +511,28 @@ fn write_sent(sent: SentBytes, numbers: &mut SentNumbers, into: &mut [u8]) -> u3
             TOO_SHORT
         },
         Err(_) => NO_MEMORY,
+    }
+}
+
+// Writes the part at this place of the base that the server makes.
+fn part_in(
+    alloc: Global,
+    server: &TextServer,
+    place: usize,
+    part: &mut PartNumbers,
+    into: &mut [u8],
+) -> u32
+    ensures { result ≡ 0 → WritesPart place part.new into.new server.now }
+{
+    match server.part(alloc, place) {
+        Ok(Some((numbers, bytes))) => if write(&bytes, into) {
+            *part = numbers;
+            0
+        } else {
+            TOO_SHORT
+        },
+        Ok(None) => NO_MORE,
+        Err(fault) => code_of_fault(fault),
     }
 }
 

@@ -1,11 +1,14 @@
 ghost use Rattle.std.specs.Prelude.{◌≡◌, IfOk, IfSome, OnOk};
+ghost use Rattle.sm_shard.specs.declared.steps.ShardInput.TheVariants.{Base as BaseInput, Clear as ClearInput};
 ghost use Rattle.sm_shard.specs.declared.steps.ShardInput.TheVariants.{Flush as FlushInput, Lost as LostInput};
-ghost use Rattle.sm_shard.specs.declared.steps.ShardInput.TheVariants.{Made as MadeInput};
+ghost use Rattle.sm_shard.specs.declared.steps.ShardInput.TheVariants.{Made as MadeInput, PartsMade as PartsInput};
 ghost use Rattle.sm_shard.specs.declared.steps.ShardOutput.TheVariants.{Decided};
-ghost use Rattle.sm_driver.specs.Servers.{AddsBatch, AreTexts, DoneOn, IsAny, IsComing, IsNewServer};
-ghost use Rattle.sm_driver.specs.Servers.{IsReading, IsRecordReading, SpellsSending, TellsAnswers, is_sending};
+ghost use Rattle.sm_driver.specs.Servers.{AddsBatch, AddsPart, AreTexts, DoneOn, IsAny, IsComing, IsNewServer};
+ghost use Rattle.sm_driver.specs.Servers.{IsPartOf, IsReading, IsRecordReading, SpellsSending, TellsAnswers};
+ghost use Rattle.sm_driver.specs.Servers.{is_basing, is_clearing, is_sending};
 
 use crate::driver_fault::DriverFault;
+use crate::part_numbers::PartNumbers;
 use crate::sending::{spelled, texts_of};
 use crate::sent_bytes::SentBytes;
 use sm_codec::{ReadError, read_batch, read_head, read_record};
@@ -16,14 +19,17 @@ use sm_shard::{
     step,
 };
 use sm_store::item::Item;
+use sm_store::store_key::PassingKey;
 use sm_texts::store_texts::is_read;
-use sm_texts::{StoreTexts, TextReply};
+use sm_texts::{StoreTexts, TextReply, read_base_part, write_base_part};
 use std::alloc::Global;
 
 /// A server of one shard of the sample service, what was read for it, and what it is to tell.
 #[derive(Drop)]
 pub struct TextServer {
     pub core: ShardServer<StoreTexts, Vec<u8>, TextReply>,
+    /// The parts of the base that were read.
+    pub parts: Vec<BasePart<TextReply>>,
     /// The batches that were read.
     pub batches: Vec<Vec<Item<Vec<u8>>>>,
     /// The answers of the last transaction that was made, and to the reads that it carried.
@@ -47,6 +53,7 @@ impl TextServer {
         match ShardServer::new(me, shard, count, limits) {
             Some(core) => Some(TextServer {
                 core,
+                parts: Vec::new(alloc),
                 batches: Vec::new(alloc),
                 made: Vec::new(alloc),
                 read: Vec::new(alloc),
@@ -59,6 +66,7 @@ impl TextServer {
     /// Adds a batch to what was read, before `read`.
     pub fn add_batch(&mut self, alloc: Global, bytes: &[u8]) -> Result<(), DriverFault>
         ensures core { self.new.core ≡ self.old.core }
+        ensures parts { self.new.parts ≡ self.old.parts }
         ensures added { OnOk result (AddsBatch self.old.batches.items bytes.now self.new.batches.items) }
     {
         match read_batch(alloc, bytes) {
@@ -70,8 +78,24 @@ impl TextServer {
         }
     }
 
-    /// The shard was read: its record and the head of its log by these bytes, with their revisions, and the batches
-    /// that were added.
+    /// Adds a part of the base to what was read, before `read`.
+    pub fn add_part(&mut self, alloc: Global, bytes: &[u8]) -> Result<(), DriverFault>
+        ensures core { self.new.core ≡ self.old.core }
+        ensures batches { self.new.batches ≡ self.old.batches }
+        ensures added { OnOk result (AddsPart self.old.parts.items bytes.now self.new.parts.items) }
+    {
+        match read_base_part(alloc, bytes) {
+            Ok(Some(part)) => {
+                self.parts.push(part)?;
+                Ok(())
+            }
+            Ok(None) => Err(DriverFault::Reply),
+            Err(error) => Err(fault_of(error)),
+        }
+    }
+
+    /// The shard was read: its record and the head of its log by these bytes, with their revisions, and the parts and
+    /// the batches that were added.
     pub fn read(
         &mut self,
         alloc: Global,
@@ -83,6 +107,7 @@ impl TextServer {
         ensures read { OnOk result (DoneOn self.old (IsReading self.old standing.now stood head.now logged) IsAny
             self.new) }
     {
+        let parts = std::mem::replace(&mut self.parts, Vec::new(alloc));
         let batches = std::mem::replace(&mut self.batches, Vec::new(alloc));
         let stored = match read_record(standing) {
             Ok(stored) => stored,
@@ -92,7 +117,6 @@ impl TextServer {
             Ok(head) => head,
             Err(error) => return Err(fault_of(error)),
         };
-        let parts: Vec<BasePart<TextReply>> = Vec::new(alloc);
         let input = ShardInput::Read {
             state: stored.state,
             stood,
@@ -185,6 +209,63 @@ impl TextServer {
     {
         let _output = step(alloc, &mut self.core, ShardInput::Lost)?;
         Ok(())
+    }
+
+    /// Begins a base, where one is to be made. Whether its parts are to be written now.
+    pub fn begin_base(&mut self, alloc: Global) -> Result<bool, DriverFault>
+        ensures { IfOk result (λ begins. DoneOn self.old (λ input. input ≡ BaseInput)
+            (λ output. is_basing output ≡ begins) self.new) }
+    {
+        let output = step(alloc, &mut self.core, ShardInput::Base)?;
+        match &output {
+            ShardOutput::Bases => Ok(true),
+            _ => Ok(false),
+        }
+    }
+
+    /// The part at this place of the base that the server makes. None where it makes none, or that has no such part.
+    pub fn part(
+        &self,
+        alloc: Global,
+        place: usize,
+    ) -> Result<Option<(PartNumbers, Vec<u8>)>, DriverFault>
+        ensures { IfOk result (λ found. IfSome found (λ part. IsPartOf self.now place part.0 part.1.items)) }
+    {
+        let Some(sending) = self.core.parts() else {
+            return Ok(None);
+        };
+        let Some(part) = sending.parts.get(place) else {
+            return Ok(None);
+        };
+        let Some(bytes) = write_base_part(alloc, part)? else {
+            return Err(DriverFault::TooLarge);
+        };
+        let numbers = PartNumbers {
+            number: sending.number,
+            count: sending.parts.len() as u64,
+            length: bytes.len(),
+        };
+        Ok(Some((numbers, bytes)))
+    }
+
+    /// Each part of the base was written, so the next transaction names it.
+    pub fn on_parts_made(&mut self, alloc: Global) -> Result<(), DriverFault>
+        ensures { OnOk result (DoneOn self.old (λ input. input ≡ PartsInput) IsAny self.new) }
+    {
+        let _output = step(alloc, &mut self.core, ShardInput::PartsMade)?;
+        Ok(())
+    }
+
+    /// Whether what lies at the key is behind the base that the head names, and is to be deleted.
+    pub fn clears(&mut self, alloc: Global, key: PassingKey) -> Result<bool, DriverFault>
+        ensures { IfOk result (λ clears. DoneOn self.old (λ input. input ≡ ClearInput key)
+            (λ output. is_clearing output ≡ clears) self.new) }
+    {
+        let output = step(alloc, &mut self.core, ShardInput::Clear(key))?;
+        match &output {
+            ShardOutput::Clears(_) => Ok(true),
+            _ => Ok(false),
+        }
     }
 }
 

@@ -90,6 +90,12 @@ unnumbered {R = R} number (Some other) is none =
     let refused : Decision R = Refused in
     absurd (decided_some (other == number) waits refused (sym is))
 
+-- two facts of what is there are one
+pub both_so : {A : Type 0} (found : Option A) (P Q : A → Type 0) → IfSome found P → IfSome found Q
+    → IfSome found (λ x. P x × Q x)
+both_so None P Q p q = tt
+both_so (Some x) P Q p q = (p, q)
+
 pub both_of : {A : Type 0} (found : Option A) (P R : A → Type 0) → IfSome found (λ x. P x × R x)
     → IfSome found P × IfSome found R
 both_of None P R both = (both, both)

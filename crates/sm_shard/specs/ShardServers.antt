@@ -22,9 +22,8 @@ use Rattle.sm_shard.specs.declared.shard_server.BatchSending.{BatchSending}
 use Rattle.sm_shard.specs.declared.shard_server.PartsSending.{PartsSending}
 use Rattle.sm_shard.specs.declared.shard_server.ShardServer.{ShardServer}
 use Rattle.sm_shard.specs.declared.shard_state.Decision.{Decision}
-use Rattle.sm_shard.specs.declared.shard_state.Decision.TheVariants.{Replied, Passed, Waits, Forwards, Refused}
-use Rattle.sm_shard.specs.declared.shard_state.Decision.TheVariants.{Forgotten, NotRead, TooFar, TooManyClients}
-use Rattle.sm_shard.specs.declared.shard_state.Decision.TheVariants.{TooLarge, Busy}
+use Rattle.sm_shard.specs.declared.shard_state.Decision.TheVariants.{Replied, Passed, Forwards}
+use Rattle.sm_shard.specs.declared.shard_state.Decision.TheVariants.{Forgotten}
 use Rattle.sm_shard.specs.declared.shard_state.ShardState.{ShardState}
 use Rattle.sm_shard.specs.declared.shard_limits.ShardLimits.{ShardLimits}
 use Rattle.sm_shard.specs.Decisions.{batch_length, is_written, named_by}

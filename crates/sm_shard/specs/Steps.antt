@@ -1,7 +1,7 @@
 -- What a step of a server ensures, whatever the store is: if what the server holds is so there, and what comes to it
 -- is, then what it holds afterwards is so, what it sends may be sent, and what it claims is so.
 use Rattle.std.specs.Prelude.{ℕ, Option, Some, None, IfSome, Result, Ok, Err, ◌≡◌, ◌≤◌, List, [], ◌∷◌, ◌++◌, length}
-use Rattle.std.specs.Prelude.{map}
+use Rattle.std.specs.Prelude.{Bool, if◌then◌else◌, map}
 use Rattle.std.specs.List.{AllByRecursion}
 use Rattle.sm_shard.specs.Bases.{Part, base_of}
 use Rattle.sm_store.specs.declared.head.Head.{Head}
@@ -13,6 +13,8 @@ use Rattle.sm_store.specs.System.{Claim, MayClaim}
 use Rattle.sm_store.specs.Whole.{AreBatches, AreParts}
 use Rattle.sm_shard.specs.declared.replica.ReplayFault.{ReplayFault}
 use Rattle.sm_shard.specs.declared.shard_server.ShardServer.{ShardServer}
+use Rattle.sm_shard.specs.declared.shard_server.StoreAnswers.{StoreAnswers}
+use Rattle.sm_shard.specs.declared.shard_server.Undecided.{Undecided}
 use Rattle.sm_shard.specs.declared.shard_state.Decision.{Decision}
 use Rattle.sm_shard.specs.declared.shard_state.ShardState.{ShardState}
 use Rattle.sm_shard.specs.declared.steps.ShardInput.{ShardInput}
@@ -20,7 +22,10 @@ use Rattle.sm_shard.specs.declared.steps.ShardInput.TheVariants.{Read, Record as
 use Rattle.sm_shard.specs.declared.steps.ShardInput.TheVariants.{Lost}
 use Rattle.sm_shard.specs.declared.steps.ShardInput.TheVariants.{Question, Base, PartsMade, Clear}
 use Rattle.sm_shard.specs.declared.steps.ShardOutput.{ShardOutput}
-use Rattle.sm_shard.specs.declared.steps.ShardOutput.TheVariants.{Sends, Decided, Answers, Bases, Clears}
+use Rattle.sm_shard.specs.declared.steps.ShardOutput.TheVariants.{Nothing, Sends, Decided, Answers, Decides, Bases}
+use Rattle.sm_shard.specs.declared.steps.ShardOutput.TheVariants.{Clears}
+use Rattle.sm_shard.specs.Decisions.{server_begins, server_behind, server_decision, server_read_decision, server_sends}
+use Rattle.sm_shard.specs.Replicas.{read_of, replies_of}
 use Rattle.sm_shard.specs.ShardServers.{AreAsked, AreWritten, DidHold, IsAsked, IsTrueOf, StoreLog}
 use Rattle.sm_shard.specs.ShardServers.{StoreSystem}
 use Rattle.sm_shard.specs.ShardServers.{WereMade, basing_by, claimed_all, claimed_by, claimed_reads, sent_transaction}
@@ -113,3 +118,37 @@ IsStepOf {Q = Q} {R = R} service old input result new =
     → charter.parts ≡ base_of service → AreRight charter system.log → ArePast system
     → IsTrueOf service system.log old → AreAsked system.asked since old → IsInput service system since old input
     → IsSafe service charter system since old.shard input result new
+
+-- the requests are to be decided again: those that were sent or wait, and those that only read
+abbrev pub AreUndecided : {M Q R : Type 0} → ShardState M Q R → Undecided Q → Type 0
+AreUndecided ready again =
+    (again.sent.items ++ again.waiting.items ≡ ready.sent.items ++ ready.waiting.items)
+    × (again.carried.items ++ again.asking.items ≡ ready.carried.items ++ ready.asking.items)
+
+-- the answers are those to what was sent, and to the reads that it carried
+abbrev pub AreAnswers : {M Q R : Type 0} → Automaton M Q R → (Q → Bool) → ShardState M Q R → StoreAnswers R → Type 0
+AreAnswers service reads ready answers =
+    (answers.made.items ≡ replies_of service ready.replica.machine ready.sent.items)
+    × (answers.read.items ≡ map (read_of service reads ready.replica.machine) ready.carried.items)
+
+-- exactly this comes of the input: by which requests only read, and how many bytes each takes in a batch
+abbrev pub IsOutputOf : {M Q R : Type 0} → Automaton M Q R → (Q → Bool) → (Q → ℕ) → ShardServer M Q R
+    → ShardInput Q R → ShardOutput Q R → Type 0
+IsOutputOf service reads size server (Read state stood head logged parts batches) output = output ≡ Nothing
+IsOutputOf {Q = Q} service reads size server (RecordRead state stood) output =
+    (again : Undecided Q) × (output ≡ Decides again) × IfSome server.ready (λ ready. AreUndecided ready again)
+IsOutputOf service reads size server (Request item) output =
+    output ≡ Decided (server_decision server.limits size server.ready server.me item)
+IsOutputOf service reads size server (Question item) output =
+    output ≡ Decided (server_read_decision server.limits server.ready server.me item)
+IsOutputOf service reads size server Flush output =
+    output ≡ (if server_sends server.limits size server.ready then Sends else Nothing)
+IsOutputOf {R = R} service reads size server (Made revision) output =
+    (answers : StoreAnswers R) × (output ≡ Answers answers)
+    × IfSome server.ready (λ ready. AreAnswers service reads ready answers)
+IsOutputOf {Q = Q} service reads size server Lost output =
+    (again : Undecided Q) × (output ≡ Decides again) × IfSome server.ready (λ ready. AreUndecided ready again)
+IsOutputOf service reads size server Base output = output ≡ (if server_begins server.ready then Bases else Nothing)
+IsOutputOf service reads size server PartsMade output = output ≡ Nothing
+IsOutputOf service reads size server (Clear key) output =
+    output ≡ (if server_behind server.shard server.ready key then Clears key else Nothing)

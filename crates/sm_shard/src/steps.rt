@@ -1,5 +1,5 @@
-ghost use Rattle.std.specs.Prelude.{◌≡◌};
-ghost use Rattle.sm_shard.specs.Steps.{IsStepOf};
+ghost use Rattle.std.specs.Prelude.{◌≡◌, IfOk};
+ghost use Rattle.sm_shard.specs.Steps.{IsOutputOf, IsStepOf};
 
 use crate::base_part::BasePart;
 use crate::replica::ReplayFault;
@@ -75,6 +75,8 @@ pub fn step<Q: Drop, R: Copy + Drop, M: StoreMachine<Q, R>>(
     ensures me { server.new.me ≡ server.old.me }
     ensures shard { server.new.shard ≡ server.old.shard }
     ensures count { server.new.count ≡ server.old.count }
+    ensures limits { server.new.limits ≡ server.old.limits }
+    ensures exact { IfOk result (IsOutputOf M.service M.reads M.size server.old input.entry) }
     ensures call { IsStepOf M.service server.old input.entry result server.new }
 {
     match input {

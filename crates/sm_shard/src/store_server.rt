@@ -64,7 +64,8 @@ impl<Q: Drop, R: Copy + Drop, M: StoreMachine<Q, R>> StoreServer<M, Q, R> {
         input: ShardInput<'_, Q, R>,
     ) -> Result<ShardOutput<Q, R>, ReplayFault>
         ensures step { shard < length self.old.servers.items
-            → IsStoreStep M.service self.old.servers.items shard input.entry result self.new.servers.items }
+            → IsStoreStep M.service M.reads M.size self.old.servers.items shard input.entry result
+            self.new.servers.items }
         ensures unknown { length self.old.servers.items ≤ shard
             → (result ≡ Err UnknownShard) × (self.new.servers.items ≡ self.old.servers.items) }
         ensures shards { (me count : ℕ) → AreAllShards me count count self.old.servers.items

@@ -1,3 +1,4 @@
+pub mod Items
 pub mod Pairs
 pub mod Reached
 pub mod Loading

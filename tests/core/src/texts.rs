@@ -1,5 +1,5 @@
-use sm_shard::StoreMachine;
-use sm_texts::{StoreTexts, TextReply, Val};
+use sm_shard::{BasePart, LastRequest, StoreMachine};
+use sm_texts::{StoreTexts, TextReply, Val, read_base_part, write_base_part};
 use std::alloc::Global;
 use std::process::Abort;
 
@@ -39,4 +39,32 @@ fn saves_and_loads(rt: HostRuntime) {
     assert!(rt; again.look(b"b").is_none());
     let broken = StoreTexts::load(rt.alloc(), &bytes[..9]).expect(&rt, "memory");
     assert!(rt; broken.is_none());
+}
+
+#[test]
+fn reads_a_part_of_a_base_again(rt: HostRuntime) {
+    let reply = TextReply::new(3, u64::MAX - 1);
+    let mut lasts = Vec::new(rt.alloc());
+    let pushed = lasts.push((7, LastRequest { number: 9, reply }));
+    assert!(rt; pushed.is_ok());
+    let state = Vec::from_slice(rt.alloc(), b"state").expect(&rt, "memory");
+    let part = BasePart::new(state, lasts, 5);
+    let written = write_base_part(rt.alloc(), &part).expect(&rt, "memory");
+    let mut bytes = written.expect(&rt, "bytes");
+    let read = read_base_part(rt.alloc(), &bytes)
+        .ok()
+        .expect(&rt, "a part");
+    let again = read.expect(&rt, "replies");
+    assert!(rt; again.state() == b"state".as_slice());
+    assert!(rt; again.floor() == 5);
+    let (client, last) = again.lasts()[0];
+    assert!(rt; again.lasts().len() == 1);
+    assert!(rt; client == 7);
+    assert!(rt; last.number == 9);
+    assert!(rt; last.reply == reply);
+    // A last request that was forwarded.
+    bytes[42] = 1;
+    let read = read_base_part(rt.alloc(), &bytes);
+    assert!(rt; matches!(read, Ok(None)));
+    assert!(rt; read_base_part(rt.alloc(), &bytes[..41]).is_err());
 }

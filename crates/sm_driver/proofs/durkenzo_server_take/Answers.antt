@@ -17,10 +17,12 @@ returns-in-Ok-take c =
             record {
               input = steps.input;
               input_is = (_, (refl, refl, c.in-Some.ensures, refl, refl, c.in-Ok.ensures.items), steps.input_is);
+              exact = steps.exact;
               call = steps.call;
               me = steps.me;
               shard = steps.shard;
               count = steps.count;
+              limits = steps.limits;
             },
           );
     }

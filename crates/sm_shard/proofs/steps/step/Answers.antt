@@ -1,13 +1,14 @@
-use Rattle.std.proofs.Common.{rules, Ok, ◌<◌, ◌≢◌, sym, subst}
+use Rattle.std.proofs.Common.{rules, Ok, ◌≡◌, ◌<◌, ◌≢◌, ◌++◌, map, refl, sym, subst}
 use Rattle.std.specs.List.{AllByRecursion}
+use Rattle.sm_shard.specs.Replicas.{read_of, replies_of}
 use Rattle.sm_store.specs.System.{MayClaim}
 use Rattle.sm_shard.specs.declared.steps.ShardInput.{ShardInput}
 use Rattle.sm_shard.specs.declared.steps.ShardOutput.{ShardOutput}
-use Rattle.sm_shard.specs.declared.steps.ShardOutput.TheVariants.{Nothing, Answers, Sends, Bases, Clears}
-use Rattle.sm_shard.specs.Steps.{IsInput, step_claims}
+use Rattle.sm_shard.specs.declared.steps.ShardOutput.TheVariants.{Nothing, Answers, Sends, Bases, Clears, Decides}
+use Rattle.sm_shard.specs.Steps.{IsInput, IsOutputOf, step_claims}
 use Rattle.sm_shard.specs.declared.shard_state.ShardState.{ShardState}
 use Rattle.sm_shard.specs.ShardServers.{DidHold, WereMade, claimed_all, claimed_reads, sent_transaction}
-use Rattle.sm_shard.proofs.ShardServers.{all-append, both_of, parts_may, transactions_may}
+use Rattle.sm_shard.proofs.ShardServers.{all-append, both_of, both_so, parts_may, transactions_may}
 use Rattle.sm_shard.proofs.steps.step.Goals as goal
 
 pub returns-then-branch-clause-call : goal.returns-then-branch-clause-call
@@ -118,3 +119,49 @@ returns-in-PartsMade-clause-call g c = λ charter system since count parts right
           (MayClaim g.M.StoreMachine.service system)
           (step_claims c.args.server.now.shard i (Ok out))) (sym c.in-PartsMade.is) tt;
     }
+
+pub returns-in-Record-clause-exact : goal.returns-in-Record-clause-exact
+returns-in-Record-clause-exact g c =
+    let again = c.on_record-again.result in
+    subst (λ (i : ShardInput g.row.Q.Denot g.row.R.Denot). IsOutputOf g.M.StoreMachine.service g.M.StoreMachine.reads
+    g.M.StoreMachine.size c.args.server.now i (Decides again)) (sym c.in-Record.is) (
+      again,
+      refl,
+      both_so c.args.server.now.ready
+      (λ (ready : ShardState g.row.M.Denot g.row.Q.Denot g.row.R.Denot).
+      again.sent.items ++ again.waiting.items ≡ ready.sent.items ++ ready.waiting.items)
+      (λ (ready : ShardState g.row.M.Denot g.row.Q.Denot g.row.R.Denot).
+      again.carried.items ++ again.asking.items ≡ ready.carried.items ++ ready.asking.items)
+      c.on_record-again.ensures.again c.on_record-again.ensures.questions,
+    )
+
+pub returns-in-Lost-clause-exact : goal.returns-in-Lost-clause-exact
+returns-in-Lost-clause-exact g c =
+    let again = c.on_lost-again.result in
+    subst (λ (i : ShardInput g.row.Q.Denot g.row.R.Denot). IsOutputOf g.M.StoreMachine.service g.M.StoreMachine.reads
+    g.M.StoreMachine.size c.args.server.now i (Decides again)) (sym c.in-Lost.is) (
+      again,
+      refl,
+      both_so c.args.server.now.ready
+      (λ (ready : ShardState g.row.M.Denot g.row.Q.Denot g.row.R.Denot).
+      again.sent.items ++ again.waiting.items ≡ ready.sent.items ++ ready.waiting.items)
+      (λ (ready : ShardState g.row.M.Denot g.row.Q.Denot g.row.R.Denot).
+      again.carried.items ++ again.asking.items ≡ ready.carried.items ++ ready.asking.items)
+      c.on_lost-again.ensures.again c.on_lost-again.ensures.questions,
+    )
+
+pub returns-in_ok-answers-in-Made-clause-exact : goal.returns-in_ok-answers-in-Made-clause-exact
+returns-in_ok-answers-in-Made-clause-exact g c =
+    let answers = c.in_ok-answers-in-Made.answers in
+    let done = c.in_ok-answers-in-Made.ensures in
+    subst (λ (i : ShardInput g.row.Q.Denot g.row.R.Denot). IsOutputOf g.M.StoreMachine.service g.M.StoreMachine.reads
+    g.M.StoreMachine.size c.args.server.now i (Answers answers)) (sym c.in-Made.is) (
+      answers,
+      refl,
+      both_so c.args.server.now.ready
+      (λ (ready : ShardState g.row.M.Denot g.row.Q.Denot g.row.R.Denot).
+      answers.made.items ≡ replies_of g.M.StoreMachine.service ready.replica.machine ready.sent.items)
+      (λ (ready : ShardState g.row.M.Denot g.row.Q.Denot g.row.R.Denot). answers.read.items
+      ≡ map (read_of g.M.StoreMachine.service g.M.StoreMachine.reads ready.replica.machine) ready.carried.items)
+      done.made done.answered,
+    )

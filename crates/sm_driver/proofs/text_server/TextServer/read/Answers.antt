@@ -1,7 +1,9 @@
 use Rattle.std.proofs.Common.{ℕ, refl, ap, ◌∙◌}
 use Rattle.std.specs.Global.{Vec}
 use Rattle.sm_store.specs.declared.item.Item.{Item}
+use Rattle.sm_shard.specs.Bases.{Part}
 use Rattle.sm_shard.specs.declared.steps.ShardInput.TheVariants.{Read}
+use Rattle.sm_texts.specs.declared.text_reply.TextReply.{TextReply}
 use Rattle.sm_driver.proofs.text_server.TextServer.read.Goals as goal
 
 pub returns : goal.returns
@@ -19,13 +21,15 @@ returns c =
             refl,
             c.in-Ok-read_head.ensures.found.1,
             refl,
-            c.deref.ensures.value ∙ c.new-parts.ensures.items,
+            c.deref.ensures.value ∙ ap (λ (v : Vec (Part TextReply)). v.items) c.replace-parts.ensures.value,
             c.deref-2.ensures.value ∙ ap (λ (v : Vec (Vec (Item (Vec ℕ)))). v.items) c.replace-batches.ensures.value,
           );
+          exact = step.exact;
           call = step.call;
           me = step.me;
           shard = step.shard;
           count = step.count;
+          limits = step.limits;
         },
       );
     }

@@ -12,10 +12,12 @@ returns c =
         record {
           input = RecordRead c.in-Ok.stored.state c.args.stood;
           input_is = ((c.in-Ok.stored.process, c.in-Ok.ensures.found.1), refl);
+          exact = step.exact;
           call = step.call;
           me = step.me;
           shard = step.shard;
           count = step.count;
+          limits = step.limits;
         },
       );
     }

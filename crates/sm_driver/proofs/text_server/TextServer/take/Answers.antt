@@ -10,10 +10,12 @@ returns-in-Decided c =
         record {
           input = c.coming-input.result;
           input_is = c.coming-input.ensures;
+          exact = step.exact;
           call = step.call;
           me = step.me;
           shard = step.shard;
           count = step.count;
+          limits = step.limits;
         },
       );
     }

@@ -1,0 +1,285 @@
+//! Times the steps of a proved server of a shared store: 10,000 clients put texts of 32 bytes at 10,000 keys of 16, in batches of 100. While
+//! requests come, 100 others are in a transaction that isn't made yet. Each line names a step, and has its nanoseconds in one round.
+
+mod raw;
+
+use raw::{Answer, Forward, Handle, Numbers, Reply};
+use std::ptr::null_mut;
+use std::time::Instant;
+
+const CLIENTS: u64 = 10_000;
+const BATCH: u64 = 100;
+const BATCHES: u64 = 1_000;
+const OK: u32 = 0;
+const WAITS: u32 = 70;
+/// A record that server 1 owns.
+const WORD: u64 = (1 << 61) | (1 << 48) | 1;
+
+/// The next state of a pseudo-random choice (xorshift64).
+fn next(state: u64) -> u64 {
+    let state = state ^ (state << 13);
+    let state = state ^ (state >> 7);
+    state ^ (state << 17)
+}
+
+fn must(code: u32, wanted: u32, what: &str) {
+    assert!(code == wanted, "{what}: code {code}");
+}
+
+/// The bytes of a request of this kind: on the client's key, with a text where it puts one.
+fn request(kind: u8, client: u64) -> Vec<u8> {
+    let mut bytes = vec![kind, 16];
+    bytes.extend(format!("account-{client:08}").into_bytes());
+    if kind == 2 {
+        bytes.extend(format!("{client:>32}").into_bytes());
+    }
+    bytes
+}
+
+/// A server, and each client's last number.
+struct Server {
+    handle: Handle,
+    numbers: Vec<u64>,
+    revision: u64,
+    room: Vec<u8>,
+    choice: u64,
+}
+
+/// Nanoseconds of each step, all together.
+#[derive(Default)]
+struct Times {
+    take: f64,
+    again: f64,
+    ask: f64,
+    flush: f64,
+    sending: f64,
+    made: f64,
+    answers: f64,
+}
+
+fn timed<T>(total: &mut f64, run: impl FnOnce() -> T) -> T {
+    let start = Instant::now();
+    let done = run();
+    *total += start.elapsed().as_nanos() as f64;
+    done
+}
+
+// Of all calls below: the handle is this value's alone, and pointers go with their lengths.
+impl Server {
+    fn new() -> Server {
+        let mut handle = Handle {
+            full: false,
+            owned: null_mut(),
+        };
+        must(
+            unsafe { raw::durkenzo_server(&mut handle, 1, 0, 1, 1_000_000, 100, 1_000, 20_000) },
+            OK,
+            "a server",
+        );
+        let mut record = vec![1];
+        record.extend(WORD.to_be_bytes());
+        record.extend(1_u64.to_be_bytes());
+        let mut head = vec![0; 25];
+        head[0] = 1;
+        must(
+            unsafe {
+                raw::durkenzo_server_read(
+                    &mut handle,
+                    record.as_ptr(),
+                    record.len(),
+                    1,
+                    head.as_ptr(),
+                    head.len(),
+                    0,
+                )
+            },
+            OK,
+            "a reading",
+        );
+        Server {
+            handle,
+            numbers: vec![0; CLIENTS as usize],
+            revision: 1,
+            room: vec![0; 1 << 20],
+            choice: 88_172_645_463_325_252,
+        }
+    }
+
+    fn take(&mut self, client: u64, number: u64, request: &[u8], wanted: u32) {
+        let (mut reply, mut forward) = (Reply::default(), Forward::default());
+        let code = unsafe {
+            raw::durkenzo_server_take(
+                &mut self.handle,
+                client,
+                number,
+                0,
+                0,
+                0,
+                request.as_ptr(),
+                request.len(),
+                &mut reply,
+                &mut forward,
+            )
+        };
+        must(code, wanted, "a request");
+    }
+
+    /// As many clients as a batch has requests, each another one.
+    fn chosen(&mut self, from: u64) -> Vec<u64> {
+        self.choice = next(self.choice);
+        let first = self.choice >> 32;
+        // 7,919 is prime, so these differ; those of two batches in turn are of other halves.
+        (0..BATCH)
+            .map(|at| 1 + ((first + at * 7_919) % (CLIENTS / 2)) * 2 + from)
+            .collect()
+    }
+
+    fn take_all(&mut self, clients: &[u64], times: &mut Times) {
+        let requests: Vec<Vec<u8>> = clients.iter().map(|it| request(2, *it)).collect();
+        timed(&mut times.take, || {
+            for (client, request) in clients.iter().zip(&requests) {
+                let number = self.numbers[*client as usize - 1] + 1;
+                self.numbers[*client as usize - 1] = number;
+                self.take(*client, number, request, WAITS);
+            }
+        });
+    }
+
+    fn flush(&mut self) {
+        let mut sends = false;
+        must(
+            unsafe { raw::durkenzo_server_flush(&mut self.handle, &mut sends) },
+            OK,
+            "a flush",
+        );
+        assert!(sends, "nothing is sent");
+    }
+
+    fn sending(&mut self) {
+        let mut numbers = Numbers::default();
+        let (into, room) = (self.room.as_mut_ptr(), self.room.len());
+        must(
+            unsafe { raw::durkenzo_server_sending(&mut self.handle, &mut numbers, into, room) },
+            OK,
+            "what is sent",
+        );
+        assert!(numbers.head_length == 25);
+    }
+
+    fn made(&mut self) -> (usize, usize) {
+        let (mut made, mut read) = (0, 0);
+        self.revision += 1;
+        must(
+            unsafe {
+                raw::durkenzo_server_made(&mut self.handle, self.revision, &mut made, &mut read)
+            },
+            OK,
+            "what was made",
+        );
+        (made, read)
+    }
+
+    fn answers(&mut self, made: usize, read: usize) {
+        let mut answer = Answer::default();
+        let (into, room) = (self.room.as_mut_ptr(), self.room.len());
+        for at in 0..made {
+            must(
+                unsafe { raw::durkenzo_server_answer(&mut self.handle, at, &mut answer) },
+                OK,
+                "an answer",
+            );
+        }
+        for at in 0..read {
+            must(
+                unsafe { raw::durkenzo_server_text(&mut self.handle, at, &mut answer, into, room) },
+                OK,
+                "a text",
+            );
+            assert!(answer.length == 32);
+        }
+    }
+
+    /// What was sent is made, and what has come meanwhile is sent.
+    fn turn(&mut self, times: &mut Times) {
+        let (made, read) = timed(&mut times.made, || self.made());
+        timed(&mut times.answers, || self.answers(made, read));
+        timed(&mut times.flush, || self.flush());
+        timed(&mut times.sending, || self.sending());
+    }
+
+    /// Requests that were made come again.
+    fn again(&mut self, clients: &[u64], times: &mut Times) {
+        let requests: Vec<Vec<u8>> = clients.iter().map(|it| request(2, *it)).collect();
+        timed(&mut times.again, || {
+            for (client, request) in clients.iter().zip(&requests) {
+                self.take(*client, self.numbers[*client as usize - 1], request, OK);
+            }
+        });
+    }
+}
+
+fn round(server: &mut Server) {
+    let mut times = Times::default();
+    for batch in 0..BATCHES {
+        let clients = server.chosen(batch % 2);
+        server.take_all(&clients, &mut times);
+        server.turn(&mut times);
+        let others = server.chosen((batch + 1) % 2);
+        server.again(&others, &mut times);
+    }
+    let mut reads = Times::default();
+    for batch in 0..BATCHES {
+        let clients = server.chosen(batch % 2);
+        let requests: Vec<Vec<u8>> = clients.iter().map(|it| request(1, *it)).collect();
+        timed(&mut reads.ask, || {
+            for (client, request) in clients.iter().zip(&requests) {
+                server.take(*client, batch, request, WAITS);
+            }
+        });
+        let (made, read) = timed(&mut reads.made, || server.made());
+        timed(&mut reads.answers, || server.answers(made, read));
+        server.flush();
+    }
+    let one = |total: f64| total / (BATCHES * BATCH) as f64;
+    let all = |total: f64| total / BATCHES as f64;
+    println!("a request that waits\t{}", one(times.take));
+    println!("one that was made, asked again\t{}", one(times.again));
+    println!("a read that waits\t{}", one(reads.ask));
+    println!("a batch of 100 is cut\t{}", all(times.flush));
+    println!("it is spelled\t{}", all(times.sending));
+    println!(
+        "it was made: its requests are executed\t{}",
+        all(times.made)
+    );
+    println!("its answers are told\t{}", all(times.answers));
+    println!("100 reads are answered\t{}", all(reads.made));
+    println!("their texts are told\t{}", all(reads.answers));
+    println!(
+        "a request, all of it\t{}",
+        one(times.take + times.flush + times.sending + times.made + times.answers)
+    );
+}
+
+fn main() {
+    let rounds: u32 = std::env::args()
+        .nth(1)
+        .and_then(|it| it.parse().ok())
+        .unwrap_or(1);
+    let mut server = Server::new();
+    // Each client is known, and each key has a text, before anything is timed.
+    let mut untimed = Times::default();
+    for batch in 0..CLIENTS / BATCH {
+        let clients: Vec<u64> = (1 + batch * BATCH..=(batch + 1) * BATCH).collect();
+        server.take_all(&clients, &mut untimed);
+        server.flush();
+        let (made, _) = server.made();
+        assert!(made as u64 == BATCH);
+    }
+    let others = server.chosen(1);
+    server.take_all(&others, &mut untimed);
+    server.flush();
+    for _ in 0..rounds {
+        round(&mut server);
+    }
+    unsafe { raw::durkenzo_server_close(&mut server.handle) }
+}

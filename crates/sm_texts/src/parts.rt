@@ -1,0 +1,134 @@
+//! The bytes of a base's parts.
+ghost use Rattle.std.specs.Prelude.{◌≡◌, IfOk, IfSome, map};
+ghost use Rattle.std.specs.List.{AllByRecursion};
+ghost use Rattle.sm_codec.specs.Spelling.{FitsItem, item_view, item_views, part_bytes};
+ghost use Rattle.sm_texts.specs.Parts.{last_item, part_text, reply_bytes};
+
+use crate::requests::number_of;
+use crate::text_reply::TextReply;
+use sm_codec::{ReadError, StoredPart, read_part, write_part};
+use sm_ownership::mode::Mode;
+use sm_shard::{BasePart, LastRequest};
+use sm_store::item::Item;
+use std::alloc::{AllocError, Global};
+
+/// The bytes of a part of a base. None where it has 2 ^ 32 bytes of the machine, or clients, or more.
+pub fn write_base_part(
+    alloc: Global,
+    part: &BasePart<TextReply>,
+) -> Result<Option<Vec<u8>>, AllocError>
+    ensures { IfOk result (λ made. IfSome made (λ bytes. bytes.items ≡ part_bytes (part_text part.now))) }
+{
+    let (state, lasts) = (part.state(), part.lasts());
+    if state.len() > u32::MAX as usize || lasts.len() > u32::MAX as usize {
+        return Ok(None);
+    }
+    let stored = StoredPart {
+        floor: part.floor(),
+        state: Vec::from_slice(alloc, state)?,
+        lasts: items_of(alloc, lasts)?,
+    };
+    Ok(Some(write_part(alloc, &stored)?))
+}
+
+// The last requests as items.
+fn items_of(
+    alloc: Global,
+    lasts: &[(u64, LastRequest<TextReply>)],
+) -> Result<Vec<Item<Vec<u8>>>, AllocError>
+    ensures spelled { IfOk result (λ items. item_views items.items ≡ map last_item lasts.now) }
+    ensures fit { IfOk result (λ items. AllByRecursion FitsItem (item_views items.items)) }
+{
+    let mut items = Vec::new(alloc);
+    for last in lasts {
+        let item = item_of(alloc, last.0, last.1)?;
+        items.push(item)?;
+    }
+    Ok(items)
+}
+
+fn item_of(
+    alloc: Global,
+    client: u64,
+    last: LastRequest<TextReply>,
+) -> Result<Item<Vec<u8>>, AllocError>
+    ensures spelled { IfOk result (λ item. item_view item ≡ last_item (client, last)) }
+    ensures fits { IfOk result (λ item. FitsItem (item_view item)) }
+{
+    Ok(Item {
+        client,
+        number: last.number,
+        mode: Mode::Direct,
+        hops: 0,
+        forgets: 0,
+        request: bytes_of(alloc, last.reply)?,
+    })
+}
+
+fn bytes_of(alloc: Global, reply: TextReply) -> Result<Vec<u8>, AllocError>
+    ensures { IfOk result (λ bytes. bytes.items ≡ reply_bytes reply) }
+{
+    let mut bytes = Vec::new(alloc);
+    bytes.push(reply.kind)?;
+    bytes.extend_from_slice(&reply.number.to_be_bytes())?;
+    Ok(bytes)
+}
+
+/// The part of a base that the bytes spell, all of the bytes. None where a last request of it has no reply.
+pub fn read_base_part(alloc: Global, bytes: &[u8]) -> Result<Option<BasePart<TextReply>>, ReadError>
+    ensures { IfOk result (λ found. IfSome found (λ part. bytes.now ≡ part_bytes (part_text part))) }
+{
+    let StoredPart {
+        floor,
+        state,
+        lasts,
+    } = read_part(alloc, bytes)?;
+    match lasts_of(alloc, &lasts)? {
+        Some(lasts) => Ok(Some(BasePart::new(state, lasts, floor))),
+        None => Ok(None),
+    }
+}
+
+fn lasts_of(
+    alloc: Global,
+    items: &[Item<Vec<u8>>],
+) -> Result<Option<Vec<(u64, LastRequest<TextReply>)>>, AllocError>
+    ensures { IfOk result (λ found. IfSome found (λ lasts. item_views items.now ≡ map last_item lasts.items)) }
+{
+    let mut lasts = Vec::new(alloc);
+    for item in items {
+        let Some(last) = last_of(item) else {
+            return Ok(None);
+        };
+        lasts.push(last)?;
+    }
+    Ok(Some(lasts))
+}
+
+// The last request that the item stands for.
+fn last_of(item: &Item<Vec<u8>>) -> Option<(u64, LastRequest<TextReply>)>
+    ensures { IfSome result (λ last. item_view item.now ≡ last_item last) }
+{
+    match (item.mode, item.hops, item.forgets, reply_of(&item.request)) {
+        (Mode::Direct, 0, 0, Some(reply)) => Some((
+            item.client,
+            LastRequest {
+                number: item.number,
+                reply,
+            },
+        )),
+        _ => None,
+    }
+}
+
+fn reply_of(bytes: &[u8]) -> Option<TextReply>
+    ensures { IfSome result (λ reply. bytes.now ≡ reply_bytes reply) }
+{
+    match bytes {
+        [kind, a, b, c, d, e, f, g, h] => Some(TextReply::new(
+            *kind,
+            u64::from_be_bytes([*a, *b, *c, *d, *e, *f, *g, *h]),
+        )),
+        _ => None,
+    }
+}
