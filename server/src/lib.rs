@@ -29,4 +29,5 @@ pub mod run;
 pub mod settings;
 pub mod snapshot;
 pub mod stats;
+pub mod stored;
 pub mod wait;
