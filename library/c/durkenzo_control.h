@@ -37,6 +37,9 @@
 extern "C" {
 #endif
 
+/* The version of this header and of the library beside it. */
+#define DURKENZO_CONTROL_VERSION "0.1.0"
+
 /* What calls answer. durkenzo_director also answers 70 to 83, the first fault of the line of settings, as
  * durkenzo_open_settings does: 70 is TooLong, 71 BadJson, 82 BadDomains. */
 enum durkenzo_director_code {

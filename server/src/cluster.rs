@@ -11,6 +11,7 @@ use crate::progress::Progress;
 use crate::settings::MAX_CEILING;
 use crate::stats::ChangesMade;
 use durkenzo::Board;
+use durkenzo_driver::Tuning;
 use std::fmt;
 use std::path::PathBuf;
 use std::sync::atomic::{AtomicBool, AtomicU64, Ordering};
@@ -42,6 +43,8 @@ pub struct Configuration {
     pub pace: Duration,
     /// How long clients may take at a stop to read what they were answered.
     pub grace: Duration,
+    /// How many batches the log of a shard in a folder has before a base stands for them.
+    pub log_batches: u64,
     /// The folder of dumps.
     pub folder: PathBuf,
     /// What clients have to give first.
@@ -65,6 +68,7 @@ impl Configuration {
             busy_poll: Duration::ZERO,
             pace: Duration::ZERO,
             grace: Duration::from_secs(2),
+            log_batches: Tuning::default().most_batches,
             folder: PathBuf::from("."),
             password: None,
             settings: None,

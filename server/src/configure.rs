@@ -29,6 +29,7 @@ pub fn configuration(options: &Options) -> Result<Configuration, Fault> {
         busy_poll: Duration::from_micros(options.busy_poll),
         pace: Duration::from_millis(options.pace),
         grace: Duration::from_millis(options.grace),
+        log_batches: options.log_batches,
         folder: options.folder.clone(),
         password: password.transpose()?,
         settings: settings.map(|it| it.line().into()),

@@ -29,6 +29,7 @@ pub mod run;
 pub mod settings;
 pub mod snapshot;
 pub mod stats;
+pub mod stored;
 pub mod wait;
 
 /// What the program calls itself.

@@ -40,6 +40,10 @@ impl Observer {
 
     /// The record of the shard.
     pub fn record(&mut self, shard: u16) -> Result<Record, UnknownShard> {
+        if let Some(durable) = self.cluster.storage.durable() {
+            let standing = durable.standing(shard).ok_or(UnknownShard)?;
+            return standing.record().ok_or(UnknownShard);
+        }
         self.renew();
         let mut record = self.pass.look(shard)?;
         record.generation += self.cluster.base(shard);

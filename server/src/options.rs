@@ -1,6 +1,7 @@
 //! The command line.
 use crate::{NAME, VERSION};
 use clap::{Parser, ValueEnum};
+use durkenzo_store::Sync;
 use std::net::IpAddr;
 use std::path::PathBuf;
 
@@ -12,7 +13,7 @@ const LOG: &str = "Log";
 const PROVED: &str =
     "In the repository ./sm serve takes --proved too: it proves the library first, where that wasn't done.";
 
-/// A server that Redis clients talk to. Its data lies in memory alone.
+/// A server that Redis clients talk to. Its data lies in memory alone, unless --data names a folder.
 ///
 /// Each key is of a shard, and each shard is executed by one of several servers, which are all in this
 /// process. Servers restart in turn, and shards move between them, while clients notice nothing:
@@ -116,6 +117,27 @@ pub struct Options {
     /// Nobody owns a shard at the start, until SM ASSIGN or SM PLACE; else servers take turns
     #[arg(long, help_heading = SHARDS)]
     pub vacant: bool,
+
+    /// Folder in which data outlives the process [default: none]
+    ///
+    /// It is made where there is none, and is of the shards and servers with which it was made.
+    #[arg(long, value_name = "FOLDER", help_heading = DATA)]
+    pub data: Option<PathBuf>,
+
+    /// When what was answered is on the disk: always before that, within a second, or when the system writes it
+    #[arg(long, value_name = "always|second|no", default_value = "always", requires = "data", help_heading = DATA)]
+    pub sync: Sync,
+
+    /// Batches of a shard's log before a base stands for them, from which the next start begins
+    #[arg(
+        long,
+        value_name = "COUNT",
+        default_value_t = 4_096,
+        value_parser = clap::value_parser!(u64).range(1..),
+        requires = "data",
+        help_heading = DATA
+    )]
+    pub log_batches: u64,
 
     /// Folder of the files of SM DUMP and SM LOAD
     #[arg(long, value_name = "FOLDER", default_value = ".", help_heading = DATA)]

@@ -1,19 +1,21 @@
 //! How the server begins and ends.
 use crate::admission::Admission;
-use crate::body::Memory;
-use crate::cluster::Cluster;
+use crate::body::{InFolder, Memory, Storage};
+use crate::cluster::{Cluster, Configuration};
 use crate::command::Executor;
 use crate::configure::configuration;
-use crate::control::{Asked, Controller};
+use crate::control::{Asked, Controller, StoredController};
 use crate::http;
 use crate::io::{Acceptor, Inlet, Worker};
 use crate::keyspace::Keyspace;
 use crate::options::{LogFormat, Options};
+use crate::stored;
+use durkenzo_driver::Control;
 use mio::Poll;
 use std::error::Error;
 use std::io::IsTerminal;
 use std::net::SocketAddr;
-use std::sync::mpsc::{channel, Sender};
+use std::sync::mpsc::{channel, Receiver, Sender};
 use std::sync::Arc;
 use std::thread::{self, JoinHandle};
 use std::time::Duration;
@@ -31,13 +33,12 @@ const MOST_USUAL_THREADS: usize = 4;
 /// Serves until a signal ends it.
 pub fn run(options: &Options) -> Result<(), Fault> {
     begin_log(options)?;
-    let cluster = Arc::new(Cluster::new(configuration(options)?, Box::new(Memory))?);
+    let configuration = configuration(options)?;
+    let storage = storage(options, &configuration)?;
+    let cluster = Arc::new(Cluster::new(configuration, storage)?);
     let (control, asked) = channel();
     let polls = polls(options, &cluster)?;
-    let mut controller = Controller::new(cluster.clone())?;
-    if !options.vacant {
-        controller.assign_all()?;
-    }
+    let controlling = controlling(options, &cluster, asked)?;
     let address = SocketAddr::new(options.bind, options.port);
     let told = |error| format!("{address}: {error}; --port takes another port");
     let acceptor = Acceptor::new(cluster.clone(), address).map_err(told)?;
@@ -50,7 +51,7 @@ pub fn run(options: &Options) -> Result<(), Fault> {
         Ok(())
     })?);
     threads.push(spawn(&cluster, "control", move || {
-        controller.run(asked);
+        controlling();
         Ok(())
     })?);
     let attended = attend(options, &cluster);
@@ -62,8 +63,40 @@ pub fn run(options: &Options) -> Result<(), Fault> {
     });
     // All are waited for; what a thread says comes before that one ended.
     let ended = ended.fold(Ok(()), Result::and).and(attended);
+    if let Some(durable) = cluster.storage.durable() {
+        durable.stop();
+    }
     tracing::info!("stopped");
     ended
+}
+
+/// Where data lies, as the options say.
+fn storage(options: &Options, configuration: &Configuration) -> Result<Box<dyn Storage>, Fault> {
+    let Some(folder) = &options.data else {
+        return Ok(Box::new(Memory));
+    };
+    let durable = Arc::new(stored::open(folder, options.sync, configuration)?);
+    Ok(Box::new(InFolder::new(durable, options.sync)))
+}
+
+/// What the thread of the control does: all shards have owners then, unless the options say otherwise.
+fn controlling(
+    options: &Options,
+    cluster: &Arc<Cluster>,
+    asked: Receiver<Asked>,
+) -> Result<Box<dyn FnOnce() + Send>, Fault> {
+    if let Some(durable) = cluster.storage.durable() {
+        let line = stored::line(&cluster.configuration);
+        let control = Control::lead(durable.clone(), &line)?;
+        let mut controller = StoredController::new(cluster.clone(), control)?;
+        controller.begin(!options.vacant)?;
+        return Ok(Box::new(move || controller.run(asked)));
+    }
+    let mut controller = Controller::new(cluster.clone())?;
+    if !options.vacant {
+        controller.assign_all()?;
+    }
+    Ok(Box::new(move || controller.run(asked)))
 }
 
 fn begin_log(options: &Options) -> Result<(), Fault> {
@@ -141,7 +174,10 @@ fn announce(options: &Options, cluster: &Cluster, address: SocketAddr) {
     let (servers, shards) = (cluster.configuration.servers, cluster.shards());
     let by = cluster.configuration.rule.name();
     tracing::info!(%address, servers, shards, by, "serving Redis clients");
-    tracing::warn!("data lies {}", cluster.storage.description());
+    match cluster.storage.durable() {
+        Some(_) => tracing::info!("data lies {}", cluster.storage.description()),
+        None => tracing::warn!("data lies {}", cluster.storage.description()),
+    }
     if !options.bind.is_loopback() && cluster.configuration.password.is_none() {
         tracing::warn!(
             "anybody who reaches {address} may read, write and move shards: --password-file"
@@ -180,6 +216,9 @@ async fn signalled(cluster: &Cluster) -> Result<(), Fault> {
             _ = tick.tick() => {
                 if cluster.is_stopping() {
                     return Err("a thread ended".into());
+                }
+                if let Some(why) = cluster.storage.durable().and_then(|it| it.ended()) {
+                    return Err(format!("the store has ended: {why}").into());
                 }
             }
         }

@@ -30,6 +30,7 @@
 
 mod embedded;
 mod error;
+#[cfg(feature = "etcd")]
 mod etcd;
 mod lease;
 mod pair;
@@ -40,6 +41,7 @@ mod watch;
 
 pub use embedded::{Embedded, OpenError, Sync};
 pub use error::{ReadError, WriteError};
+#[cfg(feature = "etcd")]
 pub use etcd::{Access, Etcd, StartError};
 pub use lease::{LeaseError, LeaseId};
 pub use pair::{Pair, Reading};

@@ -11,7 +11,7 @@ from testing.program import tool
 
 RATTLE = pathlib.Path(shutil.which("rt") or "rt").resolve().with_name("rattle")
 ENDINGS = (".rt", ".antt")
-RUST = [sources.TOP / it for it in ("library/rust/durkenzo", "server", "simulation", "store", "trial")]
+RUST = [sources.TOP / it for it in ("driver", "library/rust/durkenzo", "server", "simulation", "store", "trial")]
 
 
 def files_of(folder):

@@ -4,15 +4,16 @@ import shutil
 import subprocess
 import sys
 
+import exported
 import other_crates
 import runs
 import sources
-from testing.library import PROVED
 from testing.part import Verdict, verdict
 from testing.program import tool
 
 FOLDER = sources.TOP / "server"
-SCRIPTS = ("commands", "moves", "dumps", "hostile", "scripts", "site")
+PROVED = [sources.CRATES / it / "out" / exported.library_of(it) for it in exported.CRATES]
+SCRIPTS = ("commands", "moves", "durable", "dumps", "hostile", "scripts", "site")
 REDIS = ("redis-server", "redis-cli", "redis-benchmark")
 HEADINGS = ("Network:", "Servers and shards:", "Data:", "Threads and waiting:", "Log:")
 PASSED, FAILED, REASON = "passed: ", "FAILED: ", "    "
@@ -83,25 +84,36 @@ def installed(room):
         yield verdict("the unit names the installed server", names)
 
 
+def driver():
+    """What drives proved servers of a store, over stores that don't tell all."""
+    folder, clippy = sources.TOP / "driver", ("clippy", "--all-targets", "--", "-D", "warnings")
+    for words in [("test",), *([clippy] if shutil.which("cargo-clippy") else [])]:
+        ran = other_crates.cargo(folder, *words)
+        yield verdict(f"cargo {words[0]} of the driver", not ran.returncode, f"{ran.stdout[-2000:]}{ran.stderr[-2000:]}")
+
+
 def passed(room):
     """All of it; nothing where the library wasn't built, or cargo or other people's crates aren't there."""
     serve = runs.loaded("serve")
-    if not PROVED.is_file() or not shutil.which("cargo") or not serve.has_crates():
+    if not all(it.is_file() for it in PROVED) or not shutil.which("cargo") or not serve.has_crates():
         return
-    # It was just proved, or taken over as proved: it is as new as its sources, which is how ./sm serve sees that.
-    PROVED.touch()
+    # They were just proved, or taken over as proved: they are as new as their sources, which is how ./sm serve sees that.
+    for it in PROVED:
+        it.touch()
     try:
         program = serve.built()
     except serve.Missing as missing:
         yield Verdict("the server is built", str(missing))
         return
     yield by_cargo(serve, "the server's unit tests", "test", "--release")
+    yield from driver()
     if shutil.which("cargo-clippy"):
         yield by_cargo(serve, "clippy of the server", "clippy", "--release", "--all-targets", "--", "-D", "warnings")
     told = subprocess.run([sources.TOP / "sm", "serve", "--help"], capture_output=True, text=True).stdout
     yield verdict("./sm serve --help", all(it in told for it in HEADINGS), told)
     if other_crates.has_crates(sources.TOP / "trial"):
         yield tool("trial", "--seconds", 5, program)
+        yield tool("trial", "--seconds", 5, "--data", program)
     if shutil.which("make"):
         yield from installed(room)
     if not lacking():

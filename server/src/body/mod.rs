@@ -3,7 +3,7 @@ mod proved;
 mod storage;
 
 pub use proved::ProvedBody;
-pub use storage::{Memory, Storage};
+pub use storage::{InFolder, Memory, Storage};
 
 use std::ops::Bound;
 

@@ -1,4 +1,5 @@
 use super::data::{self, DataWord, Part};
+use super::durable::gather;
 use super::reader::Reader;
 use super::scan::Scanner;
 use super::session::Session;
@@ -102,6 +103,9 @@ impl Executor {
         next: &mut Option<Judged>,
         replies: &mut Replies,
     ) -> Result<(), Stop> {
+        if self.cluster.storage.durable().is_some() && self.gather(session, reader, replies)? {
+            return Ok(());
+        }
         let command = match reader.peek() {
             Ok(command) => command,
             Err(Unparsed::Incomplete(needs)) => return Err(Stop::Incomplete(needs)),
@@ -131,6 +135,24 @@ impl Executor {
             replies.take_back(mark);
         }
         self.settle(done, session, reader, replies)
+    }
+
+    /// Stops where the next commands ask something of shards whose data outlives the process. Returns whether the next
+    /// one is refused.
+    fn gather(
+        &self,
+        session: &mut Session,
+        reader: &mut Reader<'_>,
+        replies: &mut Replies,
+    ) -> Result<bool, Stop> {
+        match gather(reader, session, &self.keyspace, replies.protocol) {
+            Ok(Some(asked)) => Err(Stop::Durable(asked)),
+            Ok(None) => Ok(false),
+            Err(fault) => {
+                self.settle(Err(fault.into()), session, reader, replies)?;
+                Ok(true)
+            }
+        }
     }
 
     /// Goes behind a command that was done or refused; one that waits stays.

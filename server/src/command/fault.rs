@@ -1,6 +1,8 @@
 use crate::body::{Refusal, MAX_KEY, MAX_TEXT};
 use crate::resp::{Command, MAX_REPLY};
+use crate::wait::Wait;
 use durkenzo::AdmitFault;
+use durkenzo_driver::NotDone;
 use std::error::Error;
 use std::fmt;
 
@@ -64,6 +66,10 @@ pub enum Fault {
     UnknownServer,
     /// A command for a server has no keys.
     NoKeys,
+    /// The command is there for data in memory alone.
+    NotDurable(&'static str),
+    /// A shard whose data outlives the process didn't do it, or isn't known to have done it.
+    NotDone(u16, NotDone),
     /// The board refuses the admission, and no waiting mends that.
     NotAdmitted(AdmitFault),
 }
@@ -137,6 +143,8 @@ impl fmt::Display for Fault {
             Fault::UnknownSubcommand(name, word) => unknown_subcommand(f, name, word),
             Fault::NoMulti(name) => write!(f, "ERR {name} without MULTI"),
             Fault::NotAdmitted(fault) => not_admitted(f, *fault),
+            Fault::NotDurable(name) => write!(f, "NOTDURABLE {name} isn't there with --data"),
+            Fault::NotDone(shard, why) => not_done(f, *shard, why),
             Fault::TooLong => write!(f, "TOOLONG a value has at most {MAX_TEXT} bytes"),
             Fault::BadKey => write!(f, "BADKEY a key has 1 to {MAX_KEY} bytes"),
             Fault::ReplyTooLarge => write!(f, "TOOLARGE a reply has at most {MAX_REPLY} bytes"),
@@ -175,6 +183,24 @@ fn wrong_arity(f: &mut fmt::Formatter<'_>, name: &str) -> fmt::Result {
 
 fn unknown_subcommand(f: &mut fmt::Formatter<'_>, name: &str, word: &str) -> fmt::Result {
     write!(f, "ERR unknown subcommand '{word}'. Try {name} HELP.")
+}
+
+/// Why a shard whose data outlives the process didn't do it, with what to do.
+fn not_done(f: &mut fmt::Formatter<'_>, shard: u16, why: &NotDone) -> fmt::Result {
+    match why {
+        NotDone::Paused => write!(f, "{}", Wait::Paused(shard)),
+        NotDone::Away(server) => write!(f, "{}", Wait::Unreachable(shard, *server)),
+        NotDone::Vacant => write!(f, "{}", Wait::Vacant(shard)),
+        NotDone::Busy => write!(f, "{}", Wait::Busy(shard)),
+        NotDone::Damaged(_) => write!(f, "SHARDDAMAGED shard {shard}: {why}: restore the folder"),
+        NotDone::Full(_) => write!(
+            f,
+            "STOREFULL nothing has changed, and reads go on: {why}: make room"
+        ),
+        NotDone::NotMade(_) => write!(f, "STOREDOWN nothing has changed: {why}"),
+        NotDone::Unknown(_) => write!(f, "UNKNOWN {why}: read before you try again"),
+        NotDone::Stopped => write!(f, "STOPPING nothing has changed: {why}"),
+    }
 }
 
 /// Why the board refuses the admission, with what to do.

@@ -1,6 +1,7 @@
 //! The commands that clients send, and what each does.
 mod cursors;
 mod data;
+mod durable;
 mod executor;
 mod fault;
 mod glob;
@@ -16,6 +17,7 @@ mod transaction;
 mod unanswered;
 
 pub use cursors::Cursors;
+pub use durable::Asked;
 pub use executor::Executor;
 pub use fault::{name_of, Fault};
 pub use info::memory_used;

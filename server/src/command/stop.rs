@@ -1,3 +1,4 @@
+use super::Asked;
 use crate::resp::OwnedCommand;
 use crate::wait::Wait;
 
@@ -12,6 +13,8 @@ pub enum Stop {
     End,
     /// The next command waits.
     Wait(Wait),
+    /// Shards whose data outlives the process answer this.
+    Durable(Asked),
     /// The control answers this command.
     Control(OwnedCommand),
 }

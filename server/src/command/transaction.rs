@@ -1,4 +1,4 @@
-use super::data;
+use super::data::{self, DataWord};
 use super::session::Session;
 use super::spec::{Spec, Word};
 use super::talk;
@@ -47,6 +47,21 @@ impl Transaction {
     /// How many commands there are.
     pub fn len(&self) -> u64 {
         self.commands.len() as u64
+    }
+
+    /// The commands with keys.
+    pub fn data(&self) -> impl Iterator<Item = (DataWord, &OwnedCommand)> {
+        self.commands.iter().filter_map(|it| {
+            match Spec::named(it.command().get(0)).map(|it| it.word) {
+                Some(Word::Data(word)) => Some((word, it)),
+                _ => None,
+            }
+        })
+    }
+
+    /// How many arguments the commands with keys have, at most so many of which are keys.
+    pub fn arguments(&self) -> usize {
+        self.data().map(|it| it.1.command().len() - 1).sum()
     }
 
     /// The shard of all keys, if there are any.

@@ -313,17 +313,7 @@ impl Controller {
     }
 
     fn settings(&self) -> Answer {
-        let configuration = &self.cluster.configuration;
-        Answer::Lines(vec![
-            format!("servers {}", configuration.servers),
-            format!("shards {}", self.cluster.shards()),
-            format!("keys by {}", configuration.rule.name()),
-            format!("restarts at once {}", configuration.restarts),
-            format!("ceiling {}", configuration.ceiling),
-            format!("wait {} ms", configuration.wait.as_millis()),
-            format!("limits {}", configuration.limits()),
-            format!("data {}", self.cluster.storage.description()),
-        ])
+        settings_lines(&self.cluster)
     }
 
     fn look(&mut self, shard: u16) -> Result<Answer, Refusal> {
@@ -343,12 +333,27 @@ impl fmt::Debug for Controller {
     }
 }
 
+/// How the server runs.
+pub(super) fn settings_lines(cluster: &Cluster) -> Answer {
+    let configuration = &cluster.configuration;
+    Answer::Lines(vec![
+        format!("servers {}", configuration.servers),
+        format!("shards {}", cluster.shards()),
+        format!("keys by {}", configuration.rule.name()),
+        format!("restarts at once {}", configuration.restarts),
+        format!("ceiling {}", configuration.ceiling),
+        format!("wait {} ms", configuration.wait.as_millis()),
+        format!("limits {}", configuration.limits()),
+        format!("data {}", cluster.storage.description()),
+    ])
+}
+
 /// The shard or the server in this place, if it is one.
-fn numeral(command: Command<'_>, index: usize) -> Option<u16> {
+pub(super) fn numeral(command: Command<'_>, index: usize) -> Option<u16> {
     number::parse(command.get(index)).and_then(|it| u16::try_from(it).ok())
 }
 
-fn help_lines() -> Answer {
+pub(super) fn help_lines() -> Answer {
     let lines = WORDS
         .iter()
         .map(|(form, does)| format!("SM {form:<16} {does}"));
@@ -367,7 +372,7 @@ fn is_standing(word: &str) -> bool {
 }
 
 /// Sends the answer.
-fn send(reply_to: ReplyTo, answer: Result<Answer, Refusal>) {
+pub(super) fn send(reply_to: ReplyTo, answer: Result<Answer, Refusal>) {
     let mut replies = Replies::default();
     match answer {
         Ok(Answer::Done) => replies.simple("OK"),

@@ -7,11 +7,15 @@ mod help;
 mod loading;
 mod migration;
 mod mover;
+mod moving;
 mod refusal;
 mod restart;
+mod restarting;
 mod returning;
 mod standings;
+mod stored;
 mod task;
 
 pub use controller::{Asked, Controller};
 pub use refusal::Refusal;
+pub use stored::StoredController;

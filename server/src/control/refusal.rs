@@ -3,6 +3,8 @@ use crate::dump::DumpFault;
 use crate::snapshot::ShardRow;
 use crate::wait::NotAdmitted;
 use durkenzo::{ChangeFault, PassFault, PlanFault, RestartFault, UnknownShard};
+use durkenzo_driver::Refused;
+use durkenzo_store::WriteError;
 use std::error::Error;
 use std::fmt;
 
@@ -89,6 +91,45 @@ impl Refusal {
         Refusal::new(&name_of(&fault), format!("{fault}{stands}"), advice)
     }
 
+    /// That the word is there for data in memory alone.
+    pub fn not_durable(word: &str) -> Refusal {
+        let reason = format!("SM {word} isn't there with --data");
+        Refusal::new("NotDurable", reason, "SM HELP lists all words")
+    }
+
+    /// Why the store's control doesn't change a shard that stands so.
+    pub fn of_stored(refused: &Refused, row: Option<&ShardRow>) -> Refusal {
+        match refused {
+            Refused::Judged(code) => match change_fault(*code) {
+                Some(fault) => Refusal::of_change(fault, row),
+                None => Refusal::new("NotYet", refused.to_string(), "try again"),
+            },
+            other => Refusal::of_store(other),
+        }
+    }
+
+    /// Why the store's control doesn't make a step of the server's restart.
+    pub fn of_stored_step(refused: &Refused, server: u16) -> Refusal {
+        match refused {
+            Refused::Judged(code) => match restart_fault(*code) {
+                Some(fault) => Refusal::of_restart(fault, server),
+                None => Refusal::new("NotYet", refused.to_string(), "try again"),
+            },
+            other => Refusal::of_store(other),
+        }
+    }
+
+    /// Why the store doesn't let the control go on.
+    fn of_store(refused: &Refused) -> Refusal {
+        let (name, advice) = match refused {
+            Refused::Write(WriteError::Full(_)) => ("StoreFull", "make room"),
+            Refused::NotLeader | Refused::OtherSettings => ("NotLeader", "ask the other process"),
+            Refused::Damaged(_) => ("StoreDamaged", "restore the folder"),
+            _ => ("StoreDown", "look at the log"),
+        };
+        Refusal::new(name, refused.to_string(), advice)
+    }
+
     /// Why a step of the server's restart isn't made.
     pub fn of_restart(fault: RestartFault, server: u16) -> Refusal {
         let advice = match fault {
@@ -108,6 +149,44 @@ impl Refusal {
             }
         };
         Refusal::new(&name_of(&fault), fault.to_string(), advice)
+    }
+}
+
+/// The fault of a change that has this code, but for those of admissions.
+fn change_fault(code: u32) -> Option<ChangeFault> {
+    Some(match code {
+        10 => ChangeFault::UnknownShard,
+        11 => ChangeFault::WrongPhase,
+        12 => ChangeFault::SameServer,
+        30 => ChangeFault::UnknownServer,
+        31 => ChangeFault::Leaving,
+        32 => ChangeFault::NoCapacity,
+        33 => ChangeFault::DomainLimit,
+        _ => return None,
+    })
+}
+
+/// The fault of a step of a restart that has this code.
+fn restart_fault(code: u32) -> Option<RestartFault> {
+    Some(match code {
+        30 => RestartFault::UnknownServer,
+        40 => RestartFault::NotUp,
+        41 => RestartFault::NotAsked,
+        42 => RestartFault::GlobalCap,
+        43 => RestartFault::ShardCap,
+        44 => RestartFault::GroupCap,
+        45 => RestartFault::DomainCap,
+        46 => RestartFault::NotApproved,
+        47 => RestartFault::StillServing,
+        48 => RestartFault::AlreadyUp,
+        49 => RestartFault::AlreadyFailed,
+        _ => return None,
+    })
+}
+
+impl From<Refused> for Refusal {
+    fn from(refused: Refused) -> Refusal {
+        Refusal::of_stored(&refused, None)
     }
 }
 

@@ -1,4 +1,4 @@
-use crate::command::{Executor, Session, Stop};
+use crate::command::{Asked, Executor, Session, Stop};
 use crate::resp::{OwnedCommand, Replies};
 use crate::stats::ErrorCounts;
 use crate::wait::Wait;
@@ -23,6 +23,8 @@ pub(super) enum Turn {
     Wait(Wait),
     /// The control's answer to this command.
     Control(OwnedCommand),
+    /// The answer of shards whose data outlives the process.
+    Durable(Asked),
     /// Nothing: it is over.
     Over,
 }
@@ -44,8 +46,8 @@ pub(super) struct Connection {
     is_ended: bool,
     /// Whether it ends when all was sent.
     is_last: bool,
-    /// Whether the control owes it an answer.
-    is_owed: bool,
+    /// Since when the control or shards owe it an answer, if they do.
+    owed_since: Option<Instant>,
     /// Since when its next command waits.
     waits_since: Option<Instant>,
     /// Whether the thread will give it a turn.
@@ -64,7 +66,7 @@ impl Connection {
             is_half_closed: false,
             is_ended: false,
             is_last: false,
-            is_owed: false,
+            owed_since: None,
             waits_since: None,
             is_queued: false,
         }
@@ -79,13 +81,15 @@ impl Connection {
         self.is_half_closed |= event.is_read_closed() || event.is_error();
         self.is_readable |= event.is_readable() || self.is_half_closed;
         let is_due = self.is_readable || !self.replies.unsent().is_empty();
-        is_due && !self.is_owed && self.waits_since.is_none()
+        is_due && self.owed_since.is_none() && self.waits_since.is_none()
     }
 
-    /// Takes the control's answer.
-    pub(super) fn take_answer(&mut self, bytes: &[u8]) {
+    /// Takes the answer that was owed, and says for how long it was.
+    pub(super) fn take_answer(&mut self, bytes: &[u8]) -> Duration {
         self.replies.append(bytes);
-        self.is_owed = false;
+        self.owed_since
+            .take()
+            .map_or(Duration::ZERO, |it| it.elapsed())
     }
 
     /// Whether its command has waited for so long.
@@ -95,7 +99,7 @@ impl Connection {
 
     /// Whether there is nothing that it would still be answered.
     pub(super) fn is_quiet(&self) -> bool {
-        !self.is_readable && !self.is_owed && self.replies.unsent().is_empty()
+        !self.is_readable && self.owed_since.is_none() && self.replies.unsent().is_empty()
     }
 
     /// Since when a command of it waits, if one does.
@@ -129,7 +133,7 @@ impl Connection {
         if self.is_last && unsent == 0 {
             return Ok(Turn::Over);
         }
-        if self.is_last || self.is_owed || unsent > MOST_UNSENT {
+        if self.is_last || self.owed_since.is_some() || unsent > MOST_UNSENT {
             return Ok(Turn::Rest);
         }
         let stop = if self.input.len() >= self.needs {
@@ -166,8 +170,12 @@ impl Connection {
                 Turn::Again
             }
             Stop::Control(command) => {
-                self.is_owed = true;
+                self.owed_since = Some(Instant::now());
                 Turn::Control(command)
+            }
+            Stop::Durable(asked) => {
+                self.owed_since = Some(Instant::now());
+                Turn::Durable(asked)
             }
             Stop::Wait(reason) => self.wait(reason, waits_since, executor, wait),
         }

@@ -24,12 +24,20 @@ pub(super) struct Brought {
     pub(super) answers: Vec<Delivery>,
 }
 
-/// An answer of the control to a connection.
+impl Brought {
+    fn is_empty(&self) -> bool {
+        self.streams.is_empty() && self.answers.is_empty()
+    }
+}
+
+/// An answer of the control or of shards to a connection.
 #[derive(Debug)]
 pub(super) struct Delivery {
     pub(super) place: usize,
     pub(super) id: u64,
     pub(super) bytes: Vec<u8>,
+    /// How many commands it answers that weren't counted yet.
+    pub(super) commands: u64,
 }
 
 impl Inlet {
@@ -77,8 +85,14 @@ impl Inlet {
     }
 
     fn change(&self, change: impl FnOnce(&mut Brought)) {
-        change(&mut self.brought.lock().unwrap_or_else(PoisonError::into_inner));
-        self.wake();
+        let mut brought = self.brought.lock().unwrap_or_else(PoisonError::into_inner);
+        // Where something lies there already, the thread was woken for that, and hasn't looked yet.
+        let is_first = brought.is_empty();
+        change(&mut brought);
+        drop(brought);
+        if is_first {
+            self.wake();
+        }
     }
 }
 
@@ -106,8 +120,19 @@ impl ReplyTo {
 
     /// Sends the answer, once.
     pub fn send(self, bytes: Vec<u8>) {
-        let (place, id) = (self.place, self.id);
-        self.inlet
-            .change(|it| it.answers.push(Delivery { place, id, bytes }));
+        self.send_of(bytes, 0);
+    }
+
+    /// Sends the answer to so many commands that weren't counted yet, once.
+    pub fn send_of(self, bytes: Vec<u8>, commands: u64) {
+        let ReplyTo { inlet, place, id } = self;
+        inlet.change(|it| {
+            it.answers.push(Delivery {
+                place,
+                id,
+                bytes,
+                commands,
+            });
+        });
     }
 }

@@ -2,7 +2,7 @@ use super::busy_poll::BusyPoll;
 use super::connection::{Connection, Turn};
 use super::inlet::{Brought, Inlet, ReplyTo, WAKE};
 use crate::cluster::Cluster;
-use crate::command::{Executor, Session};
+use crate::command::{Asked as AskedOfShards, Executor, Session};
 use crate::control::Asked;
 use crate::resp::OwnedCommand;
 use crate::wait::Wait;
@@ -155,7 +155,12 @@ impl Worker {
         for answer in answers {
             let connection = self.connections.get_mut(answer.place);
             if let Some(connection) = connection.filter(|it| it.session.id == answer.id) {
-                connection.take_answer(&answer.bytes);
+                let took = connection.take_answer(&answer.bytes);
+                if answer.commands > 0 {
+                    let stats = self.inlet.stats();
+                    stats.commands.add(answer.commands);
+                    stats.latency.note(took, answer.commands);
+                }
                 self.enqueue(answer.place);
             }
         }
@@ -232,7 +237,14 @@ impl Worker {
                 }
                 Turn::Wait(Wait::Busy(_)) => self.enqueue(place),
                 Turn::Wait(_) => self.waiting.push(place),
-                Turn::Control(command) => self.ask(place, command),
+                Turn::Control(command) => {
+                    self.is_racing = false;
+                    self.ask(place, command);
+                }
+                Turn::Durable(asked) => {
+                    self.is_racing = false;
+                    self.ask_shards(place, asked);
+                }
                 Turn::Over => self.close(place),
             }
         }
@@ -262,9 +274,21 @@ impl Worker {
         turn
     }
 
-    fn ask(&mut self, place: usize, command: OwnedCommand) {
+    /// Where what is owed to the connection there goes.
+    fn reply_to(&self, place: usize) -> ReplyTo {
         let (inlet, id) = (self.inlet.clone(), self.connections[place].session.id);
-        let reply_to = ReplyTo { inlet, place, id };
+        ReplyTo { inlet, place, id }
+    }
+
+    fn ask_shards(&mut self, place: usize, asked: AskedOfShards) {
+        let reply_to = self.reply_to(place);
+        if let Some(durable) = self.cluster.storage.durable() {
+            asked.submit(durable, &self.cluster, reply_to);
+        }
+    }
+
+    fn ask(&mut self, place: usize, command: OwnedCommand) {
+        let reply_to = self.reply_to(place);
         if let Err(error) = self.control.send(Asked { command, reply_to }) {
             // The control ends after all threads that ask it, or by a fault of its own.
             tracing::error!(%error, "the control is gone");

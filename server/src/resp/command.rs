@@ -72,6 +72,12 @@ impl OwnedCommand {
         OwnedCommand { bytes, spans }
     }
 
+    /// A copy of these of its words.
+    pub fn of_words(command: Command<'_>, places: &[usize]) -> OwnedCommand {
+        let spans: Vec<Span> = places.iter().map(|it| command.spans[*it]).collect();
+        OwnedCommand::new(Command::new(command.bytes, &spans))
+    }
+
     /// The command.
     pub fn command(&self) -> Command<'_> {
         Command::new(&self.bytes, &self.spans)

@@ -30,6 +30,14 @@ pub struct Replies {
 }
 
 impl Replies {
+    /// None, in this version.
+    pub fn new(protocol: Protocol) -> Replies {
+        Replies {
+            protocol,
+            ..Replies::default()
+        }
+    }
+
     /// The bytes that weren't sent yet.
     pub fn unsent(&self) -> &[u8] {
         &self.bytes[self.sent..]
@@ -50,6 +58,15 @@ impl Replies {
     /// A whole reply that was written elsewhere, in the same version.
     pub fn append(&mut self, reply: &[u8]) {
         self.bytes.extend_from_slice(reply);
+    }
+
+    /// Replies that were written elsewhere, with the errors among them.
+    pub fn take_over(&mut self, mut other: Replies) {
+        self.append(other.unsent());
+        self.error_count += other.error_count;
+        for (name, count) in other.take_errors().into_iter().flatten() {
+            *self.errors.entry(name).or_default() += count;
+        }
     }
 
     /// Where the next reply begins.

@@ -1,0 +1,89 @@
+/// A key of a shard: 1 to 255 bytes.
+pub type Key = Box<[u8]>;
+
+/// A request that a shard's map makes.
+#[derive(Clone, Debug, PartialEq, Eq)]
+pub enum Request {
+    /// Has the key hold this text, where it holds no count.
+    Put(Key, Vec<u8>),
+    /// Adds to the text that the key holds, from an empty one where it holds nothing.
+    Append(Key, Vec<u8>),
+    /// Adds to the count that the key holds, from 0 where it holds nothing.
+    Add(Key, i64),
+    /// Has the key hold nothing.
+    Delete(Key),
+}
+
+impl Request {
+    /// The key that it changes.
+    pub fn key(&self) -> &Key {
+        match self {
+            Request::Put(key, _)
+            | Request::Append(key, _)
+            | Request::Add(key, _)
+            | Request::Delete(key) => key,
+        }
+    }
+
+    /// Its bytes: the kind, how long the key is, the key, and what goes with it.
+    pub(crate) fn bytes(&self) -> Vec<u8> {
+        match self {
+            Request::Put(key, text) => spelled(2, key, text),
+            Request::Append(key, more) => spelled(3, key, more),
+            Request::Add(key, amount) => spelled(4, key, &amount.to_be_bytes()),
+            Request::Delete(key) => spelled(5, key, &[]),
+        }
+    }
+}
+
+/// The bytes of a request for what the key holds.
+pub(crate) fn get_bytes(key: &[u8]) -> Vec<u8> {
+    spelled(1, key, &[])
+}
+
+fn spelled(kind: u8, key: &[u8], rest: &[u8]) -> Vec<u8> {
+    // A longer key is refused where the command is read; cut, its request is none.
+    let length = u8::try_from(key.len()).unwrap_or(0);
+    let mut bytes = Vec::with_capacity(2 + key.len() + rest.len());
+    bytes.extend([kind, length]);
+    bytes.extend(key);
+    bytes.extend(rest);
+    bytes
+}
+
+/// What a shard's map replied.
+#[derive(Clone, Debug, PartialEq, Eq)]
+pub enum Reply {
+    /// The key held nothing.
+    Nothing,
+    /// It was done.
+    Done,
+    /// The text that the key holds.
+    Text(Vec<u8>),
+    /// The count that the key holds.
+    Count(i64),
+    /// The key holds a count where a text is wanted, or a text where a count is.
+    WrongKind,
+    /// The sum lies outside of 64 bits.
+    Overflow,
+    /// The text would be too long.
+    TooLong,
+    /// The bytes are no request.
+    Malformed,
+}
+
+impl Reply {
+    /// That of this kind.
+    pub(crate) fn of(kind: u8, value: u64, text: &[u8]) -> Reply {
+        match kind {
+            0 => Reply::Nothing,
+            1 => Reply::Done,
+            2 => Reply::Text(text.to_vec()),
+            3 => Reply::Count(value as i64),
+            5 => Reply::WrongKind,
+            6 => Reply::Overflow,
+            7 => Reply::TooLong,
+            _ => Reply::Malformed,
+        }
+    }
+}

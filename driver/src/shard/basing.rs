@@ -1,0 +1,101 @@
+use super::{Deed, Seat, Shard};
+use crate::decision::{Base, Passing};
+use crate::keys;
+use crate::reading::LogSize;
+use std::time::Instant;
+
+/// How far a base is.
+#[derive(Clone, Copy, Debug, PartialEq, Eq)]
+pub(super) enum Basing {
+    /// Its parts are being written.
+    Writes,
+    /// They are written, so the next transaction names it.
+    Names,
+    /// The transaction with this number does.
+    Named(u64),
+}
+
+/// How many bytes a log has at least before it gets another base for their number.
+const LEAST_BYTES: u64 = 1 << 20;
+
+impl Shard {
+    /// Begins a base where the log is long.
+    pub(crate) fn begin_base(&mut self, deeds: &mut Vec<Deed>) {
+        let LogSize {
+            base,
+            batches,
+            bytes,
+        } = self.log;
+        let is_long = batches >= self.most_batches || bytes >= LEAST_BYTES.max(2 * base);
+        if !is_long || self.base.is_some() {
+            return;
+        }
+        let owner = self.standing.record().and_then(|it| it.owner());
+        let Some(server) = owner else {
+            return;
+        };
+        let Some(Seat::Ready(core, _) | Seat::Sent(core, ..)) = self.seats.get_mut(&server) else {
+            return;
+        };
+        // Where it fails, the log stays as long as it is, and it is tried again.
+        if let Ok(Some(Base { number, parts })) = core.base() {
+            self.log.base = parts.iter().map(|it| it.len() as u64).sum();
+            self.base = Some((server, Basing::Writes));
+            let places = parts.into_iter().enumerate();
+            let keyed = places
+                .map(|(place, it)| (keys::part(self.number, number, place as u64), it))
+                .collect();
+            deeds.push(Deed::WriteBase(server, keyed));
+        }
+    }
+
+    /// The parts of the server's base were written, or weren't.
+    pub(crate) fn on_base(
+        &mut self,
+        server: u16,
+        is_written: bool,
+        now: Instant,
+        deeds: &mut Vec<Deed>,
+    ) {
+        if self.base != Some((server, Basing::Writes)) {
+            return;
+        }
+        let Some(Seat::Ready(core, _) | Seat::Sent(core, ..)) = self.seats.get_mut(&server) else {
+            self.base = None;
+            return;
+        };
+        if is_written && core.parts_made().is_ok() {
+            self.base = Some((server, Basing::Names));
+        } else if matches!(self.seats.get(&server), Some(Seat::Ready(..))) {
+            // One that is read anew makes no base, and can begin another.
+            self.read_again(server);
+        }
+        self.go_on(now, deeds);
+    }
+
+    /// Sends what names a base, where nothing else is to be sent.
+    pub(super) fn name_base(&mut self, deeds: &mut Vec<Deed>) {
+        if let Some((server, Basing::Names)) = self.base {
+            if self.send(server, deeds).is_err() {
+                self.read_again(server);
+            }
+        }
+    }
+
+    /// Deletes of what was found what is behind the base.
+    pub(crate) fn on_swept(&mut self, server: u16, found: &[Passing], deeds: &mut Vec<Deed>) {
+        let Some(Seat::Ready(core, _) | Seat::Sent(core, ..)) = self.seats.get_mut(&server) else {
+            return;
+        };
+        let mut behind = Vec::new();
+        for it in found {
+            if let Ok(true) = core.is_behind(*it) {
+                behind.push(match *it {
+                    Passing::Batch(number) => keys::batch(self.number, number),
+                    Passing::Part(number, place) => keys::part(self.number, number, place),
+                });
+            }
+        }
+        deeds.push(Deed::Delete(behind));
+    }
+}

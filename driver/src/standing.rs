@@ -1,0 +1,44 @@
+use crate::keys;
+use durkenzo::{word, Record};
+use durkenzo_store::Revision;
+
+/// A shard's record as it lies in the store.
+#[derive(Clone, Debug, PartialEq, Eq)]
+pub struct Standing {
+    bytes: Vec<u8>,
+    revision: Revision,
+}
+
+impl Standing {
+    /// That of a shard that was never changed.
+    pub(crate) fn vacant() -> Standing {
+        Standing::new(keys::VACANT.to_vec(), Revision::NEVER)
+    }
+
+    /// These bytes, of this revision.
+    pub(crate) fn new(bytes: Vec<u8>, revision: Revision) -> Standing {
+        Standing { bytes, revision }
+    }
+
+    /// Its bytes.
+    pub fn bytes(&self) -> &[u8] {
+        &self.bytes
+    }
+
+    /// The revision at which it was written.
+    pub fn revision(&self) -> Revision {
+        self.revision
+    }
+
+    /// The record, where the bytes are one's.
+    pub fn record(&self) -> Option<Record> {
+        let word = self.bytes.get(1..9)?.try_into().ok()?;
+        word::record(u64::from_be_bytes(word))
+    }
+
+    /// Whether the server owns the shard, or is its next or previous owner.
+    pub(crate) fn names(&self, server: u16) -> bool {
+        let record = self.record();
+        record.is_some_and(|it| it.owner() == Some(server) || it.other() == Some(server))
+    }
+}

@@ -1,0 +1,92 @@
+//! Shards over a store that often doesn't tell what became of a transaction, while they move: each addition that was
+//! answered is counted once, and none other.
+mod common;
+
+use common::{add, held, Uncertain};
+use durkenzo_driver::{Command, Control, Durable, Next, Reply};
+use durkenzo_store::{Embedded, Store};
+use std::sync::atomic::{AtomicBool, Ordering};
+use std::sync::Arc;
+use std::thread;
+use std::time::{Duration, Instant};
+
+const SHARDS: u16 = 4;
+const THREADS: u64 = 6;
+const LASTS: Duration = Duration::from_secs(3);
+
+/// Moves shards to the other server as long as it is let.
+fn migrate(mut control: Control, stops: &AtomicBool) -> u64 {
+    let mut moves = 0;
+    while !stops.load(Ordering::Acquire) {
+        let (shard, server) = (
+            (moves % u64::from(SHARDS)) as u16,
+            (moves / 4 % 2) as u16 + 1,
+        );
+        // Where it is there already, it is refused.
+        let _ = control.command(Command::PrepareAddShard(shard, server));
+        while let Ok(Next::Command(command)) = control.next_of_shard(shard) {
+            let _ = control.command(command);
+        }
+        moves += 1;
+        thread::sleep(Duration::from_millis(1));
+    }
+    moves
+}
+
+#[test]
+fn additions_are_counted_once_where_outcomes_are_unknown() {
+    let store: Arc<dyn Store> = Arc::new(Uncertain::new(Embedded::in_memory(), 4));
+    let durable = Arc::new(common::opened(&store, SHARDS));
+    let control = common::led(&durable);
+    let stops = AtomicBool::new(false);
+    let end = Instant::now() + LASTS;
+    let mut answered = vec![0; usize::from(SHARDS)];
+    thread::scope(|scope| {
+        let moving = scope.spawn(|| migrate(control, &stops));
+        let adding: Vec<_> = (0..THREADS)
+            .map(|thread| {
+                let durable = &durable;
+                scope.spawn(move || {
+                    let mut counts = vec![0; usize::from(SHARDS)];
+                    let mut shard = thread as u16 % SHARDS;
+                    while Instant::now() < end {
+                        match add(durable, shard, b"count", 1) {
+                            Ok(_) => counts[usize::from(shard)] += 1,
+                            Err(why) => panic!("an addition wasn't done: {why}"),
+                        }
+                        shard = (shard + 1) % SHARDS;
+                    }
+                    counts
+                })
+            })
+            .collect();
+        for counts in adding {
+            let counts = counts.join().unwrap();
+            answered
+                .iter_mut()
+                .zip(counts)
+                .for_each(|(all, it): (&mut i64, i64)| *all += it);
+        }
+        stops.store(true, Ordering::Release);
+        assert!(moving.join().unwrap() > 10);
+    });
+    for shard in 0..SHARDS {
+        let count = answered[usize::from(shard)];
+        assert!(count > 10);
+        assert_eq!(
+            held(&durable, shard, b"count"),
+            Ok(vec![Reply::Count(count)])
+        );
+    }
+    durable.stop();
+    drop(durable);
+    // Another process finds the same.
+    let durable: Durable = common::opened(&store, SHARDS);
+    for shard in 0..SHARDS {
+        let count = answered[usize::from(shard)];
+        assert_eq!(
+            held(&durable, shard, b"count"),
+            Ok(vec![Reply::Count(count)])
+        );
+    }
+}

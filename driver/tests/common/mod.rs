@@ -1,0 +1,161 @@
+//! What tests of the driver need: work that waits for its answer, and a store that doesn't tell all.
+#![allow(dead_code)]
+use durkenzo_driver::{
+    Begin, Command, Control, Durable, Key, NotDone, Reply, Request, Step, Tuning, Work,
+};
+use durkenzo_store::{
+    LeaseError, LeaseId, Outcome, ReadError, Reading, Store, Transaction, Watch, Watcher,
+    WriteError,
+};
+use std::sync::atomic::{AtomicU64, Ordering};
+use std::sync::mpsc::{self, Receiver, Sender};
+use std::sync::Arc;
+use std::time::Duration;
+
+pub type Told = Result<Vec<Reply>, NotDone>;
+
+/// What a change writes of what its keys hold.
+pub type Decide = Box<dyn FnOnce(Vec<Reply>) -> Vec<Request> + Send>;
+
+struct Asking {
+    decide: Option<Decide>,
+    tell: Sender<Told>,
+}
+
+impl Work for Asking {
+    fn decide(&mut self, held: Vec<Reply>) -> Vec<Request> {
+        self.decide.take().map_or_else(Vec::new, |it| it(held))
+    }
+
+    fn end(self: Box<Self>, outcome: Told) {
+        let _ = self.tell.send(outcome);
+    }
+}
+
+/// A step, and where what becomes of it is told.
+pub fn step(begin: Begin, decide: Option<Decide>) -> (Step, Receiver<Told>) {
+    let (tell, told) = mpsc::channel();
+    let work = Box::new(Asking { decide, tell });
+    (Step { begin, work }, told)
+}
+
+/// What becomes of work that is given alone.
+pub fn ask(durable: &Durable, shard: u16, begin: Begin, decide: Option<Decide>) -> Told {
+    let (step, told) = step(begin, decide);
+    durable.submit(shard, vec![step]);
+    told.recv_timeout(Duration::from_secs(60))
+        .expect("an answer")
+}
+
+pub fn write(durable: &Durable, shard: u16, requests: Vec<Request>) -> Told {
+    ask(durable, shard, Begin::Write(requests), None)
+}
+
+pub fn add(durable: &Durable, shard: u16, key: &[u8], amount: i64) -> Told {
+    write(durable, shard, vec![Request::Add(key.into(), amount)])
+}
+
+/// What the key holds.
+pub fn held(durable: &Durable, shard: u16, key: &[u8]) -> Told {
+    ask(durable, shard, Begin::Read(vec![Key::from(key)]), None)
+}
+
+/// Shards of the store; work waits for seconds.
+pub fn opened(store: &Arc<dyn Store>, shards: u16) -> Durable {
+    let tuning = Tuning {
+        wait: Duration::from_secs(20),
+        most_batches: 7,
+    };
+    Durable::open(store.clone(), shards, tuning, Box::new(|| {})).expect("shards")
+}
+
+/// A line of settings with so many shards, and two servers.
+pub fn line(shards: u16) -> String {
+    let bounds: Vec<_> = (0..shards)
+        .map(|it| format!("\"{}\"", "x".repeat(it.into())))
+        .collect();
+    let rows = vec![r#"{"group":0,"load":1,"cap":1}"#; shards.into()];
+    format!(
+        r#"{{"version":1,"bounds":[{}],"servers":[{{"id":1,"domain":0,"capacity":99}},{{"id":2,"domain":1,"capacity":99}}],"groups":[{{"limit":99,"down":99}}],"shards":[{}],"ops":1,"kept":9,"ceiling":9999999,"workers":1}}"#,
+        bounds.join(","),
+        rows.join(",")
+    )
+}
+
+/// The control of these shards, which server 1 owns where nobody did.
+pub fn led(durable: &Arc<Durable>) -> Control {
+    let shards = durable.shards();
+    let mut control = Control::lead(durable.clone(), &line(shards)).expect("a control");
+    for shard in 0..shards {
+        // One that has an owner keeps it.
+        let _ = control.command(Command::Assign(shard, 1));
+    }
+    control
+}
+
+/// A store that often says of a transaction that what became of it isn't known, whether it was made or not.
+pub struct Uncertain<S> {
+    store: S,
+    /// Each so many-th is such.
+    every: u64,
+    count: AtomicU64,
+}
+
+impl<S> Uncertain<S> {
+    pub fn new(store: S, every: u64) -> Uncertain<S> {
+        let count = AtomicU64::new(0);
+        Uncertain {
+            store,
+            every,
+            count,
+        }
+    }
+}
+
+impl<S: Store> Store for Uncertain<S> {
+    fn submit(
+        &self,
+        transaction: Transaction,
+        done: Box<dyn FnOnce(Result<Outcome, WriteError>) + Send>,
+    ) {
+        let count = self.count.fetch_add(1, Ordering::Relaxed);
+        // What a control is elected by, and the process begins with, is told.
+        let is_batch = transaction
+            .puts
+            .iter()
+            .any(|it| it.key.starts_with(b"head/"));
+        if !is_batch || count % self.every != 0 {
+            return self.store.submit(transaction, done);
+        }
+        let unknown = || Err(WriteError::Unknown("a test".to_owned()));
+        if count / self.every % 2 == 0 {
+            return done(unknown());
+        }
+        self.store
+            .submit(transaction, Box::new(move |_| done(unknown())));
+    }
+
+    fn read(&self, keys: &[&[u8]]) -> Result<Reading, ReadError> {
+        self.store.read(keys)
+    }
+
+    fn read_all(&self, prefix: &[u8]) -> Result<Reading, ReadError> {
+        self.store.read_all(prefix)
+    }
+
+    fn watch(&self, prefix: &[u8], watcher: Watcher) -> Result<Watch, ReadError> {
+        self.store.watch(prefix, watcher)
+    }
+
+    fn grant(&self, length: Duration) -> Result<LeaseId, LeaseError> {
+        self.store.grant(length)
+    }
+
+    fn keep(&self, lease: LeaseId) -> Result<(), LeaseError> {
+        self.store.keep(lease)
+    }
+
+    fn revoke(&self, lease: LeaseId) -> Result<(), LeaseError> {
+        self.store.revoke(lease)
+    }
+}

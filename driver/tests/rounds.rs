@@ -1,0 +1,162 @@
+//! What work of one shard sees of other work.
+mod common;
+
+use common::{add, ask, held, led, opened, step, write};
+use durkenzo_driver::{Begin, Command, Durable, Key, NotDone, Reply, Request, Tuning};
+use durkenzo_store::{Embedded, Store};
+use std::sync::Arc;
+use std::thread;
+use std::time::Duration;
+
+fn key(name: &str) -> Key {
+    name.as_bytes().into()
+}
+
+#[test]
+fn what_is_written_together_is_read_together() {
+    let store: Arc<dyn Store> = Arc::new(Embedded::in_memory());
+    let durable = Arc::new(opened(&store, 1));
+    let _control = led(&durable);
+    let text = vec![7; 65_535];
+    let requests = vec![
+        Request::Put(key("a"), text.clone()),
+        Request::Add(key("b"), -3),
+        Request::Append(key("c"), b"x".to_vec()),
+        Request::Delete(key("d")),
+        Request::Add(key("a"), 1),
+        Request::Append(key("a"), b"x".to_vec()),
+    ];
+    let replied = vec![
+        Reply::Done,
+        Reply::Count(-3),
+        Reply::Done,
+        Reply::Nothing,
+        Reply::WrongKind,
+        Reply::TooLong,
+    ];
+    assert_eq!(write(&durable, 0, requests), Ok(replied));
+    let keys = ["a", "b", "c", "d"].map(key).to_vec();
+    let found = vec![
+        Reply::Text(text),
+        Reply::Count(-3),
+        Reply::Text(b"x".to_vec()),
+        Reply::Nothing,
+    ];
+    assert_eq!(ask(&durable, 0, Begin::Read(keys), None), Ok(found));
+}
+
+#[test]
+fn a_run_sees_its_own_writes_in_order() {
+    let store: Arc<dyn Store> = Arc::new(Embedded::in_memory());
+    let durable = Arc::new(opened(&store, 1));
+    let _control = led(&durable);
+    let doubled = |held: Vec<Reply>| match held[..] {
+        [Reply::Count(count)] => vec![Request::Add(key("a"), count)],
+        _ => panic!("{held:?}"),
+    };
+    let begins = [
+        (Begin::Write(vec![Request::Add(key("a"), 5)]), false),
+        (Begin::Read(vec![key("a")]), false),
+        (Begin::Change(vec![key("a")]), true),
+        (Begin::Write(vec![Request::Add(key("a"), 1)]), false),
+        (Begin::Read(vec![key("a")]), false),
+    ];
+    let (mut steps, mut told) = (Vec::new(), Vec::new());
+    for (begin, changes) in begins {
+        let (one, of_it) = step(begin, changes.then(|| Box::new(doubled) as common::Decide));
+        steps.push(one);
+        told.push(of_it);
+    }
+    durable.submit(0, steps);
+    let told: Vec<_> = told
+        .into_iter()
+        .map(|it| it.recv().unwrap().unwrap())
+        .collect();
+    let counts = [5, 5, 10, 11, 11].map(|it| vec![Reply::Count(it)]);
+    assert_eq!(told, counts);
+}
+
+#[test]
+fn changes_lose_no_other_write() {
+    let store: Arc<dyn Store> = Arc::new(Embedded::in_memory());
+    let durable = Arc::new(opened(&store, 1));
+    let _control = led(&durable);
+    thread::scope(|scope| {
+        for _ in 0..4 {
+            scope.spawn(|| (0..300).for_each(|_| drop(add(&durable, 0, b"a", 1).unwrap())));
+            scope.spawn(|| {
+                for _ in 0..300 {
+                    // Writes the sum whole, so that another write in between would be lost.
+                    let decide = |held: Vec<Reply>| {
+                        let sum = match held[..] {
+                            [Reply::Count(sum)] => sum + 1,
+                            _ => 1,
+                        };
+                        vec![Request::Delete(key("a")), Request::Add(key("a"), sum)]
+                    };
+                    let begin = Begin::Change(vec![key("a")]);
+                    ask(&durable, 0, begin, Some(Box::new(decide))).unwrap();
+                }
+            });
+        }
+    });
+    assert_eq!(held(&durable, 0, b"a"), Ok(vec![Reply::Count(2_400)]));
+}
+
+#[test]
+fn what_nobody_executes_waits_and_is_refused_by_its_reason() {
+    let store: Arc<dyn Store> = Arc::new(Embedded::in_memory());
+    let tuning = Tuning {
+        wait: Duration::from_millis(200),
+        ..Tuning::default()
+    };
+    let open = Durable::open(store, 1, tuning, Box::new(|| {}));
+    let durable = Arc::new(open.unwrap());
+    assert_eq!(add(&durable, 0, b"a", 1), Err(NotDone::Vacant));
+    let mut control = led(&durable);
+    assert!(add(&durable, 0, b"a", 1).is_ok());
+    control.command(Command::Pause(0)).unwrap();
+    assert_eq!(add(&durable, 0, b"a", 1), Err(NotDone::Paused));
+    let (one, told) = step(Begin::Write(vec![Request::Add(key("a"), 1)]), None);
+    durable.submit(0, vec![one]);
+    control.command(Command::Resume(0)).unwrap();
+    assert_eq!(told.recv().unwrap(), Ok(vec![Reply::Count(2)]));
+    durable.set_away(1, true);
+    assert_eq!(add(&durable, 0, b"a", 1), Err(NotDone::Away(1)));
+    durable.set_away(1, false);
+    assert_eq!(add(&durable, 0, b"a", 1), Ok(vec![Reply::Count(3)]));
+    durable.stop();
+    assert_eq!(add(&durable, 0, b"a", 1), Err(NotDone::Stopped));
+}
+
+#[test]
+fn a_base_stands_for_what_was_made_before() {
+    let store: Arc<dyn Store> = Arc::new(Embedded::in_memory());
+    let durable = Arc::new(opened(&store, 1));
+    let _control = led(&durable);
+    let text = vec![7; 60_000];
+    for number in 0..40 {
+        let requests = vec![
+            Request::Put(key(&format!("text {number}")), text.clone()),
+            Request::Add(key("count"), 1),
+        ];
+        write(&durable, 0, requests).unwrap();
+        thread::sleep(Duration::from_millis(5));
+    }
+    thread::sleep(Duration::from_millis(300));
+    let batches = store.read_all(b"batch/").unwrap().pairs.len();
+    let parts = store.read_all(b"base/").unwrap().pairs.len();
+    assert!(
+        batches < 20 && (2..9).contains(&parts),
+        "{batches} batches, {parts} parts"
+    );
+    durable.stop();
+    let durable = Arc::new(opened(&store, 1));
+    let keys = ["text 0", "text 39", "count"].map(key).to_vec();
+    let found = vec![
+        Reply::Text(text.clone()),
+        Reply::Text(text),
+        Reply::Count(40),
+    ];
+    assert_eq!(ask(&durable, 0, Begin::Read(keys), None), Ok(found));
+}

@@ -1,0 +1,119 @@
+use super::answers::{in_order, Answers, Join};
+use super::keyed::{keys_of_all, Keyed};
+use super::together::Together;
+use crate::cluster::Cluster;
+use crate::command::data::DataWord;
+use crate::command::transaction::Transaction;
+use crate::io::ReplyTo;
+use crate::resp::{OwnedCommand, Protocol, Replies};
+use durkenzo_driver::Durable;
+use std::sync::Arc;
+
+/// What a connection asks of shards whose data outlives the process, in the version in which it is answered.
+#[derive(Debug)]
+pub struct Asked {
+    protocol: Protocol,
+    what: What,
+}
+
+#[derive(Debug)]
+enum What {
+    /// Commands with keys of this shard, one after another.
+    Keyed(u16, Vec<(DataWord, OwnedCommand)>),
+    /// One command with keys of several shards, each by itself.
+    Each(DataWord, Vec<(u16, OwnedCommand)>),
+    /// The commands of EXEC.
+    Together(u16, Box<Transaction>),
+}
+
+impl Asked {
+    /// These commands, all of this shard.
+    pub(in crate::command) fn keyed(
+        protocol: Protocol,
+        shard: u16,
+        commands: Vec<(DataWord, OwnedCommand)>,
+    ) -> Asked {
+        let what = What::Keyed(shard, commands);
+        Asked { protocol, what }
+    }
+
+    /// A command by its keys: for each its shard, and the command for it alone.
+    pub(in crate::command) fn each(
+        protocol: Protocol,
+        word: DataWord,
+        parts: Vec<(u16, OwnedCommand)>,
+    ) -> Asked {
+        let what = What::Each(word, parts);
+        Asked { protocol, what }
+    }
+
+    /// The commands of EXEC, all of this shard.
+    pub(in crate::command) fn together(
+        protocol: Protocol,
+        shard: u16,
+        transaction: Box<Transaction>,
+    ) -> Asked {
+        let what = What::Together(shard, transaction);
+        Asked { protocol, what }
+    }
+
+    /// Asks it, and has the answer be sent there.
+    pub fn submit(self, durable: &Durable, cluster: &Arc<Cluster>, reply_to: ReplyTo) {
+        let protocol = self.protocol;
+        match self.what {
+            What::Keyed(shard, commands) => {
+                let count = commands.len();
+                let answers = Answers::new(count, count as u64, protocol, in_order(), reply_to);
+                let steps = commands.into_iter().enumerate();
+                let steps = steps.map(|(place, it)| Keyed::step(it, shard, answers.clone(), place));
+                durable.submit(shard, steps.collect());
+            }
+            What::Each(word, parts) => {
+                let answers = Answers::new(parts.len(), 1, protocol, joined(word), reply_to);
+                for (place, (shard, command)) in parts.into_iter().enumerate() {
+                    let step = Keyed::step((word, command), shard, answers.clone(), place);
+                    durable.submit(shard, vec![step]);
+                }
+            }
+            What::Together(shard, transaction) => {
+                let answers = Answers::new(1, transaction.len(), protocol, in_order(), reply_to);
+                let keys = keys_of_all(transaction.data());
+                let step = Together::step(transaction, cluster.clone(), shard, keys, answers);
+                durable.submit(shard, vec![step]);
+            }
+        }
+    }
+}
+
+/// How the answers to a command for each of its keys become its own: a refusal of one is that of all.
+fn joined(word: DataWord) -> Join {
+    Box::new(move |parts| {
+        let mut parts = parts;
+        if let Some(place) = parts.iter().position(|it| it.error_count() > 0) {
+            return parts.swap_remove(place);
+        }
+        let protocol = parts.first().map(|it| it.protocol);
+        let mut answer = Replies::new(protocol.unwrap_or_default());
+        match word {
+            DataWord::MSet => answer.simple("OK"),
+            DataWord::MGet => {
+                answer.array(parts.len());
+                for part in parts {
+                    // The only value of an array of one.
+                    answer.append(&part.unsent()[ARRAY_OF_ONE.len()..]);
+                }
+            }
+            _ => answer.count(parts.iter().map(|it| count_of(it.unsent())).sum()),
+        }
+        answer
+    })
+}
+
+const ARRAY_OF_ONE: &[u8] = b"*1\r\n";
+
+/// The number that is answered.
+fn count_of(answer: &[u8]) -> usize {
+    let digits = answer.strip_prefix(b":").unwrap_or_default();
+    let digits = digits.iter().take_while(|it| it.is_ascii_digit());
+    digits.fold(0, |sum, it| 10 * sum + usize::from(it - b'0'))
+}

@@ -1,0 +1,85 @@
+use super::answers::Answers;
+use super::overlay::{changes, loaded};
+use crate::cluster::Cluster;
+use crate::command::session::Session;
+use crate::command::transaction::Transaction;
+use crate::command::Fault;
+use crate::resp::Replies;
+use durkenzo_driver::{Begin, Key, NotDone, Outcome, Reply, Request, Step, Work};
+use std::sync::Arc;
+
+/// How many requests a transaction's writes may be.
+const MOST_WRITES: usize = 2_048;
+
+/// The commands of EXEC, whose keys are all of one shard: they are done on what these held, and written at once.
+pub(super) struct Together {
+    transaction: Box<Transaction>,
+    cluster: Arc<Cluster>,
+    shard: u16,
+    keys: Vec<Key>,
+    answer: Option<Replies>,
+    answers: Arc<Answers>,
+}
+
+impl Together {
+    /// The step of this transaction, which is the whole answer.
+    pub(super) fn step(
+        transaction: Box<Transaction>,
+        cluster: Arc<Cluster>,
+        shard: u16,
+        keys: Vec<Key>,
+        answers: Arc<Answers>,
+    ) -> Step {
+        let begin = Begin::Change(keys.clone());
+        let work = Together {
+            transaction,
+            cluster,
+            shard,
+            keys,
+            answer: None,
+            answers,
+        };
+        Step {
+            begin,
+            work: Box::new(work),
+        }
+    }
+
+    fn requests(&self, held: &[Reply], answer: &mut Replies) -> Result<Vec<Request>, Fault> {
+        let mut body = loaded(&self.keys, held)?;
+        let mark = answer.mark();
+        // What is queued over a store needs nothing of its connection.
+        let mut session = Session::new(0, true);
+        let (transaction, cluster) = (&self.transaction, &self.cluster);
+        transaction.execute(Some(&mut body), &mut session, cluster, answer);
+        let requests = changes(&mut body, &self.keys, held);
+        if requests.len() > MOST_WRITES {
+            answer.take_back(mark);
+            return Err(Fault::QueueFull);
+        }
+        Ok(requests)
+    }
+}
+
+impl Work for Together {
+    fn decide(&mut self, held: Vec<Reply>) -> Vec<Request> {
+        let mut answer = self.answers.part();
+        let requests = self.requests(&held, &mut answer).unwrap_or_else(|fault| {
+            answer.error(fault);
+            Vec::new()
+        });
+        self.answer = Some(answer);
+        requests
+    }
+
+    fn end(mut self: Box<Self>, outcome: Outcome) {
+        let answer = self.answer.take().filter(|_| outcome.is_ok());
+        let answer = answer.unwrap_or_else(|| {
+            let mut refused = self.answers.part();
+            let why = outcome.err().unwrap_or(NotDone::Busy);
+            refused.error(Fault::NotDone(self.shard, why));
+            refused
+        });
+        self.answers.bring(0, answer);
+    }
+}

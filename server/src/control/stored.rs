@@ -1,0 +1,329 @@
+use super::controller::{help_lines, numeral, send, settings_lines, Answer, Asked};
+use super::help;
+use super::moving::{Advance, Draining, Moving};
+use super::restarting::{Restarting, Rolling};
+use super::Refusal;
+use crate::cluster::Cluster;
+use crate::io::ReplyTo;
+use crate::observer::Observer;
+use crate::presence::Standing;
+use crate::resp::Command as Words;
+use durkenzo::PassFault;
+use durkenzo_driver::{Command, Control, Next};
+use std::fmt;
+use std::sync::mpsc::{Receiver, RecvTimeoutError};
+use std::sync::Arc;
+use std::time::{Duration, Instant};
+
+/// How often work that waits looks again.
+const TICK: Duration = Duration::from_millis(10);
+
+/// The control of a cluster whose data outlives the process: what it sends and what comes next, proved code decides.
+pub struct StoredController {
+    pub(super) cluster: Arc<Cluster>,
+    pub(super) control: Control,
+    observer: Observer,
+    tasks: Vec<Task>,
+}
+
+/// Work that goes on by itself.
+struct Task {
+    work: Work,
+    /// Who is answered at its end, if somebody asked.
+    reply_to: Option<ReplyTo>,
+    due: Instant,
+}
+
+/// What goes on by itself.
+enum Work {
+    Moving(Moving),
+    Draining(Draining),
+    Restarting(Restarting),
+    Rolling(Rolling),
+}
+
+impl Work {
+    fn advance(&mut self, control: &mut StoredController) -> Result<Advance, Refusal> {
+        match self {
+            Work::Moving(it) => it.advance(control),
+            Work::Draining(it) => it.advance(control),
+            Work::Restarting(it) => it.advance(control),
+            Work::Rolling(it) => it.advance(control),
+        }
+    }
+}
+
+impl StoredController {
+    /// The control of this cluster, by the proved one.
+    pub fn new(cluster: Arc<Cluster>, control: Control) -> Result<StoredController, PassFault> {
+        Ok(StoredController {
+            observer: Observer::new(cluster.clone())?,
+            cluster,
+            control,
+            tasks: Vec::new(),
+        })
+    }
+
+    /// Goes on where the process before this one was: its servers are up again, migrations go on, and unless it is told
+    /// otherwise each vacant shard gets an owner, in turn.
+    pub fn begin(&mut self, assigns: bool) -> Result<(), Refusal> {
+        for server in 1..=self.control.servers() {
+            if !matches!(self.control.state_of(server)?, 0 | 1) {
+                self.control.command(Command::Back(server))?;
+            }
+            self.note_state(server)?;
+        }
+        for shard in 0..self.cluster.shards() {
+            if self.control.next_of_shard(shard)? != Next::Nothing {
+                self.tasks.push(Task {
+                    work: Work::Moving(Moving::going_on(shard)),
+                    reply_to: None,
+                    due: Instant::now(),
+                });
+            }
+            let is_vacant = self.observer.shard(shard).is_some_and(|it| it.owner == 0);
+            if assigns && is_vacant {
+                let server = shard % self.control.servers() + 1;
+                match self.control.command(Command::Assign(shard, server)) {
+                    Err(durkenzo_driver::Refused::Judged(_)) | Ok(()) => {}
+                    Err(error) => return Err(error.into()),
+                }
+            }
+        }
+        match assigns {
+            true => self.place().map(drop),
+            false => Ok(()),
+        }
+    }
+
+    /// Notes how the server stands, and whether requests reach it.
+    pub(super) fn note_state(&mut self, server: u16) -> Result<(), Refusal> {
+        let standing = match self.control.state_of(server)? {
+            0 => Standing::Up,
+            1 => Standing::Asked,
+            2 => Standing::Approved,
+            3 => Standing::Stopped,
+            _ => Standing::Failed,
+        };
+        self.cluster.presence.set(server, standing);
+        if let Some(durable) = self.cluster.storage.durable() {
+            durable.set_away(server, !standing.is_reached());
+        }
+        Ok(())
+    }
+
+    /// Makes a command, and notes what others are told of it.
+    pub(super) fn make(&mut self, command: Command) -> Result<(), Refusal> {
+        let made = self.control.command(command);
+        let mut named = |shard| self.observer.shard(shard);
+        made.map_err(|refused| match command {
+            Command::Ask(server)
+            | Command::Approve(server)
+            | Command::Stopped(server)
+            | Command::Back(server)
+            | Command::Fail(server) => Refusal::of_stored_step(&refused, server),
+            Command::Assign(shard, _)
+            | Command::PrepareAddShard(shard, _)
+            | Command::Reassign(shard, _)
+            | Command::PrepareDropShard(shard)
+            | Command::AddShard(shard)
+            | Command::DropShard(shard)
+            | Command::Cancel(shard)
+            | Command::Pause(shard)
+            | Command::Resume(shard) => Refusal::of_stored(&refused, named(shard).as_ref()),
+        })?;
+        match command {
+            Command::Ask(server)
+            | Command::Approve(server)
+            | Command::Stopped(server)
+            | Command::Back(server)
+            | Command::Fail(server) => self.note_state(server),
+            command => {
+                self.cluster.changes_made.add(word_of(command));
+                Ok(())
+            }
+        }
+    }
+
+    /// Answers until nobody can ask any more.
+    pub fn run(mut self, asked: Receiver<Asked>) {
+        loop {
+            let due = self.tasks.iter().map(|it| it.due).min();
+            let next = match due {
+                None => asked.recv().map_err(RecvTimeoutError::from),
+                Some(due) => {
+                    asked.recv_timeout(due.saturating_duration_since(Instant::now()).min(TICK))
+                }
+            };
+            match next {
+                Ok(asked) => self.take(asked),
+                Err(RecvTimeoutError::Timeout) => {}
+                Err(RecvTimeoutError::Disconnected) => return,
+            }
+            self.run_tasks();
+        }
+    }
+
+    /// Answers the command, or begins work of it.
+    fn take(&mut self, asked: Asked) {
+        let Asked { command, reply_to } = asked;
+        let begun = self.begin_one(command.command());
+        match begun {
+            Ok(Begun::Answer(answer)) => send(reply_to, Ok(answer)),
+            Ok(Begun::Work(work)) => self.tasks.push(Task {
+                work,
+                reply_to: Some(reply_to),
+                due: Instant::now(),
+            }),
+            Err(refusal) => send(reply_to, Err(refusal)),
+        }
+    }
+
+    fn begin_one(&mut self, command: Words<'_>) -> Result<Begun, Refusal> {
+        let word = String::from_utf8_lossy(command.get(1)).to_ascii_uppercase();
+        let usage = || Refusal::usage(help::usage(&word));
+        let (one, two) = (numeral(command, 2), numeral(command, 3));
+        Ok(match (&word[..], command.len(), one, two) {
+            ("HELP", 2, ..) => help_lines().into(),
+            ("SHARDS", 2, ..) => {
+                let shards = self.observer.snapshot().shards;
+                // How many keys there are isn't counted.
+                lines(shards.iter().map(|it| format!("{} {it} -", it.shard)))
+            }
+            ("SERVERS", 2, ..) => lines(self.observer.snapshot().servers.iter()),
+            ("SETTINGS", 2, ..) => settings_lines(&self.cluster).into(),
+            ("LOOK", 3, Some(shard), _) => match self.observer.shard(shard) {
+                Some(row) => Answer::Line(row.to_string()).into(),
+                None => return Err(durkenzo::UnknownShard.into()),
+            },
+            ("PLACE", 2, ..) => self.place()?.into(),
+            ("PLAN", 2 | 3, ..) | ("DUMP" | "LOAD", 3, ..) => {
+                return Err(Refusal::not_durable(&word))
+            }
+            ("MIGRATE", 4, Some(shard), Some(server)) => {
+                Begun::Work(Work::Moving(Moving::new(shard, server)))
+            }
+            ("DRAIN", 3, Some(server), _) => Begun::Work(Work::Draining(Draining::new(server))),
+            ("RESTART", 3, Some(server), _) => {
+                Begun::Work(Work::Restarting(Restarting::new(server)))
+            }
+            ("RESTART", 2, ..) => Begun::Work(Work::Rolling(Rolling::new(self.control.servers()))),
+            (word, length, Some(number), server) => {
+                let command = command_of(word, length, number, server).ok_or_else(usage)?;
+                self.make(command)?;
+                Answer::Done.into()
+            }
+            _ => return Err(usage()),
+        })
+    }
+
+    /// Gives each vacant shard the owner of the proved plan.
+    fn place(&mut self) -> Result<Answer, Refusal> {
+        let mut placed = Vec::new();
+        while let Next::Command(command) = self.control.next_of_drain(0)? {
+            self.make(command)?;
+            if let Command::Assign(shard, server) = command {
+                placed.push(format!("{shard}>{server}"));
+            }
+        }
+        Ok(Answer::Lines(placed))
+    }
+
+    /// Makes a step of all work that is due.
+    fn run_tasks(&mut self) {
+        for mut task in std::mem::take(&mut self.tasks) {
+            let now = Instant::now();
+            if self.cluster.is_stopping() {
+                // At the next start it goes on from where it stands.
+                answer(task.reply_to, Err(Refusal::stopping()));
+                continue;
+            }
+            if task.due > now {
+                self.tasks.push(task);
+                continue;
+            }
+            match task.work.advance(self) {
+                Ok(Advance::Again) => {
+                    task.due = now + self.cluster.configuration.pace;
+                    self.tasks.push(task);
+                }
+                Ok(Advance::Later) => {
+                    task.due = now + TICK;
+                    self.tasks.push(task);
+                }
+                Ok(Advance::Done(done)) => answer(task.reply_to, Ok(done)),
+                Err(refusal) => answer(task.reply_to, Err(refusal)),
+            }
+        }
+    }
+}
+
+impl fmt::Debug for StoredController {
+    fn fmt(&self, f: &mut fmt::Formatter<'_>) -> fmt::Result {
+        f.debug_struct("StoredController").finish_non_exhaustive()
+    }
+}
+
+/// What becomes of a command.
+enum Begun {
+    Answer(Answer),
+    Work(Work),
+}
+
+impl From<Answer> for Begun {
+    fn from(answer: Answer) -> Begun {
+        Begun::Answer(answer)
+    }
+}
+
+/// An answer of these lines.
+fn lines(lines: impl Iterator<Item = impl ToString>) -> Begun {
+    Begun::Answer(Answer::Lines(lines.map(|it| it.to_string()).collect()))
+}
+
+fn answer(reply_to: Option<ReplyTo>, answer: Result<Answer, Refusal>) {
+    match (reply_to, answer) {
+        (Some(reply_to), answer) => send(reply_to, answer),
+        (None, Err(refusal)) => tracing::warn!(%refusal, "what was under way at the start"),
+        (None, Ok(_)) => {}
+    }
+}
+
+/// The command of this word, where it has so many words.
+fn command_of(word: &str, length: usize, number: u16, server: Option<u16>) -> Option<Command> {
+    let command = match (word, server) {
+        ("ASSIGN", Some(server)) => Command::Assign(number, server),
+        ("PREPARE_ADD", Some(server)) => Command::PrepareAddShard(number, server),
+        ("REASSIGN", Some(server)) => Command::Reassign(number, server),
+        ("PREPARE_DROP", _) => Command::PrepareDropShard(number),
+        ("ADD", _) => Command::AddShard(number),
+        ("DROP", _) => Command::DropShard(number),
+        ("CANCEL", _) => Command::Cancel(number),
+        ("PAUSE", _) => Command::Pause(number),
+        ("RESUME", _) => Command::Resume(number),
+        ("ASK", _) => Command::Ask(number),
+        ("APPROVE", _) => Command::Approve(number),
+        ("STOPPED", _) => Command::Stopped(number),
+        ("BACK", _) => Command::Back(number),
+        ("FAIL", _) => Command::Fail(number),
+        _ => return None,
+    };
+    let names = matches!(word, "ASSIGN" | "PREPARE_ADD" | "REASSIGN");
+    (length == 3 + usize::from(names)).then_some(command)
+}
+
+/// The word of a change.
+fn word_of(command: Command) -> &'static str {
+    match command {
+        Command::Assign(..) => "assign",
+        Command::PrepareAddShard(..) => "prepare_add",
+        Command::PrepareDropShard(_) => "prepare_drop",
+        Command::AddShard(_) => "add",
+        Command::DropShard(_) => "drop",
+        Command::Cancel(_) => "cancel",
+        Command::Pause(_) => "pause",
+        Command::Resume(_) => "resume",
+        Command::Reassign(..) => "reassign",
+        _ => "step",
+    }
+}

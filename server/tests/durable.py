@@ -1,0 +1,368 @@
+#!/usr/bin/env python3
+"""Data that outlives the process: restarts keep all, kills lose nothing that was answered, migrations lose no addition.
+
+    server/tests/durable.py PROGRAM
+
+A server that is killed at random under load, so often: tools/kills."""
+import contextlib
+import pathlib
+import random
+import shutil
+import signal
+import sqlite3
+import subprocess
+import sys
+import tempfile
+import threading
+import time
+
+sys.dont_write_bytecode = True
+import served
+from served import Refused, main
+
+SHARDS = 16
+KILLS = 20
+CLIENTS = 8
+# Where servers are killed a shard gets a base as often as this.
+BATCHES = 20
+
+
+@contextlib.contextmanager
+def folder():
+    with tempfile.TemporaryDirectory(prefix="sm-durable-") as room:
+        yield f"{room}/data"
+
+
+def over(program, data, *options):
+    """A server over this folder, until the body ends."""
+    return served.served(program, "--data", data, "--shards", SHARDS, *options)
+
+
+def stands(client):
+    """Each shard's stand and generation."""
+    return [it.split()[:6] for it in client.ask("SM", "SHARDS")]
+
+
+def restarts_keep_all(program):
+    lines = [("SET", f"key:{it}", f"value {it}") for it in range(200)]
+    lines += [("SET", "count", 7), ("INCR", "count"), ("APPEND", "count", "x"), ("SET", "n", 12), ("APPEND", "n", 3)]
+    lines += [("DEL", "key:3"), ("MSET", "a", 1, "b", "text", "c", ""), ("INCRBY", "n", 7), ("DECRBY", "a", 5)]
+    reads = [("GET", f"key:{it}") for it in range(200)] + [("MGET", "count", "n", "a", "b", "c", "none")]
+    with folder() as data:
+        with over(program, data) as server, server.client() as client:
+            told = client.piped(lines)
+            assert not [it for it in told if isinstance(it, Refused)], told
+            client.ask("SM", "MIGRATE", 3, 2)
+            held = client.piped(reads)
+            assert held[-1] == [b"8x", b"130", b"-4", b"text", b"", None], held[-1]
+            client.ask("SM", "PAUSE", 5)
+            stood = stands(client)
+        for sync in ("always", "second", "no"):
+            with over(program, data, "--sync", sync, "--wait", 50) as server, server.client() as client:
+                after = stands(client)
+                assert after == stood, f"{stood} became {after}"
+                client.ask("SM", "RESUME", 5)
+                assert client.piped(reads) == held
+                client.ask("SM", "PAUSE", 5)
+                stood = stands(client)
+
+
+def commands_answer_as_in_memory(program):
+    with folder() as data, over(program, data) as durable, served.served(program) as memory:
+        with durable.client() as one, memory.client() as other:
+            for seed in range(3):
+                lines = random_lines(random.Random(seed), 700)
+                answers = list(zip(lines, one.piped(lines), other.piped(lines)))
+                wrong = [it for it in answers if str(it[1]) != str(it[2])]
+                assert not wrong, wrong[:3]
+            for words in (("SCAN", 0), ("DBSIZE",), ("SCANRANGE", "", "", 9), ("SM", "AT", 1, "GET", "a")):
+                with served_refusal("NOTDURABLE"):
+                    one.ask(*words)
+
+
+def random_lines(chance, count):
+    """Commands on few keys, some of them in transactions of one shard."""
+    keys = ["a", "b", "c", "{t}1", "{t}2"]
+    texts = ["1", "-7", "x", "007", "", "9223372036854775807", "two words", "12345"]
+    found = []
+    while len(found) < count:
+        key, other, text = chance.choice(keys), chance.choice(keys), chance.choice(texts)
+        simple = [
+            ("GET", key), ("SET", key, text), ("APPEND", key, text), ("INCR", key), ("DECR", key), ("STRLEN", key),
+            ("INCRBY", key, text), ("DECRBY", key, text), ("DEL", key, other), ("EXISTS", key, other, key),
+            ("TYPE", key), ("MGET", key, other, "none"), ("MSET", key, text, other, "z"), ("SET", key, text, "NX"),
+            ("SET", key, text, "XX", "GET"), ("SET", key, text, "EX", 3), ("DEL", key), ("DEL", key, "{t}1", "{t}2"),
+        ]
+        found.append(chance.choice(simple))
+        if chance.random() < 0.1:
+            inner = [("INCR", "{t}1"), ("APPEND", "{t}2", text), ("GET", "{t}1"), ("DEL", "{t}2"), ("PING",)]
+            found += [("MULTI",), *chance.sample(inner, 3), ("EXEC",)]
+    return found
+
+
+@contextlib.contextmanager
+def served_refusal(name):
+    try:
+        yield
+    except Refused as refused:
+        assert str(refused).startswith(name), refused
+        return
+    raise AssertionError(f"it isn't refused by {name}")
+
+
+class Writer(threading.Thread):
+    """Writes to keys of its own until the server is gone, and keeps what it was answered."""
+
+    def __init__(self, port, number, held):
+        super().__init__(daemon=True)
+        self.port, self.number, self.held = port, number, held
+        self.answered = 0
+
+    def run(self):
+        with contextlib.suppress(ConnectionError, OSError):
+            with served.Client(self.port) as client:
+                while True:
+                    self.write(client)
+
+    def write(self, client):
+        chance = random.random()
+        key = f"{self.number}:{random.randrange(20)}"
+        last = self.held.get(key, (None, None))[0]
+        if chance < 0.4:
+            value = f"{random.random()}"
+            self.held[key] = (last, value)
+            client.ask("SET", key, value)
+        elif chance < 0.8:
+            key = f"{self.number}:count"
+            last = self.held.get(key, (None, None))[0]
+            value = str(int(last or 0) + 1)
+            self.held[key] = (last, value)
+            assert client.ask("INCR", key) == int(value), f"{key} wasn't {last}"
+        else:
+            value = None
+            self.held[key] = (last, value)
+            client.ask("DEL", key)
+        self.held[key] = (value, value)
+        self.answered += 1
+
+
+def checked(client, held, stood):
+    """Whether each key holds what was answered last, or what was asked for and not answered; and that no shard has gone
+    back. Returns how each shard stands."""
+    for key, (answered, asked) in held.items():
+        found = client.ask("GET", key)
+        found = None if found is None else found.decode()
+        assert found in (answered, asked), f"{key} holds {found}, not {answered} or {asked}"
+        held[key] = (found, found)
+    now = [int(it[5]) for it in stands(client)]
+    gone_back = [it for it, (before, after) in enumerate(zip(stood, now)) if after < before]
+    assert not gone_back, f"shards {gone_back} had {stood} and have {now}"
+    return now
+
+
+def kill(program, data, held, stood, seconds):
+    """Runs a server over the folder under load until it is killed; returns how each shard stood, and how many writes
+    were answered."""
+    command = [program, "--port", "0", "--http-port", "0", "--log-format", "json", "--data", data, "--shards", str(SHARDS)]
+    command += ["--log-batches", str(BATCHES)]
+    with subprocess.Popen(command, stderr=subprocess.PIPE, stdin=subprocess.DEVNULL, text=True) as process:
+        port = served.port_of(process)
+        with served.Client(port) as client:
+            stood = checked(client, held, stood)
+            writers = [Writer(port, it, part) for it, part in enumerate(parts(held))]
+            for it in writers:
+                it.start()
+            end = time.monotonic() + seconds
+            while time.monotonic() < end:
+                shard = random.randrange(SHARDS)
+                with contextlib.suppress(Refused):
+                    client.ask("SM", "MIGRATE", shard, random.randrange(1, 5))
+                    stood[shard] = max(stood[shard], int(client.ask("SM", "LOOK", shard).split()[4]))
+            process.send_signal(signal.SIGKILL)
+            process.wait()
+        for it in writers:
+            it.join(served.SECONDS)
+            held.update(it.held)
+    return stood, sum(it.answered for it in writers)
+
+
+def parts(held):
+    """What each writer's keys hold."""
+    for number in range(CLIENTS):
+        yield {key: it for key, it in held.items() if key.startswith(f"{number}:")}
+
+
+def killed(program, count, seconds, tell=lambda *_: None):
+    """Kills a server so often, each time after some such time; returns how many writes were answered."""
+    held, stood, total = {}, [0] * SHARDS, 0
+    with folder() as data:
+        for number in range(count):
+            stood, answered = kill(program, data, held, stood, seconds * random.uniform(0.3, 1.7))
+            total += answered
+            tell(number + 1, total)
+        with over(program, data) as server, server.client() as client:
+            checked(client, held, stood)
+    return total
+
+
+def kills_lose_nothing_that_was_answered(program):
+    total = killed(program, KILLS, 0.3)
+    return f"{KILLS} kills, {total} writes answered"
+
+
+def migrations_lose_no_addition(program):
+    with folder() as data, over(program, data, "--sync", "no") as server:
+        acked, stop = [0] * CLIENTS, threading.Event()
+
+        def add(number):
+            with server.client() as client:
+                while not stop.is_set():
+                    client.ask("INCR", "{hot}")
+                    acked[number] += 1
+
+        threads = [threading.Thread(target=add, args=(it,)) for it in range(CLIENTS)]
+        for it in threads:
+            it.start()
+        with server.client() as client:
+            shard = next(it for it in range(SHARDS) if is_hot(client, it))
+            end, moves = time.monotonic() + 3, 0
+            while time.monotonic() < end:
+                client.ask("SM", "MIGRATE", shard, owner(client, shard) % 4 + 1)
+                moves += 1
+                time.sleep(0.002)
+            client.ask("SM", "RESTART")
+            stop.set()
+            for it in threads:
+                it.join()
+            counted = int(client.ask("GET", "{hot}"))
+        assert counted == sum(acked), f"{sum(acked)} answered, {counted} counted"
+    return f"{counted} additions, {moves} migrations"
+
+
+def owner(client, shard):
+    return int(client.ask("SM", "LOOK", shard).split()[1])
+
+
+def is_hot(client, shard):
+    """Whether the key of additions is of the shard: it waits while that is paused."""
+    client.ask("SM", "PAUSE", shard)
+    with served.Client(client.socket.getpeername()[1]) as other:
+        other.socket.settimeout(0.1)
+        try:
+            other.ask("GET", "{hot}")
+            return False
+        except (TimeoutError, Refused):
+            return True
+        finally:
+            client.ask("SM", "RESUME", shard)
+
+
+def refused_start(program, *options):
+    """What a start says that is refused."""
+    command = [program, "--port", "0", "--http-port", "0", *map(str, options)]
+    ran = subprocess.run(command, capture_output=True, text=True, timeout=served.SECONDS)
+    assert ran.returncode == 1, f"it ended with {ran.returncode}"
+    return ran.stderr
+
+
+def changed(file, statement):
+    """Changes the file of a folder by this statement."""
+    with contextlib.closing(sqlite3.connect(file)) as tables:
+        tables.execute(statement)
+        tables.commit()
+
+
+def wrong_folders_are_refused_by_name(program):
+    with folder() as data:
+        with over(program, data) as server, server.client() as client:
+            client.ask("SET", "a", 1)
+            told = refused_start(program, "--data", data, "--shards", SHARDS)
+            assert "in use by another process" in told, told
+        told = refused_start(program, "--data", data, "--shards", 8)
+        assert "OTHERSETTINGS" in told and "16 shards by hash" in told and "8 shards" in told, told
+        file = pathlib.Path(data) / "durkenzo.sqlite"
+        torn = pathlib.Path(f"{data}-torn")
+        shutil.copytree(data, torn)
+        with open(torn / file.name, "r+b") as torn_file:
+            torn_file.truncate(5000)
+        told = refused_start(program, "--data", torn, "--shards", SHARDS)
+        assert "damaged" in told or "isn't of this program" in told, told
+        changed(file, "PRAGMA user_version = 9")
+        told = refused_start(program, "--data", data, "--shards", SHARDS)
+        assert "version 9" in told, told
+
+
+def damaged_logs_are_refused_by_name(program):
+    with folder() as data:
+        with over(program, data) as server, server.client() as client:
+            client.piped([("SET", f"key:{it}", it) for it in range(100)])
+        changed(f"{data}/durkenzo.sqlite", "UPDATE pairs SET value = x'00' WHERE CAST(key AS TEXT) LIKE 'batch/%'")
+        with over(program, data, "--wait", 50) as server, server.client() as client:
+            with served_refusal("SHARDDAMAGED"):
+                client.ask("GET", "key:1")
+
+
+def full_disks_are_refused_by_name(program):
+    with folder() as data:
+        pathlib.Path(data).mkdir()
+        mount = ["mount", "-t", "tmpfs", "-o", "size=1m", "none", data]
+        if subprocess.run(mount, capture_output=True).returncode:
+            return "nothing can be mounted here"
+        try:
+            with over(program, data) as server, server.client() as client:
+                held = fill(client)
+                assert client.piped([("GET", key) for key in held]) == list(held.values())
+        finally:
+            subprocess.run(["umount", data], check=True)
+
+
+def fill(client):
+    """Writes until the disk is full; returns what was written."""
+    held = {}
+    with served_refusal("STOREFULL"):
+        for number in range(200):
+            key, value = f"key:{number}", b"x" * 20_000
+            client.ask("SET", key, value)
+            held[key] = value
+    assert len(held) > 5
+    return held
+
+
+def waiting_stops_its_own_connections_alone(program):
+    with folder() as data, over(program, data, "--wait", 200) as server, server.client() as client:
+        client.ask("SET", "{hot}", 1)
+        shard = next(it for it in range(SHARDS) if is_hot(client, it))
+        client.ask("SM", "PAUSE", shard)
+        other = next(key for key in map(str, range(99)) if answers(client, key))
+        with server.client() as waiting:
+            waiting.send("INCR", "{hot}")
+            began = time.monotonic()
+            for _ in range(20):
+                client.ask("INCR", other)
+            client.ask("SM", "RESUME", shard)
+            assert waiting.read() == 2 and time.monotonic() - began < 1
+        client.ask("SM", "PAUSE", shard)
+        with served_refusal("SHARDPAUSED"):
+            client.ask("GET", "{hot}")
+
+
+def answers(client, key):
+    try:
+        return client.ask("SET", key, 1) == "OK"
+    except Refused:
+        return False
+
+
+TESTS = [
+    restarts_keep_all,
+    commands_answer_as_in_memory,
+    wrong_folders_are_refused_by_name,
+    damaged_logs_are_refused_by_name,
+    full_disks_are_refused_by_name,
+    waiting_stops_its_own_connections_alone,
+    migrations_lose_no_addition,
+    kills_lose_nothing_that_was_answered,
+]
+
+if __name__ == "__main__":
+    main(TESTS)
