@@ -38,6 +38,9 @@ typedef struct durkenzo_handle {
 /* The greatest ceiling of generations. */
 #define DURKENZO_MAX_GENERATION ((UINT64_C(1) << 36) - 1)
 
+/* What no record has for its word. */
+#define DURKENZO_NO_WORD UINT64_MAX
+
 /* How far the migration of a shard has come. */
 enum durkenzo_phase {
     /* By tools/library-codes, the phases of library/codes.txt: */
@@ -192,6 +195,10 @@ uint32_t durkenzo_pass(durkenzo_handle *control, durkenzo_handle *pass, uint16_t
 /* Writes the shard's record to `record`. The pass may hold an admission, of whose shard the generation then is a
  * fencing token: each later admission to the shard has a greater one. Errors: WRONG_HANDLE, UNKNOWN_SHARD. */
 uint32_t durkenzo_look(durkenzo_handle *pass, uint16_t shard, durkenzo_record *record);
+
+/* The word of the shard's record, for the calls on words: the quickest look. It is DURKENZO_NO_WORD where the handle
+ * keeps no pass, or the board has no such shard. */
+uint64_t durkenzo_look_word(durkenzo_handle *pass, uint16_t shard);
 
 /* Admits the pass to the shard, for a request that came directly (`from` 0) or that this server forwarded. Writes
  * the number of the shard's body, which is yours alone until durkenzo_finish. Errors: WRONG_HANDLE (also where the

@@ -5,6 +5,7 @@ unsafe extern "C" {
     fn bench_rule_chained_looks(looks: u64) -> u64;
     fn bench_rule_admissions(tries: u64) -> u64;
     fn bench_rule_executions(tries: u64) -> u64;
+    fn bench_rule_refusals(tries: u64) -> u64;
     fn bench_rule_notes(notes: u64) -> u64;
     fn bench_rule_meetings(notes: u64) -> u64;
 }
@@ -27,6 +28,11 @@ pub fn admissions(operations: u64) -> u64 {
 pub fn executions(operations: u64) -> u64 {
     // SAFETY: as in `looks`.
     unsafe { bench_rule_executions(operations) }
+}
+
+pub fn refusals(operations: u64) -> u64 {
+    // SAFETY: as in `looks`.
+    unsafe { bench_rule_refusals(operations) }
 }
 
 pub fn notes(operations: u64) -> u64 {

@@ -24,6 +24,11 @@ impl Locks {
         if record.admitted { 0 } else { u64::from(record.owner) + record.generation }
     }
 
+    fn refuse(&self, shard: usize) -> u64 {
+        let record = self.0[shard].lock().unwrap();
+        if record.owner != 2 { record.generation } else { 0 }
+    }
+
     fn admit_and_finish(&self, shard: usize) -> u64 {
         let mut record = self.0[shard].lock().unwrap();
         if record.owner != 1 || record.admitted || record.generation > CEILING - 2 {
@@ -68,6 +73,11 @@ pub fn chained_looks(operations: u64) -> u64 {
 pub fn admissions(operations: u64) -> u64 {
     let locks = Locks::new();
     at_random(operations, |shard| locks.admit_and_finish(shard))
+}
+
+pub fn refusals(operations: u64) -> u64 {
+    let locks = Locks::new();
+    at_random(operations, |shard| locks.refuse(shard))
 }
 
 pub fn executions(operations: u64) -> u64 {

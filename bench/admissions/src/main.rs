@@ -19,7 +19,7 @@ struct Row {
     ways: [(&'static str, Loop); 3],
 }
 
-const ROWS: [Row; 6] = [
+const ROWS: [Row; 7] = [
     Row {
         name: "look",
         operations: 10_000_000,
@@ -39,6 +39,11 @@ const ROWS: [Row; 6] = [
         name: "admit, count in the body, and finish",
         operations: 3_000_000,
         ways: [("board", board::executions), ("words", slots::executions), ("locks", locks::executions)],
+    },
+    Row {
+        name: "a refused admission",
+        operations: 3_000_000,
+        ways: [("board", board::refusals), ("words", words::refusals), ("locks", locks::refusals)],
     },
     Row {
         name: "make a note and drop it, beside a load",

@@ -33,6 +33,12 @@ impl Words {
         Some(admitted)
     }
 
+    /// The generation by which server 2 isn't admitted, as server 1 serves the shard.
+    fn refuse(&self, shard: usize) -> u64 {
+        let word = self.0[shard].load(SeqCst);
+        if word >> 48 & 4095 != 2 { word & GENERATION } else { 0 }
+    }
+
     /// Ends the admission by a store, and gives the shard's generation since then.
     pub fn finish(&self, shard: usize, admitted: u64) -> u64 {
         let word = admitted - ADMITTED + 1;
@@ -54,6 +60,11 @@ pub fn chained_looks(operations: u64) -> u64 {
 pub fn admissions(operations: u64) -> u64 {
     let words = Words::new();
     at_random(operations, |shard| words.admit(shard).map_or(0, |admitted| words.finish(shard, admitted)))
+}
+
+pub fn refusals(operations: u64) -> u64 {
+    let words = Words::new();
+    at_random(operations, |shard| words.refuse(shard))
 }
 
 /// Loads the first word so many times, and counts.

@@ -44,8 +44,10 @@ impl Worker for Pass<u64> {
     }
 }
 
-/// Whether the pass, of a server that doesn't own the shard, is refused there.
-pub fn is_refused(pass: &mut Pass<u64>, shard: usize) -> u64 {
-    let admitted = pass.admit(shard as u16, Mode::Direct);
-    u64::from(matches!(admitted, Err(AdmitFault::NotExecutor(_))))
+/// The generation by which the pass, of a server that doesn't own the shard, is refused there.
+pub fn refused(pass: &mut Pass<u64>, shard: usize) -> u64 {
+    match pass.admit(shard as u16, Mode::Direct) {
+        Err(AdmitFault::NotExecutor(read)) => read.generation,
+        _ => 0,
+    }
 }

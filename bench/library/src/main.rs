@@ -11,7 +11,7 @@ mod way;
 use board::Owned;
 use locks::{OfParkingLot, OfStd};
 use map::Mapped;
-use served::Site;
+use served::{Asks, Site};
 use std::hint::black_box;
 use std::thread;
 use std::time::Instant;
@@ -123,7 +123,7 @@ fn show_refused() {
     let mut pass = owned.stranger();
     let taken = timed(ALONE, || {
         at_random(ALONE, 0, Reach::All, |shard| {
-            board::is_refused(&mut pass, shard)
+            board::refused(&mut pass, shard)
         })
     });
     println!("a refused admission;board;{taken}");
@@ -132,13 +132,15 @@ fn show_refused() {
 /// The sums of what the replies tell are those of bench/serve's programs.
 fn show_served() {
     let mut site = black_box(Site::new());
-    for (row, is_put) in [("serve, get", false), ("serve, put", true)] {
-        let mut told = 0;
-        let taken = timed(SERVED, || {
-            told = site.run(is_put, SERVED);
-            told
-        });
-        println!("{row};board;{taken};{told}");
+    for (asks, row) in [(Asks::AtShard, "serve"), (Asks::ByKey, "search and serve")] {
+        for (kind, is_put) in [("get", false), ("put", true)] {
+            let mut told = 0;
+            let taken = timed(SERVED, || {
+                told = site.run(asks, is_put, SERVED);
+                told
+            });
+            println!("{row}, {kind};board;{taken};{told}");
+        }
     }
 }
 

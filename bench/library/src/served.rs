@@ -1,10 +1,17 @@
 //! The library's board of the sample service, whose server 1 owns all shards, with 16 keys of 16 bytes each and texts
 //! of 32: the requests of bench/serve, which come in the same order.
 use crate::way::SHARDS;
-use durkenzo::{Layout, Reply, Request, Served, Service, ServicePass, Value};
+use durkenzo::{Layout, Mode, Reply, Request, Sent, Served, Service, ServicePass, Value};
 
 const KEYS: u8 = 16;
 const FIRST_STATE: u64 = 88_172_645_463_325_252;
+
+/// Whether who asks knows the request's shard, or has it found by the key.
+#[derive(Clone, Copy)]
+pub enum Asks {
+    AtShard,
+    ByKey,
+}
 
 /// A client's pass, and a server's.
 pub struct Site {
@@ -28,14 +35,14 @@ impl Site {
         for shard in 0..SHARDS as u16 {
             service.control().assign(shard, 1).expect("a vacant shard");
             for key in 0..KEYS {
-                site.put(shard, key, key);
+                site.put(Asks::ByKey, shard, key, key);
             }
         }
         site
     }
 
     /// Gets a key of a shard, or puts a text, so often, and sums what the replies tell.
-    pub fn run(&mut self, is_put: bool, times: u64) -> u64 {
+    pub fn run(&mut self, asks: Asks, is_put: bool, times: u64) -> u64 {
         let (mut state, mut told) = (FIRST_STATE, 0u64);
         for _ in 0..times {
             state ^= state << 13;
@@ -43,20 +50,31 @@ impl Site {
             state ^= state << 17;
             let (shard, key) = ((state >> 40 & 4095) as u16, (state >> 24 & 15) as u8);
             told = told.wrapping_add(match is_put {
-                true => self.put(shard, key, (state >> 16 & 255) as u8),
-                false => self.asked(&Request::Get(&key_of(shard, key))),
+                true => self.put(asks, shard, key, (state >> 16 & 255) as u8),
+                false => self.asked(asks, shard, &Request::Get(&key_of(shard, key))),
             });
         }
         told
     }
 
-    fn put(&mut self, shard: u16, key: u8, text: u8) -> u64 {
-        self.asked(&Request::Put(&key_of(shard, key), &[text; 32]))
+    fn put(&mut self, asks: Asks, shard: u16, key: u8, text: u8) -> u64 {
+        let request = Request::Put(&key_of(shard, key), &[text; 32]);
+        self.asked(asks, shard, &request)
     }
 
     /// What the reply tells: the first byte of a text and 1, or 1 where a text was put.
-    fn asked(&mut self, request: &Request<'_>) -> u64 {
-        let envelope = self.client.envelope(0, request).expect("memory");
+    fn asked(&mut self, asks: Asks, shard: u16, request: &Request<'_>) -> u64 {
+        let sent = || Sent {
+            number: 0,
+            shard,
+            mode: Mode::Direct,
+            hops: 0,
+        };
+        let envelope = match asks {
+            Asks::AtShard => self.client.received(&sent(), request),
+            Asks::ByKey => self.client.envelope(0, request),
+        };
+        let envelope = envelope.expect("memory");
         let Ok(Served::Answered(answer)) = self.server.serve(envelope) else {
             unreachable!("the owner of all shards executes")
         };

@@ -13,10 +13,6 @@ use Rattle.sm_ownership.specs.Tables.{change_fault}
 use Rattle.sm_word.specs.Word.{IsWellFormed, phase_of, word_of}
 use Rattle.sm_c.specs.declared.record_parts.RecordParts.{RecordParts}
 
--- the word is that of this record
-abbrev pub IsPackedAs : ℕ → Record → Type 0
-IsPackedAs word state = IsWellFormed state × (word_of state ≡ word)
-
 -- a change has this kind, and names this server where it names one
 abbrev pub IsOfKind : ℕ → ℕ → Change → Type 0
 IsOfKind kind server (Assign named) = (kind ≡ 1) × (server ≡ named)

@@ -6,7 +6,7 @@
 ghost use Rattle.std.specs.Prelude.{◌≡◌, ◌≢◌, Some, None, unwrap_or};
 ghost use Rattle.sm_ownership.specs.declared.record.Record.{Record as RecordValue};
 ghost use Rattle.sm_ownership.specs.Rules.{executor, forward_to};
-ghost use Rattle.sm_handle.specs.Acts.{EndsHandle, IsOpened, IsPassOf};
+ghost use Rattle.sm_handle.specs.Acts.{EndsHandle, IsOpened, IsPassOf, TellsWord};
 ghost use Rattle.sm_ranges.specs.ServerId.{IsServer};
 ghost use Rattle.sm_word.specs.Word.{IsWellFormed, word_of};
 ghost use Rattle.sm_c.specs.Calls.{AdmitsFrom, ChangesBoard, LooksAt, RefusesChange, RefusesFrom, RefusesRestart};
@@ -231,11 +231,30 @@ pub extern "C" fn durkenzo_look(pass: &mut Handle, shard: u16, parts: &mut Recor
         return UNKNOWN_SHARD;
     };
     match pass.look(k) {
-        Ok(state) => {
-            *parts = RecordParts::of(&state);
+        Ok(word) => {
+            *parts = RecordParts::of_word(word);
             0
         }
         Err(fault) => code_of_act(fault),
+    }
+}
+
+// What no record has for its word.
+const NO_WORD: u64 = 0xffff_ffff_ffff_ffff;
+
+/// Looks at the shard, with a pass that may hold a permit: the word of its record, which the calls on words take; or
+/// 2^64 - 1, which no record has, where the handle keeps no pass or the board has no such shard.
+#[unsafe(no_mangle)]
+pub extern "C" fn durkenzo_look_word(pass: &mut Handle, shard: u16) -> u64
+    ensures seen { result ≢ NO_WORD → TellsWord pass.old.owned.state pass.new.owned.state shard result }
+    ensures kept { result ≡ NO_WORD → pass.new.owned.state ≡ pass.old.owned.state }
+{
+    let Some(k) = ShardId::new(shard) else {
+        return NO_WORD;
+    };
+    match pass.look(k) {
+        Ok(word) => word,
+        Err(_) => NO_WORD,
     }
 }
 

@@ -1,10 +1,23 @@
 ghost use Rattle.std.specs.Prelude.{◌≡◌, IsTrue, unwrap_or};
-ghost use Rattle.sm_word.specs.Word.{phase_of};
+ghost use Rattle.sm_ownership.specs.declared.record.Record.{Record as RecordValue};
+ghost use Rattle.sm_word.specs.Word.{IsWellFormed, phase_of, word_of};
 ghost use Rattle.sm_c.specs.Words.{ArePartsOf};
 
-use sm_ownership::record::Record;
+use sm_ownership::record::{MAX_GENERATION, Record};
 use sm_ranges::server_id::ServerId;
 use sm_ranges::stand::Stand;
+
+// Where the parts of a word begin.
+const PHASE: u64 = 1 << 61;
+
+const ADMITTED: u64 = 1 << 60;
+
+const OWNER: u64 = 1 << 48;
+
+const OTHER: u64 = 1 << 36;
+
+// How many numbers of servers a part has room for.
+const SERVERS: u64 = 1 << 12;
 
 /// A shard's record as C sees it: servers by their numbers, 0 for none; `other` is the next or the previous server.
 /// The phase is 0 vacant, 1 serving, 2 prepared, 3 forwarding, 4 taken, 5 paused.
@@ -30,6 +43,33 @@ impl RecordParts {
             phase: phase(&state.stand),
             admitted: state.admitted,
         }
+    }
+
+    /// The parts of the record that has this word, without a branch.
+    pub(crate) fn of_word(word: u64) -> RecordParts
+        ensures { (state : RecordValue) → IsWellFormed state → word_of state ≡ word → ArePartsOf result state }
+    {
+        RecordParts {
+            generation: word % OTHER,
+            owner: (word / OWNER % SERVERS) as u16,
+            other: (word / OTHER % SERVERS) as u16,
+            phase: (word / PHASE) as u8,
+            admitted: word / ADMITTED % 2 == 1,
+        }
+    }
+
+    /// The word that a record with these parts has, if there is one.
+    pub(crate) fn word(&self) -> Option<u64> {
+        if self.phase > 5
+            || self.owner > 4095
+            || self.other > 4095
+            || self.generation > MAX_GENERATION
+        {
+            return None;
+        }
+        let admitted = if self.admitted { ADMITTED } else { 0 };
+        let servers = u64::from(self.owner) * OWNER + u64::from(self.other) * OTHER;
+        Some(u64::from(self.phase) * PHASE + admitted + servers + self.generation)
     }
 
     /// Whether these are the same parts.

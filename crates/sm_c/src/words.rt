@@ -69,34 +69,11 @@ pub(crate) fn ended_word(word: u64) -> Option<u64>
     }
 }
 
-// Where the parts of a word begin.
-const PHASE: u64 = 1 << 61;
-
-const ADMITTED: u64 = 1 << 60;
-
-const OWNER: u64 = 1 << 48;
-
-const OTHER: u64 = 1 << 36;
-
-// The word that a record with these parts has, if there is one.
-fn word_with(parts: &RecordParts) -> Option<u64> {
-    if parts.phase > 5
-        || parts.owner > 4095
-        || parts.other > 4095
-        || parts.generation > MAX_GENERATION
-    {
-        return None;
-    }
-    let admitted = if parts.admitted { ADMITTED } else { 0 };
-    let servers = u64::from(parts.owner) * OWNER + u64::from(parts.other) * OTHER;
-    Some(u64::from(parts.phase) * PHASE + admitted + servers + parts.generation)
-}
-
 /// The word of the record with these parts, or none where there is no such record.
 pub(crate) fn packed_word(parts: &RecordParts) -> Option<u64>
     ensures { IfSome result (PacksParts parts.now) }
 {
-    let word = word_with(parts)?;
+    let word = parts.word()?;
     let Some(state) = unpack(word) else {
         return None;
     };

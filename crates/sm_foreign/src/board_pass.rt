@@ -3,12 +3,12 @@ ghost use Rattle.std.specs.Arc.{arc_value};
 ghost use Rattle.sm_rule.specs.Admissions.{RefusedBy};
 ghost use Rattle.sm_rule.specs.Passes.{PassLooks, record_of};
 ghost use Rattle.sm_rule.specs.Views.{Begins, IsMet};
+ghost use Rattle.sm_rule.specs.Words.{IsWordOf};
 ghost use Rattle.sm_foreign.specs.Holding.{AdmitsPass, EndsPass};
 
 use crate::foreign::Foreign;
 use sm_body::service::Service;
 use sm_ownership::mode::Mode;
-use sm_ownership::record::Record;
 use sm_ranges::server_id::ServerId;
 use sm_ranges::shard_id::ShardId;
 use sm_rule::{AdmitRefusal, Board, Front, Pass, Permit};
@@ -69,14 +69,14 @@ impl BoardPass<Foreign> {
         self.permit.is_none()
     }
 
-    /// The shard's record after all that the pass then has seen.
-    pub fn look(&mut self, k: ShardId) -> Record
+    /// The word of the shard's record after all that the pass then has seen.
+    pub fn look_word(&mut self, k: ShardId) -> u64
         requires { k < self.old.0.board.limits.count }
         ensures seen { PassLooks self.old.0 self.new.0 }
         ensures permit { self.new.1 ≡ self.old.1 }
-        ensures state { result ≡ record_of self.new.0 k }
+        ensures word { IsWordOf (record_of self.new.0 k) result }
     {
-        self.board.look(&mut self.pass, k)
+        self.board.look_word(&mut self.pass, k)
     }
 
     /// A new pass with the same server, which has seen all that this one has. It is refused for want of memory alone.

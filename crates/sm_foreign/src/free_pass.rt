@@ -2,9 +2,9 @@ ghost use Rattle.std.specs.Prelude.{◌≡◌, ◌<◌, IfOk};
 ghost use Rattle.std.specs.Arc.{arc_value};
 ghost use Rattle.sm_rule.specs.Passes.{PassLooks, record_of};
 ghost use Rattle.sm_rule.specs.Views.{Begins, IsMet};
+ghost use Rattle.sm_rule.specs.Words.{IsWordOf};
 
 use sm_body::service::Service;
-use sm_ownership::record::Record;
 use sm_ranges::server_id::ServerId;
 use sm_ranges::shard_id::ShardId;
 use sm_rule::{Board, Pass};
@@ -48,13 +48,13 @@ impl<S: Service> FreePass<S> {
         self.board.count()
     }
 
-    /// The shard's record after all that the pass then has seen.
-    pub fn look(&mut self, k: ShardId) -> Record
+    /// The word of the shard's record after all that the pass then has seen.
+    pub fn look_word(&mut self, k: ShardId) -> u64
         requires { k < self.old.board.limits.count }
         ensures seen { PassLooks self.old self.new }
-        ensures state { result ≡ record_of self.new k }
+        ensures word { IsWordOf (record_of self.new k) result }
     {
-        self.board.look(&mut self.pass, k)
+        self.board.look_word(&mut self.pass, k)
     }
 
     /// A new pass with the same server, which has seen all that this one has. It is refused for want of memory alone.

@@ -4,6 +4,7 @@ use Rattle.sm_ownership.specs.declared.mode.Mode.{Mode}
 use Rattle.sm_ownership.specs.declared.record.Record.{Record}
 use Rattle.sm_rule.specs.Admissions.{RefusedBy}
 use Rattle.sm_rule.specs.Passes.{PassLooks, record_of}
+use Rattle.sm_rule.specs.Words.{IsWordOf}
 use Rattle.sm_desk.specs.declared.command.Command.{Command}
 use Rattle.sm_desk.specs.Desk.{desk_fault}
 use Rattle.sm_foreign.specs.declared.foreign.Foreign.{Foreign}
@@ -80,6 +81,10 @@ EndsHandle before after generation = ⊥
 abbrev pub LooksHandle : Option HandleState → Option HandleState → ℕ → Record → Type 0
 LooksHandle (Some before) (Some after) shard state = LooksState before after shard state
 LooksHandle before after shard state = ⊥
+
+-- the same of a look that tells the record's word
+abbrev pub TellsWord : Option HandleState → Option HandleState → ℕ → ℕ → Type 0
+TellsWord before after shard word = (state : Record) × LooksHandle before after shard state × IsWordOf state word
 
 -- the same of a command; a handle without a state is the wrong one
 abbrev pub CommandsHandle : Option HandleState → Option HandleState → Command → Result (Unit {0}) ActFault → Type 0

@@ -1,13 +1,12 @@
 //! What a call does to the state of a handle.
-ghost use Rattle.std.specs.Prelude.{IfErr, IfOk, ◌≡◌};
-ghost use Rattle.sm_handle.specs.Acts.{AdmitsState, CommandsState, EndsState, IsPassOfState, LooksState, RefusesState};
+ghost use Rattle.std.specs.Prelude.{◌≡◌, IfErr, IfOk, Some};
+ghost use Rattle.sm_handle.specs.Acts.{AdmitsState, CommandsState, EndsState, IsPassOfState, RefusesState, TellsWord};
 
 use crate::act_fault::ActFault;
 use crate::handle_state::HandleState;
 use sm_desk::Command;
 use sm_foreign::ForeignPass;
 use sm_ownership::mode::Mode;
-use sm_ownership::record::Record;
 use sm_ranges::server_id::ServerId;
 use sm_ranges::shard_id::ShardId;
 
@@ -45,9 +44,9 @@ pub fn finish(state: &mut HandleState) -> Result<u64, ActFault>
     }
 }
 
-/// The shard's record after a look by the state's pass; or why not, and the state is as it was.
-pub fn look(state: &mut HandleState, k: ShardId) -> Result<Record, ActFault>
-    ensures seen { IfOk result (LooksState state.old state.new k) }
+/// The word of the shard's record after a look by the state's pass; or why not, and the state is as it was.
+pub fn look(state: &mut HandleState, k: ShardId) -> Result<u64, ActFault>
+    ensures seen { IfOk result (TellsWord (Some state.old) (Some state.new) k) }
     ensures refused { IfErr result (λ fault. state.new ≡ state.old) }
 {
     match state {
@@ -55,13 +54,13 @@ pub fn look(state: &mut HandleState, k: ShardId) -> Result<Record, ActFault>
             if u32::from(k.number()) >= pass.held.count() {
                 return Err(ActFault::UnknownShard);
             }
-            Ok(pass.held.look(k))
+            Ok(pass.held.look_word(k))
         }
         HandleState::TextPass(pass) => {
             if u32::from(k.number()) >= pass.count() {
                 return Err(ActFault::UnknownShard);
             }
-            Ok(pass.look(k))
+            Ok(pass.look_word(k))
         }
         _ => Err(ActFault::WrongHandle),
     }

@@ -1,7 +1,7 @@
 //! Calls on handles.
 ghost use Rattle.std.specs.Prelude.{◌≡◌, IfErr, IfOk, OnOk};
 ghost use Rattle.sm_handle.specs.Acts.{AdmitsHandle, CommandsHandle, EndsHandle, IsOpened, IsPassOf};
-ghost use Rattle.sm_handle.specs.Acts.{LooksHandle, RefusesHandle};
+ghost use Rattle.sm_handle.specs.Acts.{RefusesHandle, TellsWord};
 
 use crate::act_fault::ActFault;
 use crate::acts;
@@ -10,7 +10,6 @@ use crate::handle_state::HandleState;
 use sm_desk::Command;
 use sm_foreign::{Chief, Foreign, OpenFault};
 use sm_ownership::mode::Mode;
-use sm_ownership::record::Record;
 use sm_ranges::server_id::ServerId;
 use sm_ranges::shard_id::ShardId;
 use std::alloc::Global;
@@ -61,9 +60,9 @@ impl Handle {
         acts::finish(self.owned.state_mut())
     }
 
-    /// The shard's record after all that the pass then has seen; or why not, and the handle is as it was.
-    pub fn look(&mut self, k: ShardId) -> Result<Record, ActFault>
-        ensures seen { IfOk result (LooksHandle self.old.owned.state self.new.owned.state k) }
+    /// The word of the shard's record after all that the pass then has seen; or why not, and the handle is as it was.
+    pub fn look(&mut self, k: ShardId) -> Result<u64, ActFault>
+        ensures seen { IfOk result (TellsWord self.old.owned.state self.new.owned.state k) }
         ensures refused { IfErr result (λ fault. self.new.owned.state ≡ self.old.owned.state) }
     {
         if !self.full {

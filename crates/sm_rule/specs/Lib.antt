@@ -7,4 +7,5 @@ pub mod Passes
 pub mod Rule
 pub mod Steps
 pub mod Views
+pub mod Words
 pub mod lemmas

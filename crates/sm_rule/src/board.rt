@@ -7,6 +7,7 @@ ghost use Rattle.sm_rule.specs.Changes.{ChairLooks, record_at_chair};
 ghost use Rattle.sm_rule.specs.Passes.{PassLooks, record_of};
 ghost use Rattle.sm_rule.specs.Steps.{MayAdd, TakesBody};
 ghost use Rattle.sm_rule.specs.Views.{Adds, Looks, record_in};
+ghost use Rattle.sm_rule.specs.Words.{IsWordOf};
 
 mod admitting;
 mod changing;
@@ -25,7 +26,7 @@ use sm_body::service::Service;
 use sm_ownership::record::Record;
 use sm_ranges::server_id::ServerId;
 use sm_ranges::shard_id::ShardId;
-use sm_word::word::{record_of_word, record_served};
+use sm_word::word::record_of_word;
 use std::alloc::Global;
 use std::marker::{Brand, Model};
 
@@ -96,7 +97,17 @@ impl<S: Service> Board<S> {
         ensures seen { PassLooks pass.old pass.new }
         ensures state { result ≡ record_of pass.new k }
     {
-        self.load(&mut pass.seat, k, None).1
+        self.load(&mut pass.seat, k).1
+    }
+
+    /// The word of the shard's record after all that the pass then has seen.
+    pub fn look_word(&self, pass: &mut Pass<S>, k: ShardId) -> u64
+        requires board { pass.old.board ≡ self.now }
+        requires shard { k < self.now.limits.count }
+        ensures seen { PassLooks pass.old pass.new }
+        ensures word { IsWordOf (record_of pass.new k) result }
+    {
+        self.load(&mut pass.seat, k).0
     }
 
     /// The shard's record after all that the chair then has seen.
@@ -106,7 +117,7 @@ impl<S: Service> Board<S> {
         ensures seen { ChairLooks chair.old chair.new }
         ensures state { result ≡ record_at_chair chair.new k }
     {
-        self.load(&mut chair.seat, k, None).1
+        self.load(&mut chair.seat, k).1
     }
 
     // Changes the shard's word from that of the record read to that of the next one, or gives the record found in its
@@ -149,14 +160,9 @@ impl<S: Service> Board<S> {
         Err(record_of_word(found))
     }
 
-    // Loads the shard's word, and reads its record, at once where the likely server serves the shard.
+    // Loads the shard's word, and reads its record.
     #[inline(always)]
-    fn load(
-        &self,
-        seat: &mut Seat<Option<S>, View<S::Request>>,
-        k: ShardId,
-        likely: Option<ServerId>,
-    ) -> (u64, Record)
+    fn load(&self, seat: &mut Seat<Option<S>, View<S::Request>>, k: ShardId) -> (u64, Record)
         requires table { seat.old.table_id ≡ self.now.id }
         requires limits { seat.old.me.0.limits ≡ self.now.limits }
         requires live { seat.old.me.0.stage ≡ Acting }
@@ -170,6 +176,6 @@ impl<S: Service> Board<S> {
         ensures low { self.now.limits.ceiling < 2 ^ 36 }
     {
         let word = self.table.shared.load::<Load>(seat, k.index());
-        (word, record_served(word, likely))
+        (word, record_of_word(word))
     }
 }

@@ -16,8 +16,8 @@ pub struct Permit<S: Service> {
     // The board that gave it, as proofs see it. It takes no memory.
     pub(crate) board: Snapshot<Board<S>>,
     pub(crate) shard: ShardId,
-    pub(crate) state: Record,
-    // The shard's word since the admission.
+    // The shard's record since the admission, as proofs see it, and its word. The record takes no memory.
+    pub(crate) state: Snapshot<Record>,
     pub(crate) word: u64,
     pub(crate) body: S,
 }
@@ -33,12 +33,12 @@ impl<S: Service> Model for Permit<S> {
     ghost view = { λ permit. record {
       board = permit.board.value;
       shard = permit.shard;
-      state = permit.state;
+      state = permit.state.value;
       body = permit.body;
     } };
 
-    ghost invariant = { λ permit. IsWellFormed (after_done permit.state) × IsWellFormed permit.state
-        × (permit.state.admitted ≡ true) × (permit.word ≡ word_of permit.state) };
+    ghost invariant = { λ permit. IsWellFormed (after_done permit.state.value) × IsWellFormed permit.state.value
+        × (permit.state.value.admitted ≡ true) × (permit.word ≡ word_of permit.state.value) };
 }
 
 impl<S: Service> Permit<S> {

@@ -14,4 +14,4 @@
 
 pub mod word;
 
-pub use word::{admit_word, done_word, pack, record_of_word, record_served, unpack};
+pub use word::{admit_word, done_word, is_served, pack, record_of_word, unpack};

@@ -3,6 +3,7 @@ ghost use Rattle.std.specs.Prelude.{true, false, unwrap_or};
 ghost use Rattle.sm_ownership.specs.declared.record.Record.{Record as RecordValue};
 ghost use Rattle.sm_ownership.specs.History.{after_admit, after_done};
 ghost use Rattle.sm_ranges.specs.declared.stand.Stand.{Stand as StandValue};
+ghost use Rattle.sm_ranges.specs.declared.stand.Stand.TheVariants.{Serving};
 ghost use Rattle.sm_ranges.specs.ServerId.{IsServer};
 ghost use Rattle.sm_ranges.specs.Stand.{owner_number, other_number};
 ghost use Rattle.sm_word.specs.Word.{IsWellFormed, FitsStand, NamesServers, word_of, phase_of, server_of};
@@ -69,22 +70,12 @@ pub fn record_of_word(word: u64) -> Record
     }
 }
 
-/// The record of a word that has one. The likely server changes nothing of the answer: where it serves the shard and
-/// isn't admitted to it, one comparison finds that record.
-pub fn record_served(word: u64, likely: Option<ServerId>) -> Record
-    requires { (state : RecordValue) × IsWellFormed state × (word_of state ≡ word) }
-    ensures { (state : RecordValue) → IsWellFormed state → word_of state ≡ word → result ≡ state }
+/// Whether the word of a record is one by which this server serves the shard and isn't admitted to it: one comparison.
+pub fn is_served(word: u64, server: ServerId) -> bool
+    ensures { IsTrue result → (state : RecordValue) → IsWellFormed state → word_of state ≡ word
+        → (state.stand ≡ Serving server) × (state.admitted ≡ false) }
 {
-    if let Some(server) = likely
-        && word / OTHER == PHASE / OTHER + u64::from(server.number()) * (OWNER / OTHER)
-    {
-        return Record {
-            stand: Stand::Serving(server),
-            admitted: false,
-            generation: word % OTHER,
-        };
-    }
-    record_of_word(word)
+    word / OTHER == PHASE / OTHER + u64::from(server.number()) * (OWNER / OTHER)
 }
 
 /// The word after an admission, of the word of an idle record.

@@ -4,7 +4,7 @@ ghost use Rattle.sm_word.specs.Word.{IsWellFormed};
 use sm_ownership::Record;
 use sm_ownership::record::MAX_GENERATION;
 use sm_ranges::{ServerId, Stand};
-use sm_word::{admit_word, done_word, pack, record_of_word, record_served, unpack};
+use sm_word::{admit_word, done_word, is_served, pack, record_of_word, unpack};
 use std::process::Abort;
 
 // The example of the crate's documentation.
@@ -27,7 +27,9 @@ fn is_word_of(rt: &impl Abort, word: u64, state: &Record)
     let packed = pack(*state);
     assert!(rt; packed == word);
     assert!(rt; record_of_word(packed) == *state);
-    assert!(rt; record_served(packed, ServerId::new(1)) == *state);
+    let owner = state.stand.owner().unwrap_or(ServerId::of(4095));
+    let serves = matches!(state.stand, Stand::Serving(_)) && !state.admitted;
+    assert!(rt; is_served(packed, owner) == serves);
     assert!(rt; unpack(word) == Some(*state));
 }
 

@@ -2,12 +2,14 @@ ghost use Rattle.std.specs.Prelude.{All, ◌≡◌, ◌<◌, IfSome, None, [], l
 
 use crate::tally::Tally;
 use sm_body::service::Service;
+use sm_ownership::admit_fault::AdmitFault;
 use sm_ownership::change::Change;
 use sm_ownership::mode::Mode;
 use sm_ownership::record::Record;
 use sm_ranges::server_id::ServerId;
 use sm_ranges::shard_id::ShardId;
 use sm_ranges::stand::Stand;
+use sm_rule::admit_refusal::AdmitRefusal;
 use sm_rule::board::Board;
 use sm_rule::chair::Chair;
 use sm_rule::pass::Pass;
@@ -56,20 +58,24 @@ pub(crate) enum Loop {
     ChainedLooks,
     Admissions,
     Executions,
+    Refusals,
     Notes,
     Meetings,
 }
 
-/// A board of 4,096 shards, its chair, and a pass with server 1, which serves all shards.
+/// A board of 4,096 shards, its chair, a pass with server 1, which serves all shards, and one with server 2.
 #[derive(Drop)]
 pub(crate) struct FullBoard {
     board: Board<Tally>,
     chair: Chair<Tally>,
     pass: Pass<Tally>,
+    stranger: Pass<Tally>,
     ghost full: { board.limits.count ≡ 4096 },
     ghost chair_tied: { chair.board ≡ board },
     ghost pass_tied: { pass.board ≡ board },
     ghost free: { pass.held ≡ None },
+    ghost stranger_tied: { stranger.board ≡ board },
+    ghost stranger_free: { stranger.held ≡ None },
 }
 
 impl FullBoard {
@@ -78,7 +84,13 @@ impl FullBoard {
         let owner = ServerId::new(1)?;
         let (board, chair) = Board::make(alloc, tallies(alloc)?, CEILING).ok()?;
         let pass = board.pass(Some(owner));
-        let mut full = FullBoard { board, chair, pass };
+        let stranger = board.pass(ServerId::new(2));
+        let mut full = FullBoard {
+            board,
+            chair,
+            pass,
+            stranger,
+        };
         full.assign_all(owner);
         Some(full)
     }
@@ -107,6 +119,7 @@ impl FullBoard {
             Loop::ChainedLooks => self.chained_looks(turns),
             Loop::Admissions => self.admissions(turns),
             Loop::Executions => self.executions(turns),
+            Loop::Refusals => self.refusals(turns),
             Loop::Notes => self.notes(turns),
             Loop::Meetings => self.meetings(turns),
         }
@@ -160,6 +173,17 @@ impl FullBoard {
         counted
     }
 
+    // Is refused at shards chosen at random, as another server serves them, and sums the generations read.
+    fn refusals(&mut self, tries: u64) -> u64 {
+        let mut choice = FIRST_CHOICE;
+        let mut read = 0u64;
+        for _ in 0..tries {
+            choice = next(choice);
+            read = read.wrapping_add(self.refused(shard_of(choice)));
+        }
+        read
+    }
+
     // Makes so many notes of the pass and drops each, and counts them.
     fn notes(&mut self, notes: u64) -> u64 {
         let mut made = 0u64;
@@ -196,6 +220,18 @@ impl FullBoard {
         match self.board.admit(&mut self.pass, k, Mode::Direct) {
             Ok(permit) => self.board.finish(&mut self.pass, permit).generation,
             Err(_) => 0,
+        }
+    }
+
+    // The generation by which server 2 isn't the shard's executor, or 0.
+    fn refused(&mut self, k: ShardId) -> u64 {
+        match self.board.admit(&mut self.stranger, k, Mode::Direct) {
+            Err(AdmitRefusal::Refused(AdmitFault::NotExecutor, read)) => read.generation,
+            Err(_) => 0,
+            Ok(permit) => {
+                let _front = self.board.finish(&mut self.stranger, permit);
+                0
+            }
         }
     }
 

@@ -33,6 +33,13 @@ pub extern "C" fn bench_rule_executions(alloc: Global, tries: u64) -> u64 {
     on_full_board(alloc, Loop::Executions, tries)
 }
 
+/// Makes a board and tries so many admissions of a server to shards chosen at random that another one serves, and gives the
+/// sum of the generations by which it is refused.
+#[unsafe(no_mangle)]
+pub extern "C" fn bench_rule_refusals(alloc: Global, tries: u64) -> u64 {
+    on_full_board(alloc, Loop::Refusals, tries)
+}
+
 /// Makes a board and so many notes of a pass, drops each, and gives their number.
 #[unsafe(no_mangle)]
 pub extern "C" fn bench_rule_notes(alloc: Global, notes: u64) -> u64 {

@@ -2,12 +2,14 @@
 ghost use Rattle.std.specs.Prelude.{◌≡◌, ◌<◌, Some, None, IfErr, IfOk, OnOk, [], ◌∷◌, unwrap_or};
 ghost use Rattle.sm_ownership.specs.declared.entry.Ending.{Ending};
 ghost use Rattle.sm_ownership.specs.declared.entry.Kind.TheVariants.{Admit, Done};
+ghost use Rattle.sm_ownership.specs.declared.record.Record.{Record as RecordValue};
 ghost use Rattle.sm_ownership.specs.History.{all_of, first_of, kept};
 ghost use Rattle.sm_rule.specs.Admissions.{HoldsPermit, PassAdmitted, RefusedBy, fault_for};
 ghost use Rattle.sm_rule.specs.Boards.{limit_at};
 ghost use Rattle.sm_rule.specs.Bodies.{Keeps, all_after, ending_between};
 ghost use Rattle.sm_rule.specs.Passes.{PassAdds, PassLooks, record_of};
 ghost use Rattle.sm_rule.specs.Views.{EndsWith, all_held, first_held, list_held};
+ghost use Rattle.sm_rule.specs.Words.{IsWordOf};
 
 use super::Board;
 use crate::admit_refusal::AdmitRefusal;
@@ -23,7 +25,7 @@ use sm_ownership::record::Record;
 use sm_ranges::server_id::ServerId;
 use sm_ranges::shard_id::ShardId;
 use sm_ranges::stand::Stand;
-use sm_word::word::{admit_word, done_word};
+use sm_word::word::{admit_word, done_word, is_served, record_of_word};
 use std::marker::Brand;
 use std::snapshot::Snapshot;
 
@@ -46,6 +48,38 @@ impl<S: Service> Board<S> {
                 _ => Some(AdmitFault::NotExecutor),
             },
         }
+    }
+
+    // The same of the record that has this word: most admissions find at once that it has none.
+    #[inline(always)]
+    fn refusal_by(
+        &self,
+        word: u64,
+        state: &Record,
+        server: Option<ServerId>,
+        mode: Mode,
+    ) -> Option<AdmitFault>
+        requires { IsWordOf state.now word }
+        ensures { result ≡ fault_for self.now.limits.ceiling state.now server mode }
+    {
+        if let Some(server) = server
+            && is_served(word, server)
+            && self.ceiling >= 2
+            && state.generation <= self.ceiling - 2
+        {
+            return None;
+        }
+        self.refusal_of(word, server, mode)
+    }
+
+    // The same of the word alone, outside of the way of most admissions.
+    #[inline(never)]
+    fn refusal_of(&self, word: u64, server: Option<ServerId>, mode: Mode) -> Option<AdmitFault>
+        requires { (state : RecordValue) × IsWordOf state word }
+        ensures { (state : RecordValue) → IsWordOf state word
+            → result ≡ fault_for self.now.limits.ceiling state server mode }
+    {
+        self.refusal(&record_of_word(word), server, mode)
     }
 
     /// Admits the pass to the shard, for a request that came to its server so, and gives the permit with the shard's
@@ -107,8 +141,8 @@ impl<S: Service> Board<S> {
         ensures refused { IfErr result
             (λ refusal. PassLooks pass.old pass.new × RefusedBy pass.old pass.new k mode refusal) }
     {
-        let (word, read) = self.load(&mut pass.seat, k, pass.server);
-        match self.refusal(&read, pass.server, mode) {
+        let (word, read) = self.load(&mut pass.seat, k);
+        match self.refusal_by(word, &read, pass.server, mode) {
             Some(fault) => return Err(AdmitRefusal::Refused(fault, read)),
             None => {}
         }
@@ -126,7 +160,7 @@ impl<S: Service> Board<S> {
         Ok(Permit {
             board: Snapshot::of(self),
             shard: k,
-            state,
+            state: Snapshot::of(&state),
             word: next,
             body,
         })
@@ -194,11 +228,11 @@ impl<S: Service> Board<S> {
         let Permit {
             board: _,
             shard,
-            state,
+            state: _,
             word,
             body,
         } = permit;
-        let generation = state.generation + 1;
+        let generation = record_of_word(word).generation + 1;
         let word = done_word(word);
         let at = shard.index();
         let _ = self.table.shared.exchange(&mut pass.seat, at, Some(body));

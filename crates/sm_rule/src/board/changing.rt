@@ -74,7 +74,7 @@ impl<S: Service> Board<S> {
         ensures refused { IfErr result
             (λ refusal. ChairLooks chair.old chair.new × NotMade chair.old chair.new k refusal) }
     {
-        let (word, read) = self.load(&mut chair.seat, k, None);
+        let (word, read) = self.load(&mut chair.seat, k);
         let next = self.changed(&read, change, stand)?;
         let new = pack(next);
         match self.exchange::<B>(&mut chair.seat, k, &read, &next, word, new) {

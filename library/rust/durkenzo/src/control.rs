@@ -135,15 +135,15 @@ impl<T> Control<T> {
 
     // The shard's stand, which a pass of any server sees.
     fn stand(&self, shard: u16) -> Result<Stand, RestoreFault> {
-        let (mut pass, mut read) = (Handle::empty(), RecordParts::default());
+        let mut pass = Handle::empty();
         // SAFETY: the control's handle is locked, and the others are this call's alone.
-        let codes = unsafe {
+        let (made, word) = unsafe {
             let made = raw::durkenzo_pass(&mut *self.shared.chief(), &mut pass, 1);
-            (made, raw::durkenzo_look(&mut pass, shard, &mut read))
+            (made, raw::durkenzo_look_word(&mut pass, shard))
         };
-        match codes {
-            (0, 0) => Ok(Record::of(&read).stand),
-            (0, _) => Err(ChangeFault::UnknownShard.into()),
+        match (made, word) {
+            (0, raw::NO_WORD) => Err(ChangeFault::UnknownShard.into()),
+            (0, word) => Ok(Record::of_word(word).stand),
             _ => Err(RestoreFault::NoMemory),
         }
     }

@@ -65,6 +65,7 @@ pub enum BuildFault {
 }
 
 impl BuildFault {
+    #[inline]
     pub(crate) fn of(code: u32) -> BuildFault {
         match code {
             2 | 8 => BuildFault::BadServers,
@@ -103,6 +104,7 @@ pub enum PassFault {
 }
 
 impl PassFault {
+    #[inline]
     pub(crate) fn of(code: u32) -> PassFault {
         match code {
             2 => PassFault::BadServer,
@@ -149,6 +151,7 @@ pub enum AdmitFault {
 }
 
 impl AdmitFault {
+    #[inline]
     pub(crate) fn of(code: u32, read: Record) -> AdmitFault {
         match code {
             1 => AdmitFault::Holding,
@@ -211,6 +214,7 @@ pub enum ChangeFault {
 }
 
 impl ChangeFault {
+    #[inline]
     pub(crate) fn of(code: u32, read: Record) -> ChangeFault {
         match code {
             2 | 30 => ChangeFault::UnknownServer,
@@ -275,6 +279,7 @@ pub enum RestartFault {
 }
 
 impl RestartFault {
+    #[inline]
     pub(crate) fn of(code: u32) -> RestartFault {
         match code {
             2 | 30 => RestartFault::UnknownServer,
@@ -331,6 +336,7 @@ pub enum LayoutFault {
 }
 
 impl LayoutFault {
+    #[inline]
     pub(crate) fn of(code: u32) -> LayoutFault {
         match code {
             3 => LayoutFault::NoMemory,
@@ -377,6 +383,7 @@ pub enum MapFault {
 }
 
 impl MapFault {
+    #[inline]
     pub(crate) fn of(code: u32) -> MapFault {
         match code {
             3 => MapFault::NoMemory,
@@ -416,6 +423,7 @@ pub enum SendFault {
 }
 
 impl SendFault {
+    #[inline]
     pub(crate) fn of(code: u32) -> SendFault {
         match code {
             2 => SendFault::NotSent,
@@ -458,6 +466,7 @@ pub enum ServeFault {
 }
 
 impl ServeFault {
+    #[inline]
     pub(crate) fn of(code: u32, read: Record) -> ServeFault {
         match code {
             3 => ServeFault::NoMemory,
@@ -494,6 +503,7 @@ pub enum CheckpointFault {
 }
 
 impl CheckpointFault {
+    #[inline]
     pub(crate) fn of(code: u32, read: Record) -> CheckpointFault {
         match code {
             3 => CheckpointFault::NoMemory,
@@ -523,6 +533,7 @@ pub enum PlanFault {
 }
 
 impl PlanFault {
+    #[inline]
     pub(crate) fn of(code: u32) -> PlanFault {
         match code {
             2 | 30 => PlanFault::UnknownServer,
@@ -555,6 +566,7 @@ pub enum NoteFault {
 }
 
 impl NoteFault {
+    #[inline]
     pub(crate) fn of(code: u32) -> NoteFault {
         match code {
             1 => NoteFault::Holding,

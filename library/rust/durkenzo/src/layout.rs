@@ -11,50 +11,78 @@
 use crate::fault::LayoutFault;
 use crate::raw::{self, Handle, Part};
 use std::fmt;
-use std::sync::{Mutex, PoisonError};
+use std::sync::atomic::{AtomicUsize, Ordering::Relaxed};
+use std::sync::{Mutex, MutexGuard, OnceLock, PoisonError};
+use std::thread;
+
+/// The most copies of a layout.
+const MAX_COPIES: usize = 16;
+
+static THREADS: AtomicUsize = AtomicUsize::new(0);
+
+thread_local! {
+    /// How many threads have asked a layout before this one.
+    static EARLIER: usize = THREADS.fetch_add(1, Relaxed);
+}
 
 /// How the key space is cut into shards: shard k has the keys from bound k on, up to the next bound.
 ///
-/// Threads may share it; each call takes its lock, so a thread that asks often has one of its own.
+/// Threads may share it. As a handle is used by one call at a time, threads that run beside each other ask copies of
+/// it, which are made where they are first needed.
 pub struct Layout {
     count: usize,
-    handle: Mutex<Handle>,
+    first: Mutex<Handle>,
+    copies: Box<[OnceLock<Mutex<Handle>>]>,
+}
+
+/// The handle of the layout with these bounds, or the code of why there is none.
+fn cut<B: AsRef<[u8]>>(bounds: impl IntoIterator<Item = B>) -> (Result<Handle, u32>, usize) {
+    let (mut text, mut parts) = (Vec::new(), Vec::new());
+    for bound in bounds {
+        let start = text.len();
+        text.extend_from_slice(bound.as_ref());
+        parts.push(Part {
+            start,
+            end: text.len(),
+        });
+    }
+    let mut handle = Handle::empty();
+    // SAFETY: the handle is this call's alone, and the slices last as long as the call.
+    let code = unsafe {
+        raw::durkenzo_layout(
+            &mut handle,
+            text.as_ptr(),
+            text.len(),
+            parts.as_ptr(),
+            parts.len(),
+        )
+    };
+    let made = if code == 0 { Ok(handle) } else { Err(code) };
+    (made, parts.len())
+}
+
+fn locked(handle: &Mutex<Handle>) -> MutexGuard<'_, Handle> {
+    handle.lock().unwrap_or_else(PoisonError::into_inner)
 }
 
 impl Layout {
     /// The layout with these bounds: 1 to 4,096 of at most 255 bytes, which rise from the empty one.
     pub fn new<B: AsRef<[u8]>>(bounds: impl IntoIterator<Item = B>) -> Result<Layout, LayoutFault> {
-        let (mut text, mut parts) = (Vec::new(), Vec::new());
-        for bound in bounds {
-            let start = text.len();
-            text.extend_from_slice(bound.as_ref());
-            parts.push(Part {
-                start,
-                end: text.len(),
-            });
-        }
-        let mut handle = Handle::empty();
-        // SAFETY: the handle is this call's alone, and the slices last as long as the call.
-        let code = unsafe {
-            raw::durkenzo_layout(
-                &mut handle,
-                text.as_ptr(),
-                text.len(),
-                parts.as_ptr(),
-                parts.len(),
-            )
-        };
-        match code {
-            0 => Ok(Layout::of(handle, parts.len())),
-            code => Err(LayoutFault::of(code)),
+        match cut(bounds) {
+            (Ok(handle), count) => Ok(Layout::of(handle, count)),
+            (Err(code), _) => Err(LayoutFault::of(code)),
         }
     }
 
     /// The layout of so many shards that the handle keeps.
     pub(crate) fn of(handle: Handle, count: usize) -> Layout {
+        let threads = thread::available_parallelism().map_or(1, usize::from);
         Layout {
             count,
-            handle: Mutex::new(handle),
+            first: Mutex::new(handle),
+            copies: (1..threads.min(MAX_COPIES))
+                .map(|_| OnceLock::new())
+                .collect(),
         }
     }
 
@@ -66,10 +94,10 @@ impl Layout {
     /// The shard of the key, which may be any bytes.
     pub fn shard_of(&self, key: impl AsRef<[u8]>) -> u16 {
         let (key, mut shard) = (key.as_ref(), 0);
-        let mut handle = self.handle.lock().unwrap_or_else(PoisonError::into_inner);
         // SAFETY: the handle is locked, and the slice lasts as long as the call.
-        let code =
-            unsafe { raw::durkenzo_shard_of(&mut *handle, key.as_ptr(), key.len(), &mut shard) };
+        let code = self.with(|handle| unsafe {
+            raw::durkenzo_shard_of(handle, key.as_ptr(), key.len(), &mut shard)
+        });
         assert_eq!(code, 0, "the handle of a layout keeps it");
         shard
     }
@@ -81,27 +109,42 @@ impl Layout {
         Some((low, shard.checked_add(1).and_then(|it| self.bound(it))))
     }
 
-    /// What the call makes of the layout's handle, which is locked meanwhile.
+    /// What the call makes of a handle that keeps the layout, which is locked meanwhile.
     pub(crate) fn with<R>(&self, call: impl FnOnce(&mut Handle) -> R) -> R {
-        call(&mut self.handle.lock().unwrap_or_else(PoisonError::into_inner))
+        let turn = EARLIER.with(|it| *it) % (self.copies.len() + 1);
+        let handle = match turn.checked_sub(1) {
+            Some(at) => self.copy(at),
+            None => &self.first,
+        };
+        call(&mut locked(handle))
+    }
+
+    /// This copy of the first handle, or that one, where memory for a copy is refused.
+    fn copy(&self, at: usize) -> &Mutex<Handle> {
+        if let Some(copy) = self.copies[at].get() {
+            return copy;
+        }
+        let mut first = locked(&self.first);
+        let bounds = (0..self.count).filter_map(|shard| bound_in(&mut first, shard as u16));
+        match cut(bounds) {
+            (Ok(handle), _) => self.copies[at].get_or_init(|| Mutex::new(handle)),
+            (Err(_), _) => &self.first,
+        }
     }
 
     fn bound(&self, shard: u16) -> Option<Vec<u8>> {
-        let (mut bound, mut length) = (vec![0; 255], 0);
-        let mut handle = self.handle.lock().unwrap_or_else(PoisonError::into_inner);
-        // SAFETY: the handle is locked, and the room is this call's alone.
-        let code = unsafe {
-            raw::durkenzo_bound(
-                &mut *handle,
-                shard,
-                bound.as_mut_ptr(),
-                bound.len(),
-                &mut length,
-            )
-        };
-        bound.truncate(length);
-        (code == 0).then_some(bound)
+        self.with(|handle| bound_in(handle, shard))
     }
+}
+
+/// The bound at which the shard begins, if there is such a shard.
+fn bound_in(layout: &mut Handle, shard: u16) -> Option<Vec<u8>> {
+    let (mut bound, mut length) = (vec![0; 255], 0);
+    // SAFETY: the handle is borrowed alone, and the room is this call's.
+    let code =
+        unsafe { raw::durkenzo_bound(layout, shard, bound.as_mut_ptr(), bound.len(), &mut length) };
+    bound.truncate(length);
+    (code == 0).then_some(bound)
 }
 
 impl fmt::Debug for Layout {

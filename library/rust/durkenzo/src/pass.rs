@@ -40,11 +40,10 @@ impl<T> Pass<T> {
 
     /// The shard's record now.
     pub fn look(&mut self, shard: u16) -> Result<Record, UnknownShard> {
-        let mut parts = RecordParts::default();
         // SAFETY: the handle is this pass's, which is borrowed alone.
-        match unsafe { raw::durkenzo_look(&mut self.handle, shard, &mut parts) } {
-            0 => Ok(Record::of(&parts)),
-            _ => Err(UnknownShard),
+        match unsafe { raw::durkenzo_look_word(&mut self.handle, shard) } {
+            raw::NO_WORD => Err(UnknownShard),
+            word => Ok(Record::of_word(word)),
         }
     }
 
@@ -151,11 +150,8 @@ impl<T> Permit<'_, T> {
     /// # Ok::<(), Box<dyn std::error::Error>>(())
     /// ```
     pub fn generation(&mut self) -> u64 {
-        let mut parts = RecordParts::default();
-        // SAFETY: the handle is the pass's, which this permit has borrowed alone.
-        let code = unsafe { raw::durkenzo_look(&mut self.pass.handle, self.shard, &mut parts) };
-        assert_eq!(code, 0, "the shard of a permit is there");
-        parts.generation
+        let record = self.pass.look(self.shard);
+        record.expect("the shard of a permit is there").generation
     }
 
     /// Ends the admission, and says where that left the shard.

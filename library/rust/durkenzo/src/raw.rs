@@ -76,6 +76,9 @@ pub(crate) struct AnswerParts {
     pub(crate) server: u16,
 }
 
+/// What `durkenzo_look_word` answers where there is no shard to look at; no record has this word.
+pub(crate) const NO_WORD: u64 = u64::MAX;
+
 extern "C" {
     pub(crate) fn durkenzo_open(
         chief: *mut Handle,
@@ -86,7 +89,7 @@ extern "C" {
         ceiling: u64,
     ) -> u32;
     pub(crate) fn durkenzo_pass(chief: *mut Handle, pass: *mut Handle, server: u16) -> u32;
-    pub(crate) fn durkenzo_look(pass: *mut Handle, shard: u16, parts: *mut RecordParts) -> u32;
+    pub(crate) fn durkenzo_look_word(pass: *mut Handle, shard: u16) -> u64;
     pub(crate) fn durkenzo_admit(
         pass: *mut Handle,
         shard: u16,

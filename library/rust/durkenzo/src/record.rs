@@ -1,3 +1,4 @@
+use crate::board::MAX_GENERATION;
 use crate::raw::RecordParts;
 
 // By tools/library-codes, the names in library/codes.txt:
@@ -98,6 +99,19 @@ pub struct Record {
 }
 
 impl Record {
+    /// The record of its word, which the library gave: `word::record` finds the same by a proved call.
+    #[inline]
+    pub(crate) fn of_word(word: u64) -> Record {
+        Record::of(&RecordParts {
+            generation: word & MAX_GENERATION,
+            owner: (word >> 48 & 0xfff) as u16,
+            other: (word >> 36 & 0xfff) as u16,
+            phase: (word >> 61) as u8,
+            admitted: word >> 60 & 1 == 1,
+        })
+    }
+
+    #[inline]
     pub(crate) fn of(parts: &RecordParts) -> Record {
         let (owner, other) = (parts.owner, parts.other);
         let stand = match parts.phase {
@@ -164,5 +178,45 @@ impl Record {
             Stand::Taken { owner, previous } if previous == server => Some(owner),
             _ => None,
         }
+    }
+}
+
+#[cfg(test)]
+mod tests {
+    use super::{Record, Stand};
+    use crate::board::MAX_GENERATION;
+    use crate::word;
+
+    #[test]
+    fn words_are_read_as_the_proved_call_reads_them() {
+        let mut read = 0;
+        for (one, other) in [(1, 2), (2, 1), (4095, 2048), (2048, 4095)] {
+            let two = |stand: fn(u16, u16) -> Stand| stand(one, other);
+            for stand in [
+                Stand::Vacant,
+                Stand::Serving(one),
+                two(|owner, next| Stand::Prepared { owner, next }),
+                two(|owner, next| Stand::Forwarding { owner, next }),
+                two(|owner, previous| Stand::Taken { owner, previous }),
+                Stand::Paused(one),
+            ] {
+                for generation in [0, 1, MAX_GENERATION - 1, MAX_GENERATION] {
+                    for admitted in [false, true] {
+                        let record = Record {
+                            stand,
+                            admitted,
+                            generation,
+                        };
+                        if let Some(packed) = word::of(&record) {
+                            assert_eq!(Some(Record::of_word(packed)), word::record(packed));
+                            assert_eq!(Record::of_word(packed), record);
+                            read += 1;
+                        }
+                    }
+                }
+            }
+        }
+        // Vacant shards have one record, paused ones are idle, and others have had an entry.
+        assert_eq!(read, 4 * (1 + 4 * 6 + 3));
     }
 }

@@ -53,11 +53,10 @@ impl ServicePass {
 
     /// The shard's record now.
     pub fn look(&mut self, shard: u16) -> Result<Record, UnknownShard> {
-        let mut parts = RecordParts::default();
         // SAFETY: the handle is this pass's, which is borrowed alone.
-        match unsafe { raw::durkenzo_look(&mut self.handle, shard, &mut parts) } {
-            0 => Ok(Record::of(&parts)),
-            _ => Err(UnknownShard),
+        match unsafe { raw::durkenzo_look_word(&mut self.handle, shard) } {
+            raw::NO_WORD => Err(UnknownShard),
+            word => Ok(Record::of_word(word)),
         }
     }
 

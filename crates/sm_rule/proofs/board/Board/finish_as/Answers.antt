@@ -48,7 +48,7 @@ store-requires g c =
     c.permit.inside.body c.exchange.new.seat.me ending
     carries (low_ceiling c.self.inside.table.shared.key.ceiling c.self.inside.ceiling c.self.invariant.1
     c.self.invariant.6) c.pass.invariant.0.0 (sym shard ∙ sym at)
-    (c.done_word-word.ensures c.permit.inside.state c.permit.invariant.2 (sym c.permit.invariant.3)
+    (c.done_word-word.ensures c.permit.inside.state.value c.permit.invariant.2 (sym c.permit.invariant.3)
     ∙ ap (λ one. word_of (after_done one)) state) gains same_limit in
     let small = bounds id view c.args.pass.now c.args.permit of_pass c.requires.permit c.pass.invariant.0.3 in
     let kind =

@@ -14,6 +14,6 @@ load-word-requires g c =
           c.self.invariant.6) c.requires.live,
     )
 
-pub record_served-requires : goal.record_served-requires
-record_served-requires g c =
+pub record_of_word-requires : goal.record_of_word-requires
+record_of_word-requires g c =
     record_found c.load-word.new.seat.me.0 c.index.result c.load-word.result c.load-word.ensures.2.1
