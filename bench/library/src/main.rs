@@ -132,8 +132,9 @@ fn show_refused() {
 /// The sums of what the replies tell are those of bench/serve's programs.
 fn show_served() {
     let mut site = black_box(Site::new());
-    for (asks, row) in [(Asks::AtShard, "serve"), (Asks::ByKey, "search and serve")] {
-        for (kind, is_put) in [("get", false), ("put", true)] {
+    // What was put is told by later gets.
+    for (kind, is_put) in [("get", false), ("put", true)] {
+        for (asks, row) in [(Asks::AtShard, "serve"), (Asks::ByKey, "search and serve")] {
             let mut told = 0;
             let taken = timed(SERVED, || {
                 told = site.run(asks, is_put, SERVED);

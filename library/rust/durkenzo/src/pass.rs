@@ -75,6 +75,8 @@ impl<T> Pass<T> {
     }
 
     /// Admits the pass's server to the shard, for a request that came so; or says why not.
+    // Where it is inlined, who is admitted waits for no permit in memory, and a refusal is made as far as it is read.
+    #[inline(always)]
     pub fn admit(&mut self, shard: u16, mode: Mode) -> Result<Permit<'_, T>, AdmitFault> {
         let from = match mode {
             Mode::Direct => 0,
