@@ -12,7 +12,9 @@ the exit status is 1 where anything failed. It runs from any folder.
 """
 import argparse
 import os
+import pathlib
 import resource
+import shutil
 import sys
 import tempfile
 import time
@@ -60,13 +62,22 @@ def arguments():
     return given
 
 
+def keeps():
+    """Whether `rt ci` goes on from what it kept, unless it is told not to, and takes crates: not in all kits. Where rt
+    isn't there, what is to prove says so."""
+    rt = shutil.which("rt")
+    return bool(rt) and b"--anew" in pathlib.Path(rt).resolve().read_bytes()
+
+
 def proofs_of(given):
     """What is to be proved: nothing, these crates and those on which they stand, or all."""
     if given.quick:
         return Proofs([], [])
-    words = ["rt", "ci", *([] if given.cached else ["--anew"])]
+    words = ["rt", "ci", *(["--anew"] if keeps() and not given.cached else [])]
     if not given.crates:
         return Proofs(words, stages.listed())
+    if not keeps():
+        raise SystemExit("test: this kit's `rt ci` takes no crates: leave them out, or `rt verdict` in a crate's folder")
     names = sorted(stages.above(given.crates))
     return Proofs([*words, *names], stages.below(names))
 
