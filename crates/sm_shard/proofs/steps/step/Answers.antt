@@ -128,11 +128,11 @@ returns-in-Record-clause-exact g c =
       again,
       refl,
       both_so c.args.server.now.ready
-      (λ (ready : ShardState g.row.M.Denot g.row.Q.Denot g.row.R.Denot).
-      again.sent.items ++ again.waiting.items ≡ ready.sent.items ++ ready.waiting.items)
-      (λ (ready : ShardState g.row.M.Denot g.row.Q.Denot g.row.R.Denot).
-      again.carried.items ++ again.asking.items ≡ ready.carried.items ++ ready.asking.items)
-      c.on_record-again.ensures.again c.on_record-again.ensures.questions,
+          (λ (ready : ShardState g.row.M.Denot g.row.Q.Denot g.row.R.Denot).
+          again.sent.items ++ again.waiting.items ≡ ready.sent.items ++ ready.waiting.items)
+          (λ (ready : ShardState g.row.M.Denot g.row.Q.Denot g.row.R.Denot).
+          again.carried.items ++ again.asking.items ≡ ready.carried.items ++ ready.asking.items)
+          c.on_record-again.ensures.again c.on_record-again.ensures.questions,
     )
 
 pub returns-in-Lost-clause-exact : goal.returns-in-Lost-clause-exact
@@ -143,11 +143,11 @@ returns-in-Lost-clause-exact g c =
       again,
       refl,
       both_so c.args.server.now.ready
-      (λ (ready : ShardState g.row.M.Denot g.row.Q.Denot g.row.R.Denot).
-      again.sent.items ++ again.waiting.items ≡ ready.sent.items ++ ready.waiting.items)
-      (λ (ready : ShardState g.row.M.Denot g.row.Q.Denot g.row.R.Denot).
-      again.carried.items ++ again.asking.items ≡ ready.carried.items ++ ready.asking.items)
-      c.on_lost-again.ensures.again c.on_lost-again.ensures.questions,
+          (λ (ready : ShardState g.row.M.Denot g.row.Q.Denot g.row.R.Denot).
+          again.sent.items ++ again.waiting.items ≡ ready.sent.items ++ ready.waiting.items)
+          (λ (ready : ShardState g.row.M.Denot g.row.Q.Denot g.row.R.Denot).
+          again.carried.items ++ again.asking.items ≡ ready.carried.items ++ ready.asking.items)
+          c.on_lost-again.ensures.again c.on_lost-again.ensures.questions,
     )
 
 pub returns-in_ok-answers-in-Made-clause-exact : goal.returns-in_ok-answers-in-Made-clause-exact
@@ -159,9 +159,9 @@ returns-in_ok-answers-in-Made-clause-exact g c =
       answers,
       refl,
       both_so c.args.server.now.ready
-      (λ (ready : ShardState g.row.M.Denot g.row.Q.Denot g.row.R.Denot).
-      answers.made.items ≡ replies_of g.M.StoreMachine.service ready.replica.machine ready.sent.items)
-      (λ (ready : ShardState g.row.M.Denot g.row.Q.Denot g.row.R.Denot). answers.read.items
-      ≡ map (read_of g.M.StoreMachine.service g.M.StoreMachine.reads ready.replica.machine) ready.carried.items)
-      done.made done.answered,
+          (λ (ready : ShardState g.row.M.Denot g.row.Q.Denot g.row.R.Denot).
+          answers.made.items ≡ replies_of g.M.StoreMachine.service ready.replica.machine ready.sent.items)
+          (λ (ready : ShardState g.row.M.Denot g.row.Q.Denot g.row.R.Denot). answers.read.items
+          ≡ map (read_of g.M.StoreMachine.service g.M.StoreMachine.reads ready.replica.machine) ready.carried.items)
+          done.made done.answered,
     )
