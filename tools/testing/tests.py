@@ -12,6 +12,8 @@ AGAIN = re.compile(r"^(\S+: each of its \d+ allocations refused|\d+ tests of raw
 FAILED = "FAILED: "
 # Lines below one that says what failed tell why.
 REASON = "    "
+# As many lines are shown where it ended otherwise.
+LAST = 20
 
 
 def verdicts_of(lines):
@@ -38,9 +40,11 @@ def work(names):
         command = [sys.executable, str(sources.TOP / "tools/run-tests"), *names]
         how = {"stdin": subprocess.DEVNULL, "stdout": subprocess.PIPE, "stderr": subprocess.STDOUT, "text": True}
         with subprocess.Popen(command, errors="replace", **how) as ran:
-            found = list(verdicts_of(it.rstrip("\n") for it in ran.stdout))
+            lines = [it.rstrip("\n") for it in ran.stdout]
+        found = list(verdicts_of(lines))
         yield from found
         if ran.returncode and not any(it.reason for it in found) or not found:
-            yield Verdict("tools/run-tests", f"it ended with {ran.returncode}")
+            last = "\n".join([f"it ended with {ran.returncode}; its last lines:", *lines[-LAST:]])
+            yield Verdict("tools/run-tests", last)
 
     return run
