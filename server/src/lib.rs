@@ -7,6 +7,7 @@
 #![forbid(unsafe_code)]
 #![warn(missing_docs)]
 pub mod admission;
+pub mod attendant;
 pub mod body;
 #[cfg(test)]
 mod chance;

@@ -1,11 +1,11 @@
 //! How the server begins and ends.
 use crate::admission::Admission;
+use crate::attendant::Attendant;
 use crate::body::{InFolder, Memory, Storage};
 use crate::cluster::{Cluster, Configuration};
 use crate::command::Executor;
 use crate::configure::configuration;
 use crate::control::{Asked, Controller, StoredController};
-use crate::http;
 use crate::io::{Acceptor, Inlet, Worker};
 use crate::keyspace::Keyspace;
 use crate::options::{LogFormat, Options};
@@ -18,8 +18,6 @@ use std::net::SocketAddr;
 use std::sync::mpsc::{channel, Receiver, Sender};
 use std::sync::Arc;
 use std::thread::{self, JoinHandle};
-use std::time::Duration;
-use tokio::signal::unix::{signal, SignalKind};
 
 /// Why the server doesn't begin, or ended early.
 pub type Fault = Box<dyn Error + Send + Sync>;
@@ -33,6 +31,7 @@ const MOST_USUAL_THREADS: usize = 4;
 /// Serves until a signal ends it.
 pub fn run(options: &Options) -> Result<(), Fault> {
     begin_log(options)?;
+    let attendant = Attendant::new()?;
     let configuration = configuration(options)?;
     let storage = storage(options, &configuration)?;
     let cluster = Arc::new(Cluster::new(configuration, storage)?);
@@ -54,7 +53,8 @@ pub fn run(options: &Options) -> Result<(), Fault> {
         controlling();
         Ok(())
     })?);
-    let attended = attend(options, &cluster);
+    let page = (options.http_port > 0).then(|| SocketAddr::new(options.bind, options.http_port));
+    let attended = attendant.attend(&cluster, page);
     cluster.stop();
     waker.wake()?;
     let ended = threads.into_iter().map(|it| {
@@ -183,46 +183,4 @@ fn announce(options: &Options, cluster: &Cluster, address: SocketAddr) {
             "anybody who reaches {address} may read, write and move shards: --password-file"
         );
     }
-}
-
-/// Serves the page, and waits for a signal, or for the end of a thread.
-fn attend(options: &Options, cluster: &Arc<Cluster>) -> Result<(), Fault> {
-    let runtime = tokio::runtime::Builder::new_current_thread()
-        .enable_all()
-        .build()?;
-    let site = async {
-        match options.http_port {
-            0 => std::future::pending().await,
-            port => http::serve(cluster.clone(), SocketAddr::new(options.bind, port)).await,
-        }
-    };
-    runtime.block_on(async {
-        tokio::select! {
-            ended = site => ended,
-            ended = signalled(cluster) => ended,
-        }
-    })
-}
-
-/// Waits for a signal that ends the server, or for the end of a thread.
-async fn signalled(cluster: &Cluster) -> Result<(), Fault> {
-    let mut terminate = signal(SignalKind::terminate())?;
-    let mut interrupt = signal(SignalKind::interrupt())?;
-    let mut tick = tokio::time::interval(Duration::from_millis(200));
-    loop {
-        tokio::select! {
-            _ = terminate.recv() => break,
-            _ = interrupt.recv() => break,
-            _ = tick.tick() => {
-                if cluster.is_stopping() {
-                    return Err("a thread ended".into());
-                }
-                if let Some(why) = cluster.storage.durable().and_then(|it| it.ended()) {
-                    return Err(format!("the store has ended: {why}").into());
-                }
-            }
-        }
-    }
-    tracing::info!("stopping");
-    Ok(())
 }
