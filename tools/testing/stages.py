@@ -156,6 +156,8 @@ def program(_room):
     yield verdict(f"{PROVED.name} was proved and built", PROVED.exists())
     if PROVED.exists():
         PROVED.touch()
+    if not library.PROVED.is_file():
+        print("this kit's `rt ci` builds no static library: the library, what stands on it, and packages aren't tried")
 
 
 def proved(say):
