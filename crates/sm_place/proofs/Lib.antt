@@ -1,4 +1,5 @@
 mod Counting
+mod Drafting
 mod Keeping
 mod Leaving
 mod Placing
@@ -6,5 +7,6 @@ mod Planning
 mod Ranking
 mod Rooms
 mod Sharing
+mod Sheets
 mod Starting
 mod Turns

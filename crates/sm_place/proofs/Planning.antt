@@ -1,42 +1,20 @@
 -- How a plan goes on from shard to shard.
-use Rattle.std.proofs.Common.{ℕ, ◌+◌, ◌<◌, ◌≡◌, ◌++◌, ◌==◌, true, false, cond, List, [], ◌∷◌, length, get_or, drop}
+use Rattle.std.proofs.Common.{ℕ, ◌+◌, ◌<◌, ◌≡◌, ◌++◌, true, false, cond, List, [], ◌∷◌, length, get_or, drop}
 use Rattle.std.proofs.Common.{Option, Some, None}
 use Rattle.std.proofs.Common.{suc, refl, ap, sym, ◌∙◌, arith, drop-cons, add-one, All, append_assoc, Bool}
-use Rattle.std.specs.Prelude.{filter, is_ok, map, not}
+use Rattle.std.specs.Prelude.{filter, map}
 use Rattle.std.specs.List.{range_with_len}
 use Rattle.std.proofs.lemmas.List.{append-nil}
-use Rattle.std.proofs.lemmas.List.Elements.{All-filter, All-from_get_or, All-map}
+use Rattle.std.proofs.lemmas.List.Elements.{All-filter, All-from_get_or}
 use Rattle.std.proofs.lemmas.List.FromFn.{filter_of_map_range_with_len_more, length-range_with_len}
 use Rattle.std.proofs.lemmas.List.FromFn.{get_or-range_with_len}
 use Rattle.sm_ranges.specs.declared.stand.Stand.TheVariants.{Serving}
-use Rattle.sm_rows.specs.declared.server_row.ServerRow.{ServerRow}
 use Rattle.sm_place.specs.declared.shard.Shard.{Shard}
-use Rattle.sm_ranges.specs.Stand.{passes}
 use Rattle.sm_place.specs.Plans.{stands_to_move}
-use Rattle.sm_place.specs.Books.{BooksView, no_server, shard_at, IsKnown}
-use Rattle.sm_place.specs.Room.{fit}
-use Rattle.sm_place.specs.Plans.{PlanView, books_after, first_fit, joined, no_plan, plan, turn, servers_but}
+use Rattle.sm_place.specs.Books.{BooksView, shard_at}
+use Rattle.sm_place.specs.Plans.{PlanView, books_after, first_fit, joined, no_plan, plan, turn}
 use Rattle.sm_place.specs.Plans.{shards_to_move}
 use Rattle.sm_place.specs.lemmas.Changed.{length-with_stand}
-use Rattle.sm_place.proofs.Leaving.{known_at}
-
--- the first server that is left fits, or is passed over
-pub first_fit-yes : (books : BooksView) (k : ℕ) (servers : List ℕ) (i a : ℕ) (all : Option ℕ) → i < length servers
-    → a ≡ get_or servers i a
-    → first_fit books k (drop i servers) ≡ all → is_ok (fit books k a) ≡ true → Some a ≡ all
-first_fit-yes books k servers i a all h e inv fits =
-    let d : drop i servers ≡ a ∷ drop (suc i) servers = rw (← e) at (drop-cons servers i a h) in
-    let step : first_fit books k (drop i servers) ≡ Some a = rw (d, fits) refl in
-    sym step ∙ inv
-
-pub first_fit-no : (books : BooksView) (k : ℕ) (servers : List ℕ) (i a : ℕ) (all : Option ℕ) → i < length servers
-    → a ≡ get_or servers i a
-    → first_fit books k (drop i servers) ≡ all → is_ok (fit books k a) ≡ false
-    → first_fit books k (drop (i + 1) servers) ≡ all
-first_fit-no books k servers i a all h e inv fails =
-    let d : drop i servers ≡ a ∷ drop (suc i) servers = rw (← e) at (drop-cons servers i a h) in
-    let step : first_fit books k (drop i servers) ≡ first_fit books k (drop (suc i) servers) = rw (d, fails) refl in
-    rw add-one (sym step ∙ inv)
 
 -- plans are joined in any grouping, and a plan of nothing adds nothing
 pub joined-assoc : (p q r : PlanView) → joined (joined p q) r ≡ joined p (joined q r)
@@ -68,13 +46,6 @@ pub count-books_after : (books : BooksView) (k : ℕ) (to : Option ℕ)
     → length (books_after books k to).shards ≡ length books.shards
 count-books_after books k None = refl
 count-books_after books k (Some a) = length-with_stand books.shards k (Serving a)
-
--- the servers of a plan are known
-pub known_servers : (from : Option ℕ) (rows : List ServerRow) → All (λ a. IsKnown rows a) (servers_but from rows)
-known_servers from rows =
-    All-filter (λ a. not (passes (λ b. b == a) from)) (IsKnown rows) (map (λ row. row.id) rows)
-    (All-map (IsKnown rows) (λ row. row.id) rows
-    (All-from_get_or (λ row. IsKnown rows row.id) rows no_server (known_at rows)))
 
 -- the shards of a plan have rows
 pub inside_shards : (from : Option ℕ) (shards : List Shard) → All (λ k. k < length shards) (shards_to_move from shards)

@@ -44,6 +44,10 @@ place_of servers a = position_or_len (λ row. row.id == a) servers
 abbrev pub IsKnown : List ServerRow → ℕ → Type 0
 IsKnown servers a = place_of servers a < length servers
 
+-- the row at the place
+abbrev pub row_at : List ServerRow → ℕ → ServerRow
+row_at servers i = slice_index_or servers i no_server
+
 -- the server's row
 abbrev pub row_by_id : List ServerRow → ℕ → ServerRow
 row_by_id servers a = slice_index_or servers (place_of servers a) no_server

@@ -5,5 +5,6 @@ pub mod Plans
 pub mod Ranks
 pub mod Room
 pub mod ServerState
+pub mod Sheets
 pub mod Sound
 pub mod lemmas

@@ -1,5 +1,5 @@
-ghost use Rattle.std.specs.Prelude.{All, ◌≡◌, ◌+◌, ◌<◌, ◌↔◌, IfOk, IfSome, IfNone, IsOkUnless, IsTrue, Err, Ok, Some};
-ghost use Rattle.std.specs.Prelude.{None, OnOk};
+ghost use Rattle.std.specs.Prelude.{◌≡◌, ◌+◌, ◌<◌, ◌↔◌, IfOk, IfSome, IfNone, IsOkUnless, IsTrue, Err, Some};
+ghost use Rattle.std.specs.Prelude.{None};
 ghost use Rattle.std.specs.Prelude.{length, map, nat_lt, remove, slice_index_or};
 ghost use Rattle.std.specs.List.Sorted.{IsStrictlyIncreasing};
 ghost use Rattle.sm_place.specs.Books.{first_books_fault, new_books, IsKnown};
@@ -7,18 +7,19 @@ ghost use Rattle.sm_place.specs.Books.{domain_of, no_group, row_by_id, shard_at,
 ghost use Rattle.sm_ranges.specs.Stand.{AllNamed};
 ghost use Rattle.sm_place.specs.Room.{count_in, fit, load_on, HasRoom};
 ghost use Rattle.sm_place.specs.Sound.{AreSound};
-ghost use Rattle.sm_place.specs.Plans.{KeepsRoom, assign_plan, books_after, drain_plan, first_fit, joined, plan, turn};
+ghost use Rattle.sm_place.specs.Plans.{KeepsRoom, assign_plan, drain_plan, plan};
 ghost use Rattle.sm_place.specs.Plans.{servers_but, shards_to_move};
 
 use crate::books_fault::BooksFault;
-use crate::candidates::{servers_but, shards_to_move};
-use crate::laws::fit_leaves_room;
+use crate::candidates::shards_to_move;
+use crate::draft::Draft;
 use crate::place_fault::PlaceFault;
 use crate::plan::Plan;
 use crate::ranks::Ranks;
 use crate::roster::Roster;
 use crate::server_state::ServerState;
 use crate::shard::{Shard, shard_at, vacant_shards};
+use crate::sheet::Sheet;
 use crate::tallies::{move_count, move_load, other_count, other_load};
 use sm_ranges::server_id::ServerId;
 use sm_ranges::shard_id::ShardId;
@@ -265,7 +266,7 @@ impl Books {
     }
 
     // The plan for the shards that the server serves, or without a server for the Vacant ones. The moves are made in a
-    // copy.
+    // draft.
     fn plan(&self, alloc: Global, from: &Option<ServerId>) -> Result<Plan, AllocError>
         ensures plan { IfOk result (λ found. found ≡ plan self.now (shards_to_move from.now self.now.shards)
             (servers_but from.now self.now.servers)) }
@@ -273,73 +274,27 @@ impl Books {
             (servers_but from.now self.now.servers) found.moves found.left) }
     {
         let shards = shards_to_move(alloc, &self.shards, from)?;
-        let servers = servers_but(alloc, self.rows(), from)?;
-        let mut books = self.try_clone(alloc)?;
+        let mut draft = self.draft(alloc)?;
         let mut plan = Plan::new(alloc);
         for k in &shards {
-            books.place(*k, &servers, &mut plan)?;
+            draft = draft.place(*k, from, &mut plan)?;
         }
         Ok(plan)
     }
 
-    // Has the first of the servers that the shard fits serve it, and says so in the plan.
-    fn place(&mut self, k: ShardId, servers: &[ServerId], plan: &mut Plan) -> Result<(), AllocError>
-        requires shard { k < length self.old.shards }
-        requires known { All (λ a. IsKnown self.old.servers a) servers.now }
-        ensures books { OnOk result (self.new ≡ books_after self.old k (first_fit self.old k servers.now)) }
-        ensures plan { OnOk result (plan.new ≡ joined plan.old (turn k (first_fit self.old k servers.now))) }
+    // The same books, in which a plan makes its moves.
+    fn draft(&self, alloc: Global) -> Result<Draft<'_>, AllocError>
+        ensures { IfOk result (λ draft. draft ≡ self.now) }
     {
-        match self.first_fit(k, servers) {
-            Some(a) => {
-                plan.add_move(k, a)?;
-                self.serve(k, a);
-            }
-            None => plan.add_left(k)?,
-        }
-        Ok(())
-    }
-
-    // Has the server serve the shard, which fits it.
-    fn serve(&mut self, k: ShardId, a: ServerId)
-        requires shard { k < length self.old.shards }
-        requires known { IsKnown self.old.servers a }
-        requires fits { fit self.old k a ≡ Ok tt }
-        ensures { self.new ≡ books_after self.old k (Some a) }
-    {
-        self.soundness();
-        fit_leaves_room();
-        self.set_stand(k, Stand::Serving(a));
-    }
-
-    // The first of the servers that the shard fits.
-    fn first_fit(&self, k: ShardId, servers: &[ServerId]) -> Option<ServerId>
-        requires shard { k < length self.now.shards }
-        requires known { All (λ a. IsKnown self.now.servers a) servers.now }
-        ensures first { result ≡ first_fit self.now k servers.now }
-        ensures known { IfSome result (λ a. IsKnown self.now.servers a) }
-        ensures fits { IfSome result (λ a. fit self.now k a ≡ Ok tt) }
-    {
-        for server in servers {
-            if self.fits(k, *server).is_ok() {
-                return Some(*server);
-            }
-        }
-        None
-    }
-
-    // The same books again.
-    fn try_clone(&self, alloc: Global) -> Result<Books, AllocError>
-        ensures { IfOk result (λ books. books ≡ self.now) }
-    {
-        Ok(Books {
-            roster: self.roster.try_clone(alloc)?,
-            groups: Vec::from_slice(alloc, &self.groups)?,
+        Ok(Draft {
+            roster: &self.roster,
+            groups: &self.groups,
             shards: Vec::from_slice(alloc, &self.shards)?,
-            states: Vec::from_slice(alloc, &self.states)?,
+            states: &self.states,
             loads: Vec::from_slice(alloc, &self.loads)?,
-            counts: Vec::from_slice(alloc, &self.counts)?,
-            domains: Vec::from_slice(alloc, &self.domains)?,
-            ranks: self.ranks.try_clone(alloc)?,
+            counts: Sheet::new(alloc, &self.counts),
+            domains: &self.domains,
+            ranks: &self.ranks,
         })
     }
 }

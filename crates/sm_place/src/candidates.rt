@@ -1,12 +1,11 @@
 ghost use Rattle.std.specs.Prelude.{◌≡◌, ◌<◌, ◌≤◌, IfOk, length};
 ghost use Rattle.sm_ranges.specs.declared.limits.TheConstants.{MAX_SHARDS};
-ghost use Rattle.sm_place.specs.Plans.{servers_but, shards_to_move, stands_to_move};
+ghost use Rattle.sm_place.specs.Plans.{shards_to_move, stands_to_move};
 
 use crate::shard::Shard;
 use sm_ranges::server_id::ServerId;
 use sm_ranges::shard_id::ShardId;
 use sm_ranges::stand::Stand;
-use sm_rows::ServerRow;
 use std::alloc::{AllocError, Global};
 
 /// The numbers of the shards that the server serves, or without a server of the Vacant ones.
@@ -46,18 +45,4 @@ fn stands_to_move(stand: &Stand, from: &Option<ServerId>) -> bool
             _ => false,
         },
     }
-}
-
-/// The numbers of the servers, but for the one that shards are moved from.
-pub(crate) fn servers_but(
-    alloc: Global,
-    rows: &[ServerRow],
-    from: &Option<ServerId>,
-) -> Result<Vec<ServerId>, AllocError>
-    ensures { IfOk result (λ servers. servers.items ≡ servers_but from.now rows.now) }
-{
-    rows.iter()
-        .map(|row| row.id)
-        .filter(|id| *from != Some(*id))
-        .collect(alloc)
 }

@@ -18,6 +18,7 @@ pub mod books;
 pub mod books_fault;
 mod candidates;
 mod counters;
+mod draft;
 pub mod laws;
 pub mod place_fault;
 pub mod plan;
@@ -25,6 +26,7 @@ mod ranks;
 mod roster;
 pub mod server_state;
 pub mod shard;
+mod sheet;
 mod tallies;
 
 pub use books::Books;

@@ -45,16 +45,6 @@ impl Ranks {
         Ok(ranks)
     }
 
-    /// The same ranks again.
-    pub fn try_clone(&self, alloc: Global) -> Result<Ranks, AllocError>
-        ensures { IfOk result (λ ranks. ranks ≡ self.now) }
-    {
-        Ok(Ranks {
-            ranks: Vec::from_slice(alloc, &self.ranks)?,
-            width: self.width,
-        })
-    }
-
     /// How many domains have a rank.
     pub fn width(&self) -> usize
         ensures { result ≡ self.now.width }

@@ -55,16 +55,6 @@ impl Roster {
         })
     }
 
-    /// The same rows again.
-    pub fn try_clone(&self, alloc: Global) -> Result<Roster, AllocError>
-        ensures { IfOk result (λ r. r ≡ self.now) }
-    {
-        Ok(Roster {
-            rows: Vec::from_slice(alloc, &self.rows)?,
-            places: Vec::from_slice(alloc, &self.places)?,
-        })
-    }
-
     /// The rows.
     pub fn rows(&self) -> &[ServerRow]
         ensures { result.now ≡ self.now }

@@ -1,4 +1,4 @@
-ghost use Rattle.std.specs.Prelude.{◌≡◌, ◌^◌, ◌<◌, ℕ, if◌then◌else◌, length, remove};
+ghost use Rattle.std.specs.Prelude.{◌≡◌, ◌^◌, ◌<◌, ℕ, if◌then◌else◌, OnOk, length, remove};
 ghost use Rattle.sm_place.specs.Books.{domain_of, IsKnown, shard_at, with_stand};
 ghost use Rattle.sm_ranges.specs.Stand.{AllNamed};
 ghost use Rattle.sm_place.specs.Room.{count_in, load_by, load_on, names_domain};
@@ -9,8 +9,10 @@ use crate::counters::{lower, lower_each, raise, raise_each};
 use crate::ranks::Ranks;
 use crate::roster::Roster;
 use crate::shard::{Shard, shard_at};
+use crate::sheet::Sheet;
 use sm_ranges::server_id::ServerId;
 use sm_ranges::stand::Stand;
+use std::alloc::AllocError;
 
 /// What the other shards load the server with.
 pub(crate) fn other_load(
@@ -123,4 +125,34 @@ pub(crate) fn move_count(
     lower_each(counts, owner, other);
     let (owner, other) = roster.cells_of(ranks, group, stand);
     raise_each(counts, owner, other);
+}
+
+/// The same in a sheet. Where memory is refused, the sheet is of no further use.
+pub(crate) fn redraw_count(
+    counts: &mut Sheet<'_>,
+    roster: &Roster,
+    ranks: &Ranks,
+    shards: &[Shard],
+    at: usize,
+    stand: &Stand,
+) -> Result<(), AllocError>
+    requires shard { at < length shards.now }
+    requires before { AllNamed (IsKnown roster.now) (shard_at shards.now at).stand }
+    requires after { AllNamed (IsKnown roster.now) stand.now }
+    requires domains { AreRanked roster.now ranks.now }
+    requires cells { HasCells counts.old (shard_at shards.now at).row.group ranks.now }
+    requires counts { HasCounts roster.now shards.now counts.old ranks.now }
+    requires fits { (d : ℕ)
+        → count_in roster.now (with_stand shards.now at stand.now) (shard_at shards.now at).row.group d < 2 ^ 16 }
+    ensures length { OnOk result (length counts.new ≡ length counts.old) }
+    ensures counts { OnOk result
+        (HasCounts roster.now (with_stand shards.now at stand.now) counts.new ranks.now) }
+{
+    let shard = shard_at(shards, at);
+    let group = shard.row.group;
+    let (owner, other) = roster.cells_of(ranks, group, &shard.stand);
+    counts.lower(owner, other)?;
+    let (owner, other) = roster.cells_of(ranks, group, stand);
+    counts.raise(owner, other)?;
+    Ok(())
 }

@@ -1,0 +1,11 @@
+-- Counters of a table, some of which were set anew.
+use Rattle.std.specs.Prelude.{ℕ, Option, List, length, map, slice_index, unwrap_or}
+use Rattle.std.specs.List.{range_with_len}
+
+-- the counter at a place: what was set there, or what the table has
+abbrev pub sheet_count : List ℕ → (ℕ → Option ℕ) → ℕ → ℕ
+sheet_count table changed at = unwrap_or (changed at) (slice_index table at)
+
+-- all counters
+abbrev pub counts_of : List ℕ → (ℕ → Option ℕ) → List ℕ
+counts_of table changed = map (sheet_count table changed) (range_with_len 0 (length table))
