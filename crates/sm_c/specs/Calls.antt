@@ -10,7 +10,7 @@ use Rattle.sm_handle.specs.Plans.{IsMove, IsPlanOf}
 use Rattle.sm_word.specs.Word.{server_of}
 use Rattle.sm_handle.specs.declared.act_fault.ActFault.{ActFault}
 use Rattle.sm_handle.specs.declared.handle_state.HandleState.{HandleState}
-use Rattle.sm_c.specs.Reading.{TellsRecord, act_read}
+use Rattle.sm_c.specs.Reading.{TellsAdmission, TellsRecord, act_read}
 use Rattle.sm_c.specs.Words.{ArePartsOf, CameFrom, IsOfKind}
 use Rattle.sm_c.specs.declared.record_parts.RecordParts.{RecordParts}
 
@@ -35,6 +35,13 @@ RefusesFrom before after shard from unread read =
     ((after ≡ before) × (read ≡ unread))
     ⊎ ((mode : Mode) × (fault : ActFault) × CameFrom from mode × RefusesHandle before after shard mode fault
     × TellsRecord (act_read fault) unread read)
+
+-- the same, and the word is that of the record that was read
+abbrev pub RefusesByWord : Option HandleState → Option HandleState → ℕ → ℕ → ℕ → ℕ → Type 0
+RefusesByWord before after shard from unread read =
+    ((after ≡ before) × (read ≡ unread))
+    ⊎ ((mode : Mode) × (fault : ActFault) × CameFrom from mode × RefusesHandle before after shard mode fault
+    × TellsAdmission fault unread read)
 
 -- the pass has seen more, in which these are the parts of the shard's record
 abbrev pub LooksAt : Option HandleState → Option HandleState → ℕ → RecordParts → Type 0

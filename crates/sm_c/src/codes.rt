@@ -11,7 +11,7 @@ use sm_ownership::change_fault::ChangeFault;
 use sm_place::PlaceFault;
 use sm_ranges::key::KeyFault;
 use sm_ranges::layout::LayoutFault;
-use sm_rule::{AdmitRefusal, MakeFault};
+use sm_rule::{AdmitRefusal, MakeFault, ToldRefusal};
 use sm_server::{CheckpointFault, Refusal};
 use sm_tasks::RestartFault;
 
@@ -237,7 +237,7 @@ pub(crate) fn code_of_act(fault: ActFault) -> u32
         ActFault::TooShort => TOO_SHORT,
         ActFault::NotSent => BAD_ARGUMENT,
         ActFault::NoMore => NO_MORE,
-        ActFault::Admit(refusal) => code_of_admission(refusal),
+        ActFault::Admit(refusal) => code_of_told(&refusal),
         ActFault::Checkpoint(fault) => match fault {
             CheckpointFault::Admit(refusal) => code_of_admission(refusal),
             CheckpointFault::NoMemory => NO_MEMORY,
@@ -257,6 +257,30 @@ pub(crate) fn code_of_refusal(refusal: Refusal) -> u32
         Refusal::KeptFull => KEPT_FULL,
         Refusal::NoMemory => NO_MEMORY,
         Refusal::Admit(refusal) => code_of_admission(refusal),
+    }
+}
+
+/// The code of why a pass wasn't admitted or its admission not ended, without what other calls are refused for: it
+/// stands in the way of calls that count each instruction.
+#[inline(always)]
+pub(crate) fn code_of_pass(fault: &ActFault) -> u32
+    ensures { result ≢ 0 }
+{
+    match fault {
+        ActFault::Admit(refusal) => code_of_told(refusal),
+        ActFault::UnknownShard => UNKNOWN_SHARD,
+        _ => WRONG_HANDLE,
+    }
+}
+
+#[inline(always)]
+fn code_of_told(refusal: &ToldRefusal) -> u32
+    ensures refused { result ≢ 0 }
+    ensures stays { result ≢ FORWARD }
+{
+    match refusal.fault() {
+        Some(fault) => code_of_admit(fault),
+        None => RACED,
     }
 }
 

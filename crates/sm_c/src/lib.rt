@@ -10,7 +10,7 @@ ghost use Rattle.sm_handle.specs.Acts.{EndsHandle, IsOpened, IsPassOf, TellsWord
 ghost use Rattle.sm_ranges.specs.ServerId.{IsServer};
 ghost use Rattle.sm_word.specs.Word.{IsWellFormed, word_of};
 ghost use Rattle.sm_c.specs.Calls.{AdmitsFrom, ChangesBoard, LooksAt, RefusesChange, RefusesFrom, RefusesRestart};
-ghost use Rattle.sm_c.specs.Calls.{Restarts};
+ghost use Rattle.sm_c.specs.Calls.{RefusesByWord, Restarts};
 ghost use Rattle.sm_c.specs.Words.{AcceptsWord, AdmitsWord, ArePartsOf, ChangesWord, EndsWord, PacksParts};
 
 mod codes;
@@ -30,10 +30,11 @@ mod word_fault;
 mod words;
 
 use codes::{
-    BAD_ARGUMENT, BAD_WORD, NOT_ADMITTED, UNKNOWN_SHARD, code_of_act, code_of_open, code_of_word,
+    BAD_ARGUMENT, BAD_WORD, NOT_ADMITTED, UNKNOWN_SHARD, code_of_act, code_of_open, code_of_pass,
+    code_of_word,
 };
 use kinds::{change_of, mode_of, step_of};
-use read::{read_of, tell};
+use read::{read_of, tell, tell_parts, tell_word};
 pub use record_parts::RecordParts;
 use record_parts::number;
 use sm_desk::Command;
@@ -287,8 +288,41 @@ pub extern "C" fn durkenzo_admit(
             0
         }
         Err(fault) => {
-            tell(read_of(&fault), read);
-            code_of_act(fault)
+            tell_parts(&fault, read);
+            code_of_pass(&fault)
+        }
+    }
+}
+
+/// The same, but that a refusal by a record, or a lost race, writes the record's word to `word`.
+#[unsafe(no_mangle)]
+pub extern "C" fn durkenzo_admit_word(
+    pass: &mut Handle,
+    shard: u16,
+    from: u16,
+    number: &mut u64,
+    word: &mut u64,
+) -> u32
+    ensures admitted { result ≡ 0 → AdmitsFrom pass.old.owned.state pass.new.owned.state shard from number.new }
+    ensures refused { result ≢ 0
+        → RefusesByWord pass.old.owned.state pass.new.owned.state shard from word.old word.new }
+    ensures unread { result ≡ 0 → word.new ≡ word.old }
+    ensures unwritten { result ≢ 0 → number.new ≡ number.old }
+{
+    let Some(k) = ShardId::new(shard) else {
+        return UNKNOWN_SHARD;
+    };
+    let Some(mode) = mode_of(from) else {
+        return BAD_ARGUMENT;
+    };
+    match pass.admit(k, mode) {
+        Ok(admitted) => {
+            *number = admitted;
+            0
+        }
+        Err(fault) => {
+            tell_word(&fault, word);
+            code_of_pass(&fault)
         }
     }
 }
@@ -305,7 +339,7 @@ pub extern "C" fn durkenzo_finish(pass: &mut Handle, generation: &mut u64) -> u3
             *generation = left;
             0
         }
-        Err(fault) => code_of_act(fault),
+        Err(fault) => code_of_pass(&fault),
     }
 }
 

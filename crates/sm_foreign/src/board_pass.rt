@@ -11,7 +11,7 @@ use sm_body::service::Service;
 use sm_ownership::mode::Mode;
 use sm_ranges::server_id::ServerId;
 use sm_ranges::shard_id::ShardId;
-use sm_rule::{AdmitRefusal, Board, Front, Pass, Permit};
+use sm_rule::{Board, Front, Pass, Permit, ToldRefusal};
 use std::alloc::AllocError;
 use std::marker::Model;
 use std::sync::Arc;
@@ -121,7 +121,8 @@ impl BoardPass<Foreign> {
 
     /// Admits the pass, which holds nothing, to the shard for a request that came so: the number of the shard's body;
     /// or says why not, and the pass has looked.
-    pub fn admit(&mut self, k: ShardId, mode: Mode) -> Result<u64, AdmitRefusal>
+    #[inline(always)]
+    pub fn admit(&mut self, k: ShardId, mode: Mode) -> Result<u64, ToldRefusal>
         requires shard { k < self.old.0.board.limits.count }
         requires free { self.old.1 ≡ None }
         ensures admitted { IfOk result (AdmitsPass self.old self.new k mode) }
@@ -129,17 +130,14 @@ impl BoardPass<Foreign> {
             (λ refusal. PassLooks self.old.0 self.new.0 × RefusedBy self.old.0 self.new.0 k mode refusal) }
         ensures unheld { IfErr result (λ refusal. self.new.1 ≡ self.old.1) }
     {
-        let mut permit = match self.board.admit(&mut self.pass, k, mode) {
+        let mut permit = match self.board.enter(&mut self.pass, k, mode) {
             Ok(permit) => permit,
             Err(refusal) => return Err(refusal),
         };
         let number = permit.body().number;
         match self.permit.replace(permit) {
             None => Ok(number),
-            Some(earlier) => {
-                let _ = self.board.finish(&mut self.pass, earlier);
-                unreachable!()
-            }
+            Some(_earlier) => unreachable!(),
         }
     }
 

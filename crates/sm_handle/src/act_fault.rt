@@ -1,9 +1,9 @@
 use sm_desk::CommandFault;
-use sm_rule::AdmitRefusal;
+use sm_rule::ToldRefusal;
 use sm_server::CheckpointFault;
 
 /// Why a call did nothing.
-#[derive(Clone, Copy, Drop)]
+#[derive(Drop)]
 pub enum ActFault {
     /// The handle keeps nothing, or nothing that the call is for.
     WrongHandle,
@@ -20,7 +20,7 @@ pub enum ActFault {
     /// The plan has no such line, or the reply no such pair.
     NoMore,
     /// The pass isn't admitted.
-    Admit(AdmitRefusal),
+    Admit(ToldRefusal),
     /// There is no checkpoint.
     Checkpoint(CheckpointFault),
     /// The command is refused.

@@ -11,6 +11,7 @@ use sm_ranges::server_id::ServerId;
 use sm_ranges::shard_id::ShardId;
 
 /// Admits the state's pass to the shard: the number of its body; or why not.
+#[inline(always)]
 pub fn admit(state: &mut HandleState, k: ShardId, mode: Mode) -> Result<u64, ActFault>
     ensures admitted { IfOk result (AdmitsState state.old state.new k mode) }
     ensures refused { IfErr result (RefusesState state.old state.new k mode) }

@@ -39,6 +39,8 @@ impl Handle {
     }
 
     /// Admits the pass to the shard for a request that came so: the number of the shard's body, or why not.
+    // Two calls from C reach it, and a call of its own would pass what is told through memory between two atomic steps.
+    #[inline(always)]
     pub fn admit(&mut self, k: ShardId, mode: Mode) -> Result<u64, ActFault>
         ensures admitted { IfOk result (AdmitsHandle self.old.owned.state self.new.owned.state k mode) }
         ensures refused { IfErr result (RefusesHandle self.old.owned.state self.new.owned.state k mode) }

@@ -47,17 +47,22 @@ impl Handle {
         ensures refused { IfErr result (λ fault. self.new.owned.state ≡ self.old.owned.state) }
         ensures unwritten { IfErr result (λ fault. reply.new.owned.state ≡ reply.old.owned.state) }
     {
+        if !self.full {
+            return Err(ActFault::WrongHandle);
+        }
+        if reply.full {
+            let made = reply_of(alloc, self.owned.state_mut(), request)?;
+            let parts = ReplyParts::of(&made);
+            *reply.owned.state_mut() = HandleState::Reply(made);
+            return Ok(parts);
+        }
         // The reply's place first, so that nothing is refused once the request is made.
         let Ok(mut place) = Box::new(alloc, HandleState::Empty) else {
             return Err(ActFault::NoMemory);
         };
-        if !self.full {
-            return Err(ActFault::WrongHandle);
-        }
         let made = reply_of(alloc, self.owned.state_mut(), request)?;
         let parts = ReplyParts::of(&made);
         *place = HandleState::Reply(made);
-        reply.close(alloc);
         reply.put(place);
         Ok(parts)
     }

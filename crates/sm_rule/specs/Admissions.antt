@@ -14,6 +14,7 @@ use Rattle.sm_rule.specs.declared.limits.Limits.{Limits}
 use Rattle.sm_rule.specs.Boards.{BoardValue}
 use Rattle.sm_rule.specs.Passes.{PassAdds, PassValue, record_of}
 use Rattle.sm_rule.specs.Views.{Begins, record_in}
+use Rattle.sm_rule.specs.Words.{IsWordOf}
 
 -- the first reason for which a record doesn't admit a server, or who has none
 abbrev pub fault_for : ℕ → Record → Option ℕ → Mode → Option AdmitFault
@@ -41,6 +42,22 @@ RefusedBy before after shard mode (Refused fault state) =
 RefusedBy before after shard mode (Raced read found) =
     (fault_for before.board.limits.ceiling read before.server mode ≡ None)
     × Races before.board.limits before.seen after.seen shard read found
+
+-- the fault of a refusal, which has none where another record was found
+abbrev pub fault_told : AdmitRefusal → Option AdmitFault
+fault_told (Refused fault state) = Some fault
+fault_told (Raced read found) = None
+
+-- the record by which a pass was refused, or the one that was found in its place
+abbrev pub record_told : AdmitRefusal → Record
+record_told (Refused fault state) = state
+record_told (Raced read found) = found
+
+-- the refusal has this fault, if any, and these are the words of the record that was read and of the one that was found
+abbrev pub IsToldBy : AdmitRefusal → Option AdmitFault → ℕ → ℕ → Type 0
+IsToldBy (Refused applies state) fault read found =
+    (fault ≡ Some applies) × IsWordOf state read × IsWordOf state found
+IsToldBy (Raced before after) fault read found = (fault ≡ None) × IsWordOf before read × IsWordOf after found
 
 -- a permit: the board that gave it, the shard, its record since the admission, and its body
 pub record PermitValue (S : Type 0) : Type 0 where

@@ -120,8 +120,8 @@ impl<S: Service> Board<S> {
         self.load(&mut chair.seat, k).1
     }
 
-    // Changes the shard's word from that of the record read to that of the next one, or gives the record found in its
-    // place. A call would pass the records through memory just before the exchange, which waits for that.
+    // Changes the shard's word from that of the record read to that of the next one, or gives the word found in its
+    // place, and its record. A call would pass records through memory just before the exchange, which waits for that.
     #[inline(always)]
     fn exchange<B: Asks<S::Request>>(
         &self,
@@ -131,7 +131,7 @@ impl<S: Service> Board<S> {
         next: &Record,
         old: u64,
         new: u64,
-    ) -> Result<(), Record>
+    ) -> Result<(), (u64, Record)>
         requires table { seat.old.table_id ≡ self.now.id }
         requires limits { seat.old.me.0.limits ≡ self.now.limits }
         requires live { seat.old.me.0.stage ≡ Acting }
@@ -148,7 +148,8 @@ impl<S: Service> Board<S> {
         ensures lost { OnErr result (Looks seat.old.me.0 seat.new.me.0) }
         ensures unchanged { OnErr result (seat.new.me.1 ≡ seat.old.me.1) }
         ensures found { IfErr result
-            (λ found. (found ≡ record_in seat.new.me.0.limits seat.new.me.0.seen k) × (found ≢ read.now)) }
+            (λ found. (found.1 ≡ record_in seat.new.me.0.limits seat.new.me.0.seen k) × (found.1 ≢ read.now)) }
+        ensures found_word { IfErr result (λ found. IsWordOf found.1 found.0) }
     {
         let found = self
             .table
@@ -157,7 +158,7 @@ impl<S: Service> Board<S> {
         if found == old {
             return Ok(());
         }
-        Err(record_of_word(found))
+        Err((found, record_of_word(found)))
     }
 
     // Loads the shard's word, and reads its record.

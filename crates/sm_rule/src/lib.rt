@@ -22,6 +22,7 @@ mod origin;
 pub mod pass;
 pub mod permit;
 mod rule;
+pub mod told_refusal;
 pub mod view;
 
 pub use admit_refusal::AdmitRefusal;
@@ -32,3 +33,4 @@ pub use make_fault::MakeFault;
 pub use note::Note;
 pub use pass::Pass;
 pub use permit::{Front, Permit};
+pub use told_refusal::ToldRefusal;

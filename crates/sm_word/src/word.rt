@@ -57,6 +57,8 @@ pub fn unpack(word: u64) -> Option<Record>
 }
 
 /// The record of a word that has one.
+// Where a caller reads one part alone, the others cost nothing once this is inlined.
+#[inline(always)]
 pub fn record_of_word(word: u64) -> Record
     requires { (state : RecordValue) × IsWellFormed state × (word_of state ≡ word) }
     ensures { (state : RecordValue) → IsWellFormed state → word_of state ≡ word → result ≡ state }
@@ -97,6 +99,7 @@ pub fn done_word(word: u64) -> u64
 }
 
 // The stand of this phase that names these servers, or as many of them as it names.
+#[inline(always)]
 fn known_stand(phase: u64, owner: u16, other: u16) -> Stand
     requires owner { phase ≢ 0 → IsServer owner }
     requires other { 2 ≤ phase → phase ≤ 4 → IsServer other }

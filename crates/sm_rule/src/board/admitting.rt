@@ -16,6 +16,7 @@ use crate::admit_refusal::AdmitRefusal;
 use crate::pass::Pass;
 use crate::permit::{Front, Permit};
 use crate::rule::{Asks, Store};
+use crate::told_refusal::ToldRefusal;
 use crate::view::View;
 use atomic_table::Seat;
 use sm_body::service::Service;
@@ -111,17 +112,49 @@ impl<S: Service> Board<S> {
         ensures refused { IfErr result
             (λ refusal. PassLooks pass.old pass.new × RefusedBy pass.old pass.new k mode refusal) }
     {
-        self.admit_as::<Brand>(pass, k, mode)
+        match self.enter(pass, k, mode) {
+            Ok(permit) => Ok(permit),
+            Err(told) => Err(told.refusal()),
+        }
     }
 
-    // A call would pass the permit through memory between two atomic steps, which wait for that.
+    /// `admit`, whose refusal has words in place of records.
     #[inline(always)]
-    fn admit_as<B: Asks<S::Request>>(
+    pub fn enter(
         &self,
         pass: &mut Pass<S>,
         k: ShardId,
         mode: Mode,
-    ) -> Result<Permit<S>, AdmitRefusal>
+    ) -> Result<Permit<S>, ToldRefusal>
+        requires board { pass.old.board ≡ self.now }
+        requires shard { k < self.now.limits.count }
+        requires free { pass.old.held ≡ None }
+        ensures admitted { OnOk result (PassAdmitted pass.old k mode pass.new) }
+        ensures permit { IfOk result (λ permit. (permit.shard ≡ k) × HoldsPermit pass.new permit) }
+        ensures body { IfOk result (λ permit.
+            Keeps S.initial S.next S.base S.before S.requests permit.body (first_of pass.new.seen k)
+            (all_of pass.new.seen k)) }
+        ensures kept { IfOk result (λ permit. S.requests permit.body ≡ kept pass.new.seen k) }
+        ensures held { IfOk result (λ permit.
+            Keeps S.initial S.next S.base S.before S.requests permit.body (first_held pass.new.held)
+            (all_held pass.new.held)) }
+        ensures all { OnOk result (all_held pass.new.held ≡ all_of pass.new.seen k) }
+        ensures first { OnOk result (first_held pass.new.held ≡ first_of pass.new.seen k) }
+        ensures limit { IfOk result (λ permit. S.limit permit.body ≡ limit_at self.now.limits permit.shard) }
+        ensures refused { IfErr result
+            (λ refusal. PassLooks pass.old pass.new × RefusedBy pass.old pass.new k mode refusal) }
+    {
+        self.enter_as::<Brand>(pass, k, mode)
+    }
+
+    // A call would pass the permit through memory between two atomic steps, which wait for that.
+    #[inline(always)]
+    fn enter_as<B: Asks<S::Request>>(
+        &self,
+        pass: &mut Pass<S>,
+        k: ShardId,
+        mode: Mode,
+    ) -> Result<Permit<S>, ToldRefusal>
         requires board { pass.old.board ≡ self.now }
         requires shard { k < self.now.limits.count }
         requires free { pass.old.held ≡ None }
@@ -143,7 +176,7 @@ impl<S: Service> Board<S> {
     {
         let (word, read) = self.load(&mut pass.seat, k);
         match self.refusal_by(word, &read, pass.server, mode) {
-            Some(fault) => return Err(AdmitRefusal::Refused(fault, read)),
+            Some(fault) => return Err(ToldRefusal::refused(fault, &read, word)),
             None => {}
         }
         let state = Record {
@@ -154,7 +187,7 @@ impl<S: Service> Board<S> {
         let next = admit_word(word);
         match self.exchange::<B>(&mut pass.seat, k, &read, &state, word, next) {
             Ok(()) => {}
-            Err(found) => return Err(AdmitRefusal::Raced { read, found }),
+            Err((other, found)) => return Err(ToldRefusal::raced(&read, &found, word, other)),
         }
         let body = self.taken(&mut pass.seat, k);
         Ok(Permit {

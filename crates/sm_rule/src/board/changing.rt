@@ -82,7 +82,7 @@ impl<S: Service> Board<S> {
                 chair.stands[k.index()] = next.stand;
                 Ok(())
             }
-            Err(found) => Err(ChangeRefusal::Raced { read, found }),
+            Err((_, found)) => Err(ChangeRefusal::Raced { read, found }),
         }
     }
 

@@ -2,12 +2,15 @@ use Rattle.std.proofs.Common.{◌≡◌, true, refl, sym, ◌∙◌, subst}
 use Rattle.sm_ownership.specs.declared.record.Record.{Record}
 use Rattle.sm_ownership.specs.History.{after_done, all_of, first_of}
 use Rattle.sm_word.specs.Word.{IsWellFormed, word_of}
+use Rattle.sm_rule.specs.declared.admit_refusal.AdmitRefusal.{AdmitRefusal}
+use Rattle.sm_rule.specs.Admissions.{RefusedBy}
 use Rattle.sm_rule.specs.Bodies.{Keeps}
+use Rattle.sm_rule.specs.Passes.{PassLooks, pass_value}
 use Rattle.sm_rule.specs.Views.{all_held, first_held}
 use Rattle.sm_rule.proofs.Bodies.{rests_at}
 use Rattle.sm_rule.proofs.Seeing.{body_taken, end_read, held_taken, idle_read, next_read, pass_admitted, pass_raced}
 use Rattle.sm_rule.proofs.Seeing.{pass_stays, slot_taken}
-use Rattle.sm_rule.proofs.board.Board.admit_as.Goals as goal
+use Rattle.sm_rule.proofs.board.Board.enter_as.Goals as goal
 
 pub exchange-requires-clause-formed : goal.exchange-requires-clause-formed
 exchange-requires-clause-formed g c = λ _ _. (
@@ -47,11 +50,15 @@ returns-clause-admitted g c =
 
 pub returns-in-Err-clause-refused : goal.returns-in-Err-clause-refused
 returns-in-Err-clause-refused g c =
+    let overtaken =
     pass_raced c.pass.inside.seat.me.0 c.pass.inside.server c.args.pass.now c.pass.inside.seat.table_id c.pass.view_is
     c.pass.invariant.0 c.args.self.now c.requires.board c.load-word.result.1 c.args.mode c.refusal_by.result
     c.refusal_by.ensures c.in-None.is c.load-word.new.seat.me.0 c.exchange.new.seat.me.0 c.exchange.new.seat.table_id
     c.args.k c.in-Err.found (c.exchange.ensures.table ∙ c.load-word.ensures.table) c.load-word.ensures.seen
-    c.in-Err.ensures.lost c.load-word.ensures.state c.in-Err.ensures.found.0 c.in-Err.ensures.found.1
+    c.in-Err.ensures.lost c.load-word.ensures.state c.in-Err.ensures.found.0 c.in-Err.ensures.found.1 in
+    let now = pass_value c.exchange.new.seat.table_id c.exchange.new.seat.me.0 in
+    subst (λ (refusal : AdmitRefusal). PassLooks c.args.pass.now now
+    × RefusedBy c.args.pass.now now c.args.k c.args.mode refusal) (sym c.raced.ensures) overtaken
 
 pub taken-body-requires-clause-slot : goal.taken-body-requires-clause-slot
 taken-body-requires-clause-slot g c = λ _ _.
