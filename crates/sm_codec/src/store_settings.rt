@@ -1,5 +1,5 @@
 /// What all processes of a store go by.
-#[derive(Clone, Copy, Debug, PartialEq, Eq, Drop)]
+#[derive(Clone, Copy, PartialEq, Eq, Drop)]
 pub struct StoreSettings {
     /// How many shards there are.
     pub count: u64,

@@ -1,7 +1,7 @@
 use sm_ownership::record::Record;
 
 /// What lies at a shard's record: the record, and the process whose change led to it.
-#[derive(Clone, Copy, Debug, PartialEq, Eq, Drop)]
+#[derive(Clone, Copy, PartialEq, Eq, Drop)]
 pub struct StoredRecord {
     pub state: Record,
     pub process: u64,

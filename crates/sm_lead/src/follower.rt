@@ -4,7 +4,7 @@ ghost use Rattle.sm_lead.specs.NextSteps.{all_follow, is_following};
 use sm_ranges::server_id::ServerId;
 
 /// A server whose key is there, as its lease hasn't ended, and the revision up to which it has said that it has read.
-#[derive(Clone, Copy, Debug, Drop)]
+#[derive(Clone, Copy, Drop)]
 pub struct Follower {
     pub server: ServerId,
     pub revision: u64,

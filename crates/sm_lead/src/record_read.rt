@@ -6,7 +6,7 @@ use sm_ranges::shard_id::ShardId;
 use sm_ranges::stand::Stand;
 
 /// A shard's record as it was read, and the revision at which it was last written, 0 where it never was.
-#[derive(Clone, Copy, Debug, Drop)]
+#[derive(Clone, Copy, Drop)]
 pub struct RecordRead {
     pub state: Record,
     pub stood: u64,

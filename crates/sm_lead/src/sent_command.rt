@@ -9,7 +9,7 @@ use crate::store_control::StoreControl;
 use sm_desk::{Command, CommandFault};
 
 /// What became of a command that was sent.
-#[derive(Clone, Copy, Debug, PartialEq, Eq, Drop)]
+#[derive(Clone, Copy, PartialEq, Eq, Drop)]
 pub enum SendOutcome {
     /// Its transaction was made, at this revision.
     Made(u64),

@@ -1,7 +1,7 @@
 use crate::base_part::BasePart;
 
 /// How far a base is.
-#[derive(Clone, Copy, Debug, PartialEq, Eq, Drop)]
+#[derive(Clone, Copy, PartialEq, Eq, Drop)]
 pub enum BaseStage {
     /// Its parts are being written.
     Writing,
@@ -21,7 +21,7 @@ pub struct BaseWork<R> {
 }
 
 /// A base that a head comes to name: for how many batches it stands, and in how many parts it lies.
-#[derive(Clone, Copy, Debug, PartialEq, Eq, Drop)]
+#[derive(Clone, Copy, PartialEq, Eq, Drop)]
 pub struct NamedBase {
     pub number: u64,
     pub parts: u64,

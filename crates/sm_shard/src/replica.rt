@@ -39,14 +39,14 @@ impl From<AllocError> for ReplayFault {
 }
 
 /// A client's last request: its number and its reply.
-#[derive(Clone, Copy, Debug, Drop)]
+#[derive(Clone, Copy, Drop)]
 pub struct LastRequest<R> {
     pub number: u64,
     pub reply: R,
 }
 
 /// The reply to a client's request.
-#[derive(Clone, Copy, Debug, Drop)]
+#[derive(Clone, Copy, Drop)]
 pub struct MadeReply<R> {
     pub client: u64,
     pub number: u64,
@@ -54,7 +54,7 @@ pub struct MadeReply<R> {
 }
 
 /// The reply to a client's request that only reads; none where the request changes something.
-#[derive(Clone, Copy, Debug, Drop)]
+#[derive(Clone, Copy, Drop)]
 pub struct ReadReply<R> {
     pub client: u64,
     pub number: u64,

@@ -1,5 +1,5 @@
 /// What a server sends and keeps at most.
-#[derive(Clone, Copy, Debug, Drop)]
+#[derive(Clone, Copy, Drop)]
 pub struct ShardLimits {
     /// The bytes that the requests of a batch take, and so a request.
     pub batch_bytes: u64,

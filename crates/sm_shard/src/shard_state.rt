@@ -31,7 +31,7 @@ use std::alloc::{AllocError, Global};
 use std::collections::VecDeque;
 
 /// What a server does with a request that comes.
-#[derive(Clone, Copy, Debug, Drop)]
+#[derive(Clone, Copy, Drop)]
 pub enum Decision<R> {
     /// It is made already, and this is its reply.
     Replied(R),

@@ -2,7 +2,7 @@
 /// `number` bytes, 3 the count with these bits, 5 a value of the wrong kind, 6 a count that would be too large, 7 a
 /// text that would be too long, and 8 where the bytes are no request.
 #[repr(C)]
-#[derive(Clone, Copy, Debug, PartialEq, Eq, Drop)]
+#[derive(Clone, Copy, PartialEq, Eq, Drop)]
 pub struct TextReply {
     pub number: u64,
     pub kind: u8,
