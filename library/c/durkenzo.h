@@ -205,6 +205,9 @@ uint64_t durkenzo_look_word(durkenzo_handle *pass, uint16_t shard);
  * pass has an admission), BAD_ARGUMENT, UNKNOWN_SHARD, and 21 to 26 or RACED, which write `read`. */
 uint32_t durkenzo_admit(durkenzo_handle *pass, uint16_t shard, uint16_t from, uint64_t *number, durkenzo_record *read);
 
+/* The same, but that 21 to 26 and RACED write the word of the record that was read to `word`: the quickest admission. */
+uint32_t durkenzo_admit_word(durkenzo_handle *pass, uint16_t shard, uint16_t from, uint64_t *number, uint64_t *word);
+
 /* Ends the admission of the pass, and writes the shard's generation since then. Error: WRONG_HANDLE, where it has
  * none. */
 uint32_t durkenzo_finish(durkenzo_handle *pass, uint64_t *generation);

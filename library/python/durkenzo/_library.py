@@ -57,12 +57,12 @@ def found() -> str:
     raise ImportError(f"{NAME} isn't found: run `make` in library/, or set DURKENZO_SO to a folder that has it")
 
 
-def loaded() -> ctypes.CDLL:
-    """Returns the library with the types of its calls."""
-    library, handle, record, number = ctypes.CDLL(found()), *map(ctypes.POINTER, (Handle, RecordParts, u64))
+def calls() -> dict[str, list[type]]:
+    """Returns the types of each call's arguments, by its name."""
+    handle, record, number = map(ctypes.POINTER, (Handle, RecordParts, u64))
     size, shard, text = ctypes.c_size_t, ctypes.POINTER(u16), ctypes.c_char_p
     length, parts = ctypes.POINTER(size), ctypes.POINTER(ReplyParts)
-    calls = {
+    return {
         "open": [handle, number, ctypes.c_size_t, u16, u16, u64],
         "pass": [handle, handle, u16],
         "look": [handle, u16, record],
@@ -94,10 +94,15 @@ def loaded() -> ctypes.CDLL:
         "answer": [handle, ctypes.POINTER(AnswerParts), parts],
         "checkpoint": [handle, u16, number, record],
     }
-    for name, types in calls.items():
+
+
+def loaded() -> ctypes.CDLL:
+    """Returns the library with the types of its calls."""
+    library = ctypes.CDLL(found())
+    for name, types in calls().items():
         call = getattr(library, f"durkenzo_{name}")
         call.argtypes, call.restype = types, u32
-    library.durkenzo_close.argtypes, library.durkenzo_close.restype = [handle], None
+    library.durkenzo_close.argtypes, library.durkenzo_close.restype = [ctypes.POINTER(Handle)], None
     return library
 
 

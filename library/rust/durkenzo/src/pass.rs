@@ -1,7 +1,7 @@
 use crate::board::Shared;
 use crate::fault::{AdmitFault, NoteFault, UnknownShard};
 use crate::note::Note;
-use crate::raw::{self, Handle, RecordParts};
+use crate::raw::{self, Handle};
 use crate::record::Record;
 use std::marker::PhantomData;
 use std::mem::ManuallyDrop;
@@ -78,26 +78,8 @@ impl<T> Pass<T> {
     // Where it is inlined, who is admitted waits for no permit in memory, and a refusal is made as far as it is read.
     #[inline(always)]
     pub fn admit(&mut self, shard: u16, mode: Mode) -> Result<Permit<'_, T>, AdmitFault> {
-        let from = match mode {
-            Mode::Direct => 0,
-            Mode::Forwarded(0) => return Err(AdmitFault::BadServer),
-            Mode::Forwarded(server) => server,
-        };
-        let (mut number, mut read) = (0, RecordParts::default());
-        // SAFETY: the handle is this pass's, which is borrowed alone.
-        match unsafe { raw::durkenzo_admit(&mut self.handle, shard, from, &mut number, &mut read) }
-        {
-            0 => {
-                let body = self.shared.body(number);
-                Ok(Permit {
-                    pass: self,
-                    shard,
-                    body,
-                    borrows: PhantomData,
-                })
-            }
-            code => Err(AdmitFault::of(code, Record::of(&read))),
-        }
+        self.enter(shard, mode)
+            .map_err(|(code, word)| AdmitFault::of(code, Record::of_word(word)))
     }
 
     /// Admits the pass, again while another thread has the shard or was first, and has the closure work on the body.
@@ -108,13 +90,43 @@ impl<T> Pass<T> {
         work: impl FnOnce(&mut Permit<'_, T>) -> R,
     ) -> Result<R, AdmitFault> {
         loop {
-            match self.admit(shard, mode) {
+            match self.enter(shard, mode) {
                 Ok(mut permit) => return Ok(work(&mut permit)),
-                Err(fault) if fault.is_passing() => std::thread::yield_now(),
-                Err(fault) => return Err(fault),
+                Err((code, word)) => wait_after(code, word)?,
             }
         }
     }
+
+    /// The permit; or the code of why there is none, and the word of the record that was read, or 0.
+    #[inline(always)]
+    fn enter(&mut self, shard: u16, mode: Mode) -> Result<Permit<'_, T>, (u32, u64)> {
+        let from = match mode {
+            Mode::Direct => 0,
+            Mode::Forwarded(0) => return Err((raw::BAD_ARGUMENT, 0)),
+            Mode::Forwarded(server) => server,
+        };
+        let number = raw::admit(&mut self.handle, shard, from)?;
+        let body = self.shared.body(number);
+        Ok(Permit {
+            pass: self,
+            shard,
+            body,
+            borrows: PhantomData,
+        })
+    }
+}
+
+/// Lets other threads go on, where one of them had the shard or was first; else says why the pass isn't admitted.
+// Outside of `with`, so that who is admitted at once saves no registers for it.
+#[cold]
+#[inline(never)]
+fn wait_after(code: u32, word: u64) -> Result<(), AdmitFault> {
+    let fault = AdmitFault::of(code, Record::of_word(word));
+    if !fault.is_passing() {
+        return Err(fault);
+    }
+    std::thread::yield_now();
+    Ok(())
 }
 
 /// The right to a shard's body, which nobody else has. The admission ends where the permit is dropped, also by a

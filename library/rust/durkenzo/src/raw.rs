@@ -1,4 +1,5 @@
 //! The calls of the proved library, as `durkenzo.h` declares them.
+use std::mem::MaybeUninit;
 
 /// What the library keeps between calls. It begins as zeros, isn't copied, and is used by one call at a time.
 #[repr(C)]
@@ -76,6 +77,9 @@ pub(crate) struct AnswerParts {
     pub(crate) server: u16,
 }
 
+/// What a call answers where a server is out of bounds.
+pub(crate) const BAD_ARGUMENT: u32 = 2;
+
 /// What `durkenzo_look_word` answers where there is no shard to look at; no record has this word.
 pub(crate) const NO_WORD: u64 = u64::MAX;
 
@@ -90,12 +94,12 @@ extern "C" {
     ) -> u32;
     pub(crate) fn durkenzo_pass(chief: *mut Handle, pass: *mut Handle, server: u16) -> u32;
     pub(crate) fn durkenzo_look_word(pass: *mut Handle, shard: u16) -> u64;
-    pub(crate) fn durkenzo_admit(
+    pub(crate) fn durkenzo_admit_word(
         pass: *mut Handle,
         shard: u16,
         from: u16,
         number: *mut u64,
-        read: *mut RecordParts,
+        word: *mut u64,
     ) -> u32;
     pub(crate) fn durkenzo_finish(pass: *mut Handle, generation: *mut u64) -> u32;
     pub(crate) fn durkenzo_change(
@@ -244,4 +248,18 @@ extern "C" {
     pub(crate) fn durkenzo_unpack(word: u64, parts: *mut RecordParts) -> u32;
     pub(crate) fn durkenzo_forward(word: u64, server: u16) -> u16;
     pub(crate) fn durkenzo_executor(word: u64) -> u16;
+}
+
+/// The number of the shard's body, to which the pass is now admitted; or the code of why it isn't, and the word of the
+/// record that was read, or 0.
+#[inline(always)]
+pub(crate) fn admit(pass: &mut Handle, shard: u16, from: u16) -> Result<u64, (u32, u64)> {
+    let (mut number, mut word) = (MaybeUninit::uninit(), 0);
+    // SAFETY: the handle is borrowed alone, and the call writes the number where it answers 0.
+    unsafe {
+        match durkenzo_admit_word(pass, shard, from, number.as_mut_ptr(), &mut word) {
+            0 => Ok(number.assume_init()),
+            code => Err((code, word)),
+        }
+    }
 }

@@ -1,0 +1,248 @@
+//! The calls themselves, as C declares them: what each promises stands in `durkenzo_store.h` and `durkenzo_control.h`.
+#![allow(missing_docs)]
+
+/// What keeps a proved value.
+#[repr(C)]
+#[derive(Debug)]
+pub struct Handle {
+    full: bool,
+    owned: *mut u8,
+}
+
+impl Handle {
+    /// One that keeps nothing: bytes of 0.
+    pub fn empty() -> Handle {
+        let (full, owned) = (false, std::ptr::null_mut());
+        Handle { full, owned }
+    }
+}
+
+/// A reply: its kind, and what goes with it.
+#[repr(C)]
+#[derive(Clone, Copy, Default, Debug, PartialEq, Eq)]
+pub struct Reply {
+    pub value: u64,
+    pub kind: u8,
+}
+
+/// Where a request goes on.
+#[repr(C)]
+#[derive(Clone, Copy, Default, Debug)]
+pub struct Forward {
+    pub server: u16,
+    pub hops: u8,
+}
+
+/// What a server's transaction compares, and how much it writes.
+#[repr(C)]
+#[derive(Clone, Copy, Default, Debug)]
+pub struct SentNumbers {
+    pub stood: u64,
+    pub logged: u64,
+    pub number: u64,
+    pub head_length: usize,
+    pub batch_length: usize,
+}
+
+/// An answer to a request that was made, or to a read.
+#[repr(C)]
+#[derive(Clone, Copy, Default, Debug)]
+pub struct Answer {
+    pub client: u64,
+    pub number: u64,
+    pub value: u64,
+    pub length: usize,
+    pub kind: u8,
+}
+
+/// The head of a shard's log: how many batches there are, how many of them, from the first on, the base stands for, and
+/// in how many parts it lies.
+#[repr(C)]
+#[derive(Clone, Copy, Default, Debug, PartialEq, Eq)]
+pub struct Head {
+    pub batches: u64,
+    pub base: u64,
+    pub parts: u64,
+}
+
+/// A part of the base that a server makes.
+#[repr(C)]
+#[derive(Clone, Copy, Default, Debug)]
+pub struct PartNumbers {
+    pub number: u64,
+    pub count: u64,
+    pub length: usize,
+}
+
+extern "C" {
+    pub fn durkenzo_server(
+        server: *mut Handle,
+        me: u16,
+        shard: u16,
+        count: u64,
+        batch_bytes: u64,
+        batch_requests: usize,
+        waiting: usize,
+        clients: usize,
+    ) -> u32;
+    pub fn durkenzo_log_head_of(bytes: *const u8, length: usize, head: *mut Head) -> u32;
+    pub fn durkenzo_server_part_read(server: *mut Handle, bytes: *const u8, length: usize) -> u32;
+    pub fn durkenzo_server_batch(server: *mut Handle, bytes: *const u8, length: usize) -> u32;
+    pub fn durkenzo_server_read(
+        server: *mut Handle,
+        record: *const u8,
+        record_length: usize,
+        stood: u64,
+        head: *const u8,
+        head_length: usize,
+        logged: u64,
+    ) -> u32;
+    pub fn durkenzo_server_record(
+        server: *mut Handle,
+        record: *const u8,
+        length: usize,
+        stood: u64,
+    ) -> u32;
+    pub fn durkenzo_server_take(
+        server: *mut Handle,
+        client: u64,
+        number: u64,
+        from: u16,
+        hops: u8,
+        forgets: u64,
+        request: *const u8,
+        length: usize,
+        reply: *mut Reply,
+        forward: *mut Forward,
+    ) -> u32;
+    pub fn durkenzo_server_flush(server: *mut Handle, sends: *mut bool) -> u32;
+    pub fn durkenzo_server_sending(
+        server: *mut Handle,
+        numbers: *mut SentNumbers,
+        into: *mut u8,
+        room: usize,
+    ) -> u32;
+    pub fn durkenzo_server_made(
+        server: *mut Handle,
+        revision: u64,
+        made: *mut usize,
+        read: *mut usize,
+    ) -> u32;
+    pub fn durkenzo_server_answer(server: *mut Handle, at: usize, answer: *mut Answer) -> u32;
+    pub fn durkenzo_server_text(
+        server: *mut Handle,
+        at: usize,
+        answer: *mut Answer,
+        into: *mut u8,
+        room: usize,
+    ) -> u32;
+    pub fn durkenzo_server_lost(server: *mut Handle) -> u32;
+    pub fn durkenzo_server_base(server: *mut Handle, begins: *mut bool) -> u32;
+    pub fn durkenzo_server_part(
+        server: *mut Handle,
+        place: usize,
+        part: *mut PartNumbers,
+        into: *mut u8,
+        room: usize,
+    ) -> u32;
+    pub fn durkenzo_server_parts_made(server: *mut Handle) -> u32;
+    pub fn durkenzo_server_is_behind(
+        server: *mut Handle,
+        is_part: bool,
+        number: u64,
+        place: u64,
+        behind: *mut bool,
+    ) -> u32;
+    pub fn durkenzo_server_close(server: *mut Handle);
+}
+
+/// A command, or what comes next: its kind, and what it names.
+#[cfg(feature = "control")]
+#[repr(C)]
+#[derive(Clone, Copy, Default, Debug, PartialEq, Eq)]
+pub struct Step {
+    pub shard: u16,
+    pub server: u16,
+    pub kind: u8,
+}
+
+/// What a command's transaction compares, and how much it writes.
+#[cfg(feature = "control")]
+#[repr(C)]
+#[derive(Clone, Copy, Default, Debug)]
+pub struct CommandNumbers {
+    pub elected: u64,
+    pub placed: u64,
+    pub length: usize,
+    pub commands_length: usize,
+    pub number: u16,
+    pub is_state: bool,
+}
+
+#[cfg(feature = "control")]
+extern "C" {
+    pub fn durkenzo_director(
+        director: *mut Handle,
+        line: *const u8,
+        length: usize,
+        process: u64,
+        elected: u64,
+        shards: *mut usize,
+        servers: *mut usize,
+    ) -> u32;
+    pub fn durkenzo_director_server(director: *mut Handle, at: usize, server: *mut u16) -> u32;
+    pub fn durkenzo_director_shard_of(
+        director: *mut Handle,
+        key: *const u8,
+        length: usize,
+        shard: *mut u16,
+    ) -> u32;
+    pub fn durkenzo_director_record(
+        director: *mut Handle,
+        bytes: *const u8,
+        length: usize,
+        stood: u64,
+    ) -> u32;
+    pub fn durkenzo_director_state(director: *mut Handle, bytes: *const u8, length: usize) -> u32;
+    pub fn durkenzo_director_read(director: *mut Handle, placed: u64) -> u32;
+    pub fn durkenzo_director_command(
+        director: *mut Handle,
+        kind: u8,
+        shard: u16,
+        server: u16,
+    ) -> u32;
+    pub fn durkenzo_director_sending(
+        director: *mut Handle,
+        numbers: *mut CommandNumbers,
+        into: *mut u8,
+        room: usize,
+    ) -> u32;
+    pub fn durkenzo_director_made(director: *mut Handle, revision: u64) -> u32;
+    pub fn durkenzo_director_lost(director: *mut Handle) -> u32;
+    pub fn durkenzo_director_follower(director: *mut Handle, server: u16, revision: u64) -> u32;
+    pub fn durkenzo_director_forget_followers(director: *mut Handle) -> u32;
+    pub fn durkenzo_director_next_of_shard(
+        director: *mut Handle,
+        shard: u16,
+        step: *mut Step,
+    ) -> u32;
+    pub fn durkenzo_director_next_of_server(
+        director: *mut Handle,
+        server: u16,
+        step: *mut Step,
+    ) -> u32;
+    pub fn durkenzo_director_next_of_drain(
+        director: *mut Handle,
+        server: u16,
+        step: *mut Step,
+    ) -> u32;
+    pub fn durkenzo_director_fallen(director: *mut Handle, server: *mut u16) -> u32;
+    pub fn durkenzo_director_record_of(
+        director: *mut Handle,
+        shard: u16,
+        word: *mut u64,
+        stood: *mut u64,
+    ) -> u32;
+    pub fn durkenzo_director_state_of(director: *mut Handle, server: u16, state: *mut u8) -> u32;
+    pub fn durkenzo_director_close(director: *mut Handle);
+}

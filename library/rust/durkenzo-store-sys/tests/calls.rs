@@ -1,0 +1,117 @@
+//! Wrong bodies of the library's calls on a store that these tests refuse, so that no edit has to.
+use durkenzo_store_sys::{Asked, Code, Decision, Director, Limits, Server, Step};
+
+/// Two shards, and three servers, one of which may be away at a time.
+const SETTINGS: &str = concat!(
+    r#"{"version":1,"bounds":["","m"],"#,
+    r#""servers":[{"id":1,"domain":0,"capacity":9},{"id":2,"domain":1,"capacity":9},"#,
+    r#"{"id":3,"domain":2,"capacity":9}],"groups":[{"limit":9,"down":9}],"#,
+    r#""shards":[{"group":0,"load":1,"cap":1},{"group":0,"load":1,"cap":1}],"#,
+    r#""ops":1,"kept":1,"ceiling":100000,"workers":1}"#
+);
+/// A record or a state that was never written.
+const UNWRITTEN: [u8; 17] = [1, 0, 0, 0, 0, 0, 0, 0, 0, 0, 0, 0, 0, 0, 0, 0, 0];
+/// A record that serves at server 1, as control 7 wrote it.
+const SERVED: [u8; 17] = [1, 32, 1, 0, 0, 0, 0, 0, 1, 0, 0, 0, 0, 0, 0, 0, 7];
+/// The head of a log with no batch.
+const EMPTY: [u8; 25] = {
+    let mut bytes = [0; 25];
+    bytes[0] = 1;
+    bytes
+};
+/// The code of a control that has to read all again.
+const UNREAD: Code = Code(90);
+/// The code of a drop before each follower has read that the shard is taken.
+const NOT_FOLLOWED: Code = Code(96);
+
+/// The server of a shard that it serves, of which nothing was made.
+fn serving() -> Result<Server, Code> {
+    let mut server = Server::new(1, 0, 2, Limits::default())?;
+    server.read((&SERVED, 3), (&EMPTY, 5))?;
+    Ok(server)
+}
+
+fn asked(number: u64, request: &[u8]) -> Asked<'_> {
+    Asked {
+        client: 7,
+        number,
+        request,
+        ..Asked::default()
+    }
+}
+
+/// A control that has read that nothing was made.
+fn leading() -> Result<Director, Code> {
+    let mut director = Director::new(SETTINGS, 7, 3)?;
+    for _ in 0..2 {
+        director.record(&UNWRITTEN, 0)?;
+    }
+    for _ in 0..3 {
+        director.state(&UNWRITTEN)?;
+    }
+    director.read(0)?;
+    Ok(director)
+}
+
+#[test]
+fn a_read_makes_no_batch() -> Result<(), Code> {
+    let mut server = serving()?;
+    assert_eq!(server.take(&asked(1, b"\x01\x01a"))?, Decision::Waits);
+    assert!(server.flush()?);
+    let sent = server.sending()?;
+    assert_eq!((sent.stood, sent.logged, sent.number), (3, 5, 0));
+    assert!(sent.batch.is_empty());
+    Ok(())
+}
+
+#[test]
+fn what_a_later_request_made_has_passed() -> Result<(), Code> {
+    let mut server = serving()?;
+    assert_eq!(server.take(&asked(2, b"\x02\x01avalue"))?, Decision::Waits);
+    assert!(server.flush()?);
+    let sent = server.sending()?;
+    assert_eq!((sent.stood, sent.logged, sent.number), (3, 5, 1));
+    assert_eq!(server.made(6)?.0.len(), 1);
+    assert_eq!(server.take(&asked(1, b"\x02\x01aold"))?, Decision::Passed);
+    let again = server.take(&asked(2, b"\x02\x01avalue"))?;
+    assert!(matches!(again, Decision::Replied(_)), "{again:?}");
+    Ok(())
+}
+
+#[test]
+fn a_shard_is_dropped_once_all_follow() -> Result<(), Code> {
+    let mut director = leading()?;
+    for (at, kind, server) in [
+        (9, Step::ASSIGN, 1),
+        (10, Step::PREPARE_ADD_SHARD, 2),
+        (11, Step::PREPARE_DROP_SHARD, 0),
+        (12, Step::ADD_SHARD, 0),
+    ] {
+        director.command(Step::of_shard(kind, 0, server))?;
+        director.made(at)?;
+    }
+    let drop = Step::of_shard(Step::DROP_SHARD, 0, 0);
+    director.follower(2, 11)?;
+    assert_eq!(director.command(drop), Err(NOT_FOLLOWED));
+    director.forget_followers()?;
+    director.follower(2, 12)?;
+    director.command(drop)
+}
+
+#[test]
+fn a_command_compares_the_election_by_which_it_leads() -> Result<(), Code> {
+    let mut director = leading()?;
+    director.command(Step::of_shard(Step::ASSIGN, 0, 1))?;
+    let sending = director.sending()?;
+    assert_eq!((sending.elected, sending.placed), (3, 0));
+    Ok(())
+}
+
+#[test]
+fn what_was_lost_is_to_be_read_again() -> Result<(), Code> {
+    let mut director = leading()?;
+    director.command(Step::of_shard(Step::ASSIGN, 0, 1))?;
+    director.lost()?;
+    assert_eq!(director.next_of_shard(0).err(), Some(UNREAD));
+    Ok(())
+}

@@ -1,0 +1,70 @@
+//! Sees that what a store was told of shards' records is what the proved rule makes of them.
+//!
+//! Each line of the input is a shard's number and the word of its record after a change, in the order of the changes; a
+//! shard begins as vacant. Says how many changes there were, and those that no change of the rule leads to; the exit
+//! status is 1 where there is such a one, or a line can't be read.
+use durkenzo::word::{changed, record, Change};
+use durkenzo::Stand;
+use std::collections::BTreeMap;
+use std::io::{stdin, BufRead};
+use std::process::ExitCode;
+
+/// No generation is beyond it.
+const CEILING: u64 = (1 << 36) - 1;
+const VACANT: u64 = 0;
+
+/// The servers that a record names.
+fn named(stand: Stand) -> Vec<u16> {
+    match stand {
+        Stand::Vacant => vec![],
+        Stand::Serving(owner) | Stand::Paused(owner) => vec![owner],
+        Stand::Prepared { owner, next } | Stand::Forwarding { owner, next } => vec![owner, next],
+        Stand::Taken { owner, previous } => vec![owner, previous],
+    }
+}
+
+/// The change that leads from one word to another, if there is one.
+fn change_between(before: u64, after: u64) -> Option<Change> {
+    let servers = record(after).map(|it| named(it.stand)).unwrap_or_default();
+    let of_server = [Change::Assign, Change::PrepareAddShard, Change::Reassign];
+    let others = [
+        Change::PrepareDropShard,
+        Change::AddShard,
+        Change::DropShard,
+        Change::Cancel,
+        Change::Pause,
+        Change::Resume,
+    ];
+    let with_server = of_server
+        .iter()
+        .flat_map(|of| servers.iter().map(move |it| of(*it)));
+    with_server
+        .chain(others)
+        .find(|it| changed(before, *it, CEILING) == Ok(after))
+}
+
+fn main() -> ExitCode {
+    let mut words: BTreeMap<u16, u64> = BTreeMap::new();
+    let (mut changes, mut wrong) = (0, 0);
+    for line in stdin().lock().lines().map_while(Result::ok) {
+        let Some((Ok(shard), Ok(after))) = line
+            .split_once(' ')
+            .map(|(shard, word)| (shard.parse::<u16>(), word.parse::<u64>()))
+        else {
+            println!("{line} can't be read");
+            return ExitCode::FAILURE;
+        };
+        let before = words.insert(shard, after).unwrap_or(VACANT);
+        changes += 1;
+        if change_between(before, after).is_none() {
+            wrong += 1;
+            println!(
+                "shard {shard}: no change leads from {:?} to {:?}",
+                record(before),
+                record(after)
+            );
+        }
+    }
+    println!("{changes} changes of {} shards, {wrong} wrong", words.len());
+    ExitCode::from(u8::from(wrong > 0))
+}
