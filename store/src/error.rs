@@ -39,3 +39,27 @@ pub enum ReadError {
     #[error("the store has ended")]
     Stopped,
 }
+
+/// Why a store's room isn't given back.
+#[derive(Clone, Debug, Error)]
+pub enum CompactError {
+    /// The store doesn't answer.
+    #[error("the store doesn't answer: {0}")]
+    Unavailable(String),
+    /// The store doesn't let this user do it.
+    #[error("the store doesn't let this user do it: {0}")]
+    Denied(String),
+    /// The store has ended.
+    #[error("the store has ended")]
+    Stopped,
+}
+
+impl From<ReadError> for CompactError {
+    fn from(error: ReadError) -> CompactError {
+        match error {
+            ReadError::Unavailable(reason) => CompactError::Unavailable(reason),
+            ReadError::Denied(reason) => CompactError::Denied(reason),
+            ReadError::Stopped => CompactError::Stopped,
+        }
+    }
+}

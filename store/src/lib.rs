@@ -40,7 +40,7 @@ mod transaction;
 mod watch;
 
 pub use embedded::{Embedded, OpenError, Sync};
-pub use error::{ReadError, WriteError};
+pub use error::{CompactError, ReadError, WriteError};
 #[cfg(feature = "etcd")]
 pub use etcd::{Access, Etcd, StartError};
 pub use lease::{LeaseError, LeaseId};

@@ -8,9 +8,9 @@ impl Revision {
     /// The revision of a key that lies nowhere.
     pub const NEVER: Revision = Revision(0);
 
-    /// The next one.
-    pub(crate) fn next(self) -> Revision {
-        Revision(self.0 + 1)
+    /// The next one; there is none after the greatest, which no store reaches.
+    pub fn next(self) -> Revision {
+        Revision(self.0.saturating_add(1))
     }
 }
 

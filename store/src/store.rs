@@ -1,5 +1,6 @@
 use crate::{
-    LeaseError, LeaseId, Outcome, ReadError, Reading, Transaction, Watch, Watcher, WriteError,
+    CompactError, LeaseError, LeaseId, Outcome, ReadError, Reading, Transaction, Watch, Watcher,
+    WriteError,
 };
 use std::sync::mpsc;
 use std::time::Duration;
@@ -51,7 +52,8 @@ pub trait Store: Send + std::marker::Sync {
     /// Where the store can't be asked, as [`ReadError`] says. Later it is asked again until it answers.
     fn watch(&self, prefix: &[u8], watcher: Watcher) -> Result<Watch, ReadError>;
 
-    /// Gives a lease that ends where it isn't kept for this long, which is counted in whole seconds and is one at least.
+    /// Gives a lease that ends where it isn't kept for this long, which is counted in whole seconds and is one at
+    /// least.
     ///
     /// # Errors
     ///
@@ -71,4 +73,11 @@ pub trait Store: Send + std::marker::Sync {
     ///
     /// `Ended` where it had ended; else where the store can't be asked.
     fn revoke(&self, lease: LeaseId) -> Result<(), LeaseError>;
+
+    /// Lets go what was deleted or written over, and has the store take writes again where that makes room.
+    ///
+    /// # Errors
+    ///
+    /// Where the store can't be asked, as [`CompactError`] says.
+    fn compact(&self) -> Result<(), CompactError>;
 }

@@ -106,13 +106,31 @@ fn says_that_the_quota_is_reached() {
         return;
     };
     let store = member.store();
-    let refused = (0..100).find_map(|at| {
-        store
-            .make(Transaction::new().put(format!("{at}"), vec![7; 200_000]))
-            .err()
-    });
-    assert!(matches!(refused, Some(WriteError::Full(_))), "{refused:?}");
+    let put = |at: usize| {
+        let key = format!("{at}").into_bytes();
+        let new = Transaction::new().compare(key.clone(), Revision::NEVER);
+        let made = store.make(new.put(key.clone(), vec![7; 200_000]));
+        let lies = !store.read(&[&key]).expect("reads go on").pairs.is_empty();
+        made.err().map(|it| (it, lies))
+    };
+    let refused: Vec<_> = (0..100).filter_map(put).take(3).collect();
+    // What takes the last of the room may be made, though a member says that there is none.
+    let is_right = |it: &(WriteError, bool)| match it {
+        (WriteError::Full(_), lies) => !lies,
+        (error, _) => matches!(error, WriteError::Unknown(_)),
+    };
+    assert!(refused.iter().all(is_right), "{refused:?}");
+    let is_full = |it: &(WriteError, bool)| matches!(it.0, WriteError::Full(_));
+    assert!(refused.iter().any(is_full), "{refused:?}");
     assert_eq!(store.read(&[b"0"]).expect("reads go on").pairs.len(), 1);
+    // What is deleted makes room once it is let go.
+    let delete = |it, at: usize| Transaction::delete(it, format!("{at}"));
+    let deleted = store.make((1..100).fold(Transaction::new(), delete));
+    assert!(matches!(deleted, Ok(Outcome::Made(_))), "{deleted:?}");
+    store.compact().expect("it makes room");
+    let made = store.make(Transaction::new().put("b", vec![7; 200_000]));
+    assert!(matches!(made, Ok(Outcome::Made(_))), "{made:?}");
+    store.compact().expect("again");
 }
 
 #[test]

@@ -2,7 +2,9 @@ use super::job::{Job, Ticket};
 use super::leases::Leases;
 use super::tables::{Failure, Tables};
 use super::watchers::Watchers;
-use crate::{Change, Outcome, Pair, ReadError, Reading, Revision, Transaction, WriteError};
+use crate::{
+    Change, CompactError, Outcome, Pair, ReadError, Reading, Revision, Transaction, WriteError,
+};
 use std::sync::mpsc::{Receiver, RecvTimeoutError};
 use std::time::{Duration, Instant};
 
@@ -80,38 +82,23 @@ impl<T: Tables> Engine<T> {
             .recv_timeout(end.saturating_duration_since(Instant::now()))
         {
             Ok(job) => job,
-            Err(RecvTimeoutError::Timeout) => {
-                return Batch {
-                    jobs: Vec::new(),
-                    is_last: false,
-                }
-            }
-            Err(RecvTimeoutError::Disconnected) => {
-                return Batch {
-                    jobs: Vec::new(),
-                    is_last: true,
-                }
+            Err(why) => {
+                let is_last = why == RecvTimeoutError::Disconnected;
+                let jobs = Vec::new();
+                return Batch { jobs, is_last };
             }
         };
         let mut jobs = Vec::new();
-        for job in std::iter::once(first)
-            .chain(self.jobs.try_iter())
-            .take(MOST_JOBS)
-        {
-            match job {
-                Job::End => {
-                    return Batch {
-                        jobs,
-                        is_last: true,
-                    }
-                }
-                job => jobs.push(job),
+        let waiting = std::iter::once(first).chain(self.jobs.try_iter());
+        for job in waiting.take(MOST_JOBS) {
+            if matches!(job, Job::End) {
+                let is_last = true;
+                return Batch { jobs, is_last };
             }
+            jobs.push(job);
         }
-        Batch {
-            jobs,
-            is_last: false,
-        }
+        let is_last = false;
+        Batch { jobs, is_last }
     }
 
     /// Serves what was taken, and says whether the tables can be used further.
@@ -237,12 +224,24 @@ impl<T: Tables> Engine<T> {
             return Ok(Err(WriteError::LeaseEnded));
         }
         let (before, next) = (changes.len(), moment.next());
+        self.write(transaction, next, changes)?;
+        let is_written = changes.len() > before;
+        Ok(Ok(Outcome::Made(if is_written { next } else { moment })))
+    }
+
+    /// Writes what the transaction writes, and tells each change.
+    fn write(
+        &mut self,
+        transaction: &Transaction,
+        revision: Revision,
+        changes: &mut Vec<Change>,
+    ) -> Result<(), Failure> {
         for key in &transaction.deletes {
             if self.tables.delete(key)? {
                 changes.push(Change {
                     key: key.clone(),
                     value: None,
-                    revision: next,
+                    revision,
                 });
             }
         }
@@ -250,20 +249,16 @@ impl<T: Tables> Engine<T> {
             let pair = Pair {
                 key: it.key.clone(),
                 value: it.value.clone(),
-                revision: next,
+                revision,
             };
             self.tables.put(&pair, it.lease)?;
             changes.push(Change {
                 key: pair.key,
                 value: Some(pair.value),
-                revision: next,
+                revision,
             });
         }
-        Ok(Ok(Outcome::Made(if changes.len() > before {
-            next
-        } else {
-            moment
-        })))
+        Ok(())
     }
 
     /// Commits, and says what a failure means for what was to be made.
@@ -316,6 +311,10 @@ impl<T: Tables> Engine<T> {
             Job::Watch(number, prefix, watcher, tell) => {
                 let reading = self.reading_of_all(&prefix);
                 let _ = tell.send(reading.map(|it| self.watchers.add(number, prefix, watcher, it)));
+            }
+            Job::Compact(tell) => {
+                let made = self.tables.compact();
+                let _ = tell.send(made.map_err(|it| CompactError::from(unavailable(it))));
             }
             Job::Grant(length, tell) => {
                 let _ = tell.send(self.leases.grant(length, now));

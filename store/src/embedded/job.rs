@@ -1,5 +1,6 @@
 use crate::{
-    Done, LeaseError, LeaseId, Outcome, ReadError, Reading, Transaction, Watcher, WriteError,
+    CompactError, Done, LeaseError, LeaseId, Outcome, ReadError, Reading, Transaction, Watcher,
+    WriteError,
 };
 use std::sync::mpsc::Sender;
 use std::time::Duration;
@@ -14,6 +15,7 @@ pub(super) enum Job {
     Grant(Duration, Sender<LeaseId>),
     Keep(LeaseId, Sender<Result<(), LeaseError>>),
     Revoke(LeaseId, Sender<Result<(), LeaseError>>),
+    Compact(Sender<Result<(), CompactError>>),
     /// Ends the thread, after all that was asked before.
     End,
 }

@@ -13,8 +13,8 @@ pub use open_error::OpenError;
 pub use sync::Sync;
 
 use crate::{
-    LeaseError, LeaseId, Outcome, ReadError, Reading, Store, Transaction, Watch, Watcher,
-    WriteError,
+    CompactError, LeaseError, LeaseId, Outcome, ReadError, Reading, Store, Transaction, Watch,
+    Watcher, WriteError,
 };
 use engine::Engine;
 use job::{Job, Ticket};
@@ -120,6 +120,10 @@ impl Store for Embedded {
     fn revoke(&self, lease: LeaseId) -> Result<(), LeaseError> {
         self.ask(|tell| Job::Revoke(lease, tell))
             .unwrap_or(Err(LeaseError::Stopped))
+    }
+
+    fn compact(&self) -> Result<(), CompactError> {
+        self.ask(Job::Compact).unwrap_or(Err(CompactError::Stopped))
     }
 }
 

@@ -58,23 +58,13 @@ fn opened(file: &Path, sync: Sync) -> Result<Sqlite, Refused> {
     let connection = Connection::open(file)?;
     connection.set_prepared_statement_cache_capacity(32);
     connection.pragma_update(None, "locking_mode", "EXCLUSIVE")?;
-    let number = |name| connection.pragma_query_value(None, name, |row| row.get::<_, i64>(0));
+    // As SQLite advises where a file may be spoilt.
+    connection.pragma_update(None, "trusted_schema", "OFF")?;
+    connection.pragma_update(None, "cell_size_check", "ON")?;
     let is_new = connection.query_row("SELECT count(*) = 0 FROM sqlite_schema", [], |row| {
         row.get(0)
     })?;
-    let (application, found) = (number("application_id")?, number("user_version")?);
-    if application != APPLICATION && !(is_new && application == 0) {
-        return Err(Refused::Form(Box::new(OpenError::Foreign)));
-    }
-    if application == APPLICATION && found != VERSION {
-        return Err(Refused::Form(Box::new(move |file| {
-            OpenError::OtherVersion {
-                file,
-                found,
-                known: VERSION,
-            }
-        })));
-    }
+    look_at_marks(&connection, is_new)?;
     connection.pragma_update(None, "journal_mode", "WAL")?;
     let level = match sync {
         Sync::Always => "FULL",
@@ -87,7 +77,9 @@ fn opened(file: &Path, sync: Sync) -> Result<Sqlite, Refused> {
             format!("PRAGMA application_id = {APPLICATION}; PRAGMA user_version = {VERSION};");
         connection.execute_batch(&format!("BEGIN IMMEDIATE; {SCHEMA} {marks} COMMIT"))?;
     }
-    let found: String = connection.pragma_query_value(None, "quick_check", |row| row.get(0))?;
+    // A quicker check doesn't see that an index has lost a key, which then couldn't be read.
+    let check = "integrity_check";
+    let found: String = connection.pragma_query_value(None, check, |row| row.get(0))?;
     if found != "ok" {
         return Err(Refused::Form(Box::new(move |file| {
             OpenError::Damaged(file, found)
@@ -100,6 +92,21 @@ fn opened(file: &Path, sync: Sync) -> Result<Sqlite, Refused> {
         sync,
         is_written: true,
     })
+}
+
+/// Refuses a file that isn't ours, or of another version.
+fn look_at_marks(connection: &Connection, is_new: bool) -> Result<(), Refused> {
+    let number = |name| connection.pragma_query_value(None, name, |row| row.get::<_, i64>(0));
+    let (application, found) = (number("application_id")?, number("user_version")?);
+    let known = VERSION;
+    match application {
+        APPLICATION if found == known => Ok(()),
+        APPLICATION => Err(Refused::Form(Box::new(move |file| {
+            OpenError::OtherVersion { file, found, known }
+        }))),
+        0 if is_new => Ok(()),
+        _ => Err(Refused::Form(Box::new(OpenError::Foreign))),
+    }
 }
 
 /// Deletes the keys under leases, and gives the moment after it.
@@ -227,6 +234,12 @@ impl Tables for Sqlite {
             true => Ok(()),
             false => Ok(self.connection.execute_batch("ROLLBACK")?),
         }
+    }
+
+    fn compact(&mut self) -> Result<(), Failure> {
+        self.connection.execute_batch("VACUUM")?;
+        let truncate = "PRAGMA wal_checkpoint(TRUNCATE)";
+        Ok(self.connection.query_row(truncate, [], |_| Ok(()))?)
     }
 
     /// Writes to the disk what was committed since: the log of SQLite first, then its tables.

@@ -38,6 +38,11 @@ pub(super) trait Tables {
     /// Takes back all since writing began.
     fn rollback(&mut self) -> Result<(), Failure>;
 
+    /// Gives back the room of what was deleted or written over.
+    fn compact(&mut self) -> Result<(), Failure> {
+        Ok(())
+    }
+
     /// Does what has to be done once a second.
     fn tick(&mut self) -> Result<(), Failure> {
         Ok(())

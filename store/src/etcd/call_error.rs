@@ -1,4 +1,4 @@
-use crate::{LeaseError, LeaseId, ReadError, WriteError};
+use crate::{CompactError, LeaseError, LeaseId, ReadError, WriteError};
 use serde::Deserialize;
 
 /// Why a call of etcd gave nothing.
@@ -33,6 +33,11 @@ impl Refusal {
         self.code == Refusal::UNAUTHENTICATED || self.message.contains("user name is empty")
     }
 
+    /// Whether what is asked for was let go already.
+    pub(super) fn is_of_compacted(&self) -> bool {
+        self.message.contains("has been compacted")
+    }
+
     fn is_of_size(&self) -> bool {
         self.message.contains("too large")
             || self.message.contains("too many operations")
@@ -47,6 +52,11 @@ impl Refusal {
 }
 
 impl CallError {
+    /// That a member answers more than is held.
+    pub(super) fn too_long() -> CallError {
+        CallError::Unknown("etcd's answer is too long".to_owned())
+    }
+
     /// What it means for a transaction. Only what a member refuses before it proposes it isn't made.
     pub(super) fn of_write(self) -> WriteError {
         match self {
@@ -74,6 +84,17 @@ impl CallError {
             }
             CallError::Refused(it) if it.is_of_user() => ReadError::Denied(it.message),
             CallError::Refused(it) => ReadError::Unavailable(it.message),
+        }
+    }
+
+    /// What it means where room is to be given back.
+    pub(super) fn of_compaction(self) -> CompactError {
+        match self {
+            CallError::Unreachable(reason) | CallError::Unknown(reason) => {
+                CompactError::Unavailable(reason)
+            }
+            CallError::Refused(it) if it.is_of_user() => CompactError::Denied(it.message),
+            CallError::Refused(it) => CompactError::Unavailable(it.message),
         }
     }
 

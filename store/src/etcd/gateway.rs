@@ -1,8 +1,9 @@
 use super::call_error::{CallError, Refusal};
-use super::stream::Stream;
+use super::stream::{Stream, LONGEST};
 use super::{Access, StartError};
+use hyper::body::HttpBody;
 use hyper::client::HttpConnector;
-use hyper::{body, header, Body, Client, Request, Response};
+use hyper::{header, Body, Client, Request, Response};
 use hyper_rustls::{HttpsConnector, HttpsConnectorBuilder};
 use serde::de::DeserializeOwned;
 use serde::{Deserialize, Serialize};
@@ -12,7 +13,8 @@ use std::sync::Mutex;
 use std::time::Duration;
 use tokio::time::timeout;
 
-/// The gateways of the members: a call goes to the member that answered last, and to the next where it can't be reached.
+/// The gateways of the members: a call goes to the member that answered last, and to the next where it can't be
+/// reached.
 pub(super) struct Gateway {
     client: Client<HttpsConnector<HttpConnector>>,
     members: Vec<String>,
@@ -82,6 +84,21 @@ impl Gateway {
                 found => return found,
             }
         }
+    }
+
+    /// Calls each member, also where one before it fails; the first failure.
+    pub(super) async fn each<T: DeserializeOwned>(
+        &self,
+        path: &str,
+        asked: &impl Serialize,
+    ) -> Result<(), CallError> {
+        let mut done = Ok(());
+        for _ in &self.members {
+            let found = self.once::<T>(path, asked).await;
+            done = done.and(found.map(drop));
+            self.pass_over_current();
+        }
+        done
     }
 
     /// Calls a member that answers by a stream, and takes the first that it gives.
@@ -204,10 +221,16 @@ impl Gateway {
     }
 }
 
-async fn whole(found: Response<Body>) -> Result<body::Bytes, CallError> {
-    body::to_bytes(found.into_body())
-        .await
-        .map_err(|error| CallError::Unknown(error.to_string()))
+/// All that a member answers, which is no more than it may be.
+async fn whole(found: Response<Body>) -> Result<Vec<u8>, CallError> {
+    let (mut body, mut held) = (found.into_body(), Vec::new());
+    while let Some(bytes) = body.data().await {
+        held.extend_from_slice(&bytes.map_err(|error| CallError::Unknown(error.to_string()))?);
+        if held.len() > LONGEST {
+            return Err(CallError::too_long());
+        }
+    }
+    Ok(held)
 }
 
 fn read<T: DeserializeOwned>(bytes: &[u8]) -> Result<T, CallError> {

@@ -10,11 +10,12 @@ mod wire;
 pub use access::{Access, StartError};
 
 use crate::{
-    Done, LeaseError, LeaseId, Pair, ReadError, Reading, Revision, Store, Transaction, Watch,
-    Watcher,
+    CompactError, Done, LeaseError, LeaseId, Pair, ReadError, Reading, Revision, Store,
+    Transaction, Watch, Watcher, WriteError,
 };
 use call_error::CallError;
 use gateway::Gateway;
+use serde::de::IgnoredAny;
 use std::fmt;
 use std::future::Future;
 use std::sync::mpsc;
@@ -23,7 +24,8 @@ use std::time::Duration;
 use tokio::runtime::{Builder, Runtime};
 use watching::watch;
 use wire::{
-    Granted, Kept, Lease, Range, RangeResult, Streamed, TransactionRequest, TransactionResult,
+    AlarmRequest, Alarms, Compaction, Granted, Kept, Lease, Nothing, Range, RangeResult, Streamed,
+    TransactionRequest, TransactionResult,
 };
 
 /// How many keys etcd reads by one transaction.
@@ -49,8 +51,9 @@ impl Etcd {
     /// Where an address can't be read, a file of certificates can't be used, or the system gives no thread.
     pub fn new(access: Access) -> Result<Etcd, StartError> {
         let gateway = Arc::new(Gateway::new(access)?);
+        // A second one would be woken for each call, and find nothing to do.
         let runtime = Builder::new_multi_thread()
-            .worker_threads(2)
+            .worker_threads(1)
             .thread_name("etcd")
             .enable_all()
             .build()?;
@@ -79,11 +82,15 @@ impl Store for Etcd {
             let found = gateway
                 .once::<TransactionResult>("/v3/kv/txn", &request)
                 .await;
-            done(
-                found
-                    .map(TransactionResult::outcome)
-                    .map_err(CallError::of_write),
-            );
+            let outcome = found
+                .map(TransactionResult::outcome)
+                .map_err(CallError::of_write);
+            done(match outcome {
+                Err(WriteError::Full(why)) if !is_unmade(&gateway, &transaction).await => {
+                    Err(WriteError::Unknown(why))
+                }
+                outcome => outcome,
+            });
         });
     }
 
@@ -136,7 +143,7 @@ impl Store for Etcd {
         let gateway = Arc::clone(&self.gateway);
         let work = async move {
             gateway
-                .again::<serde::de::IgnoredAny>("/v3/lease/revoke", &Lease::of(lease))
+                .again::<IgnoredAny>("/v3/lease/revoke", &Lease::of(lease))
                 .await
         };
         self.wait_for(work)
@@ -144,12 +151,32 @@ impl Store for Etcd {
             .map(drop)
             .map_err(|error| error.of_lease(lease))
     }
+
+    fn compact(&self) -> Result<(), CompactError> {
+        let gateway = Arc::clone(&self.gateway);
+        self.wait_for(async move { compact(&gateway).await })
+            .unwrap_or(Err(CompactError::Stopped))
+    }
 }
 
 impl fmt::Debug for Etcd {
     fn fmt(&self, f: &mut fmt::Formatter<'_>) -> fmt::Result {
         f.debug_struct("Etcd").finish_non_exhaustive()
     }
+}
+
+/// Whether a transaction wasn't made that was refused for want of room: etcd may make one that takes the last of it,
+/// and says so all the same. Where a key that it compares and writes is as it was, it wasn't.
+async fn is_unmade(gateway: &Gateway, transaction: &Transaction) -> bool {
+    let is_written = |key: &[u8]| transaction.puts.iter().any(|it| it.key == key);
+    let Some(compared) = transaction.compares.iter().find(|it| is_written(&it.key)) else {
+        return false;
+    };
+    let found = read(gateway, std::slice::from_ref(&compared.key)).await;
+    found.is_ok_and(|it| {
+        let pair = it.get(&compared.key);
+        pair.map_or(Revision::NEVER, |it| it.revision) == compared.revision
+    })
 }
 
 /// Reads these keys at one moment: that of the first transaction, at which later ones read too.
@@ -193,4 +220,31 @@ async fn read_all(gateway: &Gateway, prefix: &[u8]) -> Result<Reading, ReadError
             None => return Ok(found),
         }
     }
+}
+
+/// Lets go what isn't there any more, has each member give its room back, and ends the alarms of a quota that was
+/// reached.
+async fn compact(gateway: &Gateway) -> Result<(), CompactError> {
+    let moment = read(gateway, &[]).await.map_err(CompactError::from)?;
+    let asked = Compaction::up_to(moment.revision);
+    let found = gateway
+        .once::<IgnoredAny>("/v3/kv/compaction", &asked)
+        .await;
+    match found {
+        // Somebody else has done it.
+        Err(CallError::Refused(it)) if it.is_of_compacted() => {}
+        found => drop(found.map_err(CallError::of_compaction)?),
+    }
+    gateway
+        .each::<IgnoredAny>("/v3/maintenance/defragment", &Nothing {})
+        .await
+        .map_err(CallError::of_compaction)?;
+    let path = "/v3/maintenance/alarm";
+    let found = gateway.again::<Alarms>(path, &AlarmRequest::all()).await;
+    for alarm in found.map_err(CallError::of_compaction)?.alarms {
+        let ended = AlarmRequest::end(alarm);
+        let found = gateway.again::<IgnoredAny>(path, &ended).await;
+        found.map_err(CallError::of_compaction)?;
+    }
+    Ok(())
 }

@@ -3,10 +3,16 @@ use hyper::body::HttpBody;
 use hyper::Body;
 use serde::de::DeserializeOwned;
 
+/// How many bytes of an answer are held, of a stream between two ends of lines: a gateway takes no more from its
+/// member.
+pub(super) const LONGEST: usize = 1 << 31;
+
 /// What a member answers bit by bit, a line each.
 pub(super) struct Stream {
     body: Body,
     held: Vec<u8>,
+    /// How many of them are of no line's end.
+    seen: usize,
 }
 
 impl Stream {
@@ -14,6 +20,7 @@ impl Stream {
         Stream {
             body,
             held: Vec::new(),
+            seen: 0,
         }
     }
 
@@ -21,9 +28,15 @@ impl Stream {
     pub(super) async fn next<T: DeserializeOwned>(&mut self) -> Result<T, CallError> {
         let unknown = |error: String| CallError::Unknown(error);
         loop {
-            if let Some(end) = self.held.iter().position(|it| *it == b'\n') {
-                let line: Vec<_> = self.held.drain(..=end).collect();
+            let unseen = &self.held[self.seen..];
+            if let Some(end) = unseen.iter().position(|it| *it == b'\n') {
+                let line: Vec<_> = self.held.drain(..=self.seen + end).collect();
+                self.seen = 0;
                 return serde_json::from_slice(&line).map_err(|error| unknown(error.to_string()));
+            }
+            self.seen = self.held.len();
+            if self.seen > LONGEST {
+                return Err(CallError::too_long());
             }
             match self.body.data().await {
                 Some(Ok(bytes)) => self.held.extend_from_slice(&bytes),

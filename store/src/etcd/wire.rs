@@ -41,12 +41,12 @@ mod number {
     }
 }
 
+/// A revision that has to be the same: each field costs etcd time, so what is usual isn't said, here and below.
 #[derive(Serialize)]
 struct Compared {
     #[serde(with = "bytes")]
     key: Vec<u8>,
     target: &'static str,
-    result: &'static str,
     #[serde(with = "number")]
     mod_revision: u64,
 }
@@ -62,7 +62,7 @@ enum Operation {
         key: Vec<u8>,
         #[serde(with = "bytes")]
         value: Vec<u8>,
-        #[serde(with = "number")]
+        #[serde(with = "number", skip_serializing_if = "is_usual")]
         lease: i64,
     },
     #[serde(rename = "request_delete_range")]
@@ -89,11 +89,11 @@ impl Operation {
 pub(super) struct Range {
     #[serde(with = "bytes")]
     key: Vec<u8>,
-    #[serde(with = "bytes")]
+    #[serde(with = "bytes", skip_serializing_if = "Vec::is_empty")]
     range_end: Vec<u8>,
-    #[serde(with = "number")]
+    #[serde(with = "number", skip_serializing_if = "is_usual")]
     limit: usize,
-    #[serde(with = "number")]
+    #[serde(with = "number", skip_serializing_if = "is_usual")]
     revision: u64,
 }
 
@@ -120,8 +120,11 @@ fn end_of(prefix: &[u8]) -> Vec<u8> {
 /// A transaction.
 #[derive(Serialize)]
 pub(super) struct TransactionRequest {
+    #[serde(skip_serializing_if = "Vec::is_empty")]
     compare: Vec<Compared>,
+    #[serde(skip_serializing_if = "Vec::is_empty")]
     success: Vec<Operation>,
+    #[serde(skip_serializing_if = "Vec::is_empty")]
     failure: Vec<Operation>,
 }
 
@@ -143,7 +146,6 @@ impl TransactionRequest {
         let compare = transaction.compares.iter().map(|it| Compared {
             key: it.key.clone(),
             target: "MOD",
-            result: "EQUAL",
             mod_revision: it.revision.0,
         });
         let deletes = transaction
@@ -165,6 +167,11 @@ impl TransactionRequest {
             failure: reads.collect(),
         }
     }
+}
+
+/// Whether a number says no more than none would.
+fn is_usual<T: Default + PartialEq>(number: &T) -> bool {
+    *number == T::default()
 }
 
 #[derive(Default, Deserialize)]
@@ -351,4 +358,69 @@ impl From<WatchEvent> for crate::Change {
             revision: pair.revision,
         }
     }
+}
+
+/// What was written before this revision and isn't there any more is let go.
+#[derive(Serialize)]
+pub(super) struct Compaction {
+    #[serde(with = "number")]
+    revision: u64,
+    physical: bool,
+}
+
+impl Compaction {
+    pub(super) fn up_to(revision: Revision) -> Compaction {
+        Compaction {
+            revision: revision.0,
+            physical: true,
+        }
+    }
+}
+
+/// Nothing more is said.
+#[derive(Serialize)]
+pub(super) struct Nothing {}
+
+/// An alarm of a member, and what is to become of it.
+#[derive(Serialize)]
+pub(super) struct AlarmRequest {
+    action: &'static str,
+    #[serde(rename = "memberID")]
+    member: String,
+    alarm: &'static str,
+}
+
+impl AlarmRequest {
+    const NO_SPACE: &'static str = "NOSPACE";
+
+    /// Which members say that their quota is reached.
+    pub(super) fn all() -> AlarmRequest {
+        AlarmRequest {
+            action: "GET",
+            member: "0".to_owned(),
+            alarm: AlarmRequest::NO_SPACE,
+        }
+    }
+
+    /// This one doesn't any more.
+    pub(super) fn end(alarm: Alarm) -> AlarmRequest {
+        AlarmRequest {
+            action: "DEACTIVATE",
+            member: alarm.member,
+            alarm: AlarmRequest::NO_SPACE,
+        }
+    }
+}
+
+#[derive(Default, Deserialize)]
+#[serde(default)]
+pub(super) struct Alarms {
+    pub(super) alarms: Vec<Alarm>,
+}
+
+#[derive(Default, Deserialize)]
+#[serde(default)]
+pub(super) struct Alarm {
+    #[serde(rename = "memberID")]
+    member: String,
 }
