@@ -1,6 +1,7 @@
 use crate::command::{Command, Next};
-use crate::raw::{Director, Sending};
-use crate::{keys, Code, CoreFault, Durable, Refused};
+use crate::proved::{Director, Sending};
+use crate::{keys, CoreFault, Durable, Live, Refused};
+use durkenzo::{word, Record, Stand};
 use durkenzo_store::{Outcome, Reading, Revision, Transaction, WriteError};
 use std::fmt;
 use std::sync::Arc;
@@ -8,36 +9,76 @@ use std::sync::Arc;
 /// How often a command is sent again that another one came before, or of which it isn't known what became.
 const TRIES: u32 = 8;
 
+/// The number of the state of a server that is up.
+const UP: u8 = 0;
+
 /// The control over a store for this process: what it sends and what comes next, the proved one decides.
 pub struct Control {
     durable: Arc<Durable>,
     director: Director,
     servers: u16,
+    /// The revision of the leader's key.
+    elected: Revision,
+    /// When records and states were written, as far as the director has read or made them.
+    written: Written,
     /// Whether all is to be read again.
     is_behind: bool,
+    /// How often servers' keys had changed when it was read who follows; none where that is to be read again.
+    followers: Option<u64>,
 }
 
 impl Control {
-    /// Has this process lead the store that the line of settings describes.
+    /// Has this process lead the store that the line of settings describes, whoever led it.
     ///
     /// # Errors
     ///
     /// Where the store can't be read or written, or what lies there isn't of these settings.
     pub fn lead(durable: Arc<Durable>, line: &str) -> Result<Control, Refused> {
         let elected = elect(&durable)?;
+        Control::elected(durable, line, elected)
+    }
+
+    /// Has this process lead the store that the line of settings describes, where no other one does: its key lies under
+    /// the lease of this process's server, [`Durable::member`]. None where another one leads.
+    ///
+    /// # Errors
+    ///
+    /// As for [`Control::lead`]; `NotLeader` where the process has no server with a lease now.
+    pub fn campaign(durable: Arc<Durable>, line: &str) -> Result<Option<Control>, Refused> {
+        match campaigned(&durable)? {
+            Some(elected) => Control::elected(durable, line, elected).map(Some),
+            None => Ok(None),
+        }
+    }
+
+    fn elected(durable: Arc<Durable>, line: &str, elected: Revision) -> Result<Control, Refused> {
         let director = Director::new(line, durable.process(), elected).map_err(Refused::of)?;
         let servers = u16::try_from(director.servers()).unwrap_or(u16::MAX);
         let mut control = Control {
             durable,
             director,
             servers,
+            elected,
+            written: Written::default(),
             is_behind: true,
+            followers: None,
         };
         if control.director.shards() != usize::from(control.durable.shards()) {
             return Err(Refused::OtherSettings);
         }
         control.catch_up()?;
         Ok(control)
+    }
+
+    /// The first server to which requests go and that isn't there: [`Command::Fail`] says that it has failed.
+    ///
+    /// # Errors
+    ///
+    /// As [`Refused`] says.
+    pub fn fallen(&mut self) -> Result<Option<u16>, Refused> {
+        self.catch_up()?;
+        self.follow()?;
+        self.director.fallen().map_err(Refused::of)
     }
 
     /// The number of servers.
@@ -47,10 +88,23 @@ impl Control {
 
     /// Reads records and states where that is due.
     fn catch_up(&mut self) -> Result<(), Refused> {
-        if !self.is_behind {
-            return Ok(());
+        let member = self.durable.member();
+        if member.is_some_and(|it| !it.leads(self.elected)) {
+            return Err(Refused::NotLeader);
         }
-        self.director.lost().map_err(Refused::of)?;
+        if self.is_behind {
+            self.director.lost().map_err(Refused::of)?;
+            let reading = self.read_all()?;
+            self.give(&reading).map_err(Refused::of)?;
+            (self.is_behind, self.followers) = (false, None);
+            if self.durable.member().is_none() {
+                self.follow_all(reading.revision)?;
+            }
+        }
+        Ok(())
+    }
+
+    fn read_all(&self) -> Result<Reading, Refused> {
         let shards = (0..self.durable.shards()).map(keys::record);
         let servers = (1..=self.servers).map(keys::state);
         let keys: Vec<_> = [keys::COMMANDS.to_vec()]
@@ -59,30 +113,67 @@ impl Control {
             .chain(servers)
             .collect();
         let slices: Vec<&[u8]> = keys.iter().map(Vec::as_slice).collect();
-        let reading = self.durable.store().read(&slices)?;
-        self.give(&reading).map_err(Refused::of)?;
-        self.is_behind = false;
-        Ok(())
+        Ok(self.durable.store().read(&slices)?)
     }
 
-    /// Gives what was read, and who follows: all servers are of this process, which has read as far as its watch.
+    /// Gives what was read.
     fn give(&mut self, reading: &Reading) -> Result<(), CoreFault> {
         let mut pairs = reading.pairs.iter().peekable();
         let mut next = |key: &[u8]| pairs.next_if(|it| it.key == key);
         let placed = next(keys::COMMANDS).map_or(Revision::NEVER, |it| it.revision);
+        self.written = Written::default();
         for shard in 0..self.durable.shards() {
-            match next(&keys::record(shard)) {
-                Some(pair) => self.director.record(&pair.value, pair.revision)?,
-                None => self.director.record(&keys::VACANT, Revision::NEVER)?,
-            }
+            let pair = next(&keys::record(shard));
+            let stood = pair.map_or(Revision::NEVER, |it| it.revision);
+            self.director
+                .record(pair.map_or(&keys::VACANT, |it| &it.value), stood)?;
+            self.written.records.push(stood);
         }
         for server in 1..=self.servers {
             let pair = next(&keys::state(server));
             self.director
                 .state(pair.map_or(&keys::VACANT, |it| &it.value))?;
+            self.written
+                .states
+                .push(pair.map_or(Revision::NEVER, |it| it.revision));
         }
-        self.director.read(placed)?;
-        self.director.follow(1..=self.servers, reading.revision)
+        self.director.read(placed)
+    }
+
+    /// Says that all servers follow: they are of this process, which has read as far as its watch.
+    fn follow_all(&mut self, revision: Revision) -> Result<(), Refused> {
+        let servers = (1..=self.servers).map(|it| (it, revision));
+        self.director.follow(servers).map_err(Refused::of)
+    }
+
+    /// Reads which servers are there, and how far they follow, where that may have changed: no earlier than what else
+    /// is read. It takes as long as a command does, so it is read where it is asked for alone.
+    fn follow(&mut self) -> Result<(), Refused> {
+        let Some(member) = self.durable.member() else {
+            return Ok(());
+        };
+        let changes = member.changes();
+        if self.followers == Some(changes) {
+            return Ok(());
+        }
+        let reading = self.durable.store().read_all(keys::SERVERS)?;
+        let pairs = reading.pairs.iter();
+        let there = pairs.filter_map(|it| {
+            let live = Live::of(&it.value)?;
+            Some((keys::server_of(&it.key)?, live.followed))
+        });
+        let known = there.filter(|it| (1..=self.servers).contains(&it.0));
+        self.director.follow(known).map_err(Refused::of)?;
+        self.followers = Some(changes);
+        Ok(())
+    }
+
+    /// Reads who follows where the shard is taken: it is dropped once all do.
+    fn follow_if_taken(&mut self, shard: u16) -> Result<(), Refused> {
+        match self.record(shard)?.map(|it| it.stand) {
+            Some(Stand::Taken { .. }) => self.follow(),
+            _ => Ok(()),
+        }
     }
 
     /// Makes the command, or says why not.
@@ -93,18 +184,22 @@ impl Control {
     pub fn command(&mut self, command: Command) -> Result<(), Refused> {
         for _ in 0..TRIES {
             self.catch_up()?;
+            if let Command::DropShard(shard) = command {
+                self.follow_if_taken(shard)?;
+            }
             self.director.command(command).map_err(Refused::of)?;
             let sending = self.director.sending().map_err(Refused::of)?;
+            let (number, is_state) = (sending.number, sending.is_state);
             self.is_behind = true;
             match self.send(sending) {
                 Ok(Outcome::Made(revision)) => {
                     self.director.made(revision).map_err(Refused::of)?;
-                    let servers = 1..=self.servers;
-                    self.director
-                        .follow(servers, revision)
-                        .map_err(Refused::of)?;
-                    self.is_behind = false;
-                    return Ok(());
+                    self.written.note(number, is_state, revision);
+                    (self.is_behind, self.followers) = (false, None);
+                    return match self.durable.member() {
+                        None => self.follow_all(revision),
+                        Some(_) => Ok(()),
+                    };
                 }
                 Ok(Outcome::Lost(_)) => self.look_at_leader()?,
                 // What it was to do may be done: what it begins from tells.
@@ -112,7 +207,8 @@ impl Control {
                 Err(error) => return Err(error.into()),
             }
         }
-        Err(Refused::of(CoreFault(Code(Code::BUSY))))
+        let why = "it was sent as often as may be";
+        Err(WriteError::Unknown(why.to_owned()).into())
     }
 
     fn send(&self, sending: Sending) -> Result<Outcome, WriteError> {
@@ -145,6 +241,7 @@ impl Control {
     /// As [`Refused`] says; so it is of the questions below.
     pub fn next_of_shard(&mut self, shard: u16) -> Result<Next, Refused> {
         self.catch_up()?;
+        self.follow_if_taken(shard)?;
         self.director.next_of_shard(shard).map_err(Refused::of)
     }
 
@@ -160,10 +257,65 @@ impl Control {
         self.director.next_of_drain(server).map_err(Refused::of)
     }
 
+    /// The paused shards whose owners came back after that, so that nothing is under way of them: one that was paused
+    /// as its owner was to stop or had failed, where who led then went no further.
+    pub fn left_paused(&mut self) -> Result<Vec<u16>, Refused> {
+        let mut left = Vec::new();
+        for shard in 0..self.durable.shards() {
+            let stand = self.record(shard)?.map(|it| it.stand);
+            let Some(Stand::Paused(owner)) = stand else {
+                continue;
+            };
+            if self.state_of(owner)? == UP && self.written.is_before(shard, owner) {
+                left.push(shard);
+            }
+        }
+        Ok(left)
+    }
+
+    /// The shard's record, none of whose changes by this control is missing.
+    pub fn record(&mut self, shard: u16) -> Result<Option<Record>, Refused> {
+        self.catch_up()?;
+        let word = self.director.word_of(shard).map_err(Refused::of)?;
+        Ok(word::record(word))
+    }
+
     /// The number of the server's state: 0 up, 1 asked, 2 approved, 3 stopped, 4 failed.
     pub fn state_of(&mut self, server: u16) -> Result<u8, Refused> {
         self.catch_up()?;
         self.director.state_of(server).map_err(Refused::of)
+    }
+}
+
+/// The revisions of shards' records, and of servers' states from the first one on.
+#[derive(Default)]
+struct Written {
+    records: Vec<Revision>,
+    states: Vec<Revision>,
+}
+
+impl Written {
+    /// Notes what a command wrote: the server's state, or the shard's record.
+    fn note(&mut self, number: u16, is_state: bool, revision: Revision) {
+        let place = match is_state {
+            true => usize::from(number).checked_sub(1),
+            false => Some(usize::from(number)),
+        };
+        let written = match is_state {
+            true => &mut self.states,
+            false => &mut self.records,
+        };
+        if let Some(it) = place.and_then(|it| written.get_mut(it)) {
+            *it = revision;
+        }
+    }
+
+    /// Whether the shard's record was written before the server's state was.
+    fn is_before(&self, shard: u16, server: u16) -> bool {
+        let state = usize::from(server)
+            .checked_sub(1)
+            .and_then(|it| self.states.get(it));
+        self.records.get(usize::from(shard)) < state
     }
 }
 
@@ -190,4 +342,24 @@ fn elect(durable: &Durable) -> Result<Revision, Refused> {
             return Ok(revision);
         }
     }
+}
+
+/// Writes the leader's key for this process where nobody has it, and gives its revision; none where another process has
+/// it.
+fn campaigned(durable: &Durable) -> Result<Option<Revision>, Refused> {
+    let lease = durable.member().and_then(|it| it.lease());
+    let lease = Some(lease.ok_or(Refused::NotLeader)?);
+    let own = keys::leader_of(durable.process());
+    let transaction = Transaction::new()
+        .compare(keys::LEADER, Revision::NEVER)
+        .put_under(keys::LEADER, own.clone(), lease)
+        .or_read(keys::LEADER);
+    let found = match durable.store().make(transaction) {
+        Ok(Outcome::Made(revision)) => return Ok(Some(revision)),
+        Ok(Outcome::Lost(reading)) => reading,
+        Err(WriteError::Unknown(_)) => durable.store().read(&[keys::LEADER])?,
+        Err(error) => return Err(error.into()),
+    };
+    let pair = found.get(keys::LEADER).filter(|it| it.value == own);
+    Ok(pair.map(|it| it.revision))
 }

@@ -1,6 +1,8 @@
 use crate::Reply;
 use durkenzo_store::Revision;
 
+pub(crate) use durkenzo_store_sys::{Base, Passing};
+
 /// What a proved server decided of a request that came.
 #[derive(Debug)]
 pub(crate) enum Decision {
@@ -14,8 +16,14 @@ pub(crate) enum Decision {
     Refused,
     /// The server has read nothing.
     NotRead,
-    /// It won't be made any more.
-    Over,
+    /// Another server executes it, but it was forwarded as often as it may be.
+    TooFar,
+    /// A later number of its client is made, so it won't be made any more.
+    Passed,
+    /// Its client is forgotten, so it won't be made any more.
+    Forgotten,
+    /// As many clients are kept as may.
+    TooManyClients,
 }
 
 /// What a server's transaction compares and writes.
@@ -35,18 +43,4 @@ pub(crate) struct Answer {
     pub(crate) client: u64,
     pub(crate) number: u64,
     pub(crate) reply: Reply,
-}
-
-/// What may be behind a base: a batch by its number, or a part of a base by the base's number and its place.
-#[derive(Clone, Copy, Debug, PartialEq, Eq)]
-pub(crate) enum Passing {
-    Batch(u64),
-    Part(u64, u64),
-}
-
-/// A base that a server makes: its number, which is how many batches it stands for, and what lies at its parts.
-#[derive(Debug)]
-pub(crate) struct Base {
-    pub(crate) number: u64,
-    pub(crate) parts: Vec<Vec<u8>>,
 }

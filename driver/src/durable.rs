@@ -1,6 +1,12 @@
 use crate::shard::{Deed, Shard, Ticket};
-use crate::{keys, reading, NotDone, OpenFault, Standing, Step};
-use durkenzo_store::{Outcome, Revision, Seen, Store, Transaction, Watch, WriteError};
+use crate::{
+    keys, process, reading, Came, Elsewhere, Member, NotDone, Numbered, OpenFault, Own, Standing,
+    Step,
+};
+use durkenzo_store::{
+    CompactError, Outcome, Revision, Seen, Store, Transaction, Watch, WriteError,
+};
+use std::collections::BTreeSet;
 use std::fmt;
 use std::sync::atomic::{AtomicBool, AtomicUsize, Ordering};
 use std::sync::mpsc::{self, Receiver, Sender};
@@ -17,15 +23,15 @@ const DELETES: usize = 64;
 /// How long a stop waits for transactions that are under way.
 const STOP: Duration = Duration::from_secs(10);
 
-/// The shards of a store, with all their servers in this process.
+/// The shards of a store, with all their servers in this process, or one of them.
 ///
 /// Whoever gives work isn't kept waiting, and no lock is held while the store is waited for: a shard that waits stops
 /// its own work alone.
 pub struct Durable {
     inner: Arc<Inner>,
     threads: Vec<JoinHandle<()>>,
-    /// It ends with this value.
-    watch: Mutex<Option<Watch>>,
+    /// They end with this value.
+    watches: Mutex<Vec<Watch>>,
 }
 
 /// How shards are driven.
@@ -35,6 +41,19 @@ pub struct Tuning {
     pub wait: Duration,
     /// How many batches a log has before a base stands for them, from which a server begins then.
     pub most_batches: u64,
+    /// How reads are answered.
+    pub reads: Reads,
+}
+
+/// How reads are answered that come alone.
+#[derive(Clone, Copy, Debug, Default, PartialEq, Eq)]
+pub enum Reads {
+    /// By a transaction that compares, so that each is of a moment after it came.
+    #[default]
+    Exact,
+    /// By what the server has in memory, for as long as its lease is kept and it isn't a lease's length ago that a
+    /// transaction compared: others may have written in that time. Where servers have no leases it is as `Exact`.
+    Lease,
 }
 
 impl Default for Tuning {
@@ -42,23 +61,34 @@ impl Default for Tuning {
         Tuning {
             wait: Duration::from_secs(1),
             most_batches: 4_096,
+            reads: Reads::Exact,
         }
     }
 }
 
 /// A reading that was asked for.
 enum Wanted {
-    /// Of this shard, for this server.
-    Shard(u16, u16),
+    /// Of this shard, for a server.
+    Shard(u16, Ticket),
     /// Of what may be behind the base of this shard, for this server.
     Passing(u16, u16),
+    /// Of this shard's record.
+    Record(u16),
+    /// Of the number of a process, for this shard.
+    Process(u16),
 }
 
 struct Inner {
     store: Arc<dyn Store>,
     shards: Box<[Mutex<Shard>]>,
+    /// Of which shards something may wait, or become due.
+    stirred: Box<[AtomicBool]>,
     process: u64,
+    /// The one server of this process, where it hasn't all.
+    own: Option<Own>,
     tuning: Tuning,
+    /// Servers that no request reaches.
+    away: Mutex<BTreeSet<u16>>,
     readings: Mutex<Option<Sender<Wanted>>>,
     under_way: AtomicUsize,
     is_stopping: AtomicBool,
@@ -69,7 +99,8 @@ struct Inner {
 }
 
 impl Durable {
-    /// The shards of this store, so many; `on_change` is told when a record has changed, and when the store has ended.
+    /// The shards of this store, so many, with all their servers in this process; `on_change` is told when a record has
+    /// changed, and when the store has ended.
     ///
     /// # Errors
     ///
@@ -80,41 +111,71 @@ impl Durable {
         tuning: Tuning,
         on_change: Box<dyn Fn() + Send + Sync>,
     ) -> Result<Durable, OpenFault> {
-        let process = begin_process(&*store)?;
+        let process = process::begin(&*store)?;
+        Durable::begin(store, shards, tuning, (process, None), on_change)
+    }
+
+    /// The shards of this store, of which this process has one server, and others have the others; all else is as where
+    /// it has all.
+    ///
+    /// # Errors
+    ///
+    /// Where the store can't be read or written.
+    pub fn open_one(
+        store: Arc<dyn Store>,
+        shards: u16,
+        tuning: Tuning,
+        own: Own,
+        on_change: Box<dyn Fn() + Send + Sync>,
+    ) -> Result<Durable, OpenFault> {
+        let process = own.member.process();
+        Durable::begin(store, shards, tuning, (process, Some(own)), on_change)
+    }
+
+    fn begin(
+        store: Arc<dyn Store>,
+        shards: u16,
+        tuning: Tuning,
+        (process, own): (u64, Option<Own>),
+        on_change: Box<dyn Fn() + Send + Sync>,
+    ) -> Result<Durable, OpenFault> {
         let (readings, wanted) = mpsc::channel();
-        let each = |it| Mutex::new(Shard::new(it, process, tuning.most_batches));
+        let member = own.as_ref().map(|it| it.member.clone());
+        let each = |it| {
+            let shard = Shard::new(it, process, member.clone(), tuning);
+            Mutex::new(shard)
+        };
         let inner = Arc::new(Inner {
             store,
             shards: (0..shards).map(each).collect(),
+            stirred: (0..shards).map(|_| AtomicBool::new(true)).collect(),
             process,
+            own,
             tuning,
             readings: Mutex::new(Some(readings)),
+            away: Mutex::default(),
             under_way: AtomicUsize::new(0),
             is_stopping: AtomicBool::new(false),
             ended: OnceLock::new(),
             on_change,
         });
-        let watch = watch(&inner)?;
-        let wanted = Arc::new(Mutex::new(wanted));
-        let mut threads = Vec::new();
-        for number in 0..READERS {
-            let (inner, wanted) = (inner.clone(), wanted.clone());
-            threads.push(spawn(&format!("reader-{number}"), move || {
-                inner.read_all(&wanted)
-            })?);
-        }
-        let ticking = inner.clone();
-        threads.push(spawn("waits", move || ticking.tick_all())?);
+        let watches = watches(&inner)?;
+        let threads = threads(&inner, wanted)?;
         Ok(Durable {
             inner,
             threads,
-            watch: Mutex::new(Some(watch)),
+            watches: Mutex::new(watches),
         })
     }
 
     /// How many processes had begun here with this one.
     pub fn process(&self) -> u64 {
         self.inner.process
+    }
+
+    /// The server of this process, where it has one.
+    pub fn member(&self) -> Option<&Arc<Member>> {
+        self.inner.own.as_ref().map(|it| &it.member)
     }
 
     /// The store.
@@ -130,15 +191,56 @@ impl Durable {
 
     /// Has the shard do these steps of one client, in their order. Of a shard that there isn't nothing is done.
     pub fn submit(&self, shard: u16, steps: Vec<Step>) {
+        let Some(steps) = self.taken(steps) else {
+            return;
+        };
+        self.inner
+            .with(shard, |it, deeds| it.take(steps, Instant::now(), deeds));
+    }
+
+    /// Has the shard do what came from another process so, where it has waited since then, once the record was seen of
+    /// its revision. Where this process's server isn't who executes it, it ends with [`NotDone::Moved`].
+    pub fn submit_from(&self, shard: u16, steps: Vec<Step>, came: Came, since: Instant) {
+        let Some(steps) = self.taken(steps) else {
+            return;
+        };
+        self.inner.with(shard, |it, deeds| {
+            it.take_from(steps, came, since, Instant::now(), deeds);
+        });
+    }
+
+    /// Takes back what was to go there, of which nothing was made there: as the server didn't get it, or has answered
+    /// [`NotDone::Moved`] with this revision, up to which the record is seen first. It is judged again, within the time
+    /// that work waits.
+    pub fn submit_again(&self, elsewhere: Elsewhere, steps: Vec<Step>, revision: Revision) {
+        let Some(steps) = self.taken(steps) else {
+            return;
+        };
+        self.inner.with(elsewhere.shard, |it, _| {
+            it.take_back(steps, &elsewhere, revision, Instant::now());
+        });
+    }
+
+    /// The steps that may be done; the others come to their end. None where the process or the store has ended.
+    fn taken(&self, steps: Vec<Step>) -> Option<Vec<Step>> {
         let is_over = self.inner.is_stopping.load(Ordering::Acquire);
         if is_over || self.inner.ended.get().is_some() {
             for step in steps {
                 step.work.end(Err(NotDone::Stopped));
             }
-            return;
+            return None;
         }
-        self.inner
-            .with(shard, |it, deeds| it.take(steps, Instant::now(), deeds));
+        let (fit, other): (Vec<Step>, Vec<Step>) =
+            steps.into_iter().partition(|it| it.begin.fits());
+        for step in other {
+            let why = format!(
+                "clients are 1 to {}, their numbers begin with 1, and one is of {} requests at most",
+                Numbered::LAST_CLIENT,
+                Numbered::MOST_REQUESTS
+            );
+            step.work.end(Err(NotDone::NotMade(why)));
+        }
+        Some(fit)
     }
 
     /// The shard's record, as it was seen last.
@@ -171,11 +273,42 @@ impl Durable {
 
     /// Has requests reach the server, or not.
     pub fn set_away(&self, server: u16, is_away: bool) {
+        self.inner.set_away(server, is_away);
+    }
+
+    /// Whether no request reaches the server, by its state in the store as it was seen last; of a process that has all
+    /// servers, by [`Durable::set_away`] alone.
+    pub fn is_away(&self, server: u16) -> bool {
+        self.inner.away().contains(&server)
+    }
+
+    /// Has each shard that this process executes get a base now, deletes what is behind it, and has the store give back
+    /// the room. Before that it does so with what was deleted earlier, so that there is some.
+    ///
+    /// # Errors
+    ///
+    /// As the store says.
+    pub fn compact(&self) -> Result<(), CompactError> {
+        self.inner.store.compact()?;
         for shard in 0..self.shards() {
-            self.inner.with(shard, |it, deeds| {
-                it.set_away(server, is_away, Instant::now(), deeds);
-            });
+            self.inner.with(shard, |it, deeds| it.want_base(deeds));
         }
+        let end = Instant::now() + STOP;
+        while Instant::now() < end && self.has_bases() {
+            thread::sleep(TICK);
+        }
+        self.inner.store.compact()
+    }
+
+    /// Whether a shard makes a base.
+    fn has_bases(&self) -> bool {
+        self.inner.shards.iter().any(|it| locked(it).makes_base())
+    }
+
+    /// How many requests that only read were answered without a transaction.
+    pub fn read_by_lease(&self) -> u64 {
+        let shards = self.inner.shards.iter();
+        shards.map(|it| locked(it).read_by_lease()).sum()
     }
 
     /// Why the store ended, if it did: nothing more is done.
@@ -192,12 +325,10 @@ impl Durable {
 impl Drop for Durable {
     fn drop(&mut self) {
         self.inner.stop();
-        drop(
-            self.watch
-                .lock()
-                .unwrap_or_else(PoisonError::into_inner)
-                .take(),
-        );
+        self.watches
+            .lock()
+            .unwrap_or_else(PoisonError::into_inner)
+            .clear();
         for thread in self.threads.drain(..) {
             // A thread that panicked has said so.
             let _ = thread.join();
@@ -220,19 +351,29 @@ impl Inner {
         let Some(place) = self.shards.get(usize::from(shard)) else {
             return;
         };
-        let mut deeds = Vec::new();
-        work(&mut locked(place), &mut deeds);
+        let (mut deeds, mut held) = (Vec::new(), locked(place));
+        work(&mut held, &mut deeds);
+        self.stirred[usize::from(shard)].store(true, Ordering::Release);
+        drop(held);
         deeds.into_iter().for_each(|it| self.perform(shard, it));
     }
 
     fn perform(self: &Arc<Inner>, shard: u16, deed: Deed) {
         match deed {
             Deed::Submit(ticket, transaction) => self.send(shard, ticket, transaction),
-            Deed::Read(server) => self.want(Wanted::Shard(shard, server)),
+            Deed::Read(ticket) => self.want(Wanted::Shard(shard, ticket)),
             Deed::Sweep(server) => self.want(Wanted::Passing(shard, server)),
             Deed::WriteBase(server, parts) => self.write_base(shard, server, parts),
             Deed::Delete(keys) => self.delete(&keys),
             Deed::Tell(work, outcome) => work.end(outcome),
+            Deed::HandOver(elsewhere, steps) => match &self.own {
+                Some(own) => (own.elsewhere)(elsewhere, steps),
+                None => steps
+                    .into_iter()
+                    .for_each(|it| it.work.end(Err(NotDone::Busy))),
+            },
+            Deed::Look => self.want(Wanted::Record(shard)),
+            Deed::Renew => self.want(Wanted::Process(shard)),
             Deed::Hold(holder) => holder(),
             Deed::StoreEnded(why) => {
                 let _ = self.ended.set(why);
@@ -291,26 +432,69 @@ impl Inner {
         self.store.submit(transaction, Box::new(done));
     }
 
+    fn away(&self) -> MutexGuard<'_, BTreeSet<u16>> {
+        self.away.lock().unwrap_or_else(PoisonError::into_inner)
+    }
+
+    fn set_away(self: &Arc<Inner>, server: u16, is_away: bool) {
+        let is_new = match is_away {
+            true => self.away().insert(server),
+            false => self.away().remove(&server),
+        };
+        if !is_new {
+            return;
+        }
+        for shard in 0..self.shards.len() as u16 {
+            self.with(shard, |it, deeds| {
+                it.set_away(server, is_away, Instant::now(), deeds);
+            });
+        }
+    }
+
     /// Sees what the watch tells of records.
     fn see(self: &Arc<Inner>, seen: Seen) {
-        let records: Vec<_> = match seen {
-            Seen::All(reading) => {
-                let pairs = reading.pairs.into_iter();
-                pairs.map(|it| (it.key, it.value, it.revision)).collect()
-            }
-            Seen::Changes(_, changes) => {
-                let written = changes.into_iter();
-                let written = written.filter_map(|it| Some((it.key, it.value?, it.revision)));
-                written.collect()
-            }
-        };
+        let (moment, records) = told(seen);
+        let (is_change, mut is_awaited) = (!records.is_empty(), false);
         for (key, value, revision) in records {
             if let Some(shard) = keys::shard_of_record(&key) {
                 let standing = Standing::new(value, revision);
+                is_awaited |= standing.is_awaited();
                 self.with(shard, |it, deeds| it.see(standing, Instant::now(), deeds));
             }
         }
+        if let Some(own) = self.own.as_ref().filter(|_| is_change) {
+            own.member.follow(moment, is_awaited);
+        }
         (self.on_change)();
+    }
+
+    /// Sees what the watch tells of states.
+    fn see_states(self: &Arc<Inner>, seen: Seen) {
+        for (key, value, _) in told(seen).1 {
+            if let Some(server) = keys::server_of_state(&key) {
+                self.set_away(server, !keys::is_reached(&value));
+            }
+        }
+        (self.on_change)();
+    }
+
+    /// Reads the shard's record, as somebody has seen a later one.
+    fn read_record(self: &Arc<Inner>, shard: u16) {
+        let key = keys::record(shard);
+        let found = self.store.read(&[&key]).ok();
+        let pair = found.and_then(|it| it.pairs.into_iter().next());
+        // Where it can't be read it is tried again.
+        if let Some(pair) = pair {
+            let standing = Standing::new(pair.value, pair.revision);
+            self.with(shard, |it, deeds| it.see(standing, Instant::now(), deeds));
+        }
+    }
+
+    /// Has the shard's requests have another number of a process.
+    fn renew(self: &Arc<Inner>, shard: u16) {
+        // Where there is none it is tried again.
+        let process = process::begin(&*self.store).unwrap_or(0);
+        self.with(shard, |it, deeds| it.renew(process, Instant::now(), deeds));
     }
 
     /// Reads what is wanted until the process ends.
@@ -318,17 +502,21 @@ impl Inner {
         loop {
             let next = wanted.lock().unwrap_or_else(PoisonError::into_inner).recv();
             match next {
-                Ok(Wanted::Shard(shard, server)) => {
+                Ok(Wanted::Shard(shard, ticket)) => {
                     let count = self.shards.len() as u16;
-                    let read = reading::read(&*self.store, server, shard, count);
+                    let read = reading::read(&*self.store, ticket.server, shard, count);
                     self.with(shard, |it, deeds| {
-                        it.on_read(server, read, Instant::now(), deeds);
+                        it.on_read(ticket, read, Instant::now(), deeds);
                     });
                 }
+                Ok(Wanted::Record(shard)) => self.read_record(shard),
+                Ok(Wanted::Process(shard)) => self.renew(shard),
                 // Where it can't be read, the next base sweeps.
                 Ok(Wanted::Passing(shard, server)) => {
                     if let Ok(found) = reading::passing(&*self.store, shard) {
                         self.with(shard, |it, deeds| it.on_swept(server, &found, deeds));
+                    } else {
+                        self.with(shard, |it, deeds| it.on_swept(server, &[], deeds));
                     }
                 }
                 Err(_) => return,
@@ -341,13 +529,23 @@ impl Inner {
         while !self.is_stopping.load(Ordering::Acquire) {
             thread::sleep(TICK);
             let now = Instant::now();
-            for shard in 0..self.shards.len() as u16 {
-                self.with(shard, |it, deeds| {
-                    it.tick(now, self.tuning.wait, deeds);
-                    it.begin_base(deeds);
-                });
-            }
+            (0..self.shards.len() as u16).for_each(|it| self.tick(it, now));
         }
+    }
+
+    /// Has the shard refuse what has waited in vain. One of which nothing waits is left alone until something is done
+    /// with it again.
+    fn tick(self: &Arc<Inner>, shard: u16, now: Instant) {
+        let place = usize::from(shard);
+        if !self.stirred[place].load(Ordering::Acquire) {
+            return;
+        }
+        self.with(shard, |it, deeds| {
+            it.tick(now, self.tuning.wait, deeds);
+            it.begin_base(deeds);
+        });
+        let held = locked(&self.shards[place]);
+        self.stirred[place].store(held.has_waiting(), Ordering::Release);
     }
 
     fn stop(self: &Arc<Inner>) {
@@ -374,40 +572,56 @@ fn spawn(name: &str, work: impl FnOnce() + Send + 'static) -> Result<JoinHandle<
     thread.spawn(work).map_err(OpenFault::Thread)
 }
 
-/// Watches all records; none is missed from then on.
-fn watch(inner: &Arc<Inner>) -> Result<Watch, OpenFault> {
+/// The threads that read shards, and the one that looks for what has waited in vain.
+fn threads(inner: &Arc<Inner>, wanted: Receiver<Wanted>) -> Result<Vec<JoinHandle<()>>, OpenFault> {
+    let wanted = Arc::new(Mutex::new(wanted));
+    let mut threads = Vec::new();
+    for number in 0..READERS {
+        let (inner, wanted) = (inner.clone(), wanted.clone());
+        let reads = move || inner.read_all(&wanted);
+        threads.push(spawn(&format!("reader-{number}"), reads)?);
+    }
+    let ticking = inner.clone();
+    threads.push(spawn("waits", move || ticking.tick_all())?);
+    Ok(threads)
+}
+
+/// Watches all records, and where other processes have servers the states of those; nothing is missed from then on.
+fn watches(inner: &Arc<Inner>) -> Result<Vec<Watch>, OpenFault> {
     let seeing: Weak<Inner> = Arc::downgrade(inner);
     let watcher = move |seen| {
         if let Some(inner) = seeing.upgrade() {
             inner.see(seen);
         }
     };
-    Ok(inner.store.watch(keys::RECORDS, Box::new(watcher))?)
+    let mut watches = vec![inner.store.watch(keys::RECORDS, Box::new(watcher))?];
+    if inner.own.is_some() {
+        let seeing: Weak<Inner> = Arc::downgrade(inner);
+        let watcher = move |seen| {
+            if let Some(inner) = seeing.upgrade() {
+                inner.see_states(seen);
+            }
+        };
+        watches.push(inner.store.watch(keys::STATES, Box::new(watcher))?);
+    }
+    Ok(watches)
 }
 
-/// Takes the next number of a process, which nobody else has.
-fn begin_process(store: &dyn Store) -> Result<u64, OpenFault> {
-    loop {
-        let reading = store.read(&[keys::PROCESS])?;
-        let (last, revision) = match reading.get(keys::PROCESS) {
-            None => (0, Revision::NEVER),
-            Some(pair) => (number_of(&pair.value)?, pair.revision),
-        };
-        let next = last + 1;
-        let transaction = Transaction::new()
-            .compare(keys::PROCESS, revision)
-            .put(keys::PROCESS, next.to_string());
-        if let Outcome::Made(_) = store.make(transaction)? {
-            return Ok(next);
+/// A key, what lies there, and its revision.
+type Written = (Vec<u8>, Vec<u8>, Revision);
+
+/// The moment of what a watch tells, and what was written.
+fn told(seen: Seen) -> (Revision, Vec<Written>) {
+    match seen {
+        Seen::All(reading) => {
+            let pairs = reading.pairs.into_iter();
+            let written = pairs.map(|it| (it.key, it.value, it.revision));
+            (reading.revision, written.collect())
+        }
+        Seen::Changes(moment, changes) => {
+            let written = changes.into_iter();
+            let written = written.filter_map(|it| Some((it.key, it.value?, it.revision)));
+            (moment, written.collect())
         }
     }
-}
-
-fn number_of(value: &[u8]) -> Result<u64, OpenFault> {
-    let number = std::str::from_utf8(value)
-        .ok()
-        .and_then(|it| it.parse().ok());
-    number
-        .filter(|it| *it < 1 << 40)
-        .ok_or(OpenFault::BadProcess)
 }

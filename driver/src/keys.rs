@@ -4,7 +4,8 @@
 //! |---|---|
 //! | `settings` | what shards and servers there are, written once |
 //! | `process` | how many processes have begun here |
-//! | `leader` | the process that sends commands |
+//! | `leader` | the process that sends commands, under its lease where there are several |
+//! | `server/SERVER` | a process that runs this server, under its lease: where it is, and how far it follows records |
 //! | `commands` | the process that sent the latest command |
 //! | `state/SERVER` | how far a server's restart has come |
 //! | `record/SHARD` | who executes the shard |
@@ -24,6 +25,10 @@ pub const LEADER: &[u8] = b"leader";
 pub const COMMANDS: &[u8] = b"commands";
 /// What all records begin with.
 pub const RECORDS: &[u8] = b"record/";
+/// What the keys of servers that are there begin with.
+pub(crate) const SERVERS: &[u8] = b"server/";
+/// What all states of servers begin with.
+pub(crate) const STATES: &[u8] = b"state/";
 
 /// The record of a shard that was never changed: vacant, by nobody. A server's state is so where it is up.
 pub(crate) const VACANT: [u8; 17] = {
@@ -45,8 +50,27 @@ pub fn record(shard: u16) -> Vec<u8> {
 
 /// The shard of this key, where it is a record's.
 pub(crate) fn shard_of_record(key: &[u8]) -> Option<u16> {
-    let digits = key.strip_prefix(RECORDS)?;
+    number_behind(key, RECORDS)
+}
+
+/// The server of this key, where it is that of one that is there.
+pub(crate) fn server_of(key: &[u8]) -> Option<u16> {
+    number_behind(key, SERVERS)
+}
+
+/// The server of this key, where it is that of a state.
+pub(crate) fn server_of_state(key: &[u8]) -> Option<u16> {
+    number_behind(key, STATES)
+}
+
+fn number_behind(key: &[u8], prefix: &[u8]) -> Option<u16> {
+    let digits = key.strip_prefix(prefix)?;
     std::str::from_utf8(digits).ok()?.parse().ok()
+}
+
+/// The key of a server that is there.
+pub(crate) fn server(server: u16) -> Vec<u8> {
+    format!("server/{server:05}").into_bytes()
 }
 
 /// The server's state.
@@ -57,6 +81,18 @@ pub(crate) fn state(server: u16) -> Vec<u8> {
 /// What lies at the leader's key for this process.
 pub(crate) fn leader_of(process: u64) -> Vec<u8> {
     [&[1][..], &process.to_be_bytes()].concat()
+}
+
+/// The process that these bytes at the leader's key tell.
+pub(crate) fn process_of(bytes: &[u8]) -> Option<u64> {
+    let (version, number) = bytes.split_first()?;
+    (*version == 1).then(|| number.try_into().ok().map(u64::from_be_bytes))?
+}
+
+/// Whether requests reach a server of which these bytes are the state: it is neither stopped nor failed.
+pub(crate) fn is_reached(state: &[u8]) -> bool {
+    let number = state.get(1..9).and_then(|it| it.try_into().ok());
+    number.is_none_or(|it| u64::from_be_bytes(it) < 3)
 }
 
 /// The head of the shard's log.

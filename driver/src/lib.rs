@@ -4,17 +4,24 @@
 //! Whoever has something to ask gives [`Step`]s to a shard by [`Durable::submit`]. All that waits there goes into one
 //! transaction together, and is told once that is made.
 #![warn(missing_docs)]
-#![deny(unsafe_code)]
+#![forbid(unsafe_code)]
 
+mod addresses;
 mod command;
 mod control;
 mod core_fault;
 mod decision;
 mod durable;
+mod elsewhere;
+mod join_fault;
+mod key_index;
 pub mod keys;
+mod listing;
+mod member;
+mod members;
 mod open_fault;
-#[allow(unsafe_code)]
-mod raw;
+mod process;
+mod proved;
 mod reading;
 mod refused;
 mod request;
@@ -23,12 +30,17 @@ mod shard;
 mod standing;
 mod work;
 
+pub use addresses::Addresses;
 pub use command::{Command, Next};
 pub use control::Control;
-pub(crate) use core_fault::{Code, CoreFault};
-pub use durable::{Durable, Tuning};
+pub(crate) use core_fault::CoreFault;
+pub use durable::{Durable, Reads, Tuning};
+pub use elsewhere::{Came, Elsewhere, HandOver, Own};
+pub use join_fault::JoinFault;
+pub use member::Member;
+pub use members::{Live, Members};
 pub use open_fault::OpenFault;
 pub use refused::Refused;
-pub use request::{Key, Reply, Request};
+pub use request::{Key, Range, Reply, Request};
 pub use standing::Standing;
-pub use work::{Begin, NotDone, Outcome, Step, Work};
+pub use work::{Begin, NotDone, Numbered, Outcome, Step, Work};

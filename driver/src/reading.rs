@@ -1,11 +1,12 @@
-//! How a shard is read: its record and the head of its log at one moment, and then what the head names: the parts of the
-//! base, and the batches after it.
+//! How a shard is read: its record and the head of its log at one moment, and then what the head names: the parts of
+//! the base, and the batches after it.
 use crate::decision::Passing;
 use crate::keys;
-use crate::raw::{Core, LogHead};
+use crate::proved::Core;
 use crate::shard::NotRead;
 use crate::{core_fault::CoreFault, Standing};
 use durkenzo_store::{ReadError, Reading, Revision, Store};
+use durkenzo_store_sys::Head;
 
 /// How many batches are read at once, and how many parts.
 const BATCHES: u64 = 64;
@@ -32,8 +33,9 @@ impl From<CoreFault> for NotRead {
 /// A server that has read the shard.
 pub(crate) struct Read {
     pub(crate) core: Core,
-    /// The record that it read.
+    /// The record that it read, and the revision of the log's head.
     pub(crate) standing: Standing,
+    pub(crate) logged: Revision,
     pub(crate) log: LogSize,
 }
 
@@ -58,7 +60,7 @@ pub(crate) fn read(
     let reading = store.read(&[&record, &head])?;
     let (record, stood) = found(&reading, &record, &keys::VACANT);
     let (head, logged) = found(&reading, &head, &keys::EMPTY);
-    let named = LogHead::of(&head)?;
+    let named = Head::of(&head).map_err(CoreFault)?;
     let mut core = Core::new(server, shard, count)?;
     let parts = (0..named.parts).map(|place| keys::part(shard, named.base, place));
     let base = each(store, parts, PARTS, |it| core.add_part(it))?;
@@ -68,6 +70,7 @@ pub(crate) fn read(
     Ok(Read {
         core,
         standing: Standing::new(record, stood),
+        logged,
         log: LogSize {
             base,
             batches: named.batches - named.base,
@@ -111,7 +114,7 @@ fn each(
 pub(crate) fn passing(store: &dyn Store, shard: u16) -> Result<Vec<Passing>, NotRead> {
     let key = keys::head(shard);
     let reading = store.read(&[&key])?;
-    let named = LogHead::of(&found(&reading, &key, &keys::EMPTY).0)?;
+    let named = Head::of(&found(&reading, &key, &keys::EMPTY).0).map_err(CoreFault)?;
     let parts = store.read_all(&keys::bases(shard))?.pairs.into_iter();
     let parts = parts.filter_map(|it| keys::base_and_place(&it.key));
     let mut passing: Vec<_> = parts

@@ -1,6 +1,15 @@
 /// A key of a shard: 1 to 255 bytes.
 pub type Key = Box<[u8]>;
 
+/// The kinds of requests, as their bytes tell them.
+const GET: u8 = 1;
+pub(crate) const PUT: u8 = 2;
+pub(crate) const APPEND: u8 = 3;
+pub(crate) const ADD: u8 = 4;
+pub(crate) const DELETE: u8 = 5;
+/// How many bytes the amount of an addition has.
+pub(crate) const COUNT_BYTES: usize = 8;
+
 /// A request that a shard's map makes.
 #[derive(Clone, Debug, PartialEq, Eq)]
 pub enum Request {
@@ -28,17 +37,17 @@ impl Request {
     /// Its bytes: the kind, how long the key is, the key, and what goes with it.
     pub(crate) fn bytes(&self) -> Vec<u8> {
         match self {
-            Request::Put(key, text) => spelled(2, key, text),
-            Request::Append(key, more) => spelled(3, key, more),
-            Request::Add(key, amount) => spelled(4, key, &amount.to_be_bytes()),
-            Request::Delete(key) => spelled(5, key, &[]),
+            Request::Put(key, text) => spelled(PUT, key, text),
+            Request::Append(key, more) => spelled(APPEND, key, more),
+            Request::Add(key, amount) => spelled(ADD, key, &amount.to_be_bytes()),
+            Request::Delete(key) => spelled(DELETE, key, &[]),
         }
     }
 }
 
 /// The bytes of a request for what the key holds.
 pub(crate) fn get_bytes(key: &[u8]) -> Vec<u8> {
-    spelled(1, key, &[])
+    spelled(GET, key, &[])
 }
 
 fn spelled(kind: u8, key: &[u8], rest: &[u8]) -> Vec<u8> {
@@ -51,9 +60,27 @@ fn spelled(kind: u8, key: &[u8], rest: &[u8]) -> Vec<u8> {
     bytes
 }
 
+/// Some of a shard's keys, in their order.
+#[derive(Clone, Debug, PartialEq, Eq)]
+pub struct Range {
+    /// They are no lower than this, which may be empty.
+    pub low: Box<[u8]>,
+    /// They are lower than this, where it is told.
+    pub high: Option<Box<[u8]>>,
+    /// So many at most; no more than [`Range::MOST`] are given.
+    pub most: usize,
+}
+
+impl Range {
+    /// How many pairs are given at once.
+    pub const MOST: usize = 100;
+}
+
 /// What a shard's map replied.
 #[derive(Clone, Debug, PartialEq, Eq)]
 pub enum Reply {
+    /// A key, and what it holds: of a range.
+    Pair(Key, Box<Reply>),
     /// The key held nothing.
     Nothing,
     /// It was done.

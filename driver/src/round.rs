@@ -1,21 +1,46 @@
+use crate::listing::{Listed, Listing};
 use crate::request::get_bytes;
-use crate::work::{Begin, Outcome, Step, Work};
-use crate::{Key, NotDone, Reply, Request};
-use std::collections::{BTreeSet, HashSet, VecDeque};
+use crate::work::{Begin, Numbered, Outcome, Step, Work};
+use crate::{Came, Key, NotDone, Reply, Request};
+use durkenzo_store::Revision;
+use std::collections::{BTreeSet, HashMap, HashSet, VecDeque};
 use std::time::Instant;
 
 /// How many requests a round takes before no more work comes in, and how many bytes of them.
 const MOST_REQUESTS: usize = 1_024;
 const MOST_BYTES: usize = 1 << 20;
 
+/// How many bits of a client's number tell its place in a round; those above tell the process.
+pub(crate) const PLACE_BITS: u32 = 16;
+
+/// Where steps are from.
+#[derive(Clone, Copy, Debug, PartialEq, Eq)]
+pub(crate) struct Origin {
+    /// The number of their run.
+    pub(crate) run: u64,
+    /// Since when they wait.
+    pub(crate) since: Instant,
+    /// How they came from another process; none where a client gave them to this one.
+    pub(crate) came: Option<Came>,
+}
+
 /// What a client gave at once, in its order.
 pub(crate) struct Run {
-    pub(crate) number: u64,
+    pub(crate) origin: Origin,
     pub(crate) steps: VecDeque<Step>,
-    pub(crate) since: Instant,
+    /// The revision of the record that has to be seen first, and the time that has to come.
+    pub(crate) after: Revision,
+    pub(crate) not_before: Option<Instant>,
+    /// Where this process's server forwards it, by the record of that revision, and how often it was forwarded then.
+    pub(crate) leaves: Option<(u16, u8, Revision)>,
 }
 
 impl Run {
+    /// Whether the time has come before which it stays as it is.
+    pub(crate) fn is_due(&self, now: Instant) -> bool {
+        self.not_before.is_none_or(|it| now >= it)
+    }
+
     /// The next step, where the round has room.
     fn next(&mut self, round: &Round) -> Option<Step> {
         match round.is_full() {
@@ -24,10 +49,10 @@ impl Run {
         }
     }
 
-    /// Gives the round its next steps, as many as go into that.
-    pub(crate) fn give(&mut self, round: &mut Round) {
+    /// Gives the round its next steps, as many as go into that; keys are listed by this server, where it is ready.
+    pub(crate) fn give(&mut self, round: &mut Round, listing: Option<Listing<'_>>) {
         while let Some(step) = self.next(round) {
-            if let Err(step) = round.take(self.number, step) {
+            if let Err(step) = round.take(self.origin, step, listing) {
                 self.steps.push_front(step);
                 return;
             }
@@ -37,40 +62,78 @@ impl Run {
 
 /// A change that has read its keys: its requests come first in the next round.
 pub(crate) struct Decided {
-    pub(crate) run: u64,
-    pub(crate) work: Box<dyn Work>,
+    pub(crate) origin: Origin,
+    pub(crate) step: Step,
     pub(crate) requests: Vec<Request>,
 }
 
-/// What a step of a round is.
+/// What a step of a round does there.
 #[derive(Clone, Copy, PartialEq, Eq)]
 enum Kind {
     Read,
+    /// It goes over keys.
+    List,
+    /// It reads what it decides by.
     Change,
     Write,
+    /// It writes what it decided.
+    Decided,
 }
 
 /// A step of which the round has the requests.
 struct Taken {
-    work: Box<dyn Work>,
+    step: Step,
     kind: Kind,
-    run: u64,
+    origin: Origin,
     first: usize,
     count: usize,
+    /// What was listed for it, where it goes over keys and its server was ready.
+    listed: Option<Listed>,
+    /// Why it isn't done, where it won't be.
+    ends: Option<NotDone>,
+}
+
+impl Taken {
+    /// What is told of it, where its requests were replied to so.
+    fn told(&mut self, replies: Vec<Reply>) -> Vec<Reply> {
+        match self.listed.take() {
+            Some(listed) => listed.told(replies),
+            None => replies,
+        }
+    }
 }
 
 /// A request of a round.
 pub(crate) struct Asked {
     pub(crate) bytes: Vec<u8>,
+    /// Whose it is, by the numbers that the shard keeps.
+    pub(crate) client: u64,
+    pub(crate) number: u64,
+    /// The place of its step among those of the round.
+    pub(crate) step: usize,
     pub(crate) reply: Option<Reply>,
     /// The server at which it waits.
     pub(crate) waits_at: Option<u16>,
+}
+
+impl Asked {
+    /// Whether it has its reply, or waits at a server.
+    pub(crate) fn is_placed(&self) -> bool {
+        self.reply.is_some() || self.waits_at.is_some()
+    }
 }
 
 /// What becomes of a round's work once all is replied.
 pub(crate) enum Ended {
     Told(Box<dyn Work>, Vec<Reply>),
     Decided(Decided),
+}
+
+/// What becomes of a round's work where it is taken apart.
+pub(crate) enum Parted {
+    Told(Box<dyn Work>, Outcome),
+    /// It begins anew.
+    Again(Origin, Step),
 }
 
 /// Requests that are decided together, and sent together: the group of a group commit.
@@ -84,6 +147,14 @@ pub(crate) struct Round {
     pub(crate) asked: Vec<Asked>,
     /// Whether a part of it may have been made, as what became of a transaction isn't known.
     pub(crate) may_be_made: bool,
+    /// Whether others may have written since its changes were decided.
+    pub(crate) is_broken: bool,
+    /// The number of the process, which its clients' numbers begin with.
+    pub(crate) process: u64,
+    /// Whether it takes reads alone, which are answered without a transaction.
+    pub(crate) only_reads: bool,
+    /// Where requests are of clients that number them.
+    numbered: HashMap<u64, usize>,
     taken: Vec<Taken>,
     bytes: usize,
     read: HashSet<Key>,
@@ -94,12 +165,16 @@ pub(crate) struct Round {
 }
 
 impl Round {
-    pub(crate) fn new(number: u64, since: Instant) -> Round {
+    pub(crate) fn new(number: u64, process: u64, since: Instant) -> Round {
         Round {
             number,
             since,
             asked: Vec::new(),
             may_be_made: false,
+            is_broken: false,
+            process,
+            only_reads: false,
+            numbered: HashMap::new(),
             taken: Vec::new(),
             bytes: 0,
             read: HashSet::new(),
@@ -121,86 +196,186 @@ impl Round {
     /// Takes what a change decided.
     pub(crate) fn take_decided(&mut self, decided: Decided) {
         let Decided {
-            run,
-            work,
+            origin,
+            step,
             requests,
         } = decided;
-        self.wrote.insert(run);
-        self.add_writes(work, run, requests);
+        self.wrote.insert(origin.run);
+        self.note_written(&requests);
+        let bytes = requests.iter().map(Request::bytes).collect();
+        self.add(step, Kind::Decided, origin, bytes, None);
     }
 
-    /// Takes the run's next step, or gives it back where it has to wait for the next round.
-    pub(crate) fn take(&mut self, run: u64, step: Step) -> Result<(), Step> {
+    /// Takes the run's next step, or gives it back where it has to wait for the next round. What goes over keys is
+    /// listed by this server, where it is ready.
+    pub(crate) fn take(
+        &mut self,
+        origin: Origin,
+        step: Step,
+        listing: Option<Listing<'_>>,
+    ) -> Result<(), Step> {
+        let run = origin.run;
         if !self.may_take(run, &step.begin) {
             self.stopped.insert(run);
             return Err(step);
         }
-        let Step { begin, work } = step;
-        match begin {
-            Begin::Read(keys) => self.add_reads(work, Kind::Read, run, keys),
+        let gets = |keys: &[Key]| keys.iter().map(|it| get_bytes(it)).collect();
+        let (kind, bytes) = match &step.begin {
+            Begin::Read(keys) => (Kind::Read, gets(keys)),
+            Begin::Scan(_) | Begin::Count => {
+                let listed = listing.map(|it| it.list(&step.begin));
+                self.add_list(step, origin, listed);
+                return Ok(());
+            }
             Begin::Change(keys) => {
                 self.stopped.insert(run);
                 self.read.extend(keys.iter().cloned());
-                self.add_reads(work, Kind::Change, run, keys);
+                (Kind::Change, gets(keys))
             }
-            Begin::Write(requests) => {
+            Begin::Write(requests) | Begin::Numbered(_, requests) => {
                 self.wrote.insert(run);
-                self.add_writes(work, run, requests);
+                self.note_written(requests);
+                (Kind::Write, requests.iter().map(Request::bytes).collect())
             }
-        }
+        };
+        let numbered = match &step.begin {
+            Begin::Numbered(numbered, _) => Some(*numbered),
+            _ => None,
+        };
+        self.add(step, kind, origin, bytes, numbered);
         Ok(())
     }
 
+    fn add_list(&mut self, step: Step, origin: Origin, listed: Option<Listed>) {
+        let bytes = Listed::requests(listed.as_ref());
+        self.add(step, Kind::List, origin, bytes, None);
+        if let Some(taken) = self.taken.last_mut() {
+            taken.listed = listed;
+        }
+    }
+
     fn may_take(&self, run: u64, begin: &Begin) -> bool {
+        let reads = |it: &Request| self.read.contains(it.key());
         let may = match begin {
-            Begin::Read(_) => !self.wrote.contains(&run),
+            Begin::Read(_) | Begin::Scan(_) | Begin::Count => !self.wrote.contains(&run),
             Begin::Change(keys) => {
                 let is_taken = |it| self.written.contains(it) || self.read.contains(it);
                 !self.wrote.contains(&run) && !keys.iter().any(is_taken)
             }
-            Begin::Write(requests) => !requests.iter().any(|it| self.read.contains(it.key())),
+            Begin::Write(requests) => !requests.iter().any(reads),
+            // Of a client that numbers its requests one number waits at a time.
+            Begin::Numbered(numbered, requests) => {
+                !self.numbered.contains_key(&numbered.first()) && !requests.iter().any(reads)
+            }
         };
+        let may = may && (begin.only_reads() || !self.only_reads);
         may && !self.stopped.contains(&run)
     }
 
-    fn add_reads(&mut self, work: Box<dyn Work>, kind: Kind, run: u64, keys: Vec<Key>) {
-        let requests = keys.iter().map(|it| get_bytes(it)).collect();
-        self.add(work, kind, run, requests);
-    }
-
-    fn add_writes(&mut self, work: Box<dyn Work>, run: u64, requests: Vec<Request>) {
+    fn note_written(&mut self, requests: &[Request]) {
         self.written
             .extend(requests.iter().map(|it| it.key().clone()));
-        let requests = requests.iter().map(Request::bytes).collect();
-        self.add(work, Kind::Write, run, requests);
     }
 
-    fn add(&mut self, work: Box<dyn Work>, kind: Kind, run: u64, requests: Vec<Vec<u8>>) {
-        let (first, count) = (self.asked.len(), requests.len());
+    fn add(
+        &mut self,
+        step: Step,
+        kind: Kind,
+        origin: Origin,
+        requests: Vec<Vec<u8>>,
+        numbered: Option<Numbered>,
+    ) {
+        self.since = self.since.min(origin.since);
+        let (first, count, place) = (self.asked.len(), requests.len(), self.taken.len());
         self.bytes += requests.iter().map(Vec::len).sum::<usize>();
-        self.asked.extend(requests.into_iter().map(|bytes| Asked {
-            bytes,
-            reply: None,
-            waits_at: None,
-        }));
+        let floor = self.process << PLACE_BITS;
+        for (at, bytes) in requests.into_iter().enumerate() {
+            let (client, number) = match numbered {
+                Some(it) => (it.first() + at as u64, it.number),
+                None => (floor + (first + at) as u64, self.number),
+            };
+            if numbered.is_some() {
+                self.numbered.insert(client, first + at);
+            }
+            self.asked.push(Asked {
+                bytes,
+                client,
+                number,
+                step: place,
+                reply: None,
+                waits_at: None,
+            });
+        }
         self.taken.push(Taken {
-            work,
+            step,
             kind,
-            run,
+            origin,
             first,
             count,
+            listed: None,
+            ends: None,
         });
+    }
+
+    /// The request of this client and number, where it is of this round.
+    pub(crate) fn asked_by(&mut self, client: u64, number: u64) -> Option<&mut Asked> {
+        let floor = self.process << PLACE_BITS;
+        let place = self.numbered.get(&client).copied();
+        let place = place.or_else(|| usize::try_from(client.checked_sub(floor)?).ok())?;
+        let asked = self.asked.get_mut(place)?;
+        (asked.client == client && asked.number == number).then_some(asked)
+    }
+
+    /// Where the step of this request is from.
+    pub(crate) fn origin_of(&self, asked: &Asked) -> Option<Origin> {
+        Some(self.taken.get(asked.step)?.origin)
+    }
+
+    /// Whether the request is of a client that numbers them.
+    pub(crate) fn is_numbered(&self, asked: &Asked) -> bool {
+        self.numbered.contains_key(&asked.client)
+    }
+
+    /// Has the step of this place come to its end so.
+    pub(crate) fn end_step(&mut self, place: usize, why: NotDone) {
+        if let Some(taken) = self.taken.get_mut(place) {
+            taken.ends = Some(why);
+        }
+    }
+
+    /// Has all steps of this run come to their end so.
+    pub(crate) fn end_run(&mut self, run: u64, why: &NotDone) {
+        let of_run = self.taken.iter_mut().filter(|it| it.origin.run == run);
+        of_run.for_each(|it| it.ends = Some(why.clone()));
+    }
+
+    /// Whether it has what a change decided, of which nothing is made.
+    pub(crate) fn has_undone_change(&self) -> bool {
+        let is_undone = |it: &Taken| {
+            let asked = self.asked[it.first..][..it.count].iter();
+            it.kind == Kind::Decided && asked.clone().any(|it| it.reply.is_none())
+        };
+        self.taken.iter().any(is_undone)
+    }
+
+    /// Whether keys were listed by another server than the one at which that waits, or by an earlier head than the one
+    /// that it has, which this tells: then they may not be those that it has.
+    pub(crate) fn is_listed_elsewhere(&self, logged: impl Fn(u16) -> Option<Revision>) -> bool {
+        let is_elsewhere = |it: &Taken| {
+            let asked = self.asked[it.first..][..it.count].iter();
+            let mut undone = asked.filter(|it| it.reply.is_none());
+            undone.any(|asked| match (&it.listed, asked.waits_at) {
+                (Some(listed), Some(server)) => !listed.is_by(server, logged(server)),
+                _ => true,
+            })
+        };
+        let mut lists = self.taken.iter().filter(|it| it.kind == Kind::List);
+        lists.any(is_elsewhere)
     }
 
     /// Whether each request has its reply.
     pub(crate) fn is_replied(&self) -> bool {
         self.asked.iter().all(|it| it.reply.is_some())
-    }
-
-    /// Whether each request has its reply, or waits at a server.
-    pub(crate) fn is_with_servers(&self) -> bool {
-        let is_with = |it: &Asked| it.reply.is_some() || it.waits_at.is_some();
-        self.asked.iter().all(is_with)
     }
 
     /// The servers at which requests wait.
@@ -223,15 +398,16 @@ impl Round {
         let mut replies = self.asked.into_iter().filter_map(|it| it.reply);
         let ended = self.taken.into_iter().map(|mut it| {
             let told: Vec<Reply> = replies.by_ref().take(it.count).collect();
+            let told = it.told(told);
             if it.kind != Kind::Change {
-                return Ended::Told(it.work, told);
+                return Ended::Told(it.step.work, told);
             }
-            let requests = it.work.decide(told);
+            let requests = it.step.work.decide(told);
             match requests.is_empty() {
-                true => Ended::Told(it.work, Vec::new()),
+                true => Ended::Told(it.step.work, Vec::new()),
                 false => Ended::Decided(Decided {
-                    run: it.run,
-                    work: it.work,
+                    origin: it.origin,
+                    step: it.step,
                     requests,
                 }),
             }
@@ -239,20 +415,38 @@ impl Round {
         ended.collect()
     }
 
+    /// Its work with what becomes of each, where nothing of what isn't replied is made, or will be.
+    pub(crate) fn parted(self) -> Vec<Parted> {
+        let asked = self.asked;
+        let parted = self.taken.into_iter().map(|mut it| {
+            let replies =
+                replies_of(&asked[it.first..][..it.count]).map(|replies| it.told(replies));
+            match (replies.filter(|_| it.kind != Kind::Change), it.ends) {
+                (Some(replies), _) => Parted::Told(it.step.work, Ok(replies)),
+                (None, Some(why)) => Parted::Told(it.step.work, Err(why)),
+                (None, None) => Parted::Again(it.origin, it.step),
+            }
+        });
+        parted.collect()
+    }
+
     /// Its work with what became of each, where it goes no further: what is replied is, and all else isn't done.
     pub(crate) fn given_up(self, why: &NotDone) -> Vec<(Box<dyn Work>, Outcome)> {
         let asked = self.asked;
-        let told = self.taken.into_iter().map(|it| {
-            let replies = asked[it.first..][..it.count]
-                .iter()
-                .map(|it| it.reply.clone());
-            let replies: Option<Vec<Reply>> = replies.collect();
+        let told = self.taken.into_iter().map(|mut it| {
+            let replies =
+                replies_of(&asked[it.first..][..it.count]).map(|replies| it.told(replies));
             let outcome = match replies.filter(|_| it.kind != Kind::Change) {
                 Some(replies) => Ok(replies),
                 None => Err(why.clone()),
             };
-            (it.work, outcome)
+            (it.step.work, outcome)
         });
         told.collect()
     }
+}
+
+/// The replies to these requests, where each has one.
+fn replies_of(asked: &[Asked]) -> Option<Vec<Reply>> {
+    asked.iter().map(|it| it.reply.clone()).collect()
 }

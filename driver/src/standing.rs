@@ -1,5 +1,5 @@
 use crate::keys;
-use durkenzo::{word, Record};
+use durkenzo::{word, Record, Stand};
 use durkenzo_store::Revision;
 
 /// A shard's record as it lies in the store.
@@ -34,6 +34,12 @@ impl Standing {
     pub fn record(&self) -> Option<Record> {
         let word = self.bytes.get(1..9)?.try_into().ok()?;
         word::record(u64::from_be_bytes(word))
+    }
+
+    /// Whether whoever leads waits until all servers go by it, before the previous owner may drop the shard.
+    pub(crate) fn is_awaited(&self) -> bool {
+        self.record()
+            .is_some_and(|it| matches!(it.stand, Stand::Taken { .. }))
     }
 
     /// Whether the server owns the shard, or is its next or previous owner.

@@ -1,4 +1,5 @@
-use crate::{Key, Reply, Request};
+use crate::{Key, Range, Reply, Request};
+use durkenzo_store::Revision;
 use thiserror::Error;
 
 /// What was read, or replied to what was written; or why it wasn't done.
@@ -6,9 +7,15 @@ pub type Outcome = Result<Vec<Reply>, NotDone>;
 
 /// What a client asks of one shard.
 pub trait Work: Send {
-    /// What is to be written, where the keys that it began with hold this. It is asked once, of work that began by
-    /// [`Begin::Change`], and nobody else writes those keys until it is made.
+    /// What is to be written, where the keys that it began with hold this: of work that began by [`Begin::Change`].
+    /// Nobody else writes those keys until it is made; where somebody did, nothing of it is, and it is asked again.
     fn decide(&mut self, held: Vec<Reply>) -> Vec<Request>;
+
+    /// How another process of this program reads it.
+    fn spell(&self) -> Vec<u8>;
+
+    /// It is over: another process has answered it so. It must not wait.
+    fn answered(self: Box<Self>, answer: &[u8]);
 
     /// It is over. It must not wait.
     fn end(self: Box<Self>, outcome: Outcome);
@@ -19,10 +26,62 @@ pub trait Work: Send {
 pub enum Begin {
     /// It reads these keys, and that is all.
     Read(Vec<Key>),
+    /// It reads the first pairs of these keys: replied is a [`Reply::Pair`] for each.
+    Scan(Range),
+    /// It counts the keys that hold something: replied is their number.
+    Count,
     /// It reads these keys, and decides by what they hold what it writes.
     Change(Vec<Key>),
     /// It writes so, all at once or nothing.
     Write(Vec<Request>),
+    /// It writes so once, however often and wherever it is asked for, and replies as it did first.
+    Numbered(Numbered, Vec<Request>),
+}
+
+impl Begin {
+    /// Whether it changes nothing, so that it makes no difference to do it twice.
+    pub fn only_reads(&self) -> bool {
+        matches!(self, Begin::Read(_) | Begin::Scan(_) | Begin::Count)
+    }
+
+    /// Whether a shard can keep note of it: what isn't numbered always fits.
+    pub(crate) fn fits(&self) -> bool {
+        match self {
+            Begin::Numbered(numbered, requests) => {
+                numbered.number > 0
+                    && (1..=Numbered::LAST_CLIENT).contains(&numbered.client)
+                    && requests.len() <= Numbered::MOST_REQUESTS
+            }
+            _ => true,
+        }
+    }
+}
+
+/// The number that a client gives its work. The same number always has the same requests, and a greater one has the
+/// smaller ones be [`NotDone::Passed`] where they aren't made.
+#[derive(Clone, Copy, Debug, PartialEq, Eq, Hash)]
+pub struct Numbered {
+    /// The client, from 1 on.
+    pub client: u64,
+    /// Its number, from 1 on.
+    pub number: u64,
+}
+
+impl Numbered {
+    /// The greatest number of a client. What one wrote last its shards keep for good, so they have room for all
+    /// clients.
+    pub const LAST_CLIENT: u64 = 4_096;
+    /// How many requests are written under one number at most.
+    pub const MOST_REQUESTS: usize = 16;
+    /// Of how many requests a shard keeps note at most.
+    pub(crate) const MOST_KEPT: usize = Numbered::LAST_CLIENT as usize * Numbered::MOST_REQUESTS;
+    const PLACE_BITS: u32 = 8;
+
+    /// The number that the shard keeps the client's first request by. The others follow; all are above those of
+    /// processes, so none is ever forgotten.
+    pub(crate) fn first(self) -> u64 {
+        1 << 63 | self.client << Numbered::PLACE_BITS
+    }
 }
 
 /// Work, and how it begins.
@@ -60,6 +119,15 @@ pub enum NotDone {
     /// It may have been made.
     #[error("it isn't known whether it was made: {0}")]
     Unknown(String),
+    /// Another server executes it, by the record of this revision or a later one: nothing of it was made here.
+    #[error("another server executes it, by the record of revision {0}")]
+    Moved(Revision),
+    /// A later number of its client is made, so this one won't be.
+    #[error("a later number of its client is made")]
+    Passed,
+    /// As many clients' numbers are kept as may, and its client's isn't among them.
+    #[error("the shard keeps no further client's numbers")]
+    TooManyClients,
     /// The process ends.
     #[error("the process ends")]
     Stopped,

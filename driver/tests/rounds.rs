@@ -160,3 +160,42 @@ fn a_base_stands_for_what_was_made_before() {
     ];
     assert_eq!(ask(&durable, 0, Begin::Read(keys), None), Ok(found));
 }
+
+/// What was written before the store gives back room is there after it, and for the next process.
+fn is_there_after_compacting(store: &Arc<dyn Store>) {
+    let durable = Arc::new(opened(store, 2));
+    let _control = led(&durable);
+    for shard in 0..2 {
+        (0..30).for_each(|_| drop(add(&durable, shard, b"a", 1).unwrap()));
+    }
+    durable.compact().unwrap();
+    assert_eq!(held(&durable, 0, b"a"), Ok(vec![Reply::Count(30)]));
+    assert_eq!(add(&durable, 1, b"a", 1), Ok(vec![Reply::Count(31)]));
+    durable.stop();
+    let durable = opened(store, 2);
+    assert_eq!(held(&durable, 0, b"a"), Ok(vec![Reply::Count(30)]));
+    assert_eq!(held(&durable, 1, b"a"), Ok(vec![Reply::Count(31)]));
+    durable.stop();
+}
+
+#[test]
+fn compacting_keeps_what_memory_has() {
+    let store: Arc<dyn Store> = Arc::new(Embedded::in_memory());
+    is_there_after_compacting(&store);
+}
+
+#[test]
+fn compacting_keeps_what_a_folder_has() {
+    let folder = std::env::temp_dir().join(format!("durkenzo-compact-{}", std::process::id()));
+    let open = || Embedded::in_folder(&folder, durkenzo_store::Sync::No).unwrap();
+    let store: Arc<dyn Store> = Arc::new(open());
+    is_there_after_compacting(&store);
+    drop(store);
+    // SQLite reads its file anew.
+    let store: Arc<dyn Store> = Arc::new(open());
+    let durable = opened(&store, 2);
+    assert_eq!(held(&durable, 0, b"a"), Ok(vec![Reply::Count(30)]));
+    drop(durable);
+    drop(store);
+    std::fs::remove_dir_all(folder).unwrap();
+}

@@ -21,13 +21,24 @@ const LEAST_BYTES: u64 = 1 << 20;
 impl Shard {
     /// Begins a base where the log is long.
     pub(crate) fn begin_base(&mut self, deeds: &mut Vec<Deed>) {
+        if self.is_log_long() && self.base.is_none() {
+            self.want_base(deeds);
+        }
+    }
+
+    /// Whether the log is to get another base.
+    pub(super) fn is_log_long(&self) -> bool {
         let LogSize {
             base,
             batches,
             bytes,
         } = self.log;
-        let is_long = batches >= self.most_batches || bytes >= LEAST_BYTES.max(2 * base);
-        if !is_long || self.base.is_some() {
+        batches >= self.tuning.most_batches || bytes >= LEAST_BYTES.max(2 * base)
+    }
+
+    /// Begins a base, where the server that executes is of this process and makes none.
+    pub(crate) fn want_base(&mut self, deeds: &mut Vec<Deed>) {
+        if self.base.is_some() {
             return;
         }
         let owner = self.standing.record().and_then(|it| it.owner());
@@ -47,6 +58,11 @@ impl Shard {
                 .collect();
             deeds.push(Deed::WriteBase(server, keyed));
         }
+    }
+
+    /// Whether a base is made, or what is behind it isn't deleted yet.
+    pub(crate) fn makes_base(&self) -> bool {
+        self.base.is_some() || self.sweeps > 0
     }
 
     /// The parts of the server's base were written, or weren't.
@@ -84,6 +100,7 @@ impl Shard {
 
     /// Deletes of what was found what is behind the base.
     pub(crate) fn on_swept(&mut self, server: u16, found: &[Passing], deeds: &mut Vec<Deed>) {
+        self.sweeps = self.sweeps.saturating_sub(1);
         let Some(Seat::Ready(core, _) | Seat::Sent(core, ..)) = self.seats.get_mut(&server) else {
             return;
         };

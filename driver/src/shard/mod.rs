@@ -1,26 +1,28 @@
 mod basing;
+mod leasing;
+mod parting;
 mod rounds;
+mod routing;
 mod sending;
 
-use crate::raw::Core;
+use crate::proved::Core;
 use crate::reading::{LogSize, Read};
-use crate::round::{Decided, Round, Run};
+use crate::round::{Decided, Origin, Round, Run};
 use crate::work::{self, NotDone, Step, Work};
-use crate::Standing;
+use crate::{Came, Elsewhere, Member, Standing, Tuning};
 use basing::Basing;
 use durkenzo_store::{Revision, Transaction};
+use leasing::Leasing;
 use std::collections::{BTreeMap, BTreeSet, VecDeque};
+use std::sync::Arc;
 use std::time::{Duration, Instant};
-
-/// How many bits of a client's number tell its place in a round; those above tell the process.
-const PLACE_BITS: u32 = 16;
 
 /// What is to be done outside of the shard.
 pub(crate) enum Deed {
     /// Sends the transaction of a server, and says by its ticket what became of it.
     Submit(Ticket, Transaction),
-    /// Reads the shard for a server.
-    Read(u16),
+    /// Reads the shard for a server, and says by its ticket what was read.
+    Read(Ticket),
     /// Writes the parts of this server's base, at these keys, and says whether all were.
     WriteBase(u16, Vec<(Vec<u8>, Vec<u8>)>),
     /// Looks for what may be behind the base of this server.
@@ -29,27 +31,41 @@ pub(crate) enum Deed {
     Delete(Vec<Vec<u8>>),
     /// Tells what became of work.
     Tell(Box<dyn Work>, work::Outcome),
+    /// Has another process's server get the steps.
+    HandOver(Elsewhere, Vec<Step>),
+    /// Reads the record.
+    Look,
+    /// Takes another number of a process, as what has this one is forgotten.
+    Renew,
     /// Says that no transaction is under way.
     Hold(Box<dyn FnOnce() + Send>),
     /// The store has ended.
     StoreEnded(String),
 }
 
-/// Of which transaction something is told.
+/// Of which transaction, or which reading, something is told.
 #[derive(Clone, Copy, Debug, PartialEq, Eq)]
 pub(crate) struct Ticket {
-    server: u16,
+    pub(crate) server: u16,
     number: u64,
+}
+
+/// The revisions of the record and of the log's head that a server goes by.
+#[derive(Clone, Copy, Debug, PartialEq, Eq)]
+struct At {
+    stood: Revision,
+    logged: Revision,
 }
 
 /// How far a server is with the shard.
 enum Seat {
     /// It has read nothing, and is to be read from then on.
     Unread(Option<Instant>),
-    Reading,
-    Ready(Core, Revision),
-    /// The transaction with this number is under way.
-    Sent(Core, Revision, u64),
+    /// The reading with this number is under way.
+    Reading(u64),
+    Ready(Core, At),
+    /// The transaction with this number is under way, and whether it writes the head.
+    Sent(Core, At, u64, bool),
 }
 
 /// A shard, with the proved servers that it has in this process. It decides nothing: it has them decide, in rounds, and
@@ -58,6 +74,18 @@ pub(crate) struct Shard {
     number: u16,
     /// The number of this process, which its clients' numbers begin with.
     process: u64,
+    /// The one server of this process, where it hasn't all.
+    own: Option<Arc<Member>>,
+    /// Whether another number is taken for the process.
+    renews: bool,
+    /// Whether requests were refused as too many clients are kept.
+    is_crowded: bool,
+    /// When the record was read last because somebody had seen a later one.
+    looked: Option<Instant>,
+    /// The revision of the log's head as it was known last.
+    logged: Revision,
+    /// By what a transaction compared of which the outcome isn't known.
+    unknown_at: Option<At>,
     standing: Standing,
     seats: BTreeMap<u16, Seat>,
     /// Servers that no request reaches.
@@ -72,8 +100,10 @@ pub(crate) struct Shard {
     log: LogSize,
     /// The server that makes a base, and how far it is.
     base: Option<(u16, Basing)>,
-    /// How many batches the log has before it gets another base.
-    most_batches: u64,
+    /// How often it is looked for what is behind a base.
+    sweeps: usize,
+    tuning: Tuning,
+    leasing: Leasing,
     /// How many hold it, and who is told once nothing is under way.
     holds: usize,
     holders: Vec<Box<dyn FnOnce() + Send>>,
@@ -81,12 +111,25 @@ pub(crate) struct Shard {
 
 /// How long a shard isn't read again after that failed.
 const READ_AGAIN: Duration = Duration::from_millis(100);
+/// How long steps wait that came back before they are handed over again.
+const PAUSE: Duration = Duration::from_millis(10);
 
 impl Shard {
-    pub(crate) fn new(number: u16, process: u64, most_batches: u64) -> Shard {
+    pub(crate) fn new(
+        number: u16,
+        process: u64,
+        own: Option<Arc<Member>>,
+        tuning: Tuning,
+    ) -> Shard {
         Shard {
             number,
             process,
+            own,
+            renews: false,
+            is_crowded: false,
+            looked: None,
+            logged: Revision::NEVER,
+            unknown_at: None,
             standing: Standing::vacant(),
             seats: BTreeMap::new(),
             away: BTreeSet::new(),
@@ -98,7 +141,9 @@ impl Shard {
             tickets: 0,
             log: LogSize::default(),
             base: None,
-            most_batches,
+            sweeps: 0,
+            tuning,
+            leasing: Leasing::default(),
             holds: 0,
             holders: Vec::new(),
         }
@@ -111,15 +156,74 @@ impl Shard {
 
     /// Takes steps of one client, in their order.
     pub(crate) fn take(&mut self, steps: Vec<Step>, now: Instant, deeds: &mut Vec<Deed>) {
+        self.take_run(steps, None, (Revision::NEVER, now), now, deeds);
+    }
+
+    /// Takes steps that came from another process, and have waited since then.
+    pub(crate) fn take_from(
+        &mut self,
+        steps: Vec<Step>,
+        came: Came,
+        since: Instant,
+        now: Instant,
+        deeds: &mut Vec<Deed>,
+    ) {
+        self.take_run(steps, Some(came), (came.revision, since), now, deeds);
+    }
+
+    fn take_run(
+        &mut self,
+        steps: Vec<Step>,
+        came: Option<Came>,
+        (after, since): (Revision, Instant),
+        now: Instant,
+        deeds: &mut Vec<Deed>,
+    ) {
         self.runs_begun += 1;
-        self.runs.push_back(Run {
-            number: self.runs_begun,
+        let run = Run {
+            origin: Origin {
+                run: self.runs_begun,
+                since,
+                came,
+            },
             steps: steps.into(),
-            since: now,
-        });
+            after,
+            not_before: None,
+            leaves: None,
+        };
+        self.route_one(run, now, deeds);
         if self.round.is_none() {
             self.go_on(now, deeds);
         }
+    }
+
+    /// Takes back steps that were to go elsewhere, which wait for a record of this revision.
+    pub(crate) fn take_back(
+        &mut self,
+        steps: Vec<Step>,
+        elsewhere: &Elsewhere,
+        after: Revision,
+        now: Instant,
+    ) {
+        self.runs_begun += 1;
+        self.runs.push_back(Run {
+            origin: Origin {
+                run: self.runs_begun,
+                since: elsewhere.since,
+                came: elsewhere.first_came,
+            },
+            steps: steps.into(),
+            after,
+            not_before: Some(now + PAUSE),
+            leaves: None,
+        });
+    }
+
+    /// Has later requests have clients of this number of a process.
+    pub(crate) fn renew(&mut self, process: u64, now: Instant, deeds: &mut Vec<Deed>) {
+        self.process = self.process.max(process);
+        self.renews = false;
+        self.go_on(now, deeds);
     }
 
     /// Has requests reach the server, or not. One that they don't reach forgets what it read.
@@ -163,19 +267,26 @@ impl Shard {
 
     /// Has each server that is ready go by the last record, and lets those go that it doesn't name.
     pub(super) fn catch_up(&mut self) {
-        let (standing, away) = (&self.standing, &self.away);
-        let stays = |it: &u16| standing.names(*it) && !away.contains(it);
+        let (standing, away, round) = (&self.standing, &self.away, &self.round);
+        // By what it reads it is found out what became of the round.
+        let finds_out = round.as_ref().is_some_and(|it| it.may_be_made);
+        let stays = |it: &u16| finds_out || standing.names(*it) && !away.contains(it);
         self.seats
             .retain(|server, seat| matches!(seat, Seat::Sent(..)) || stays(server));
         let seats = &self.seats;
         self.base = self.base.filter(|it| seats.contains_key(&it.0));
         let mut behind = Vec::new();
         for (server, seat) in &mut self.seats {
-            if let Seat::Ready(core, stood) = seat {
-                if *stood < standing.revision() {
+            if let Seat::Ready(core, at) = seat {
+                if at.stood < standing.revision() {
                     behind.push(*server);
+                    if self.unknown_at.is_some() {
+                        // It may be made until the record changed: that is read.
+                        *seat = Seat::Unread(None);
+                        continue;
+                    }
                     match core.record(standing.bytes(), standing.revision()) {
-                        Ok(()) => *stood = standing.revision(),
+                        Ok(()) => at.stood = standing.revision(),
                         Err(_) => *seat = Seat::Unread(None),
                     }
                 }
@@ -186,31 +297,20 @@ impl Shard {
         }
     }
 
-    /// The shard was read for a server.
+    /// The shard was read for a server. What was asked for before the server forgot it is too old.
     pub(crate) fn on_read(
         &mut self,
-        server: u16,
+        ticket: Ticket,
         read: Result<Read, NotRead>,
         now: Instant,
         deeds: &mut Vec<Deed>,
     ) {
-        if !matches!(self.seats.get(&server), Some(Seat::Reading)) {
+        let Ticket { server, number } = ticket;
+        if !matches!(self.seats.get(&server), Some(Seat::Reading(it)) if *it == number) {
             return;
         }
         match read {
-            Ok(Read {
-                core,
-                standing,
-                log,
-            }) => {
-                self.log = log;
-                let stood = standing.revision();
-                self.seats.insert(server, Seat::Ready(core, stood));
-                if stood > self.standing.revision() {
-                    self.standing = standing;
-                }
-                self.catch_up();
-            }
+            Ok(read) => self.seat(server, read),
             Err(NotRead::Later) => {
                 let again = Seat::Unread(Some(now + READ_AGAIN));
                 self.seats.insert(server, again);
@@ -228,6 +328,27 @@ impl Shard {
         self.go_on(now, deeds);
     }
 
+    /// Has the server go on from what was read.
+    fn seat(&mut self, server: u16, read: Read) {
+        let Read {
+            core,
+            standing,
+            logged,
+            log,
+        } = read;
+        self.log = log;
+        let stood = standing.revision();
+        let at = At { stood, logged };
+        self.seats.insert(server, Seat::Ready(core, at));
+        // What was sent by other revisions can't be made any more, and what was made is read.
+        self.unknown_at = self.unknown_at.filter(|it| *it == at);
+        self.note_head(logged);
+        if stood > self.standing.revision() {
+            self.standing = standing;
+        }
+        self.catch_up();
+    }
+
     /// Refuses what has waited for so long, where no transaction is under way for it.
     pub(crate) fn tick(&mut self, now: Instant, wait: Duration, deeds: &mut Vec<Deed>) {
         let is_sent = self.is_sent();
@@ -238,7 +359,7 @@ impl Shard {
         if self.seats.values().any(reads_again) {
             self.go_on(now, deeds);
         }
-        let is_reading = self.seats.values().any(|it| matches!(it, Seat::Reading));
+        let is_reading = self.seats.values().any(|it| matches!(it, Seat::Reading(_)));
         let why = self.why_not();
         if is_reading && why == NotDone::Busy {
             return;
@@ -246,23 +367,36 @@ impl Shard {
         if self.round.as_ref().is_some_and(|it| now >= it.since + wait) {
             self.give_up_round(&why, deeds);
         }
-        while self.runs.front().is_some_and(|it| now >= it.since + wait) {
-            let run = self.runs.pop_front();
-            for step in run.into_iter().flat_map(|it| it.steps) {
-                deeds.push(Deed::Tell(step.work, Err(why.clone())));
-            }
+        // What another process is to do is refused by who can't ask it, and says why.
+        self.route(now, deeds);
+        let (late, runs) = std::mem::take(&mut self.runs)
+            .into_iter()
+            .partition(|it: &Run| it.is_due(now) && now >= it.origin.since + wait);
+        self.runs = runs;
+        for step in late.into_iter().flat_map(|it: Run| it.steps) {
+            deeds.push(Deed::Tell(step.work, Err(why.clone())));
         }
+        self.look(now, deeds);
         self.go_on(now, deeds);
+    }
+
+    /// Whether something waits that a later tick may go on with, or refuse.
+    pub(crate) fn has_waiting(&self) -> bool {
+        let is_idle = self.runs.is_empty() && self.decided.is_empty() && self.round.is_none();
+        !is_idle || self.is_log_long()
     }
 
     /// Why nobody executes.
     fn why_not(&self) -> NotDone {
         let record = self.standing.record();
         let owner = record.and_then(|it| it.owner());
+        if self.is_crowded {
+            return NotDone::TooManyClients;
+        }
         match record.map(|it| it.stand) {
             Some(durkenzo::Stand::Paused(_)) => NotDone::Paused,
             Some(durkenzo::Stand::Vacant) => NotDone::Vacant,
-            Some(_) => match owner.filter(|it| self.away.contains(it)) {
+            Some(_) => match owner.filter(|it| !self.is_reached(*it)) {
                 Some(owner) => NotDone::Away(owner),
                 None => NotDone::Busy,
             },
@@ -281,11 +415,12 @@ impl Shard {
     /// Refuses what is in the round. What waits at a server won't be sent any more, and what was sent may be made.
     pub(super) fn give_up_round(&mut self, why: &NotDone, deeds: &mut Vec<Deed>) {
         for it in std::mem::take(&mut self.decided) {
-            deeds.push(Deed::Tell(it.work, Err(why.clone())));
+            deeds.push(Deed::Tell(it.step.work, Err(why.clone())));
         }
         let Some(round) = self.round.take() else {
             return;
         };
+        self.unknown_at = None;
         let mut may_be_made = round.may_be_made;
         for server in round.waits_at() {
             match self.seats.get(&server) {
@@ -293,9 +428,9 @@ impl Shard {
                 _ => self.read_again(server),
             }
         }
-        let why = match may_be_made {
-            true => NotDone::Unknown(why.to_string()),
-            false => why.clone(),
+        let why = match (may_be_made, why) {
+            (true, NotDone::Unknown(_)) | (false, _) => why.clone(),
+            (true, _) => NotDone::Unknown(why.to_string()),
         };
         for (work, outcome) in round.given_up(&why) {
             deeds.push(Deed::Tell(work, outcome));

@@ -1,9 +1,9 @@
 use super::basing::Basing;
-use super::{Deed, Seat, Shard, Ticket, PLACE_BITS};
+use super::{Deed, Seat, Shard, Ticket};
 use crate::core_fault::CoreFault;
 use crate::decision::Sent;
 use crate::keys;
-use crate::raw::Core;
+use crate::proved::Core;
 use crate::work::NotDone;
 use durkenzo_store::{Outcome, Revision, Transaction, WriteError};
 use std::time::Instant;
@@ -22,10 +22,15 @@ impl Shard {
             return Ok(());
         }
         let sent = core.sending().map_err(|_| server)?;
+        if sent.head.is_empty() && self.is_leased() {
+            return self.answer_by_lease(server);
+        }
         self.tickets += 1;
         let number = self.tickets;
-        if let Some(Seat::Ready(core, stood)) = self.seats.remove(&server) {
-            self.seats.insert(server, Seat::Sent(core, stood, number));
+        let writes = !sent.head.is_empty();
+        if let Some(Seat::Ready(core, at)) = self.seats.remove(&server) {
+            self.seats
+                .insert(server, Seat::Sent(core, at, number, writes));
         }
         if sent.number > 0 {
             self.log.batches += 1;
@@ -34,6 +39,9 @@ impl Shard {
             self.base = Some((server, Basing::Named(number)));
             (self.log.batches, self.log.bytes) = (0, 0);
         }
+        // What only names a base compares the head alone.
+        self.leasing
+            .note_sent(sent.number > 0 || sent.head.is_empty());
         let ticket = Ticket { server, number };
         deeds.push(Deed::Submit(ticket, self.transaction(sent)));
         Ok(())
@@ -65,19 +73,30 @@ impl Shard {
         deeds: &mut Vec<Deed>,
     ) {
         let server = ticket.server;
-        let (mut core, stood) = match self.seats.remove(&server) {
-            Some(Seat::Sent(core, stood, number)) if number == ticket.number => (core, stood),
+        let (mut core, mut at, writes) = match self.seats.remove(&server) {
+            Some(Seat::Sent(core, at, number, writes)) if number == ticket.number => {
+                (core, at, writes)
+            }
             other => {
                 self.seats.extend(other.map(|it| (server, it)));
                 return;
             }
         };
+        let sent_at = self.leasing.take_sent();
         match outcome {
             Ok(Outcome::Made(revision)) => match self.on_made(&mut core, revision) {
-                Ok(()) => {
-                    self.seats.insert(server, Seat::Ready(core, stood));
+                Ok(_) => {
+                    if writes {
+                        at.logged = revision;
+                        self.logged = self.logged.max(revision);
+                        // Copies that come late compare what was there before.
+                        self.unknown_at = None;
+                    }
+                    self.leasing.note_held(at, sent_at);
+                    self.seats.insert(server, Seat::Ready(core, at));
                     if self.base == Some((server, Basing::Named(ticket.number))) {
                         self.base = None;
+                        self.sweeps += 1;
                         deeds.push(Deed::Sweep(server));
                     }
                 }
@@ -86,7 +105,10 @@ impl Shard {
             },
             Ok(Outcome::Lost(_)) => self.read_again(server),
             Err(WriteError::Unknown(_)) => {
-                self.round.iter_mut().for_each(|it| it.may_be_made = true);
+                if writes {
+                    self.unknown_at = Some(at);
+                    self.round.iter_mut().for_each(|it| it.may_be_made = true);
+                }
                 self.read_again(server);
             }
             Err(error) => {
@@ -98,22 +120,23 @@ impl Shard {
         self.go_on(now, deeds);
     }
 
-    /// Notes the answers of what was made.
-    fn on_made(&mut self, core: &mut Core, revision: Revision) -> Result<(), CoreFault> {
+    /// Notes the answers of what was made, and returns how many they are.
+    pub(super) fn on_made(
+        &mut self,
+        core: &mut Core,
+        revision: Revision,
+    ) -> Result<u64, CoreFault> {
         let answers = core.made(revision)?;
+        let count = answers.len() as u64;
         let Some(round) = &mut self.round else {
-            return Ok(());
+            return Ok(count);
         };
-        let floor = self.process << PLACE_BITS;
         for answer in answers {
-            let place = usize::try_from(answer.client.wrapping_sub(floor)).unwrap_or(usize::MAX);
-            if let Some(asked) = round.asked.get_mut(place) {
-                if answer.number == round.number {
-                    asked.reply = Some(answer.reply);
-                }
+            if let Some(asked) = round.asked_by(answer.client, answer.number) {
+                asked.reply = Some(answer.reply);
             }
         }
-        Ok(())
+        Ok(count)
     }
 
     /// Has the server forget what it read. What it held is to be decided again.

@@ -1,11 +1,15 @@
 //! What tests of the driver need: work that waits for its answer, and a store that doesn't tell all.
 #![allow(dead_code)]
+pub mod cluster;
+pub mod late;
+pub mod withheld;
+
 use durkenzo_driver::{
     Begin, Command, Control, Durable, Key, NotDone, Reply, Request, Step, Tuning, Work,
 };
 use durkenzo_store::{
-    LeaseError, LeaseId, Outcome, ReadError, Reading, Store, Transaction, Watch, Watcher,
-    WriteError,
+    CompactError, LeaseError, LeaseId, Outcome, ReadError, Reading, Store, Transaction, Watch,
+    Watcher, WriteError,
 };
 use std::sync::atomic::{AtomicU64, Ordering};
 use std::sync::mpsc::{self, Receiver, Sender};
@@ -15,7 +19,7 @@ use std::time::Duration;
 pub type Told = Result<Vec<Reply>, NotDone>;
 
 /// What a change writes of what its keys hold.
-pub type Decide = Box<dyn FnOnce(Vec<Reply>) -> Vec<Request> + Send>;
+pub type Decide = Box<dyn FnMut(Vec<Reply>) -> Vec<Request> + Send>;
 
 struct Asking {
     decide: Option<Decide>,
@@ -24,8 +28,14 @@ struct Asking {
 
 impl Work for Asking {
     fn decide(&mut self, held: Vec<Reply>) -> Vec<Request> {
-        self.decide.take().map_or_else(Vec::new, |it| it(held))
+        self.decide.as_mut().map_or_else(Vec::new, |it| it(held))
     }
+
+    fn spell(&self) -> Vec<u8> {
+        Vec::new()
+    }
+
+    fn answered(self: Box<Self>, _answer: &[u8]) {}
 
     fn end(self: Box<Self>, outcome: Told) {
         let _ = self.tell.send(outcome);
@@ -65,19 +75,29 @@ pub fn opened(store: &Arc<dyn Store>, shards: u16) -> Durable {
     let tuning = Tuning {
         wait: Duration::from_secs(20),
         most_batches: 7,
+        ..Tuning::default()
     };
     Durable::open(store.clone(), shards, tuning, Box::new(|| {})).expect("shards")
 }
 
 /// A line of settings with so many shards, and two servers.
 pub fn line(shards: u16) -> String {
+    line_of(shards, 2)
+}
+
+/// A line of settings with so many shards and servers.
+pub fn line_of(shards: u16, servers: u16) -> String {
     let bounds: Vec<_> = (0..shards)
         .map(|it| format!("\"{}\"", "x".repeat(it.into())))
         .collect();
+    let servers: Vec<_> = (1..=servers)
+        .map(|it| format!(r#"{{"id":{it},"domain":{},"capacity":99}}"#, it - 1))
+        .collect();
     let rows = vec![r#"{"group":0,"load":1,"cap":1}"#; shards.into()];
     format!(
-        r#"{{"version":1,"bounds":[{}],"servers":[{{"id":1,"domain":0,"capacity":99}},{{"id":2,"domain":1,"capacity":99}}],"groups":[{{"limit":99,"down":99}}],"shards":[{}],"ops":1,"kept":9,"ceiling":9999999,"workers":1}}"#,
+        r#"{{"version":1,"bounds":[{}],"servers":[{}],"groups":[{{"limit":99,"down":99}}],"shards":[{}],"ops":1,"kept":9,"ceiling":9999999,"workers":1}}"#,
         bounds.join(","),
+        servers.join(","),
         rows.join(",")
     )
 }
@@ -157,5 +177,9 @@ impl<S: Store> Store for Uncertain<S> {
 
     fn revoke(&self, lease: LeaseId) -> Result<(), LeaseError> {
         self.store.revoke(lease)
+    }
+
+    fn compact(&self) -> Result<(), CompactError> {
+        self.store.compact()
     }
 }

@@ -1,0 +1,455 @@
+use crate::{keys, process, Addresses, JoinFault, Live, Members, OpenFault};
+use durkenzo_store::{
+    LeaseError, LeaseId, Outcome, Revision, Seen, Store, Transaction, Watch, WriteError,
+};
+use std::fmt;
+use std::sync::{Arc, Condvar, Mutex, MutexGuard, PoisonError, Weak};
+use std::thread::{self, JoinHandle};
+use std::time::{Duration, Instant};
+
+/// In how many parts of its length a lease is kept.
+const PARTS: u32 = 3;
+/// How much later than they should leases end.
+const LATE: Duration = Duration::from_secs(2);
+/// How long is waited before a server's key is written again that couldn't be.
+const PAUSE: Duration = Duration::from_millis(50);
+/// How long it isn't told how far the server follows, where nothing waits for that: each telling is seen by all.
+const LAG: Duration = Duration::from_millis(500);
+
+/// A server of a store that others share, as its key tells them: there as long as its lease is kept.
+///
+/// Where the lease has ended, as the process was stopped or didn't reach the store for so long, it takes another one.
+pub struct Member {
+    inner: Arc<Inner>,
+    thread: Option<JoinHandle<()>>,
+    watches: Mutex<Vec<Watch>>,
+    /// Whether no request reached the server when the process began.
+    was_away: bool,
+}
+
+struct Inner {
+    store: Arc<dyn Store>,
+    server: u16,
+    process: u64,
+    addresses: Addresses,
+    length: Duration,
+    state: Mutex<State>,
+    /// There is something to write, or the end has come.
+    wakes: Condvar,
+    seen: Mutex<SeenKeys>,
+    on_change: Box<dyn Fn() + Send + Sync>,
+}
+
+/// What is known of the server's own key.
+struct State {
+    lease: Option<LeaseId>,
+    /// When it was granted or kept last: it goes on for its length from some time after that.
+    kept: Instant,
+    /// The revision of the key as it was written last.
+    written: Revision,
+    /// The revision that it tells, and the one that it is to tell: when it is due.
+    told: Revision,
+    followed: Revision,
+    due: Option<Instant>,
+    is_over: bool,
+}
+
+/// What was seen of all servers' keys, and of the leader's.
+#[derive(Default)]
+struct SeenKeys {
+    members: Arc<Members>,
+    leader: Option<(u64, Revision)>,
+    /// The revision at which the leader's key changed last.
+    led: Revision,
+    changes: u64,
+}
+
+impl Member {
+    /// Has this server be there, under a lease of that length. `on_change` is told when a server's key, or the
+    /// leader's, has changed.
+    ///
+    /// Where the server's key is there it is waited for the length of a lease, and a little longer, that it goes.
+    ///
+    /// # Errors
+    ///
+    /// As [`JoinFault`] says; one is that the server runs already.
+    pub fn join(
+        store: Arc<dyn Store>,
+        server: u16,
+        addresses: Addresses,
+        lease: Duration,
+        on_change: Box<dyn Fn() + Send + Sync>,
+    ) -> Result<Member, JoinFault> {
+        let process = process::begin(&*store)?;
+        let inner = Arc::new(Inner {
+            store,
+            server,
+            process,
+            addresses,
+            length: lease.max(Duration::from_secs(1)),
+            state: Mutex::new(State {
+                lease: None,
+                kept: Instant::now(),
+                written: Revision::NEVER,
+                told: Revision::NEVER,
+                followed: Revision::NEVER,
+                due: None,
+                is_over: false,
+            }),
+            wakes: Condvar::new(),
+            seen: Mutex::default(),
+            on_change,
+        });
+        inner.begin()?;
+        let was_away = inner.is_away()?;
+        let watches = vec![inner.watch(keys::SERVERS)?, inner.watch(keys::LEADER)?];
+        let keeping = inner.clone();
+        let thread = thread::Builder::new()
+            .name("member".to_owned())
+            .spawn(move || keeping.keep());
+        let thread = Some(thread.map_err(OpenFault::Thread)?);
+        Ok(Member {
+            inner,
+            thread,
+            watches: Mutex::new(watches),
+            was_away,
+        })
+    }
+
+    /// Whether no request reached the server when this process began, as it was stopped or had failed.
+    pub fn was_away(&self) -> bool {
+        self.was_away
+    }
+
+    /// The server.
+    pub fn server(&self) -> u16 {
+        self.inner.server
+    }
+
+    /// How many processes had begun over the store with this one.
+    pub fn process(&self) -> u64 {
+        self.inner.process
+    }
+
+    /// The servers that are there, as they were seen last.
+    pub fn members(&self) -> Arc<Members> {
+        self.inner.seen().members.clone()
+    }
+
+    /// How often a server's key was seen to change.
+    pub(crate) fn changes(&self) -> u64 {
+        self.inner.seen().changes
+    }
+
+    /// The process that leads, as it was seen last; none where none does.
+    pub fn leader(&self) -> Option<u64> {
+        self.inner.seen().leader.map(|it| it.0)
+    }
+
+    /// Whether this process still leads that was elected at that revision, as far as it was seen.
+    pub(crate) fn leads(&self, elected: Revision) -> bool {
+        let seen = self.inner.seen();
+        seen.led < elected || seen.leader.is_some_and(|it| it.1 == elected)
+    }
+
+    /// Leaves: others see at once that this server isn't there any more. Where the lease can't be ended now it ends by
+    /// itself.
+    pub fn leave(&self) {
+        let lease = {
+            let mut state = self.inner.state();
+            state.is_over = true;
+            state.lease.take()
+        };
+        self.inner.wakes.notify_all();
+        let _ = lease.map(|it| self.inner.store.revoke(it));
+    }
+
+    /// The lease, where it is kept: what is written under it is gone when this process is.
+    pub fn lease(&self) -> Option<LeaseId> {
+        self.inner.state().lease
+    }
+
+    /// Whether the server's key is there by this process's clock, and less than a lease's length has passed since then.
+    pub(crate) fn is_kept_since(&self, since: Instant) -> bool {
+        let (state, length) = (self.inner.state(), self.inner.length);
+        let is_there = state.lease.is_some() && state.written > Revision::NEVER && !state.is_over;
+        is_there && state.kept.elapsed() < length && since.elapsed() < length
+    }
+
+    /// The number of the first process whose clients aren't to be forgotten, as its server is there.
+    pub(crate) fn lowest(&self) -> u64 {
+        let members = self.members();
+        let processes = members.values().map(|it| it.process);
+        processes.chain([self.inner.process]).min().unwrap_or(0)
+    }
+
+    /// Tells others that this process goes by all records up to this revision: at once where one of them is awaited by
+    /// whoever leads, and else soon.
+    pub(crate) fn follow(&self, revision: Revision, is_awaited: bool) {
+        let mut state = self.inner.state();
+        if revision > state.followed {
+            let now = Instant::now();
+            let latest = if is_awaited { now } else { now + LAG };
+            state.followed = revision;
+            state.due = Some(state.due.map_or(latest, |it| it.min(latest)));
+            self.inner.wakes.notify_all();
+        }
+    }
+}
+
+impl Inner {
+    fn state(&self) -> MutexGuard<'_, State> {
+        self.state.lock().unwrap_or_else(PoisonError::into_inner)
+    }
+
+    fn seen(&self) -> MutexGuard<'_, SeenKeys> {
+        self.seen.lock().unwrap_or_else(PoisonError::into_inner)
+    }
+
+    /// Takes the server's key, once nobody has it.
+    fn begin(&self) -> Result<(), JoinFault> {
+        let mut kept = Instant::now();
+        let lease = self.store.grant(self.length)?;
+        let end = Instant::now() + self.length + LATE;
+        loop {
+            let live = self.live(Revision::NEVER);
+            match self.write(lease, &live, Revision::NEVER)? {
+                Ok(revision) => {
+                    let mut state = self.state();
+                    (state.lease, state.written) = (Some(lease), revision);
+                    state.kept = kept;
+                    return Ok(());
+                }
+                Err((other, _)) if Instant::now() >= end => {
+                    // Its own lease holds nothing.
+                    let _ = self.store.revoke(lease);
+                    return Err(JoinFault::Running(self.server, other));
+                }
+                Err(_) => thread::sleep(PAUSE),
+            }
+            kept = Instant::now();
+            self.store.keep(lease)?;
+        }
+    }
+
+    /// Whether no request reaches the server.
+    fn is_away(&self) -> Result<bool, JoinFault> {
+        let state = self.store.read(&[&keys::state(self.server)])?;
+        Ok(state.pairs.iter().any(|it| !keys::is_reached(&it.value)))
+    }
+
+    fn live(&self, followed: Revision) -> Live {
+        Live {
+            process: self.process,
+            followed,
+            addresses: self.addresses.clone(),
+        }
+    }
+
+    /// Writes the server's key that was written at this revision; or says where the process is that has it, and where
+    /// that is this one, at which revision it lies there.
+    fn write(
+        &self,
+        lease: LeaseId,
+        live: &Live,
+        before: Revision,
+    ) -> Result<Result<Revision, (String, Revision)>, JoinFault> {
+        let key = keys::server(self.server);
+        let transaction = Transaction::new()
+            .compare(key.clone(), before)
+            .put_under(key.clone(), live.bytes(), Some(lease))
+            .or_read(key.clone());
+        let found = match self.store.make(transaction) {
+            Ok(Outcome::Made(revision)) => return Ok(Ok(revision)),
+            Ok(Outcome::Lost(reading)) => reading,
+            Err(WriteError::Unknown(_)) => self.store.read(&[&key])?,
+            Err(error) => return Err(error.into()),
+        };
+        let Some(pair) = found.get(&key) else {
+            let why = "an address that it doesn't tell".to_owned();
+            return Ok(Err((why, Revision::NEVER)));
+        };
+        match Live::of(&pair.value) {
+            // What became of it wasn't known.
+            Some(found) if found == *live => Ok(Ok(pair.revision)),
+            Some(found) if found.process == self.process => {
+                Ok(Err((found.addresses.servers, pair.revision)))
+            }
+            Some(found) => Ok(Err((found.addresses.servers, Revision::NEVER))),
+            None => {
+                let why = "an address that can't be read".to_owned();
+                Ok(Err((why, Revision::NEVER)))
+            }
+        }
+    }
+
+    /// Keeps the lease, and writes the key as often as it has more to tell, until the end.
+    fn keep(&self) {
+        let mut kept = Instant::now();
+        loop {
+            let due = kept + self.length / PARTS;
+            let Some(mut lease) = self.wait_until(due) else {
+                return;
+            };
+            if Instant::now() >= due || lease.is_none() {
+                kept = Instant::now();
+                lease = self.renewed(lease);
+            }
+            if lease.is_none_or(|it| !self.tell(it)) {
+                thread::sleep(PAUSE);
+            }
+        }
+    }
+
+    /// Waits until there is something to tell, or it is time to keep the lease: the lease, if there is one. None where
+    /// the end has come.
+    fn wait_until(&self, due: Instant) -> Option<Option<LeaseId>> {
+        let mut state = self.state();
+        loop {
+            let next = state.due.map_or(due, |it| it.min(due));
+            let left = next.saturating_duration_since(Instant::now());
+            let is_due = left.is_zero() || state.lease.is_none();
+            if state.is_over {
+                return None;
+            }
+            if is_due {
+                return Some(state.lease);
+            }
+            let woken = self.wakes.wait_timeout(state, left);
+            state = woken.unwrap_or_else(PoisonError::into_inner).0;
+        }
+    }
+
+    /// The lease, which is kept or is another one; none where there is none now.
+    fn renewed(&self, lease: Option<LeaseId>) -> Option<LeaseId> {
+        let mut kept = Instant::now();
+        if let Some(lease) = lease {
+            match self.store.keep(lease) {
+                Err(LeaseError::Ended(_)) => {}
+                Ok(()) => {
+                    self.state().kept = kept;
+                    return Some(lease);
+                }
+                // Whether it goes on is told next time.
+                Err(_) => return Some(lease),
+            }
+        }
+        kept = Instant::now();
+        let granted = self.store.grant(self.length).ok();
+        let mut state = self.state();
+        (state.lease, state.kept, state.told) = (granted, kept, Revision::NEVER);
+        // The key went with the lease before.
+        state.written = Revision::NEVER;
+        granted
+    }
+
+    /// Writes the key where it has more to tell; whether that was done.
+    fn tell(&self, lease: LeaseId) -> bool {
+        let (followed, before) = {
+            let mut state = self.state();
+            state.due = None;
+            let is_told = state.written > Revision::NEVER && state.followed <= state.told;
+            if is_told || state.is_over {
+                return true;
+            }
+            (state.followed, state.written)
+        };
+        let written = self.write(lease, &self.live(followed), before);
+        let mut state = self.state();
+        match written {
+            Ok(Ok(revision)) => {
+                (state.written, state.told) = (revision, followed);
+                return true;
+            }
+            Err(JoinFault::Write(WriteError::LeaseEnded)) => state.lease = None,
+            // Somebody else has the name now, or the key went with the lease: it is tried anew. Or an earlier write was
+            // made, or not, of which that wasn't known: it goes on from what lies there.
+            Ok(Err((_, lies))) => state.written = lies,
+            Err(_) => {}
+        }
+        state.due = Some(Instant::now());
+        false
+    }
+
+    fn watch(self: &Arc<Inner>, prefix: &'static [u8]) -> Result<Watch, JoinFault> {
+        let seeing: Weak<Inner> = Arc::downgrade(self);
+        let watcher = move |seen| {
+            if let Some(inner) = seeing.upgrade() {
+                inner.see(prefix, seen);
+            }
+        };
+        Ok(self.store.watch(prefix, Box::new(watcher))?)
+    }
+
+    /// Sees what the watch of the keys that begin so tells.
+    fn see(&self, prefix: &[u8], seen: Seen) {
+        let mut keys = self.seen();
+        match seen {
+            Seen::All(reading) => {
+                match prefix == keys::LEADER {
+                    true => (keys.leader, keys.led) = (None, reading.revision),
+                    false => keys.members = Arc::default(),
+                }
+                for pair in reading.pairs {
+                    keys.note(&pair.key, Some(&pair.value), pair.revision);
+                }
+            }
+            Seen::Changes(_, changes) => {
+                for it in changes {
+                    keys.note(&it.key, it.value.as_deref(), it.revision);
+                }
+            }
+        }
+        keys.changes += 1;
+        drop(keys);
+        (self.on_change)();
+    }
+}
+
+impl SeenKeys {
+    /// Notes what lies at a key, or that nothing does any more.
+    fn note(&mut self, key: &[u8], value: Option<&[u8]>, revision: Revision) {
+        if key == keys::LEADER {
+            self.leader = value.and_then(keys::process_of).map(|it| (it, revision));
+            self.led = revision;
+        }
+        let Some(server) = keys::server_of(key) else {
+            return;
+        };
+        let members = Arc::make_mut(&mut self.members);
+        match value.and_then(Live::of) {
+            Some(live) => drop(members.insert(server, live)),
+            None => drop(members.remove(&server)),
+        }
+    }
+}
+
+impl Drop for Member {
+    fn drop(&mut self) {
+        self.watches
+            .get_mut()
+            .unwrap_or_else(PoisonError::into_inner)
+            .clear();
+        let lease = {
+            let mut state = self.inner.state();
+            state.is_over = true;
+            state.lease.take()
+        };
+        self.inner.wakes.notify_all();
+        if let Some(thread) = self.thread.take() {
+            // A thread that panicked has said so.
+            let _ = thread.join();
+        }
+        // Where it can't be ended now it ends by itself.
+        let _ = lease.map(|it| self.inner.store.revoke(it));
+    }
+}
+
+impl fmt::Debug for Member {
+    fn fmt(&self, f: &mut fmt::Formatter<'_>) -> fmt::Result {
+        f.debug_struct("Member")
+            .field("server", &self.inner.server)
+            .field("process", &self.inner.process)
+            .finish_non_exhaustive()
+    }
+}

@@ -1,0 +1,135 @@
+use crate::command::{Command, Next};
+use crate::CoreFault;
+use durkenzo_store::Revision;
+use durkenzo_store_sys::{self as sys, Code, Step};
+
+/// What a command's transaction compares and writes.
+#[derive(Debug)]
+pub(crate) struct Sending {
+    pub(crate) elected: Revision,
+    pub(crate) placed: Revision,
+    /// The shard whose record is written, or the server whose state is.
+    pub(crate) number: u16,
+    pub(crate) is_state: bool,
+    pub(crate) written: Vec<u8>,
+    pub(crate) commands: Vec<u8>,
+}
+
+/// A proved control of a store.
+pub(crate) struct Director {
+    control: sys::Director,
+}
+
+impl Director {
+    /// That of the store which this line of settings describes, for this process, which was elected at this revision.
+    pub(crate) fn new(line: &str, process: u64, elected: Revision) -> Result<Director, CoreFault> {
+        let control = sys::Director::new(line, process, elected.0)?;
+        Ok(Director { control })
+    }
+
+    /// How many shards the settings have.
+    pub(crate) fn shards(&self) -> usize {
+        usize::from(self.control.shards())
+    }
+
+    /// How many servers the settings have.
+    pub(crate) fn servers(&self) -> usize {
+        self.control.servers().len()
+    }
+
+    /// Adds the next shard's record.
+    pub(crate) fn record(&mut self, bytes: &[u8], stood: Revision) -> Result<(), CoreFault> {
+        Ok(self.control.record(bytes, stood.0)?)
+    }
+
+    /// Adds the next server's state.
+    pub(crate) fn state(&mut self, bytes: &[u8]) -> Result<(), CoreFault> {
+        Ok(self.control.state(bytes)?)
+    }
+
+    /// All is read, at a moment at which the key of commands had this revision.
+    pub(crate) fn read(&mut self, placed: Revision) -> Result<(), CoreFault> {
+        Ok(self.control.read(placed.0)?)
+    }
+
+    /// Judges the command: it is to be sent, or refused by the first fault that applies.
+    pub(crate) fn command(&mut self, command: Command) -> Result<(), CoreFault> {
+        let (kind, shard, server) = command.parts();
+        Ok(self.control.command(Step::of_shard(kind, shard, server))?)
+    }
+
+    /// What is sent.
+    pub(crate) fn sending(&mut self) -> Result<Sending, CoreFault> {
+        let sent = self.control.sending()?;
+        Ok(Sending {
+            elected: Revision(sent.elected),
+            placed: Revision(sent.placed),
+            number: sent.number,
+            is_state: sent.is_state,
+            written: sent.written,
+            commands: sent.commands,
+        })
+    }
+
+    /// What was sent was made at this revision.
+    pub(crate) fn made(&mut self, revision: Revision) -> Result<(), CoreFault> {
+        Ok(self.control.made(revision.0)?)
+    }
+
+    /// All is to be read again.
+    pub(crate) fn lost(&mut self) -> Result<(), CoreFault> {
+        Ok(self.control.lost()?)
+    }
+
+    /// These servers are there, and have each read the store up to that revision.
+    pub(crate) fn follow(
+        &mut self,
+        servers: impl Iterator<Item = (u16, Revision)>,
+    ) -> Result<(), CoreFault> {
+        self.control.forget_followers()?;
+        for (server, revision) in servers {
+            self.control.follower(server, revision.0)?;
+        }
+        Ok(())
+    }
+
+    /// What comes next of the shard.
+    pub(crate) fn next_of_shard(&mut self, shard: u16) -> Result<Next, CoreFault> {
+        next(self.control.next_of_shard(shard))
+    }
+
+    /// What comes next of the server's restart.
+    pub(crate) fn next_of_server(&mut self, server: u16) -> Result<Next, CoreFault> {
+        next(self.control.next_of_server(server))
+    }
+
+    /// What comes next of the drain of the server, or for 0 of the vacant shards.
+    pub(crate) fn next_of_drain(&mut self, server: u16) -> Result<Next, CoreFault> {
+        next(self.control.next_of_drain(server))
+    }
+
+    /// The first server to which requests go and that isn't among those that follow.
+    pub(crate) fn fallen(&mut self) -> Result<Option<u16>, CoreFault> {
+        let server = self.control.fallen()?;
+        Ok(Some(server).filter(|it| *it > 0))
+    }
+
+    /// The shard's record, as its word.
+    pub(crate) fn word_of(&mut self, shard: u16) -> Result<u64, CoreFault> {
+        Ok(self.control.record_of(shard)?.0)
+    }
+
+    /// The number of the server's state.
+    pub(crate) fn state_of(&mut self, server: u16) -> Result<u8, CoreFault> {
+        Ok(self.control.state_of(server)?)
+    }
+}
+
+fn next(step: Result<Step, Code>) -> Result<Next, CoreFault> {
+    let Step {
+        shard,
+        server,
+        kind,
+    } = step?;
+    Next::of(kind, shard, server).ok_or(CoreFault(Code::BAD_ARGUMENT))
+}

@@ -1,0 +1,68 @@
+use super::{At, Seat, Shard};
+use crate::Reads;
+use std::time::Instant;
+
+/// Since when this process's server knows by a transaction what it knows.
+#[derive(Debug, Default)]
+pub(super) struct Leasing {
+    /// When the transaction was sent that is under way, where it compares the record and the head.
+    sent: Option<Instant>,
+    /// When that was sent which compared last, and the revisions that held then.
+    compared: Option<(At, Instant)>,
+    /// How many requests were answered without one.
+    count: u64,
+}
+
+impl Leasing {
+    /// A transaction is sent, which compares the record and the head, or doesn't.
+    pub(super) fn note_sent(&mut self, compares: bool) {
+        self.sent = compares.then(Instant::now);
+    }
+
+    /// When the transaction was sent that is over now: till it is known that it was made, nothing is.
+    pub(super) fn take_sent(&mut self) -> Option<Instant> {
+        self.compared = None;
+        self.sent.take()
+    }
+
+    /// It was made, so at some time since then these revisions held.
+    pub(super) fn note_held(&mut self, at: At, sent: Option<Instant>) {
+        self.compared = sent.map(|it| (at, it));
+    }
+}
+
+impl Shard {
+    /// How many requests were answered without a transaction.
+    pub(crate) fn read_by_lease(&self) -> u64 {
+        self.leasing.count
+    }
+
+    /// Whether this process's server may answer reads by what it knows: nobody else has its place as long as its lease
+    /// is kept, and where the shard went to another one by a change that it hasn't seen, that was so lately.
+    pub(super) fn is_leased(&self) -> bool {
+        let Some(own) = self
+            .own
+            .as_ref()
+            .filter(|_| self.tuning.reads == Reads::Lease)
+        else {
+            return false;
+        };
+        let (Some((held, since)), Some(Seat::Ready(_, at))) =
+            (self.leasing.compared, self.seats.get(&own.server()))
+        else {
+            return false;
+        };
+        held == *at && self.unknown_at.is_none() && own.is_kept_since(since)
+    }
+
+    /// Has the server tell what it read, as if its compares had held.
+    pub(super) fn answer_by_lease(&mut self, server: u16) -> Result<(), u16> {
+        let Some(Seat::Ready(mut core, at)) = self.seats.remove(&server) else {
+            return Ok(());
+        };
+        let told = self.on_made(&mut core, at.logged).map_err(|_| server)?;
+        self.leasing.count += told;
+        self.seats.insert(server, Seat::Ready(core, at));
+        Ok(())
+    }
+}

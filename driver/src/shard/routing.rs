@@ -1,0 +1,118 @@
+use super::{Deed, Shard, READ_AGAIN};
+use crate::round::Run;
+use crate::{Came, Elsewhere, NotDone};
+use durkenzo_store::Revision;
+use std::time::Instant;
+
+/// Where a run goes.
+#[derive(Clone, Copy, Debug, PartialEq, Eq)]
+pub(super) enum Way {
+    /// This process's servers are asked.
+    Here,
+    /// It waits until others have written or answered.
+    Waits,
+    /// This server of another process is, to which it is forwarded so.
+    Elsewhere(u16, Came),
+    /// To whoever sent it: he looks again who executes.
+    Back,
+}
+
+impl Shard {
+    /// The one server of this process, where it hasn't all.
+    pub(super) fn me(&self) -> Option<u16> {
+        self.own.as_ref().map(|it| it.server())
+    }
+
+    /// Whether requests can be given to the server.
+    pub(super) fn is_reached(&self, server: u16) -> bool {
+        let is_there = |it: u16| {
+            let own = self.own.as_ref();
+            own.is_none_or(|own| own.server() == it || own.members().contains_key(&it))
+        };
+        !self.away.contains(&server) && is_there(server)
+    }
+
+    /// Where the run goes by the record, as it was seen last.
+    pub(super) fn way_of(&self, run: &Run, now: Instant) -> Way {
+        let Some(me) = self.me() else {
+            return Way::Here;
+        };
+        let revision = self.standing.revision();
+        if run.after > revision || !run.is_due(now) {
+            return Way::Waits;
+        }
+        if let Some((to, hops, by)) = run.leaves.filter(|it| it.2 == revision) {
+            let came = Came {
+                from: me,
+                hops,
+                revision: by,
+            };
+            return self.if_reached(to, came);
+        }
+        match (
+            self.standing.record().and_then(|it| it.owner()),
+            run.origin.came,
+        ) {
+            (None, _) => Way::Waits,
+            (Some(owner), _) if owner == me => Way::Here,
+            (Some(owner), None) => self.if_reached(
+                owner,
+                Came {
+                    revision,
+                    ..Came::HERE
+                },
+            ),
+            (Some(_), Some(_)) if self.standing.names(me) => Way::Here,
+            (Some(_), Some(_)) => Way::Back,
+        }
+    }
+
+    fn if_reached(&self, server: u16, came: Came) -> Way {
+        match self.is_reached(server) {
+            true => Way::Elsewhere(server, came),
+            false => Way::Waits,
+        }
+    }
+
+    /// Hands over what other processes' servers are to do.
+    pub(super) fn route(&mut self, now: Instant, deeds: &mut Vec<Deed>) {
+        if self.own.is_none() {
+            return;
+        }
+        for run in std::mem::take(&mut self.runs) {
+            self.route_one(run, now, deeds);
+        }
+    }
+
+    /// Hands over the run, or has it wait behind the others.
+    pub(super) fn route_one(&mut self, run: Run, now: Instant, deeds: &mut Vec<Deed>) {
+        match self.way_of(&run, now) {
+            Way::Here | Way::Waits => self.runs.push_back(run),
+            Way::Elsewhere(server, came) => {
+                let elsewhere = Elsewhere {
+                    shard: self.number,
+                    server,
+                    came,
+                    since: run.origin.since,
+                    first_came: run.origin.came,
+                };
+                deeds.push(Deed::HandOver(elsewhere, run.steps.into()));
+            }
+            Way::Back => {
+                let why = NotDone::Moved(self.standing.revision());
+                let steps = run.steps.into_iter();
+                deeds.extend(steps.map(|it| Deed::Tell(it.work, Err(why.clone()))));
+            }
+        }
+    }
+
+    /// Has the record be read where somebody has seen a later one.
+    pub(super) fn look(&mut self, now: Instant, deeds: &mut Vec<Deed>) {
+        let latest = self.runs.iter().map(|it| it.after).max();
+        let is_behind = latest.unwrap_or(Revision::NEVER) > self.standing.revision();
+        if is_behind && self.looked.is_none_or(|it| now >= it + READ_AGAIN) {
+            self.looked = Some(now);
+            deeds.push(Deed::Look);
+        }
+    }
+}

@@ -1,0 +1,409 @@
+//! One server each of several processes over one store: what is asked of any of them is done once, while shards move,
+//! processes die, and the control passes on.
+mod common;
+
+use common::cluster::{append, assign, campaign, kill, settle, Dice, Net, Node, LEASE};
+use common::{add, ask, held, write, Uncertain};
+use durkenzo_driver::{
+    Addresses, Begin, Command, Durable, JoinFault, Member, Next, NotDone, Numbered, Reply, Request,
+};
+use durkenzo_store::{Embedded, Store};
+use std::collections::HashSet;
+use std::sync::atomic::{AtomicBool, Ordering};
+use std::sync::{Arc, Mutex};
+use std::thread;
+use std::time::{Duration, Instant};
+
+const SHARDS: u16 = 4;
+const LASTS: Duration = Duration::from_secs(3);
+
+fn in_memory() -> Arc<dyn Store> {
+    Arc::new(Embedded::in_memory())
+}
+
+fn count_of(told: common::Told) -> i64 {
+    match told.as_deref() {
+        Ok([Reply::Count(count)]) => *count,
+        Ok([Reply::Nothing]) => 0,
+        other => panic!("{other:?}"),
+    }
+}
+
+/// The words of a list.
+fn words_of(durable: &Durable, shard: u16, key: &[u8]) -> Vec<String> {
+    let text = match held(durable, shard, key).as_deref() {
+        Ok([Reply::Text(text)]) => text.clone(),
+        Ok([Reply::Nothing]) => Vec::new(),
+        other => panic!("{other:?}"),
+    };
+    let words = String::from_utf8(text).unwrap();
+    words.split_whitespace().map(str::to_owned).collect()
+}
+
+#[test]
+fn any_process_takes_any_work() {
+    let nodes = Net::of_three(&in_memory(), SHARDS);
+    let mut control = campaign(&nodes[0]);
+    assign(&mut control, SHARDS);
+    for shard in 0..SHARDS {
+        for (at, node) in nodes.iter().enumerate() {
+            assert_eq!(count_of(add(&node.durable, shard, b"a", 1)), at as i64 + 1);
+            append(&node.durable, shard, b"list", &at.to_string()).unwrap();
+            assert_eq!(words_of(&node.durable, shard, b"list").len(), at + 1);
+        }
+        let words = words_of(&nodes[1].durable, shard, b"list");
+        assert_eq!(words, ["0", "1", "2"]);
+    }
+    let requests = vec![Request::Put(b"t".as_slice().into(), b"x".to_vec())];
+    assert_eq!(write(&nodes[2].durable, 0, requests), Ok(vec![Reply::Done]));
+}
+
+/// Has a client ask any of the processes, as long as it is to: what it was answered.
+fn client(nodes: &[Node], number: u64, end: Instant, tolerates: bool) -> (Vec<i64>, Vec<String>) {
+    let (mut dice, mut counts) = (Dice(number), vec![0; usize::from(SHARDS)]);
+    let (mut words, mut at) = (Vec::new(), 0);
+    while Instant::now() < end {
+        at += 1;
+        let node = &nodes[dice.below(nodes.len() as u64) as usize];
+        let shard = dice.below(u64::from(SHARDS)) as u16;
+        let told = match at % 3 {
+            0 => {
+                let word = format!("{number}.{shard}.{at}");
+                let told = append(&node.durable, shard, b"list", &word);
+                told.map(|_| words.push(word))
+            }
+            _ => add(&node.durable, shard, b"count", 1).map(|_| counts[usize::from(shard)] += 1),
+        };
+        match told {
+            Err(NotDone::Unknown(_) | NotDone::Stopped | NotDone::Busy) if tolerates => {}
+            Err(why) => panic!("it wasn't done: {why}"),
+            Ok(()) => {}
+        }
+    }
+    (counts, words)
+}
+
+/// Has clients ask the processes while the other work goes on: what they were answered.
+fn under_clients(
+    nodes: &[Node],
+    tolerates: bool,
+    work: impl FnOnce(Instant),
+) -> (Vec<i64>, Vec<String>) {
+    let end = Instant::now() + LASTS;
+    let (mut counts, mut words) = (vec![0; usize::from(SHARDS)], Vec::new());
+    thread::scope(|scope| {
+        let clients: Vec<_> = (0..6)
+            .map(|it| scope.spawn(move || client(nodes, it, end, tolerates)))
+            .collect();
+        work(end);
+        for it in clients {
+            let (counted, wrote) = it.join().unwrap();
+            counts
+                .iter_mut()
+                .zip(counted)
+                .for_each(|(all, it): (&mut i64, i64)| *all += it);
+            words.extend(wrote);
+        }
+    });
+    (counts, words)
+}
+
+/// That all lists have these words, each once; others only where it isn't known what became of them.
+fn assert_words(durable: &Durable, words: &[String], others: bool) {
+    let mut found = HashSet::new();
+    for shard in 0..SHARDS {
+        for word in words_of(durable, shard, b"list") {
+            assert!(found.insert(word.clone()), "{word} is there twice");
+        }
+    }
+    let lost: Vec<_> = words.iter().filter(|it| !found.contains(*it)).collect();
+    assert!(lost.is_empty(), "lost of {}: {lost:?}", words.len());
+    assert!(others || found.len() == words.len());
+}
+
+#[test]
+fn graceful_migrations_refuse_nothing_and_lose_nothing() {
+    let nodes = Net::of_three(&in_memory(), SHARDS);
+    let mut control = campaign(&nodes[2]);
+    assign(&mut control, SHARDS);
+    let mut moves = 0;
+    let (counts, words) = under_clients(&nodes, false, |end| {
+        let mut dice = Dice(99);
+        while Instant::now() < end {
+            let (shard, server) = (moves % SHARDS, dice.below(3) as u16 + 1);
+            // Where it is there already, it is refused.
+            let _ = control.command(Command::PrepareAddShard(shard, server));
+            settle(&mut control, shard);
+            moves += 1;
+        }
+    });
+    eprintln!("{moves} moves, {counts:?} counted, {} words", words.len());
+    assert!(moves > 10 && words.len() > 20);
+    for shard in 0..SHARDS {
+        let count = count_of(held(&nodes[0].durable, shard, b"count"));
+        assert_eq!(count, counts[usize::from(shard)]);
+    }
+    assert_words(&nodes[1].durable, &words, false);
+}
+
+#[test]
+fn a_process_that_dies_is_failed_and_nothing_answered_is_lost() {
+    let nodes = Net::of_three(&in_memory(), SHARDS);
+    let mut control = campaign(&nodes[0]);
+    assign(&mut control, SHARDS);
+    let (left, killed) = nodes.split_at(2);
+    let (counts, words) = under_clients(left, true, |end| {
+        thread::sleep(Duration::from_millis(300));
+        kill(&killed[0]);
+        let mut failed = Vec::new();
+        while Instant::now() < end {
+            if let Some(server) = control.fallen().unwrap() {
+                control.command(Command::Fail(server)).unwrap();
+                failed.push(server);
+            }
+            for shard in 0..SHARDS {
+                if let Next::Command(command) = control.next_of_shard(shard).unwrap() {
+                    control.command(command).unwrap();
+                }
+            }
+            thread::sleep(Duration::from_millis(1));
+        }
+        assert_eq!(failed, [3]);
+    });
+    eprintln!("{counts:?} counted, {} words", words.len());
+    for node in left {
+        assert!(node.durable.is_away(3));
+        for shard in 0..SHARDS {
+            let owner = node
+                .durable
+                .standing(shard)
+                .unwrap()
+                .record()
+                .unwrap()
+                .owner();
+            assert_ne!(owner, Some(3), "shard {shard}");
+            let count = count_of(add(&node.durable, shard, b"count", 0));
+            let (least, most) = (counts[usize::from(shard)], counts[usize::from(shard)] + 6);
+            assert!(
+                (least..=most).contains(&count),
+                "{least} <= {count} <= {most}"
+            );
+        }
+    }
+    assert_words(&left[1].durable, &words, true);
+}
+
+#[test]
+fn a_process_whose_watch_is_silent_makes_nothing_that_the_record_forbids() {
+    let nodes = Net::of_three(&in_memory(), 1);
+    let mut control = campaign(&nodes[2]);
+    control.command(Command::Assign(0, 1)).unwrap();
+    let count = |node: usize, amount| count_of(add(&nodes[node].durable, 0, b"a", amount));
+    assert_eq!(count(0, 1), 1);
+    nodes[0].is_deaf.store(true, Ordering::Release);
+    control.command(Command::Pause(0)).unwrap();
+    control.command(Command::Reassign(0, 2)).unwrap();
+    assert_eq!(count(1, 1), 2);
+    // It still takes itself for the owner: its transaction fails, and the work goes on where it belongs.
+    assert_eq!(count(0, 1), 3);
+    append(&nodes[0].durable, 0, b"list", "x").unwrap();
+    assert_eq!(count(1, 1), 4);
+    // And back, which it learns by another process's answer or its own reading alone.
+    nodes[1].is_deaf.store(true, Ordering::Release);
+    control.command(Command::Pause(0)).unwrap();
+    control.command(Command::Reassign(0, 3)).unwrap();
+    assert_eq!(count(0, 1), 5);
+    assert_eq!(count(1, 1), 6);
+    assert_eq!(words_of(&nodes[1].durable, 0, b"list"), ["x"]);
+}
+
+#[test]
+fn a_change_begins_anew_where_another_server_wrote_meanwhile() {
+    let nodes = Arc::new(Net::of_three(&in_memory(), 1));
+    let mut control = campaign(&nodes[2]);
+    control.command(Command::Assign(0, 1)).unwrap();
+    append(&nodes[0].durable, 0, b"list", "first").unwrap();
+    nodes[0].is_deaf.store(true, Ordering::Release);
+    let others = nodes.clone();
+    // The shard goes to another server, which writes, and comes back, before what was decided is written.
+    let meanwhile = move || {
+        control.command(Command::Pause(0)).unwrap();
+        control.command(Command::Reassign(0, 2)).unwrap();
+        append(&others[1].durable, 0, b"list", "other").unwrap();
+        control.command(Command::Pause(0)).unwrap();
+        control.command(Command::Reassign(0, 1)).unwrap();
+    };
+    *nodes[0].meanwhile.lock().unwrap() = Some(Box::new(meanwhile));
+    append(&nodes[0].durable, 0, b"list", "last").unwrap();
+    let words = words_of(&nodes[0].durable, 0, b"list");
+    assert_eq!(words, ["first", "other", "last"]);
+}
+
+#[test]
+fn another_process_goes_on_where_the_leader_was() {
+    let mut nodes = Net::of_three(&in_memory(), SHARDS);
+    let mut control = campaign(&nodes[2]);
+    for shard in 0..SHARDS {
+        control.command(Command::Assign(shard, 1)).unwrap();
+    }
+    assert!(matches!(
+        durkenzo_driver::Control::campaign(nodes[0].durable.clone(), &common::line_of(SHARDS, 3)),
+        Ok(None)
+    ));
+    control.command(Command::PrepareAddShard(0, 2)).unwrap();
+    control.command(Command::PrepareDropShard(0)).unwrap();
+    control.command(Command::PrepareAddShard(1, 2)).unwrap();
+    kill(&nodes[2]);
+    assert_eq!(count_of(add(&nodes[0].durable, 0, b"a", 1)), 1);
+    let mut next = campaign(&nodes[1]);
+    (0..SHARDS).for_each(|it| settle(&mut next, it));
+    for shard in 0..2 {
+        let owner = nodes[0]
+            .durable
+            .standing(shard)
+            .unwrap()
+            .record()
+            .unwrap()
+            .owner();
+        assert_eq!(owner, Some(2));
+        assert!(add(&nodes[0].durable, shard, b"a", 1).is_ok());
+    }
+    // Who led before can change nothing, and knows it once it reaches the store.
+    nodes[2].is_cut.store(false, Ordering::Release);
+    assert!(control.command(Command::Pause(0)).is_err());
+    drop(control);
+    drop(nodes.remove(2));
+    // A server's key is gone with its process.
+    let end = Instant::now() + 5 * LEASE;
+    let member = nodes[0].durable.member().unwrap();
+    while member.members().contains_key(&3) {
+        assert!(Instant::now() < end);
+        thread::sleep(Duration::from_millis(10));
+    }
+}
+
+#[test]
+fn a_shard_is_dropped_once_all_follow() {
+    let nodes = Net::of_three(&in_memory(), 1);
+    let mut control = campaign(&nodes[0]);
+    control.command(Command::Assign(0, 1)).unwrap();
+    nodes[2].is_deaf.store(true, Ordering::Release);
+    for command in [
+        Command::PrepareAddShard(0, 2),
+        Command::PrepareDropShard(0),
+        Command::AddShard(0),
+    ] {
+        control.command(command).unwrap();
+    }
+    thread::sleep(Duration::from_millis(200));
+    assert_eq!(control.next_of_shard(0).unwrap(), Next::Waits);
+    assert!(control.command(Command::DropShard(0)).is_err());
+    // It hears of the next record again; one that is gone isn't waited for.
+    kill(&nodes[2]);
+    let end = Instant::now() + 5 * LEASE;
+    while control.next_of_shard(0).unwrap() == Next::Waits {
+        assert!(Instant::now() < end);
+        thread::sleep(Duration::from_millis(10));
+    }
+    control.command(Command::DropShard(0)).unwrap();
+}
+
+#[test]
+fn a_server_runs_once() {
+    let store = in_memory();
+    let net = Arc::new(Net::default());
+    let node = net.start(&store, 1, 1, |line| Arc::new(line));
+    let addresses = Addresses::default();
+    let second = Member::join(store.clone(), 1, addresses.clone(), LEASE, Box::new(|| {}));
+    match second {
+        Err(JoinFault::Running(1, address)) => assert_eq!(address, "node-1"),
+        other => panic!("{other:?}"),
+    }
+    drop(node);
+    let third = Member::join(store, 1, addresses, LEASE, Box::new(|| {}));
+    assert!(third.is_ok());
+}
+
+/// Moves shards about as long as it is let.
+fn migrate(mut control: durkenzo_driver::Control, stops: &AtomicBool) -> u64 {
+    let (mut moves, mut dice) = (0, Dice(5));
+    while !stops.load(Ordering::Acquire) {
+        let (shard, server) = (moves as u16 % SHARDS, dice.below(3) as u16 + 1);
+        let _ = control.command(Command::PrepareAddShard(shard, server));
+        settle(&mut control, shard);
+        moves += 1;
+        thread::sleep(Duration::from_millis(2));
+    }
+    moves
+}
+
+#[test]
+fn numbered_requests_are_made_once_where_outcomes_are_unknown() {
+    let (store, net) = (in_memory(), Arc::new(Net::default()));
+    let uncertain = |line| Arc::new(Uncertain::new(line, 4)) as Arc<dyn Store>;
+    let nodes: Vec<_> = (1..=3)
+        .map(|it| net.start(&store, it, SHARDS, uncertain))
+        .collect();
+    let mut control = campaign(&nodes[0]);
+    assign(&mut control, SHARDS);
+    let (stops, end) = (AtomicBool::new(false), Instant::now() + LASTS);
+    let replied = Mutex::new(vec![Vec::new(); usize::from(SHARDS)]);
+    thread::scope(|scope| {
+        let moving = scope.spawn(|| migrate(control, &stops));
+        let clients: Vec<_> = (1..=6)
+            .map(|client| {
+                let (nodes, replied) = (&nodes, &replied);
+                scope.spawn(move || {
+                    let (shard, mut dice) = (client as u16 % SHARDS, Dice(client));
+                    let (mut number, mut last) = (0, None);
+                    while Instant::now() < end {
+                        number += 1;
+                        let numbered = Numbered { client, number };
+                        let requests = vec![Request::Add(b"count".as_slice().into(), 1)];
+                        let begin = Begin::Numbered(numbered, requests);
+                        // Asked twice, anywhere, it replies as it did first.
+                        let told: Vec<_> = (0..2)
+                            .map(|_| {
+                                let node = &nodes[dice.below(3) as usize];
+                                count_of(ask(&node.durable, shard, begin.clone(), None))
+                            })
+                            .collect();
+                        assert_eq!(told[0], told[1]);
+                        replied.lock().unwrap()[usize::from(shard)].push(told[0]);
+                        // The one before isn't made again: who hasn't read this one replies as it did first.
+                        let numbered = Numbered {
+                            client,
+                            number: number - 1,
+                        };
+                        let requests = vec![Request::Add(b"count".as_slice().into(), 1)];
+                        let begin = Begin::Numbered(numbered, requests);
+                        let again = ask(&nodes[0].durable, shard, begin, None);
+                        let is_first = matches!(again, Err(NotDone::NotMade(_))) && number == 1;
+                        let is_before =
+                            last.is_some() && again == Ok(vec![Reply::Count(last.unwrap_or(0))]);
+                        let is_passed = again == Err(NotDone::Passed);
+                        assert!(
+                            is_first || is_before || is_passed,
+                            "{again:?} after {last:?}"
+                        );
+                        last = Some(told[0]);
+                    }
+                })
+            })
+            .collect();
+        let ended: Vec<_> = clients.into_iter().map(|it| it.join()).collect();
+        stops.store(true, Ordering::Release);
+        assert!(ended.iter().all(Result::is_ok));
+        assert!(moving.join().unwrap() > 5);
+    });
+    for (shard, mut counts) in replied.into_inner().unwrap().into_iter().enumerate() {
+        counts.sort_unstable();
+        let all: Vec<i64> = (1..=counts.len() as i64).collect();
+        assert_eq!(
+            counts, all,
+            "each addition is counted once, in shard {shard}"
+        );
+        let count = count_of(held(&nodes[1].durable, shard as u16, b"count"));
+        assert_eq!(count, all.len() as i64);
+    }
+}

@@ -1,0 +1,346 @@
+//! Processes of one server each over one store, in one process: what goes from one to another goes by a call.
+use super::{ask, Decide, Told};
+use durkenzo_driver::{
+    Addresses, Begin, Command, Control, Durable, Elsewhere, Member, Next, NotDone, Outcome, Own,
+    Reads, Reply, Request, Step, Tuning, Work,
+};
+use durkenzo_store::{
+    CompactError, Done, LeaseError, LeaseId, ReadError, Reading, Store, Transaction, Watch,
+    Watcher, WriteError,
+};
+use std::collections::BTreeMap;
+use std::sync::atomic::{AtomicBool, AtomicUsize, Ordering};
+use std::sync::mpsc::{self, Receiver};
+use std::sync::{Arc, Mutex, Weak};
+use std::thread;
+use std::time::{Duration, Instant};
+
+/// How long leases are: as short as they can be.
+pub const LEASE: Duration = Duration::from_secs(1);
+
+/// What happens before a transaction that writes to a log.
+pub type Meanwhile = Arc<Mutex<Option<Box<dyn FnOnce() + Send>>>>;
+
+/// A process's way to the store, which can be cut, and whose watches can fall silent.
+pub struct Line {
+    pub meanwhile: Meanwhile,
+    store: Arc<dyn Store>,
+    pub is_cut: Arc<AtomicBool>,
+    pub is_deaf: Arc<AtomicBool>,
+    /// How many transactions of shards went there.
+    pub sent: Arc<AtomicUsize>,
+}
+
+impl Line {
+    pub fn to(store: &Arc<dyn Store>) -> Line {
+        Line {
+            meanwhile: Meanwhile::default(),
+            store: store.clone(),
+            is_cut: Arc::default(),
+            is_deaf: Arc::default(),
+            sent: Arc::default(),
+        }
+    }
+
+    fn is_cut(&self) -> bool {
+        self.is_cut.load(Ordering::Acquire)
+    }
+
+    fn read_error(&self) -> Option<ReadError> {
+        self.is_cut()
+            .then(|| ReadError::Unavailable("cut".to_owned()))
+    }
+}
+
+impl Store for Line {
+    fn submit(&self, transaction: Transaction, done: Done) {
+        let mut compares = transaction.compares.iter();
+        if compares.any(|it| it.key.starts_with(b"head/")) {
+            self.sent.fetch_add(1, Ordering::Relaxed);
+        }
+        let mut puts = transaction.puts.iter();
+        if puts.any(|it| it.key.starts_with(b"head/")) {
+            if let Some(meanwhile) = self.meanwhile.lock().unwrap().take() {
+                let store = self.store.clone();
+                thread::spawn(move || {
+                    meanwhile();
+                    store.submit(transaction, done);
+                });
+                return;
+            }
+        }
+        match self.is_cut() {
+            true => drop(thread::spawn(|| {
+                done(Err(WriteError::Unknown("cut".to_owned())))
+            })),
+            false => self.store.submit(transaction, done),
+        }
+    }
+
+    fn read(&self, keys: &[&[u8]]) -> Result<Reading, ReadError> {
+        self.read_error().map_or_else(|| self.store.read(keys), Err)
+    }
+
+    fn read_all(&self, prefix: &[u8]) -> Result<Reading, ReadError> {
+        self.read_error()
+            .map_or_else(|| self.store.read_all(prefix), Err)
+    }
+
+    fn watch(&self, prefix: &[u8], mut watcher: Watcher) -> Result<Watch, ReadError> {
+        let (deaf, cut) = (self.is_deaf.clone(), self.is_cut.clone());
+        let hears = move |seen| {
+            if !deaf.load(Ordering::Acquire) && !cut.load(Ordering::Acquire) {
+                watcher(seen);
+            }
+        };
+        self.store.watch(prefix, Box::new(hears))
+    }
+
+    fn grant(&self, length: Duration) -> Result<LeaseId, LeaseError> {
+        self.store.grant(length)
+    }
+
+    fn keep(&self, lease: LeaseId) -> Result<(), LeaseError> {
+        match self.is_cut() {
+            true => Err(LeaseError::Unavailable("cut".to_owned())),
+            false => self.store.keep(lease),
+        }
+    }
+
+    fn revoke(&self, lease: LeaseId) -> Result<(), LeaseError> {
+        match self.is_cut() {
+            true => Err(LeaseError::Unavailable("cut".to_owned())),
+            false => self.store.revoke(lease),
+        }
+    }
+
+    fn compact(&self) -> Result<(), CompactError> {
+        self.store.compact()
+    }
+}
+
+/// A process, and whether it was killed.
+type Place = (Weak<Durable>, Arc<AtomicBool>);
+
+/// The processes, by their servers.
+#[derive(Default)]
+pub struct Net {
+    /// How its processes answer reads.
+    pub reads: Reads,
+    places: Mutex<BTreeMap<u16, Place>>,
+}
+
+type Message = (Elsewhere, Vec<Step>);
+
+/// A process with one server.
+pub struct Node {
+    pub server: u16,
+    pub durable: Arc<Durable>,
+    pub meanwhile: Meanwhile,
+    pub is_cut: Arc<AtomicBool>,
+    pub is_deaf: Arc<AtomicBool>,
+    pub sent: Arc<AtomicUsize>,
+}
+
+/// Work that came from another process.
+struct Remote {
+    step: Option<Step>,
+    sender: Weak<Durable>,
+    elsewhere: Elsewhere,
+    is_cut: Arc<AtomicBool>,
+}
+
+impl Work for Remote {
+    fn decide(&mut self, held: Vec<Reply>) -> Vec<Request> {
+        self.step.as_mut().expect("a step").work.decide(held)
+    }
+
+    fn spell(&self) -> Vec<u8> {
+        Vec::new()
+    }
+
+    fn answered(self: Box<Self>, _answer: &[u8]) {}
+
+    fn end(mut self: Box<Self>, outcome: Outcome) {
+        let step = self.step.take().expect("a step");
+        if self.is_cut.load(Ordering::Acquire) {
+            let why = NotDone::Unknown("the other process is gone".to_owned());
+            return step.work.end(Err(why));
+        }
+        match (outcome, self.sender.upgrade()) {
+            (Err(NotDone::Moved(revision)), Some(sender)) => {
+                sender.submit_again(self.elsewhere.clone(), vec![step], revision);
+            }
+            (outcome, _) => step.work.end(outcome),
+        }
+    }
+}
+
+impl Net {
+    /// Starts a process with this server; the store is reached as the function says.
+    pub fn start(
+        self: &Arc<Net>,
+        store: &Arc<dyn Store>,
+        server: u16,
+        shards: u16,
+        by: impl FnOnce(Line) -> Arc<dyn Store>,
+    ) -> Node {
+        let line = Line::to(store);
+        let (is_cut, is_deaf) = (line.is_cut.clone(), line.is_deaf.clone());
+        let (meanwhile, sent_there) = (line.meanwhile.clone(), line.sent.clone());
+        let store = by(line);
+        let addresses = Addresses {
+            servers: format!("node-{server}"),
+            clients: String::new(),
+        };
+        let member = Member::join(store.clone(), server, addresses, LEASE, Box::new(|| {}));
+        let member = Arc::new(member.expect("a member"));
+        let (send, sent) = mpsc::channel();
+        let send = Mutex::new(send);
+        let elsewhere = move |elsewhere, steps| {
+            let _ = send.lock().unwrap().send((elsewhere, steps));
+        };
+        let tuning = Tuning {
+            wait: Duration::from_secs(8),
+            most_batches: 40,
+            reads: self.reads,
+        };
+        let own = Own {
+            member,
+            elsewhere: Box::new(elsewhere),
+        };
+        let durable = Durable::open_one(store, shards, tuning, own, Box::new(|| {}));
+        let durable = Arc::new(durable.expect("shards"));
+        let place = (Arc::downgrade(&durable), is_cut.clone());
+        self.places.lock().unwrap().insert(server, place);
+        let (net, sender) = (self.clone(), Arc::downgrade(&durable));
+        thread::spawn(move || net.carry(&sent, &sender));
+        Node {
+            server,
+            durable,
+            meanwhile,
+            is_cut,
+            is_deaf,
+            sent: sent_there,
+        }
+    }
+
+    /// Carries what a process sends to others, until it ends.
+    fn carry(&self, sent: &Receiver<Message>, sender: &Weak<Durable>) {
+        for (elsewhere, steps) in sent {
+            let place = self.places.lock().unwrap().get(&elsewhere.server).cloned();
+            let place = place.filter(|it| !it.1.load(Ordering::Acquire));
+            let target = place.and_then(|(it, is_cut)| Some((it.upgrade()?, is_cut)));
+            match (target, sender.upgrade()) {
+                (Some((target, is_cut)), _) => {
+                    let remote = steps.into_iter().map(|step| Step {
+                        begin: step.begin.clone(),
+                        work: Box::new(Remote {
+                            step: Some(step),
+                            sender: sender.clone(),
+                            elsewhere: elsewhere.clone(),
+                            is_cut: is_cut.clone(),
+                        }),
+                    });
+                    let Elsewhere {
+                        shard, came, since, ..
+                    } = elsewhere;
+                    target.submit_from(shard, remote.collect(), came, since);
+                }
+                (None, Some(sender)) => {
+                    let revision = elsewhere.came.revision;
+                    sender.submit_again(elsewhere, steps, revision);
+                }
+                (None, None) => steps
+                    .into_iter()
+                    .for_each(|it| it.work.end(Err(NotDone::Stopped))),
+            }
+        }
+    }
+
+    /// Three processes over the store.
+    pub fn of_three(store: &Arc<dyn Store>, shards: u16) -> Vec<Node> {
+        Net::of_three_by(store, shards, Reads::Exact)
+    }
+
+    /// The same, which answer reads so.
+    pub fn of_three_by(store: &Arc<dyn Store>, shards: u16, reads: Reads) -> Vec<Node> {
+        let net = Arc::new(Net {
+            reads,
+            ..Net::default()
+        });
+        let start = |it| net.start(store, it, shards, |line| Arc::new(line));
+        (1..=3).map(start).collect()
+    }
+}
+
+/// Has the process be as one that was killed: it reaches nothing, and nobody reaches it.
+pub fn kill(node: &Node) {
+    node.is_cut.store(true, Ordering::Release);
+}
+
+/// Leads as soon as nobody else does.
+pub fn campaign(node: &Node) -> Control {
+    let end = Instant::now() + Duration::from_secs(20);
+    loop {
+        match Control::campaign(
+            node.durable.clone(),
+            &super::line_of(node.durable.shards(), 3),
+        ) {
+            Ok(Some(control)) => return control,
+            other => assert!(Instant::now() < end, "{other:?}"),
+        }
+        thread::sleep(Duration::from_millis(20));
+    }
+}
+
+/// Has each shard that nobody owns be owned in turn.
+pub fn assign(control: &mut Control, shards: u16) {
+    for shard in 0..shards {
+        let _ = control.command(Command::Assign(shard, shard % 3 + 1));
+    }
+}
+
+/// Goes on with the shard until nothing is under way.
+pub fn settle(control: &mut Control, shard: u16) {
+    let end = Instant::now() + Duration::from_secs(20);
+    loop {
+        match control.next_of_shard(shard) {
+            Ok(Next::Nothing) => return,
+            Ok(Next::Command(command)) => drop(control.command(command)),
+            Ok(Next::Waits) => thread::sleep(Duration::from_micros(200)),
+            Err(error) => panic!("{error}"),
+        }
+        assert!(Instant::now() < end, "shard {shard} doesn't settle");
+    }
+}
+
+/// A change that appends a word to the list of a key, by what it reads there.
+pub fn append(durable: &Durable, shard: u16, key: &[u8], word: &str) -> Told {
+    let (at, word) = (key.to_vec(), word.to_owned());
+    let decide = move |held: Vec<Reply>| {
+        let mut text = match &held[..] {
+            [Reply::Text(text)] => text.clone(),
+            [Reply::Nothing] => Vec::new(),
+            other => panic!("{other:?}"),
+        };
+        text.extend(word.bytes());
+        text.push(b' ');
+        vec![Request::Put(at.clone().into(), text)]
+    };
+    let begin = Begin::Change(vec![key.into()]);
+    ask(durable, shard, begin, Some(Box::new(decide) as Decide))
+}
+
+/// Numbers that seem to be random.
+pub struct Dice(pub u64);
+
+impl Dice {
+    pub fn below(&mut self, bound: u64) -> u64 {
+        self.0 = self
+            .0
+            .wrapping_mul(6_364_136_223_846_793_005)
+            .wrapping_add(1_442_695_040_888_963_407);
+        (self.0 >> 33) % bound
+    }
+}

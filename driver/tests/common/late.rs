@@ -1,0 +1,96 @@
+//! A store whose transactions come late, twice or never where it doesn't say what became of them.
+use super::cluster::Dice;
+use durkenzo_store::{
+    CompactError, Done, LeaseError, LeaseId, ReadError, Reading, Store, Transaction, Watch,
+    Watcher, WriteError,
+};
+use std::sync::{Arc, Mutex};
+use std::thread;
+use std::time::Duration;
+
+/// Within how many milliseconds a copy comes.
+const LATEST: u64 = 12;
+/// For how many milliseconds at most what was read is on its way.
+const SLOWEST: u64 = 6;
+
+/// A store that says of each third transaction that writes to a log that what became of it isn't known. It then makes
+/// it later, now and later again, or never. What it reads may be old when it comes.
+pub struct Late {
+    store: Arc<dyn Store>,
+    dice: Mutex<Dice>,
+}
+
+impl Late {
+    pub fn new(store: impl Store + 'static, seed: u64) -> Late {
+        Late {
+            store: Arc::new(store),
+            dice: Mutex::new(Dice(seed)),
+        }
+    }
+
+    fn below(&self, bound: u64) -> u64 {
+        self.dice.lock().unwrap().below(bound)
+    }
+
+    /// Makes a copy later. Where nothing compares any more, nothing comes of it.
+    fn send_late(&self, transaction: Transaction) {
+        let (store, pause) = (self.store.clone(), self.below(LATEST));
+        thread::spawn(move || {
+            thread::sleep(Duration::from_millis(pause));
+            store.submit(transaction, Box::new(|_| {}));
+        });
+    }
+}
+
+impl Store for Late {
+    fn submit(&self, transaction: Transaction, done: Done) {
+        let mut puts = transaction.puts.iter();
+        let is_batch = puts.any(|it| it.key.starts_with(b"head/"));
+        if !is_batch || self.below(3) > 0 {
+            return self.store.submit(transaction, done);
+        }
+        let unknown = || Err(WriteError::Unknown("a test".to_owned()));
+        match self.below(3) {
+            0 => {}
+            1 => self.send_late(transaction),
+            _ => {
+                self.send_late(transaction.clone());
+                let tells = move |_| done(unknown());
+                return self.store.submit(transaction, Box::new(tells));
+            }
+        }
+        thread::spawn(move || done(unknown()));
+    }
+
+    fn read(&self, keys: &[&[u8]]) -> Result<Reading, ReadError> {
+        let reading = self.store.read(keys);
+        if keys.iter().any(|it| it.starts_with(b"head/")) {
+            thread::sleep(Duration::from_millis(self.below(SLOWEST)));
+        }
+        reading
+    }
+
+    fn read_all(&self, prefix: &[u8]) -> Result<Reading, ReadError> {
+        self.store.read_all(prefix)
+    }
+
+    fn watch(&self, prefix: &[u8], watcher: Watcher) -> Result<Watch, ReadError> {
+        self.store.watch(prefix, watcher)
+    }
+
+    fn grant(&self, length: Duration) -> Result<LeaseId, LeaseError> {
+        self.store.grant(length)
+    }
+
+    fn keep(&self, lease: LeaseId) -> Result<(), LeaseError> {
+        self.store.keep(lease)
+    }
+
+    fn revoke(&self, lease: LeaseId) -> Result<(), LeaseError> {
+        self.store.revoke(lease)
+    }
+
+    fn compact(&self) -> Result<(), CompactError> {
+        self.store.compact()
+    }
+}

@@ -1,0 +1,128 @@
+//! A store that withholds one transaction, and what is read after it, until somebody changes a record.
+use durkenzo_store::{
+    CompactError, Done, LeaseError, LeaseId, ReadError, Reading, Store, Transaction, Watch,
+    Watcher, WriteError,
+};
+use std::sync::atomic::{AtomicBool, Ordering};
+use std::sync::{Arc, Condvar, Mutex};
+use std::time::Duration;
+
+/// A store that says of the next transaction to a log that what became of it isn't known, and makes it as late as it
+/// can be made: just before a record changes.
+pub struct Withheld {
+    store: Arc<dyn Store>,
+    /// Whether the next transaction to a log is withheld.
+    pub is_armed: Arc<AtomicBool>,
+    withheld: Mutex<Option<Transaction>>,
+    reading: Arc<Blocked>,
+}
+
+/// A reading that comes late.
+#[derive(Default)]
+pub struct Blocked {
+    state: Mutex<Delay>,
+    changed: Condvar,
+}
+
+#[derive(Clone, Copy, Default, PartialEq, Eq)]
+enum Delay {
+    #[default]
+    None,
+    /// The next one waits.
+    Next,
+    /// It waits now.
+    Waits,
+}
+
+impl Blocked {
+    fn set(&self, state: Delay) {
+        *self.state.lock().unwrap() = state;
+        self.changed.notify_all();
+    }
+
+    /// Waits until it stands otherwise.
+    fn wait_while(&self, is_so: impl Fn(Delay) -> bool) {
+        let state = self.state.lock().unwrap();
+        let patience = Duration::from_secs(20);
+        let waited = self
+            .changed
+            .wait_timeout_while(state, patience, |it| is_so(*it));
+        assert!(!waited.unwrap().1.timed_out());
+    }
+
+    /// Waits until a shard was read, as it was before the transaction.
+    pub fn await_reading(&self) {
+        self.wait_while(|it| it != Delay::Waits);
+    }
+
+    /// Lets go what was read.
+    pub fn release(&self) {
+        self.set(Delay::None);
+    }
+}
+
+impl Withheld {
+    pub fn new(store: impl Store + 'static) -> Withheld {
+        Withheld {
+            store: Arc::new(store),
+            is_armed: Arc::default(),
+            withheld: Mutex::default(),
+            reading: Arc::default(),
+        }
+    }
+
+    /// The reading that comes late.
+    pub fn reading(&self) -> Arc<Blocked> {
+        self.reading.clone()
+    }
+}
+
+impl Store for Withheld {
+    fn submit(&self, transaction: Transaction, done: Done) {
+        let writes = |prefix: &[u8]| transaction.puts.iter().any(|it| it.key.starts_with(prefix));
+        if writes(b"head/") && self.is_armed.swap(false, Ordering::AcqRel) {
+            *self.withheld.lock().unwrap() = Some(transaction);
+            self.reading.set(Delay::Next);
+            return done(Err(WriteError::Unknown("a test".to_owned())));
+        }
+        let is_change = writes(b"record/");
+        if let Some(withheld) = self.withheld.lock().unwrap().take_if(|_| is_change) {
+            self.store.submit(withheld, Box::new(|_| {}));
+        }
+        self.store.submit(transaction, done);
+    }
+
+    fn read(&self, keys: &[&[u8]]) -> Result<Reading, ReadError> {
+        let reading = self.store.read(keys);
+        let is_shard = keys.iter().any(|it| it.starts_with(b"head/"));
+        if is_shard && *self.reading.state.lock().unwrap() == Delay::Next {
+            self.reading.set(Delay::Waits);
+            self.reading.wait_while(|it| it == Delay::Waits);
+        }
+        reading
+    }
+
+    fn read_all(&self, prefix: &[u8]) -> Result<Reading, ReadError> {
+        self.store.read_all(prefix)
+    }
+
+    fn watch(&self, prefix: &[u8], watcher: Watcher) -> Result<Watch, ReadError> {
+        self.store.watch(prefix, watcher)
+    }
+
+    fn grant(&self, length: Duration) -> Result<LeaseId, LeaseError> {
+        self.store.grant(length)
+    }
+
+    fn keep(&self, lease: LeaseId) -> Result<(), LeaseError> {
+        self.store.keep(lease)
+    }
+
+    fn revoke(&self, lease: LeaseId) -> Result<(), LeaseError> {
+        self.store.revoke(lease)
+    }
+
+    fn compact(&self) -> Result<(), CompactError> {
+        self.store.compact()
+    }
+}

@@ -1,0 +1,117 @@
+//! Reads that are answered by a lease: without a transaction, and stale for no longer than that lasts.
+mod common;
+
+use common::cluster::{assign, campaign, kill, settle, Net, Node, LEASE};
+use common::{add, ask, held, Told};
+use durkenzo_driver::{Begin, Command, Control, NotDone, Reads, Reply};
+use durkenzo_store::{Embedded, Store};
+use std::sync::atomic::Ordering;
+use std::sync::Arc;
+use std::thread;
+use std::time::{Duration, Instant};
+
+/// Three processes, of which each owns a shard, and who leads them.
+fn three(reads: Reads) -> (Vec<Node>, Control) {
+    let store: Arc<dyn Store> = Arc::new(Embedded::in_memory());
+    let nodes = Net::of_three_by(&store, 3, reads);
+    let mut control = campaign(&nodes[2]);
+    assign(&mut control, 3);
+    for node in &nodes {
+        add(&node.durable, 0, b"a", 1).unwrap();
+    }
+    (nodes, control)
+}
+
+/// Has shard 0 go to the second process, as far as that needs nobody to have seen it.
+fn take(control: &mut Control) {
+    for step in [
+        Command::PrepareAddShard(0, 2),
+        Command::PrepareDropShard(0),
+        Command::AddShard(0),
+    ] {
+        control.command(step).unwrap();
+    }
+}
+
+fn is_count(told: Told, count: i64) -> bool {
+    told == Ok(vec![Reply::Count(count)])
+}
+
+/// How many transactions the process makes while it answers so many reads, each of this count.
+fn transactions(node: &Node, reads: usize, count: i64) -> usize {
+    let before = node.sent.load(Ordering::Relaxed);
+    for _ in 0..reads {
+        assert!(is_count(held(&node.durable, 0, b"a"), count));
+    }
+    node.sent.load(Ordering::Relaxed) - before
+}
+
+#[test]
+fn reads_are_answered_without_a_transaction() {
+    let (nodes, mut control) = three(Reads::Lease);
+    assert!(transactions(&nodes[0], 500, 3) <= 2);
+    // Its own writes it knows, and others have their reads answered by it.
+    for (number, node) in nodes.iter().enumerate() {
+        let count = 4 + number as i64;
+        assert!(is_count(add(&node.durable, 0, b"a", 1), count));
+        let before = nodes[0].durable.read_by_lease();
+        assert!(transactions(node, 200, count) <= 2);
+        assert!(nodes[0].durable.read_by_lease() - before >= 198);
+    }
+    let counted = ask(&nodes[1].durable, 0, Begin::Count, None);
+    assert!(is_count(counted, 1));
+    take(&mut control);
+    settle(&mut control, 0);
+    assert!(transactions(&nodes[0], 100, 6) == 0);
+    assert!(nodes[1].durable.read_by_lease() >= 98);
+}
+
+#[test]
+fn exact_reads_are_transactions_each() {
+    let (nodes, _control) = three(Reads::Exact);
+    assert!(transactions(&nodes[0], 50, 3) >= 50);
+    assert_eq!(nodes[0].durable.read_by_lease(), 0);
+}
+
+#[test]
+fn a_server_that_sees_no_change_tells_what_is_stale_for_no_longer_than_a_lease() {
+    let (nodes, mut control) = three(Reads::Lease);
+    transactions(&nodes[0], 2, 3);
+    nodes[0].is_deaf.store(true, Ordering::Release);
+    take(&mut control);
+    let written = Instant::now();
+    assert!(is_count(add(&nodes[1].durable, 0, b"a", 1), 4));
+    // It answers what it was asked by what it knows, until it has to ask.
+    let mut stale = 0;
+    loop {
+        let after = written.elapsed();
+        if is_count(held(&nodes[0].durable, 0, b"a"), 4) {
+            break;
+        }
+        stale += 1;
+        assert!(after < LEASE, "it is stale after {after:?}");
+    }
+    assert!(stale > 0);
+}
+
+#[test]
+fn a_server_past_its_lease_tells_nothing() {
+    let (nodes, mut control) = three(Reads::Lease);
+    transactions(&nodes[0], 2, 3);
+    kill(&nodes[0]);
+    assert!(is_count(held(&nodes[0].durable, 0, b"a"), 3));
+    let end = Instant::now() + Duration::from_secs(20);
+    while control.fallen().unwrap() != Some(1) {
+        assert!(Instant::now() < end);
+        thread::sleep(Duration::from_millis(10));
+    }
+    control.command(Command::Fail(1)).unwrap();
+    control.command(Command::Pause(0)).unwrap();
+    control.command(Command::Reassign(0, 2)).unwrap();
+    assert!(is_count(add(&nodes[1].durable, 0, b"a", 1), 4));
+    let told = held(&nodes[0].durable, 0, b"a");
+    assert!(
+        matches!(told, Err(NotDone::Busy | NotDone::Unknown(_))),
+        "{told:?}"
+    );
+}
