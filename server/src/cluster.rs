@@ -8,15 +8,19 @@ use crate::keyspace::Rule;
 use crate::open_fault::OpenFault;
 use crate::presence::Presence;
 use crate::progress::Progress;
+use crate::safety::Safety;
 use crate::settings::MAX_CEILING;
 use crate::stats::ChangesMade;
 use durkenzo::Board;
-use durkenzo_driver::Tuning;
+use durkenzo_driver::{Reads, Tuning};
 use std::fmt;
 use std::path::PathBuf;
 use std::sync::atomic::{AtomicBool, AtomicU64, Ordering};
 use std::sync::{Arc, OnceLock, PoisonError, RwLock};
 use std::time::{Duration, Instant};
+
+/// How many clients may always come at once before they have shown who they are.
+const LEAST_STRANGERS: usize = 64;
 
 /// How a server is to run.
 #[derive(Clone, Debug)]
@@ -45,10 +49,12 @@ pub struct Configuration {
     pub grace: Duration,
     /// How many batches the log of a shard in a folder has before a base stands for them.
     pub log_batches: u64,
+    /// How reads are answered, where servers have leases.
+    pub reads: Reads,
     /// The folder of dumps.
     pub folder: PathBuf,
-    /// What clients have to give first.
-    pub password: Option<Box<[u8]>>,
+    /// Who may reach it, and what they may do.
+    pub safety: Safety,
     /// The settings as a line, where a file gave some: their capacities, groups and caps bind too.
     pub settings: Option<Box<str>>,
 }
@@ -69,14 +75,22 @@ impl Configuration {
             pace: Duration::ZERO,
             grace: Duration::from_secs(2),
             log_batches: Tuning::default().most_batches,
+            reads: Reads::Exact,
             folder: PathBuf::from("."),
-            password: None,
+            safety: Safety::default(),
             settings: None,
         }
     }
 }
 
 impl Configuration {
+    /// Whether one more client may come, where so many haven't shown yet who they are: with a quarter of all
+    /// connections they leave room for others.
+    pub fn takes_stranger(&self, strangers: usize) -> bool {
+        let most = (self.most_clients / 4).max(LEAST_STRANGERS);
+        !self.safety.is_guarded() || strangers < most
+    }
+
     /// What binds plans and restarts.
     pub fn limits(&self) -> &'static str {
         match self.settings {

@@ -4,6 +4,7 @@ use crate::domains::Domains;
 use crate::keyspace::{Keyspace, Rule};
 use crate::options::Options;
 use crate::run::Fault;
+use crate::safety::Safety;
 use crate::settings::{even_bounds, Settings, MAX_CEILING};
 use std::fs;
 use std::path::Path;
@@ -16,7 +17,6 @@ pub fn configuration(options: &Options) -> Result<Configuration, Fault> {
         Some(it) => (it.servers(), it.restarts(), it.ceiling()),
         None => (options.servers, options.restarts, MAX_CEILING),
     };
-    let password = options.password_file.as_deref().map(password_of);
     Ok(Configuration {
         rule: rule(options, settings.as_ref())?,
         servers,
@@ -30,8 +30,9 @@ pub fn configuration(options: &Options) -> Result<Configuration, Fault> {
         pace: Duration::from_millis(options.pace),
         grace: Duration::from_millis(options.grace),
         log_batches: options.log_batches,
+        reads: options.join.reads.into(),
         folder: options.folder.clone(),
-        password: password.transpose()?,
+        safety: Safety::of(&options.safety)?,
         settings: settings.map(|it| it.line().into()),
     })
 }
@@ -42,15 +43,6 @@ fn settings_of(path: &Path) -> Result<Settings, Fault> {
     let first = text.lines().next().unwrap_or_default();
     let settings = Settings::of(if first.ends_with('}') { first } else { &text });
     Ok(settings.map_err(|fault| format!("{}: {fault}", path.display()))?)
-}
-
-fn password_of(path: &Path) -> Result<Box<[u8]>, Fault> {
-    let text = fs::read(path).map_err(|error| format!("{}: {error}", path.display()))?;
-    let line = text.split(|it| *it == b'\n').next().unwrap_or_default();
-    match line.is_empty() {
-        true => Err(format!("{}: its first line is empty", path.display()).into()),
-        false => Ok(line.into()),
-    }
 }
 
 fn rule(options: &Options, settings: Option<&Settings>) -> Result<Rule, Fault> {

@@ -19,18 +19,24 @@ pub mod domains;
 pub mod dump;
 pub mod http;
 pub mod io;
+pub mod join;
+pub mod joining;
 pub mod keyspace;
 pub mod observer;
 pub mod open_fault;
 pub mod options;
+pub mod peers;
 pub mod presence;
 pub mod progress;
 pub mod resp;
 pub mod run;
+pub mod safety;
+pub mod secret;
 pub mod settings;
 pub mod snapshot;
 pub mod stats;
 pub mod stored;
+pub mod tls;
 pub mod wait;
 
 /// What the program calls itself.

@@ -1,7 +1,9 @@
 //! Who looks at how servers and shards stand.
 use crate::body::Shard;
 use crate::cluster::Cluster;
-use crate::snapshot::{ServerRow, ShardRow, Snapshot};
+use crate::peers::Peers;
+use crate::presence::Standing;
+use crate::snapshot::{ProcessRow, ServerRow, ShardRow, Snapshot};
 use durkenzo::{Pass, PassFault, Record, UnknownShard};
 use std::fmt;
 use std::sync::Arc;
@@ -72,21 +74,49 @@ impl Observer {
         Snapshot { servers, shards }
     }
 
+    /// How far the server's restart has come. Of several processes only the one that leads knows more than whether
+    /// requests reach it.
+    fn standing(&self, server: u16) -> Option<Standing> {
+        let standing = self.cluster.presence.standing(server)?;
+        let storage = &self.cluster.storage;
+        let (Some(durable), Some(_)) = (storage.durable(), storage.peers()) else {
+            return Some(standing);
+        };
+        Some(match (durable.is_away(server), standing.is_reached()) {
+            (true, true) => Standing::Failed,
+            (false, false) => Standing::Up,
+            _ => standing,
+        })
+    }
+
     fn server(&self, server: u16, shards: &[ShardRow]) -> ServerRow {
         let index = usize::from(server) - 1;
-        let standing = self.cluster.presence.standing(server);
         let inlets = self.cluster.inlets().iter();
         let doing = self.cluster.progress.of(server);
         ServerRow {
             server,
-            standing: standing.map_or("unknown", |it| it.name()),
+            standing: self.standing(server).map_or("unknown", |it| it.name()),
             domain: self.cluster.configuration.domains.domain_of(server),
             shards: shards.iter().filter(|it| it.owner == server).count(),
             admissions: inlets
                 .map(|it| it.stats().servers[index].admissions.get())
                 .sum(),
             doing: doing.map(|it| it.to_string()),
+            process: self.cluster.storage.peers().map(|it| process(it, server)),
         }
+    }
+}
+
+/// How the server's process stands, as this one sees it.
+fn process(peers: &Peers, server: u16) -> ProcessRow {
+    let members = peers.member().members();
+    let live = members.get(&server);
+    ProcessRow {
+        number: live.map_or(0, |it| it.process),
+        leads: live.is_some() && peers.leader() == Some(server),
+        followed: live.map_or(0, |it| it.followed.0),
+        servers: live.map_or_else(String::new, |it| it.addresses.servers.clone()),
+        clients: live.map_or_else(String::new, |it| it.addresses.clients.clone()),
     }
 }
 

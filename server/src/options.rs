@@ -1,6 +1,8 @@
 //! The command line.
+use crate::joining::JoinOptions;
+use crate::safety::SafetyOptions;
 use crate::{NAME, VERSION};
-use clap::{Parser, ValueEnum};
+use clap::{ArgGroup, Parser, ValueEnum};
 use durkenzo_store::Sync;
 use std::net::IpAddr;
 use std::path::PathBuf;
@@ -13,18 +15,20 @@ const LOG: &str = "Log";
 const PROVED: &str =
     "In the repository ./sm serve takes --proved too: it proves the library first, where that wasn't done.";
 
-/// A server that Redis clients talk to. Its data lies in memory alone, unless --data names a folder.
+/// A server that Redis clients talk to. Its data lies in memory alone, unless --data names a folder, or
+/// --etcd the members of etcd.
 ///
 /// Each key is of a shard, and each shard is executed by one of several servers, which are all in this
-/// process. Servers restart in turn, and shards move between them, while clients notice nothing:
-/// `redis-cli -p 7379 sm help` tells how.
+/// process, or with --etcd each in one of its own. Servers restart in turn, and shards move between them,
+/// while clients notice nothing: `redis-cli -p 7379 sm help` tells how.
 #[derive(Clone, Debug, Parser)]
 #[command(
     name = NAME,
     version = VERSION,
     args_override_self = true,
     verbatim_doc_comment,
-    after_help = PROVED
+    after_help = PROVED,
+    group = ArgGroup::new("stored").args(["data", "etcd"])
 )]
 pub struct Options {
     /// Address to listen at
@@ -43,9 +47,9 @@ pub struct Options {
     #[arg(long, value_name = "COUNT", default_value_t = 20_000, help_heading = NETWORK)]
     pub max_clients: usize,
 
-    /// File whose first line is the password that clients have to give [default: none]
-    #[arg(long, value_name = "FILE", help_heading = NETWORK)]
-    pub password_file: Option<PathBuf>,
+    /// Who may reach it, and what they may do
+    #[command(flatten)]
+    pub safety: SafetyOptions,
 
     /// File with settings as scripts take them, whose capacities, groups and caps bind too [default: none]
     #[arg(
@@ -134,7 +138,7 @@ pub struct Options {
         value_name = "COUNT",
         default_value_t = 4_096,
         value_parser = clap::value_parser!(u64).range(1..),
-        requires = "data",
+        requires = "stored",
         help_heading = DATA
     )]
     pub log_batches: u64,
@@ -142,6 +146,10 @@ pub struct Options {
     /// Folder of the files of SM DUMP and SM LOAD
     #[arg(long, value_name = "FOLDER", default_value = ".", help_heading = DATA)]
     pub folder: PathBuf,
+
+    /// Which server of several processes this is
+    #[command(flatten)]
+    pub join: JoinOptions,
 
     /// Threads for clients, 1 to 64 [default: one less than processors, at most 4]
     #[arg(
@@ -152,8 +160,8 @@ pub struct Options {
     )]
     pub threads: Option<u16>,
 
-    /// How long a thread polls for requests before it sleeps, where they came soon lately and it answers sooner so; 0 is
-    /// not at all
+    /// How long a thread polls for requests before it sleeps, where they came soon lately and it answers sooner so; 0
+    /// is not at all
     #[arg(long, value_name = "MICROSECONDS", default_value_t = 50, help_heading = THREADS)]
     pub busy_poll: u64,
 

@@ -5,8 +5,9 @@ use crate::body::{InFolder, Memory, Storage};
 use crate::cluster::{Cluster, Configuration};
 use crate::command::Executor;
 use crate::configure::configuration;
-use crate::control::{Asked, Controller, StoredController};
+use crate::control::{Asked, Campaigner, Controller, StoredController};
 use crate::io::{Acceptor, Inlet, Worker};
+use crate::join::Joined;
 use crate::keyspace::Keyspace;
 use crate::options::{LogFormat, Options};
 use crate::stored;
@@ -33,17 +34,21 @@ pub fn run(options: &Options) -> Result<(), Fault> {
     begin_log(options)?;
     let attendant = Attendant::new()?;
     let configuration = configuration(options)?;
-    let storage = storage(options, &configuration)?;
+    let address = SocketAddr::new(options.bind, options.port);
+    let told = |error| format!("{address}: {error}; --port takes another port");
+    let listener = Acceptor::bind(address).map_err(told)?;
+    let joined = joined(options, &configuration, listener.local_addr()?)?;
+    let storage = storage(options, &configuration, joined.as_ref())?;
     let cluster = Arc::new(Cluster::new(configuration, storage)?);
     let (control, asked) = channel();
     let polls = polls(options, &cluster)?;
     let controlling = controlling(options, &cluster, asked)?;
-    let address = SocketAddr::new(options.bind, options.port);
-    let told = |error| format!("{address}: {error}; --port takes another port");
-    let acceptor = Acceptor::new(cluster.clone(), address).map_err(told)?;
+    let acceptor = Acceptor::new(cluster.clone(), listener)?;
     announce(options, &cluster, acceptor.address()?);
     let waker = acceptor.waker();
     let mut threads = workers(&cluster, polls, &control)?;
+    let between = joined.map(|it| it.begin(&cluster, control.clone()));
+    let between = between.transpose()?;
     drop(control);
     threads.push(spawn(&cluster, "acceptor", move || {
         acceptor.run();
@@ -57,21 +62,58 @@ pub fn run(options: &Options) -> Result<(), Fault> {
     let attended = attendant.attend(&cluster, page);
     cluster.stop();
     waker.wake()?;
+    let ended = end(&cluster, threads, between);
+    tracing::info!("stopped");
+    ended.and(attended)
+}
+
+/// Waits until each thread has come to its end, and then leaves the store, and the other processes.
+fn end(
+    cluster: &Cluster,
+    threads: Vec<Running>,
+    between: Option<JoinHandle<()>>,
+) -> Result<(), Fault> {
+    let peers = cluster.storage.peers();
+    // Nobody but clients asks the control any more.
+    peers.iter().for_each(|it| it.leave_control());
     let ended = threads.into_iter().map(|it| {
         let panicked = |_| Err("a thread panicked".into());
         it.join().unwrap_or_else(panicked)
     });
-    // All are waited for; what a thread says comes before that one ended.
-    let ended = ended.fold(Ok(()), Result::and).and(attended);
+    // All are waited for.
+    let ended = ended.fold(Ok(()), Result::and);
+    peers.iter().for_each(|it| it.close());
     if let Some(durable) = cluster.storage.durable() {
         durable.stop();
     }
-    tracing::info!("stopped");
+    peers.iter().for_each(|it| it.leave());
+    // A thread that panicked has said so.
+    let _ = between.map(JoinHandle::join);
     ended
 }
 
+/// The server of a cluster of several processes that this one becomes, where the options say so.
+fn joined(
+    options: &Options,
+    configuration: &Configuration,
+    clients: SocketAddr,
+) -> Result<Option<Joined>, Fault> {
+    let joined = options
+        .join
+        .server()
+        .map(|it| Joined::new(&options.join, it, configuration, clients));
+    joined.transpose()
+}
+
 /// Where data lies, as the options say.
-fn storage(options: &Options, configuration: &Configuration) -> Result<Box<dyn Storage>, Fault> {
+fn storage(
+    options: &Options,
+    configuration: &Configuration,
+    joined: Option<&Joined>,
+) -> Result<Box<dyn Storage>, Fault> {
+    if let Some(joined) = joined {
+        return Ok(Box::new(joined.storage()));
+    }
     let Some(folder) = &options.data else {
         return Ok(Box::new(Memory));
     };
@@ -85,15 +127,22 @@ fn controlling(
     cluster: &Arc<Cluster>,
     asked: Receiver<Asked>,
 ) -> Result<Box<dyn FnOnce() + Send>, Fault> {
-    if let Some(durable) = cluster.storage.durable() {
+    let (assigns, storage) = (!options.vacant, &cluster.storage);
+    if let (Some(durable), Some(peers)) = (storage.durable(), storage.peers()) {
+        let line = stored::line(&cluster.configuration);
+        let (durable, peers) = (durable.clone(), peers.clone());
+        let campaigner = Campaigner::new(cluster.clone(), durable, peers, line, assigns);
+        return Ok(Box::new(move || campaigner.run(asked)));
+    }
+    if let Some(durable) = storage.durable() {
         let line = stored::line(&cluster.configuration);
         let control = Control::lead(durable.clone(), &line)?;
         let mut controller = StoredController::new(cluster.clone(), control)?;
-        controller.begin(!options.vacant)?;
+        controller.begin(assigns)?;
         return Ok(Box::new(move || controller.run(asked)));
     }
     let mut controller = Controller::new(cluster.clone())?;
-    if !options.vacant {
+    if assigns {
         controller.assign_all()?;
     }
     Ok(Box::new(move || controller.run(asked)))
@@ -178,9 +227,7 @@ fn announce(options: &Options, cluster: &Cluster, address: SocketAddr) {
         Some(_) => tracing::info!("data lies {}", cluster.storage.description()),
         None => tracing::warn!("data lies {}", cluster.storage.description()),
     }
-    if !options.bind.is_loopback() && cluster.configuration.password.is_none() {
-        tracing::warn!(
-            "anybody who reaches {address} may read, write and move shards: --password-file"
-        );
+    if !options.bind.is_loopback() {
+        cluster.configuration.safety.warn(address);
     }
 }

@@ -61,7 +61,10 @@ impl Error for SettingsFault {
 impl Settings {
     /// The settings of this text.
     pub fn of(text: &str) -> Result<Settings, SettingsFault> {
-        let members: Members = serde_json::from_str(text).map_err(SettingsFault::BadJson)?;
+        // Of two members of one name the last counts, as the library has it.
+        let value: serde_json::Value =
+            serde_json::from_str(text).map_err(SettingsFault::BadJson)?;
+        let members: Members = serde_json::from_value(value).map_err(SettingsFault::BadJson)?;
         if (1..).zip(&members.servers).any(|(id, row)| row.id != id) {
             return Err(SettingsFault::Gaps);
         }
@@ -140,6 +143,12 @@ mod tests {
         assert_eq!(settings.bounds(), [b"".to_vec(), b"m".to_vec()]);
         assert_eq!(settings.domains().domain_of(2), 1);
         assert!(!settings.line().contains('\n') && settings.line().contains("\"capacity\":1}"));
+    }
+
+    #[test]
+    fn of_two_members_of_one_name_the_last_counts() {
+        let twice = LINE.replace("\"ops\":1", "\"ops\":7,\"ops\":1");
+        assert_eq!(Settings::of(&twice).unwrap().restarts(), 1);
     }
 
     #[test]

@@ -67,6 +67,46 @@ pub struct ServerRow {
     pub admissions: u64,
     /// What its restart does now, if one is under way.
     pub doing: Option<String>,
+    /// Its process, where servers have one each.
+    pub process: Option<ProcessRow>,
+}
+
+/// How the process of a server stands, where servers have one each.
+#[derive(Clone, Debug, Serialize)]
+pub struct ProcessRow {
+    /// Its number among all that ever began, if it is there; else 0.
+    pub number: u64,
+    /// Whether it leads.
+    pub leads: bool,
+    /// The revision up to which it follows records.
+    pub followed: u64,
+    /// Where other processes reach it.
+    pub servers: String,
+    /// Where clients do.
+    pub clients: String,
+}
+
+impl fmt::Display for ProcessRow {
+    fn fmt(&self, f: &mut fmt::Formatter<'_>) -> fmt::Result {
+        let ProcessRow {
+            number,
+            leads,
+            followed,
+            servers,
+            clients,
+        } = self;
+        let leads = match (number, leads) {
+            (0, _) => "gone",
+            (_, true) => "leads",
+            (_, false) => "follows",
+        };
+        let told = |address: &String| match address.is_empty() {
+            true => "-".to_owned(),
+            false => address.clone(),
+        };
+        let (servers, clients) = (told(servers), told(clients));
+        write!(f, "{number} {leads} {followed} {servers} {clients}")
+    }
 }
 
 impl fmt::Display for ServerRow {
@@ -78,12 +118,14 @@ impl fmt::Display for ServerRow {
             shards,
             admissions,
             doing,
+            process,
         } = self;
         let doing = doing.as_deref().unwrap_or("-");
-        write!(
-            f,
-            "{server} {standing} {domain} {shards} {admissions} {doing}"
-        )
+        write!(f, "{server} {standing} {domain} {shards} {admissions} ")?;
+        if let Some(process) = process {
+            write!(f, "{process} ")?;
+        }
+        f.write_str(doing)
     }
 }
 

@@ -1,4 +1,4 @@
-//! How data in a folder is opened: by the settings with which it was written.
+//! How data that outlives the process is opened: by the settings with which it was written.
 use crate::cluster::Configuration;
 use crate::keyspace::Rule;
 use crate::run::Fault;
@@ -22,17 +22,38 @@ pub fn open(
     configuration: &Configuration,
 ) -> Result<Durable, Fault> {
     let store: Arc<dyn Store> = Arc::new(Embedded::in_folder(folder, sync)?);
-    let wanted = written_settings(configuration);
-    let found = settle(&*store, &wanted)?;
-    if found != wanted {
-        return Err(other_settings(folder, &found, &wanted).into());
-    }
-    let shards = configuration.rule.shards();
-    let tuning = Tuning {
+    let place = format!("the folder {}", folder.display());
+    agree(&*store, &place, "name another folder", configuration)?;
+    let (shards, tuning) = (configuration.rule.shards(), tuning(configuration));
+    Ok(Durable::open(store, shards, tuning, Box::new(|| {}))?)
+}
+
+/// How shards are driven.
+pub fn tuning(configuration: &Configuration) -> Tuning {
+    Tuning {
         wait: configuration.wait,
         most_batches: configuration.log_batches,
-    };
-    Ok(Durable::open(store, shards, tuning, Box::new(|| {}))?)
+        reads: configuration.reads,
+    }
+}
+
+/// Writes the settings where the store has none, and gives them as they lie there.
+///
+/// # Errors
+///
+/// Where it has other ones, with what else may be done; or where it can't be read or written.
+pub fn agree(
+    store: &dyn Store,
+    place: &str,
+    otherwise: &str,
+    configuration: &Configuration,
+) -> Result<String, Fault> {
+    let wanted = written_settings(configuration);
+    let found = settle(store, &wanted)?;
+    match found == wanted {
+        true => Ok(wanted),
+        false => Err(other_settings(place, otherwise, &found, &wanted).into()),
+    }
 }
 
 /// Writes the settings where there are none yet, and gives those that lie there then.
@@ -106,14 +127,11 @@ fn bounds(rule: &Rule) -> Vec<String> {
     }
 }
 
-/// That the folder is of other settings, how they differ, and what to do.
-fn other_settings(folder: &Path, found: &str, wanted: &str) -> String {
+/// That what lies there is of other settings, how they differ, and what to do.
+fn other_settings(place: &str, otherwise: &str, found: &str, wanted: &str) -> String {
     let (found, wanted) = (Told::of(found), Told::of(wanted));
-    let advice = "start with what it was made with, or name another folder";
-    format!(
-        "OTHERSETTINGS the folder {} was made with {found}, and this start says {wanted}: {advice}",
-        folder.display()
-    )
+    let advice = format!("start with what it was made with, or {otherwise}");
+    format!("OTHERSETTINGS {place} was made with {found}, and this start says {wanted}: {advice}")
 }
 
 /// What people know settings by.

@@ -9,6 +9,7 @@ import tempfile
 import time
 
 import redis
+import scans
 from served import Client, Refused, main, served
 
 SM = pathlib.Path(__file__).resolve().parents[2] / "sm"
@@ -215,23 +216,11 @@ def redis_py_does_all(program):
 
 
 def scans_give_each_key_once_in_order(program):
-    for options in ([], ["--ranges", 8], ["--bounds", "k1,k25,k9"], ["--ranges", 5, "--hash"]):
+    for options in scans.OPTIONS:
         with served(program, *options) as server:
-            client = redis.Redis(port=server.port, decode_responses=True)
-            with client.pipeline(transaction=False) as pipe:
-                for number in range(700):
-                    pipe.set(f"k{number}", number)
-                pipe.execute()
-            keys = sorted(f"k{it}" for it in range(700))
-            assert sorted(client.scan_iter(count=7)) == keys, options
-            assert sorted(client.scan_iter("k1*", count=500)) == [it for it in keys if it.startswith("k1")]
-            assert client.scan(0, _type="list") is not None and list(client.scan_iter(_type="list")) == []
-            found = client.execute_command("SCANRANGE", "k2", "k3", 40)
-            assert found[::2] == [it for it in keys if "k2" <= it < "k3"][:40], (options, found)
-            assert found[1::2] == [it[1:] for it in found[::2]]
-            assert client.execute_command("SCANRANGE", "", "", 1000)[::2] == keys[:100]
-            assert client.execute_command("SCANRANGE", "z", "a", 9) == []
-            assert client.dbsize() == 700
+            client = scans.of(server)
+            scans.written(client)
+            scans.checked(client, options)
 
 
 def passwords_are_asked_for(program):

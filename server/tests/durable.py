@@ -17,6 +17,7 @@ import threading
 import time
 
 sys.dont_write_bytecode = True
+import scans
 import served
 from served import Refused, main
 
@@ -75,9 +76,78 @@ def commands_answer_as_in_memory(program):
                 answers = list(zip(lines, one.piped(lines), other.piped(lines)))
                 wrong = [it for it in answers if str(it[1]) != str(it[2])]
                 assert not wrong, wrong[:3]
-            for words in (("SCAN", 0), ("DBSIZE",), ("SCANRANGE", "", "", 9), ("SM", "AT", 1, "GET", "a")):
-                with served_refusal("NOTDURABLE"):
-                    one.ask(*words)
+            for words in SCANS:
+                told, wanted = (answer_of(it, words) for it in (one, other))
+                assert str(told) == str(wanted), (words, told, wanted)
+            for words in (("SM", "AT", 1, "GET", "a"), ("SM", "PLAN"), ("SM", "DUMP", "x"), ("SM", "LOAD", "x")):
+                assert "NOTDURABLE" in str(answer_of(one, words)).upper(), words
+
+
+# What goes over keys: shards have few, so that a cursor isn't told.
+SCANS = [
+    ("DBSIZE",), ("SCANRANGE", "", "", 9), ("SCANRANGE", "b", "{", 9), ("SCANRANGE", "x" * 256, "", 9),
+    ("SCANRANGE", "", "", "x"), ("SCAN", 0, "COUNT", 99), ("SCAN", 0, "MATCH", "a*", "COUNT", 99), ("SCAN",),
+    ("SCAN", "x"), ("SCAN", 99), ("SCAN", 0, "COUNT", 0), ("SCAN", 0, "NOSUCH", 1),
+    ("MULTI",), ("SCAN", 0), ("SCANRANGE", "", "", 9), ("DISCARD",),
+]
+
+
+def answer_of(client, words):
+    """What is answered; an error too."""
+    client.send(*words)
+    return client.read()
+
+
+def scans_give_each_key_once_in_order(program):
+    for options in scans.OPTIONS:
+        options = [*options, "--log-batches", 50]
+        with folder() as data:
+            with served.served(program, "--data", data, *options) as server:
+                client = scans.of(server)
+                scans.written(client)
+                scans.checked(client, options)
+                for shard in range(3):
+                    client.execute_command("SM", "MIGRATE", shard, 4)
+                scans.checked(client, "after migrations")
+            with served.served(program, "--data", data, *options) as server:
+                scans.checked(scans.of(server), "after a start")
+
+
+def scans_give_what_stays_while_shards_move(program):
+    with folder() as data, over(program, data, "--sync", "no", "--log-batches", BATCHES) as server:
+        with server.client() as client, server.client() as other:
+            stays = {f"stays:{it}".encode() for it in range(300)}
+            client.piped([("SET", it, 1) for it in stays])
+            writers = [Writer(server.port, it, {}) for it in range(3)]
+            for it in writers:
+                it.start()
+            end, rounds = time.monotonic() + 3, 0
+            while time.monotonic() < end:
+                found = scans.scanned(client, random.choice((3, 20, 1000)))
+                assert stays <= found, f"{len(stays - found)} keys aren't given"
+                new = f"new:{rounds}".encode()
+                client.ask("SET", new, 1)
+                assert new in scans.scanned(other)
+                assert client.ask("DEL", new) == 1 and new not in scans.scanned(other)
+                shard = rounds % SHARDS
+                client.ask("SM", "MIGRATE", shard, owner(client, shard) % 4 + 1)
+                rounds += 1
+    return f"{rounds} rounds"
+
+
+def scans_wait_for_a_paused_shard(program):
+    with folder() as data, over(program, data, "--wait", 300) as server, server.client() as client:
+        client.piped([("SET", it, 1) for it in range(99)])
+        client.ask("SM", "PAUSE", 7)
+        for words in (("SCAN", 0, "COUNT", 1000), ("SCANRANGE", "", "", 9), ("DBSIZE",)):
+            began = time.monotonic()
+            assert scans.refused(server, *words) == "SHARDPAUSED" and time.monotonic() - began > 0.25, words
+            with server.client() as waiting:
+                waiting.send(*words)
+                time.sleep(0.05)
+                client.ask("SM", "RESUME", 7)
+                assert not isinstance(waiting.read(), Refused), words
+                client.ask("SM", "PAUSE", 7)
 
 
 def random_lines(chance, count):
@@ -147,13 +217,16 @@ class Writer(threading.Thread):
 
 
 def checked(client, held, stood):
-    """Whether each key holds what was answered last, or what was asked for and not answered; and that no shard has gone
-    back. Returns how each shard stands."""
+    """Whether each key holds what was answered last, or what was asked for and not answered, and is counted where it
+    does; and that no shard has gone back. Returns how each shard stands."""
     for key, (answered, asked) in held.items():
         found = client.ask("GET", key)
         found = None if found is None else found.decode()
         assert found in (answered, asked), f"{key} holds {found}, not {answered} or {asked}"
         held[key] = (found, found)
+    keys = sum(found is not None for found, _ in held.values())
+    counted = client.ask("DBSIZE")
+    assert counted == keys, f"{counted} keys are counted, and {keys} hold something"
     now = [int(it[5]) for it in stands(client)]
     gone_back = [it for it, (before, after) in enumerate(zip(stood, now)) if after < before]
     assert not gone_back, f"shards {gone_back} had {stood} and have {now}"
@@ -356,6 +429,9 @@ def answers(client, key):
 TESTS = [
     restarts_keep_all,
     commands_answer_as_in_memory,
+    scans_give_each_key_once_in_order,
+    scans_give_what_stays_while_shards_move,
+    scans_wait_for_a_paused_shard,
     wrong_folders_are_refused_by_name,
     damaged_logs_are_refused_by_name,
     full_disks_are_refused_by_name,

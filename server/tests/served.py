@@ -1,4 +1,5 @@
 """A server that runs for a test, what it takes of the machine, and a plain client of it."""
+import collections
 import contextlib
 import json
 import os
@@ -6,9 +7,12 @@ import pathlib
 import socket
 import subprocess
 import sys
+import threading
 import time
 
 SECONDS = 20
+# How many lines of its log are kept.
+LAST_LINES = 100
 
 
 class Refused(Exception):
@@ -129,15 +133,19 @@ def served(program, *options):
     command = [program, "--port", "0", "--http-port", "0", "--log-format", "json", *map(str, options)]
     with subprocess.Popen(command, stderr=subprocess.PIPE, stdin=subprocess.DEVNULL, text=True) as process:
         try:
-            server = Server(process, port_of(process))
+            server, said = Server(process, port_of(process)), collections.deque(maxlen=LAST_LINES)
+            # All is read at once: where nobody reads, a server that says much would wait.
+            reading = threading.Thread(target=said.extend, args=(process.stderr,), daemon=True)
+            reading.start()
             yield server
-            if not server.is_alive():
-                raise AssertionError(f"the server ended with {process.returncode}: {process.stderr.read()[-2000:]}")
+            is_alive = server.is_alive()
         finally:
             process.terminate()
-            said = process.communicate(timeout=SECONDS)[1]
-        if process.returncode != 0:
-            raise AssertionError(f"at its stop the server ended with {process.returncode}: {said[-2000:]}")
+            process.wait(SECONDS)
+        reading.join(SECONDS)
+        if not is_alive or process.returncode != 0:
+            when = "at its stop " if is_alive else ""
+            raise AssertionError(f"{when}the server ended with {process.returncode}: {''.join(said)[-2000:]}")
 
 
 def port_of(process):

@@ -3,7 +3,7 @@ mod proved;
 mod storage;
 
 pub use proved::ProvedBody;
-pub use storage::{InFolder, Memory, Storage};
+pub use storage::{InFolder, Memory, OnEtcd, Storage};
 
 use std::ops::Bound;
 

@@ -1,4 +1,5 @@
 use super::{ProvedBody, Shard};
+use crate::peers::Peers;
 use durkenzo::BuildFault;
 use durkenzo_driver::Durable;
 use durkenzo_store::Sync as SyncTime;
@@ -11,6 +12,11 @@ pub trait Storage: Send + Sync {
 
     /// The shards whose data outlives the process, where there are such: then no body is asked for anything.
     fn durable(&self) -> Option<&Arc<Durable>> {
+        None
+    }
+
+    /// The other processes, where this one is a server of a cluster of several.
+    fn peers(&self) -> Option<&Arc<Peers>> {
         None
     }
 
@@ -68,5 +74,37 @@ impl Storage for InFolder {
                 "in a folder: a crash of the machine loses what it hadn't written, one of the process nothing"
             }
         }
+    }
+}
+
+/// Data on etcd, of which this process executes what its server does.
+#[derive(Debug)]
+pub struct OnEtcd {
+    durable: Arc<Durable>,
+    peers: Arc<Peers>,
+}
+
+impl OnEtcd {
+    /// The data of these shards, of which other processes execute some.
+    pub fn new(durable: Arc<Durable>, peers: Arc<Peers>) -> OnEtcd {
+        OnEtcd { durable, peers }
+    }
+}
+
+impl Storage for OnEtcd {
+    fn open(&self, shard: u16) -> Result<Shard, BuildFault> {
+        Memory.open(shard)
+    }
+
+    fn durable(&self) -> Option<&Arc<Durable>> {
+        Some(&self.durable)
+    }
+
+    fn peers(&self) -> Option<&Arc<Peers>> {
+        Some(&self.peers)
+    }
+
+    fn description(&self) -> &'static str {
+        "on etcd: what was answered is there as long as most of its members are"
     }
 }

@@ -145,7 +145,8 @@ impl Executor {
         reader: &mut Reader<'_>,
         replies: &mut Replies,
     ) -> Result<bool, Stop> {
-        match gather(reader, session, &self.keyspace, replies.protocol) {
+        let over = (&self.keyspace, &self.cluster.cursors);
+        match gather(reader, session, over, replies.protocol) {
             Ok(Some(asked)) => Err(Stop::Durable(asked)),
             Ok(None) => Ok(false),
             Err(fault) => {
@@ -483,6 +484,22 @@ mod tests {
         let wait = Wait::Paused(0);
         let done = executor.refuse(&mut session, b"INCR a\nPING\n", wait, &mut replies);
         assert!(done == 7 && replies.unsent().starts_with(b"-SHARDPAUSED"));
+    }
+
+    #[test]
+    fn who_may_not_control_looks_alone() {
+        let (_, mut executor) = begun();
+        let mut session = Session::new(1, true);
+        session.may_control = false;
+        let lines = "SM PAUSE 0\nsm at 1 get a\nMULTI\nSM DROP 0\nEXEC\nSM LOOK 0\n";
+        let (text, stop) = told(&mut executor, &mut session, lines);
+        assert_eq!(
+            text,
+            "-NOPERM this user has no permissions to run the 'sm|pause' command $-1 \
+             +OK -NOPERM this user has no permissions to run the 'sm|drop' command \
+             -EXECABORT Transaction discarded because of previous errors."
+        );
+        assert!(matches!(stop, Stop::Control(_)), "{stop:?}");
     }
 
     #[test]

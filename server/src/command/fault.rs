@@ -2,7 +2,7 @@ use crate::body::{Refusal, MAX_KEY, MAX_TEXT};
 use crate::resp::{Command, MAX_REPLY};
 use crate::wait::Wait;
 use durkenzo::AdmitFault;
-use durkenzo_driver::NotDone;
+use durkenzo_driver::{NotDone, Numbered};
 use std::error::Error;
 use std::fmt;
 
@@ -56,6 +56,8 @@ pub enum Fault {
     WrongPassword,
     /// A password, where the server has none.
     NoPassword,
+    /// The client's role may not send the command, by its name.
+    NoPermission(String),
     /// There is database 0 alone.
     BadDatabase,
     /// A version of the protocol that isn't spoken.
@@ -66,6 +68,10 @@ pub enum Fault {
     UnknownServer,
     /// A command for a server has no keys.
     NoKeys,
+    /// A command that reads before it writes, or writes much, has no number.
+    NotNumbered,
+    /// The number of a client, or that of its request, is out of bounds.
+    BadNumber,
     /// The command is there for data in memory alone.
     NotDurable(&'static str),
     /// A shard whose data outlives the process didn't do it, or isn't known to have done it.
@@ -85,6 +91,11 @@ impl Fault {
             shown.push_str(&format!("'{}' ", cut(argument, MOST_SHOWN - shown.len())));
         }
         Fault::UnknownCommand(cut(command.get(0), MOST_SHOWN), shown)
+    }
+
+    /// That the client's role may not send this subcommand.
+    pub fn no_permission(name: &str, word: &[u8]) -> Fault {
+        Fault::NoPermission(format!("{name}|{}", cut(word, MOST_SHOWN)).to_ascii_lowercase())
     }
 
     /// Why a subcommand isn't done: one of the known ones takes another number of arguments.
@@ -132,6 +143,9 @@ const BAD_NAME: &str = "ERR Client names cannot contain spaces, newlines or spec
 const NO_MEMORY: &str = "OOM memory was refused, and nothing has changed: try again";
 const UNKNOWN_SERVER: &str =
     "REFUSED UnknownServer: there is no server of that number; try: SM SERVERS lists them";
+const NOT_NUMBERED: &str =
+    "NOTNUMBERED SM CALL takes what writes without reading first, with keys of one shard: SET without options, \
+     MSET of 8 keys, DEL of 16, INCR, INCRBY, DECR, DECRBY";
 const ABORTED: &str = "EXECABORT Transaction discarded because of previous errors.";
 const WRONG_PASSWORD: &str = "WRONGPASS invalid username-password pair or user is disabled.";
 
@@ -141,9 +155,13 @@ impl fmt::Display for Fault {
             Fault::UnknownCommand(name, shown) => unknown(f, name, shown),
             Fault::WrongArity(name) => wrong_arity(f, name),
             Fault::UnknownSubcommand(name, word) => unknown_subcommand(f, name, word),
+            Fault::NoPermission(name) => no_permission(f, name),
             Fault::NoMulti(name) => write!(f, "ERR {name} without MULTI"),
             Fault::NotAdmitted(fault) => not_admitted(f, *fault),
-            Fault::NotDurable(name) => write!(f, "NOTDURABLE {name} isn't there with --data"),
+            Fault::NotDurable(name) => write!(
+                f,
+                "NOTDURABLE {name} isn't there where data outlives the process"
+            ),
             Fault::NotDone(shard, why) => not_done(f, *shard, why),
             Fault::TooLong => write!(f, "TOOLONG a value has at most {MAX_TEXT} bytes"),
             Fault::BadKey => write!(f, "BADKEY a key has 1 to {MAX_KEY} bytes"),
@@ -167,6 +185,8 @@ impl fmt::Display for Fault {
             Fault::BadProtocol => f.write_str("NOPROTO unsupported protocol version"),
             Fault::BadName => f.write_str(BAD_NAME),
             Fault::UnknownServer => f.write_str(UNKNOWN_SERVER),
+            Fault::NotNumbered => f.write_str(NOT_NUMBERED),
+            Fault::BadNumber => bad_number(f),
             Fault::NoKeys => f.write_str("ERR SM AT takes a command with keys of one shard"),
         }
     }
@@ -177,8 +197,21 @@ fn unknown(f: &mut fmt::Formatter<'_>, name: &str, shown: &str) -> fmt::Result {
     write!(f, "ERR unknown command '{name}', {behind}: {shown}")
 }
 
+fn bad_number(f: &mut fmt::Formatter<'_>) -> fmt::Result {
+    let last = Numbered::LAST_CLIENT;
+    write!(f, "BADNUMBER it is written SM CALL client number COMMAND ..: give each client one of 1 to {last} of its own")?;
+    f.write_str(
+        ", and its commands rising numbers from 1 on; who takes one over goes on above the last",
+    )
+}
+
 fn wrong_arity(f: &mut fmt::Formatter<'_>, name: &str) -> fmt::Result {
     write!(f, "ERR wrong number of arguments for '{name}' command")
+}
+
+fn no_permission(f: &mut fmt::Formatter<'_>, name: &str) -> fmt::Result {
+    let this = "NOPERM this user has no permissions to run";
+    write!(f, "{this} the '{name}' command")
 }
 
 fn unknown_subcommand(f: &mut fmt::Formatter<'_>, name: &str, word: &str) -> fmt::Result {
@@ -199,6 +232,10 @@ fn not_done(f: &mut fmt::Formatter<'_>, shard: u16, why: &NotDone) -> fmt::Resul
         ),
         NotDone::NotMade(_) => write!(f, "STOREDOWN nothing has changed: {why}"),
         NotDone::Unknown(_) => write!(f, "UNKNOWN {why}: read before you try again"),
+        // Another process asks again.
+        NotDone::Moved(_) => write!(f, "{}", Wait::Busy(shard)),
+        NotDone::Passed => write!(f, "PASSED {why}: this one isn't"),
+        NotDone::TooManyClients => write!(f, "TOOMANYCLIENTS nothing has changed: {why}"),
         NotDone::Stopped => write!(f, "STOPPING nothing has changed: {why}"),
     }
 }

@@ -126,9 +126,32 @@ fn stats(cluster: &Cluster) -> String {
     ])
 }
 
-fn cluster(_cluster: &Cluster) -> String {
+fn cluster(cluster: &Cluster) -> String {
     // Of Redis' cluster, which clients ask for: this is one to them.
-    lines([("cluster_enabled", "0".to_owned())])
+    let told = lines([("cluster_enabled", "0".to_owned())]);
+    let Some(peers) = cluster.storage.peers() else {
+        return told;
+    };
+    let (member, counts) = (peers.member(), peers.counts());
+    let (reached, served) = peers.connections();
+    let own = lines([
+        ("server", member.server().to_string()),
+        ("process", member.process().to_string()),
+        ("leader", peers.leader().unwrap_or(0).to_string()),
+        ("lease_kept", u8::from(member.lease().is_some()).to_string()),
+        ("servers_there", member.members().len().to_string()),
+    ]);
+    let between = lines([
+        ("processes_reached", reached.to_string()),
+        ("processes_answered", served.to_string()),
+        ("works_sent", counts.sent().to_string()),
+        ("works_came", counts.came().to_string()),
+        ("works_again", counts.again().to_string()),
+        ("works_refused", counts.refused().to_string()),
+    ]);
+    let by_lease = cluster.storage.durable().map_or(0, |it| it.read_by_lease());
+    let reads = lines([("reads_by_lease", by_lease.to_string())]);
+    told + &own + &between + &reads
 }
 
 fn keyspace(cluster: &Cluster) -> String {

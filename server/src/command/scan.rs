@@ -1,24 +1,18 @@
 use super::cursors::{Cursors, Position};
-use super::glob;
+use super::merged::{Merged, OwnedPair};
 use super::unanswered::Unanswered;
+use super::wanted::{self, cursor_of, Wanted, WantedRange};
 use super::Fault;
 use crate::admission::Admission;
-use crate::body::{Pair, Range, Reply, Request, Shard, Value, MAX_KEY, MAX_PAIRS};
+use crate::body::{Pair, Range, Reply, Request, Shard, Value, MAX_PAIRS};
 use crate::keyspace::Keyspace;
-use crate::resp::number::{self, Digits};
+use crate::resp::number::Digits;
 use crate::resp::{Command, Replies};
 use crate::wait::{NotAdmitted, Wait};
 use std::ops::Bound;
 
-/// How many keys a SCAN looks at where nothing is said, as in Redis.
-const USUAL_COUNT: i64 = 10;
-/// How many keys a SCAN looks at at most.
-const MOST_COUNT: i64 = 1_000;
 /// How often a thread yields to another one that has a shard, before its command waits.
 const MOST_YIELDS: usize = 1_000;
-
-/// A key and its value as a client has it.
-type OwnedPair = (Box<[u8]>, Box<[u8]>);
 
 /// Does what goes over the keys of several shards, each under a permit of its own.
 #[derive(Debug)]
@@ -26,48 +20,6 @@ pub struct Scanner<'a> {
     admission: &'a mut Admission,
     keyspace: &'a Keyspace,
     cursors: &'a Cursors,
-}
-
-/// What SCAN is asked for.
-struct Wanted<'a> {
-    pattern: Option<&'a [u8]>,
-    count: usize,
-    /// Whether keys of another type than Redis' strings are asked for, of which there are none.
-    is_none: bool,
-}
-
-impl<'a> Wanted<'a> {
-    fn of(command: Command<'a>) -> Result<Wanted<'a>, Fault> {
-        let (mut pattern, mut count, mut is_none) = (None, USUAL_COUNT, false);
-        for index in (2..command.len()).step_by(2) {
-            if index + 1 == command.len() {
-                return Err(Fault::Syntax);
-            }
-            let value = command.get(index + 1);
-            if command.is(index, "MATCH") {
-                pattern = Some(value);
-            } else if command.is(index, "COUNT") {
-                count = number::parse(value).ok_or(Fault::NotInteger)?;
-            } else if command.is(index, "TYPE") {
-                is_none = !value.eq_ignore_ascii_case(b"string");
-            } else {
-                return Err(Fault::Syntax);
-            }
-        }
-        if count < 1 {
-            return Err(Fault::Syntax);
-        }
-        let count = count.min(MOST_COUNT) as usize;
-        Ok(Wanted {
-            pattern,
-            count,
-            is_none,
-        })
-    }
-
-    fn takes(&self, key: &[u8]) -> bool {
-        !self.is_none && self.pattern.is_none_or(|it| glob::is_match(it, key))
-    }
 }
 
 impl<'a> Scanner<'a> {
@@ -88,28 +40,21 @@ impl<'a> Scanner<'a> {
     /// to the last is given once.
     pub fn scan(&mut self, command: Command<'_>, replies: &mut Replies) -> Result<(), Unanswered> {
         let wanted = Wanted::of(command)?;
-        let cursor = std::str::from_utf8(command.get(1)).ok();
-        let cursor = cursor
-            .and_then(|it| it.parse().ok())
-            .ok_or(Fault::BadCursor)?;
-        let mut next = self.cursors.position(cursor);
+        let mut next = self.cursors.position(cursor_of(command)?);
         if next.is_none() {
             return Err(Fault::BadCursor.into());
         }
         let shards = self.keyspace.shards();
         let (mut found, mut seen) = (Vec::new(), 0);
         while let Some(position) = next.take_if(|_| seen < wanted.count) {
-            let most = wanted.count - seen;
+            let most = (wanted.count - seen).min(MAX_PAIRS);
             let keys = self.keys_from(&position, most)?;
             seen += keys.len();
             next = following(position, &keys, most, shards);
             found.extend(keys.into_iter().filter(|it| wanted.takes(it)));
         }
         let cursor = next.map_or(0, |it| self.cursors.keep(it));
-        replies.array(2);
-        replies.bulk(cursor.to_string().as_bytes());
-        replies.array(found.len());
-        found.iter().for_each(|it| replies.bulk(it));
+        wanted::answer(cursor, &found, replies);
         Ok(())
     }
 
@@ -121,7 +66,6 @@ impl<'a> Scanner<'a> {
     ) -> Result<Vec<Box<[u8]>>, Unanswered> {
         let after = position.after.as_deref();
         let low = after.map_or(Bound::Unbounded, Bound::Excluded);
-        let most = most.min(MAX_PAIRS);
         let range = Range {
             low,
             high: None,
@@ -140,35 +84,21 @@ impl<'a> Scanner<'a> {
         command: Command<'_>,
         replies: &mut Replies,
     ) -> Result<(), Unanswered> {
-        let (low, high) = (command.get(1), command.get(2));
-        if low.len().max(high.len()) > MAX_KEY {
-            return Err(Fault::BadKey.into());
-        }
-        let most = number::parse(command.get(3)).ok_or(Fault::NotInteger)?;
-        let most = usize::try_from(most).unwrap_or(0).min(MAX_PAIRS);
-        let high = (!high.is_empty()).then_some(high);
-        let mut found: Vec<OwnedPair> = Vec::new();
+        let WantedRange { low, high, most } = WantedRange::of(command)?;
+        let mut found = Merged::new(most);
         for shard in self.keyspace.shards_within(low, high) {
-            let is_full = found.len() >= most;
-            if is_full && self.keyspace.is_ordered() {
+            if found.is_full() && self.keyspace.is_ordered() {
                 break;
             }
-            // Of a further shard only what lies below the last pair is wanted.
-            let last = found.last().filter(|_| is_full).map(|it| it.0.clone());
+            let high = found.below(high);
             let range = Range {
                 low: Bound::Included(low),
-                high: last.as_deref().or(high),
+                high: high.as_deref(),
                 most,
             };
-            found.extend(self.pairs(shard, range)?);
-            found.sort_unstable();
-            found.truncate(most);
+            found.add(self.pairs(shard, range)?);
         }
-        replies.array(2 * found.len());
-        for (key, value) in &found {
-            replies.bulk(key);
-            replies.bulk(value);
-        }
+        found.answer(replies);
         Ok(())
     }
 
@@ -211,8 +141,13 @@ fn scanned<T>(
 
 /// Where a scan goes on behind these keys, of which there would be more if there were fewer than were asked for; none
 /// behind the last shard.
-fn following(position: Position, keys: &[Box<[u8]>], most: usize, shards: u16) -> Option<Position> {
-    if keys.len() == most.min(MAX_PAIRS) {
+pub(super) fn following(
+    position: Position,
+    keys: &[Box<[u8]>],
+    most: usize,
+    shards: u16,
+) -> Option<Position> {
+    if keys.len() == most {
         let after = keys.last().cloned().or(position.after);
         return Some(Position { after, ..position });
     }

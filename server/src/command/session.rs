@@ -1,7 +1,9 @@
 use super::data::Part;
+use super::role::Role;
 use super::transaction::Transaction;
 use super::Fault;
 use crate::resp::{Command, Replies};
+use crate::safety::Safety;
 
 /// What a connection's earlier commands mean for its later ones.
 #[derive(Debug)]
@@ -12,6 +14,10 @@ pub struct Session {
     pub name: Option<Box<[u8]>>,
     /// Whether the client gave the password, or needs none.
     pub is_known: bool,
+    /// The client's role.
+    pub role: Role,
+    /// Whether it may change how shards stand.
+    pub may_control: bool,
     /// The transaction that was begun.
     pub(super) transaction: Option<Box<Transaction>>,
     /// How far the next command has come, where it waits between its keys.
@@ -19,12 +25,22 @@ pub struct Session {
 }
 
 impl Session {
-    /// That of a new connection.
+    /// That of a new connection, where these passwords are asked for.
+    pub fn of(id: u64, safety: &Safety) -> Session {
+        Session {
+            may_control: Role::Default.may_control(safety),
+            ..Session::new(id, safety.password.is_none())
+        }
+    }
+
+    /// That of a connection that may do all, where it is known.
     pub fn new(id: u64, is_known: bool) -> Session {
         Session {
             id,
             name: None,
             is_known,
+            role: Role::Default,
+            may_control: true,
             transaction: None,
             part: Part::default(),
         }

@@ -64,6 +64,7 @@ pub enum Word {
 #[derive(Clone, Copy, Debug, PartialEq, Eq)]
 #[allow(missing_docs)]
 pub enum TalkWord {
+    Acl,
     Auth,
     Client,
     Command,
@@ -120,7 +121,8 @@ const fn other(name: &'static str, arity: i64, word: Word) -> Spec {
 }
 
 /// All commands, by their names.
-pub static COMMANDS: [Spec; 31] = [
+pub static COMMANDS: [Spec; 32] = [
+    talk("acl", -2, TalkWord::Acl),
     data("append", 3, Keys::First, true, DataWord::Append),
     talk("auth", -2, TalkWord::Auth),
     talk("client", -2, TalkWord::Client),

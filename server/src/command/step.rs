@@ -1,4 +1,5 @@
 use super::data::DataWord;
+use super::role::is_of_all;
 use super::session::Session;
 use super::spec::{Place, Spec, Word};
 use super::Fault;
@@ -23,6 +24,9 @@ impl Step {
         let spec = Spec::of(command)?;
         if !session.is_known && !spec.is_open() {
             return Err(Fault::NoAuth);
+        }
+        if spec.word == Word::Control && !session.may_control && !is_of_all(command) {
+            return Err(Fault::no_permission(spec.name, command.get(1)));
         }
         let place = spec.place(command, keyspace)?;
         if session.transaction.is_some() && spec.is_queued() {

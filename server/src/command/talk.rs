@@ -1,6 +1,7 @@
 //! Commands that need no shard.
 use super::glob;
 use super::info;
+use super::role::Role;
 use super::session::Session;
 use super::spec::{Keys, Spec, TalkWord, Word, COMMANDS};
 use super::unanswered::Unanswered;
@@ -28,6 +29,7 @@ pub fn answer(
             let keys: u64 = (0..cluster.shards()).map(|it| cluster.keys(it)).sum();
             replies.count(keys as usize);
         }
+        TalkWord::Acl => who_am_i(command, session, replies)?,
         TalkWord::Auth => auth(command, session, cluster, replies)?,
         TalkWord::Hello => hello(command, session, cluster, replies)?,
         TalkWord::Client => client(command, session, replies)?,
@@ -35,7 +37,7 @@ pub fn answer(
         TalkWord::Config => config(command, cluster, replies)?,
         TalkWord::Info => replies.bulk(info::told(command, cluster).as_bytes()),
         TalkWord::Reset => {
-            *session = Session::new(session.id, cluster.configuration.password.is_none());
+            *session = Session::of(session.id, &cluster.configuration.safety);
             replies.protocol = Protocol::Two;
             replies.simple("RESET");
         }
@@ -65,30 +67,31 @@ fn select(command: Command<'_>, replies: &mut Replies) -> Result<(), Fault> {
     Ok(())
 }
 
-/// Whether both are the same, in a time that doesn't tell where they differ.
-fn is_same(given: &[u8], wanted: &[u8]) -> bool {
-    let differences = given
-        .iter()
-        .zip(wanted)
-        .fold(0, |sum, (a, b)| sum | (a ^ b));
-    given.len() == wanted.len() && differences == 0
-}
-
-/// Lets the client in, where the user is the only one that there is and the password is the server's.
+/// Lets the client in, where the user is a role and the password is that role's.
 fn let_in(
     user: &[u8],
     password: &[u8],
     session: &mut Session,
     cluster: &Cluster,
 ) -> Result<(), Fault> {
-    let wanted = cluster.configuration.password.as_deref();
-    let is_right = wanted.is_none_or(|it| is_same(password, it)) && user == b"default";
-    // Who was let in before stays so.
-    session.is_known |= is_right;
-    match is_right {
-        true => Ok(()),
-        false => Err(Fault::WrongPassword),
+    let safety = &cluster.configuration.safety;
+    // Who was let in before stays so, and what it was.
+    let role = Role::named(user)
+        .filter(|it| it.is_opened_by(password, safety))
+        .ok_or(Fault::WrongPassword)?;
+    session.is_known = true;
+    session.role = role;
+    session.may_control = role.may_control(safety);
+    Ok(())
+}
+
+/// ACL WHOAMI.
+fn who_am_i(command: Command<'_>, session: &Session, replies: &mut Replies) -> Result<(), Fault> {
+    if !command.is(1, "WHOAMI") || command.len() != 2 {
+        return Err(Fault::subcommand("ACL", command.get(1), &["WHOAMI"]));
     }
+    replies.bulk(session.role.name().as_bytes());
+    Ok(())
 }
 
 fn auth(
@@ -98,7 +101,7 @@ fn auth(
     replies: &mut Replies,
 ) -> Result<(), Fault> {
     match command.len() {
-        2 if cluster.configuration.password.is_none() => return Err(Fault::NoPassword),
+        2 if cluster.configuration.safety.password.is_none() => return Err(Fault::NoPassword),
         2 => let_in(b"default", command.get(1), session, cluster)?,
         3 => let_in(command.get(1), command.get(2), session, cluster)?,
         _ => return Err(Fault::Syntax),

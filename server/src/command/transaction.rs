@@ -49,6 +49,11 @@ impl Transaction {
         self.commands.len() as u64
     }
 
+    /// All commands.
+    pub fn commands(&self) -> impl Iterator<Item = &OwnedCommand> {
+        self.commands.iter()
+    }
+
     /// The commands with keys.
     pub fn data(&self) -> impl Iterator<Item = (DataWord, &OwnedCommand)> {
         self.commands.iter().filter_map(|it| {

@@ -1,7 +1,9 @@
 /// Each word behind SM: how it is written, and what it does.
-pub const WORDS: [(&str, &str); 29] = [
+pub const WORDS: [(&str, &str); 32] = [
     ("SHARDS", "each shard: number, stand, owner, next or previous owner, idle or admitted, generation, keys"),
-    ("SERVERS", "each server: number, standing, domain, shards that it owns, admissions, what a restart does now"),
+    ("SERVERS", "each server: number, standing, domain, shards that it owns, admissions, what a restart does now; \
+      before that with --etcd the number of its process, whether that leads, up to which revision it follows records, \
+      and where processes and clients reach it"),
     ("SETTINGS", "how the server runs"),
     ("LOOK k", "how shard k stands"),
     ("ASSIGN k a", "the vacant shard k gets the owner a"),
@@ -27,6 +29,9 @@ pub const WORDS: [(&str, &str); 29] = [
     ("RESTART", "restarts all servers in turn"),
     ("DUMP FILE", "writes all shards, with their stands and generations, into the file in --folder"),
     ("LOAD FILE", "has all shards hold and stand as in that file, in place of what they hold now"),
+    ("ROUTES", "with --etcd: the latest record's revision, and for each shard its owner, and where clients reach that"),
+    ("CALL c n COMMAND ..", "where data outlives the process: a write without reading, once for number n of client c"),
+    ("COMPACT", "with --etcd: makes a base of each shard that this process executes, and has etcd give back room"),
     ("AT a COMMAND ..", "sends a command with keys of one shard to server a, as a client with an old map does"),
     ("HELP", "these lines"),
 ];

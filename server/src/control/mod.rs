@@ -1,9 +1,13 @@
 //! The control: who owns a shard, and which server is restarted, as `SM` asks. It has a thread of its own.
+mod campaigner;
 mod change;
 mod controller;
+#[cfg(test)]
+mod deaths;
 mod drain;
 mod dumping;
 mod help;
+mod leading;
 mod loading;
 mod migration;
 mod mover;
@@ -12,10 +16,12 @@ mod refusal;
 mod restart;
 mod restarting;
 mod returning;
+mod routes;
 mod standings;
 mod stored;
 mod task;
 
+pub use campaigner::Campaigner;
 pub use controller::{Asked, Controller};
 pub use refusal::Refusal;
 pub use stored::StoredController;

@@ -11,6 +11,8 @@ pub(super) enum Advance {
     Again,
     /// After a while.
     Later,
+    /// After a while; whoever asked is answered now.
+    Told(Answer),
     /// It is over.
     Done(Answer),
 }
@@ -33,6 +35,11 @@ impl Moving {
         Moving { shard, to: None }
     }
 
+    /// The shard.
+    pub(super) fn shard(&self) -> u16 {
+        self.shard
+    }
+
     pub(super) fn advance(&mut self, control: &mut StoredController) -> Result<Advance, Refusal> {
         if let Some(server) = self.to.take() {
             control.make(Command::PrepareAddShard(self.shard, server))?;
@@ -53,9 +60,8 @@ impl Moving {
 pub(super) struct Draining {
     server: u16,
     current: Option<Moving>,
-    /// Which shards went where, and which were paused, as they fit nowhere.
+    /// Which shards went where.
     pub(super) moved: Vec<(u16, u16)>,
-    pub(super) paused: Vec<u16>,
 }
 
 impl Draining {
@@ -64,7 +70,6 @@ impl Draining {
             server,
             current: None,
             moved: Vec::new(),
-            paused: Vec::new(),
         }
     }
 
@@ -84,13 +89,9 @@ impl Draining {
             }
             Next::Command(command) => {
                 control.make(command)?;
-                match command {
-                    Command::PrepareAddShard(shard, to) => {
-                        self.moved.push((shard, to));
-                        self.current = Some(Moving::going_on(shard));
-                    }
-                    Command::Pause(shard) => self.paused.push(shard),
-                    _ => {}
+                if let Command::PrepareAddShard(shard, to) = command {
+                    self.moved.push((shard, to));
+                    self.current = Some(Moving::going_on(shard));
                 }
             }
         }

@@ -67,6 +67,18 @@ impl Refusal {
         Refusal::new(fault.name(), fault.to_string(), fault.advice())
     }
 
+    /// That no process leads.
+    pub fn no_leader() -> Refusal {
+        let reason = "no process of the cluster leads for now";
+        Refusal::new("NotLeader", reason, "try again")
+    }
+
+    /// That another process leads from now on.
+    pub fn led_elsewhere() -> Refusal {
+        let reason = "another process leads from now on, and goes on with what is under way";
+        Refusal::new("NotLeader", reason, "SM SERVERS tells how far it is")
+    }
+
     /// That the process ends.
     pub fn stopping() -> Refusal {
         Refusal::new("Stopping", "the process ends", "start it again")
@@ -93,7 +105,7 @@ impl Refusal {
 
     /// That the word is there for data in memory alone.
     pub fn not_durable(word: &str) -> Refusal {
-        let reason = format!("SM {word} isn't there with --data");
+        let reason = format!("SM {word} isn't there where data outlives the process");
         Refusal::new("NotDurable", reason, "SM HELP lists all words")
     }
 
@@ -128,6 +140,11 @@ impl Refusal {
             _ => ("StoreDown", "look at the log"),
         };
         Refusal::new(name, refused.to_string(), advice)
+    }
+
+    /// Whether it is the store that doesn't let the control go on for now.
+    pub fn is_of_store(&self) -> bool {
+        matches!(&*self.name, "StoreDown" | "StoreFull")
     }
 
     /// Why a step of the server's restart isn't made.

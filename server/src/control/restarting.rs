@@ -20,6 +20,8 @@ pub(super) struct Restarting {
 enum Stage {
     Asks,
     Leaves,
+    /// Its process is to be another one.
+    Away,
     Returns,
 }
 
@@ -34,6 +36,14 @@ impl Restarting {
         }
     }
 
+    /// One that was asked for.
+    pub(super) fn going_on(server: u16) -> Restarting {
+        Restarting {
+            stage: Stage::Leaves,
+            ..Restarting::new(server)
+        }
+    }
+
     pub(super) fn advance(&mut self, control: &mut StoredController) -> Result<Advance, Refusal> {
         match self.stage {
             Stage::Asks => {
@@ -42,6 +52,7 @@ impl Restarting {
                 Ok(Advance::Again)
             }
             Stage::Leaves => self.leave(control),
+            Stage::Away => self.await_process(control),
             Stage::Returns => self.come_home(control),
         }
     }
@@ -50,8 +61,13 @@ impl Restarting {
         match control.control.next_of_server(self.server)? {
             Next::Command(command) => {
                 control.make(command)?;
-                if matches!(command, Command::Stopped(_)) {
-                    self.come_back(control)?;
+                match (command, control.peers.is_some()) {
+                    (Command::Stopped(server), true) => {
+                        self.stage = Stage::Away;
+                        return Ok(Advance::Told(stopped(server)));
+                    }
+                    (Command::Stopped(_), false) => self.come_back(control)?,
+                    _ => {}
                 }
                 Ok(Advance::Again)
             }
@@ -75,12 +91,31 @@ impl Restarting {
         }
     }
 
+    /// Waits until the server is up again, as it is once another process runs it.
+    fn await_process(&mut self, control: &mut StoredController) -> Result<Advance, Refusal> {
+        match control.control.state_of(self.server)? {
+            0 => {
+                self.returned(control)?;
+                Ok(Advance::Again)
+            }
+            // It failed, or a restart was asked for anew: its shards stay where they are.
+            1 | 2 | 4 => {
+                control.cluster.progress.clear(self.server);
+                Ok(Advance::Done(Answer::Done))
+            }
+            _ => Ok(Advance::Later),
+        }
+    }
+
     /// It was stopped, so that no proved server of it holds anything: it is up again, and begins with what it reads.
     fn come_back(&mut self, control: &mut StoredController) -> Result<(), Refusal> {
         control.make(Command::Back(self.server))?;
-        for shard in std::mem::take(&mut self.draining.paused) {
-            control.make(Command::Resume(shard))?;
-        }
+        self.returned(control)
+    }
+
+    /// It is up again: what was paused for it goes on, and its shards come home.
+    fn returned(&mut self, control: &mut StoredController) -> Result<(), Refusal> {
+        control.resume_left()?;
         self.home = self.draining.moved.iter().map(|it| it.0).collect();
         self.stage = Stage::Returns;
         Ok(())
@@ -112,6 +147,12 @@ impl Restarting {
     }
 }
 
+/// What is told of a server that is stopped, whose process is another one.
+fn stopped(server: u16) -> Answer {
+    let told = format!("server {server} is stopped: end its process, and start it again");
+    Answer::Line(told)
+}
+
 /// Restarts of all servers in turn.
 pub(super) struct Rolling {
     next: u16,
@@ -139,6 +180,8 @@ impl Rolling {
                     }
                     self.current = None;
                 }
+                // Whoever asked is told of all together.
+                Advance::Told(_) => return Ok(Advance::Later),
                 other => return Ok(other),
             }
         }

@@ -2,14 +2,17 @@ use super::controller::{help_lines, numeral, send, settings_lines, Answer, Asked
 use super::help;
 use super::moving::{Advance, Draining, Moving};
 use super::restarting::{Restarting, Rolling};
+use super::routes;
 use super::Refusal;
 use crate::cluster::Cluster;
 use crate::io::ReplyTo;
 use crate::observer::Observer;
+use crate::peers::Peers;
 use crate::presence::Standing;
 use crate::resp::Command as Words;
 use durkenzo::PassFault;
 use durkenzo_driver::{Command, Control, Next};
+use std::collections::VecDeque;
 use std::fmt;
 use std::sync::mpsc::{Receiver, RecvTimeoutError};
 use std::sync::Arc;
@@ -17,21 +20,67 @@ use std::time::{Duration, Instant};
 
 /// How often work that waits looks again.
 const TICK: Duration = Duration::from_millis(10);
+/// How long work goes on before whoever asks has his turn.
+pub(super) const TURN: Duration = Duration::from_millis(50);
+/// How long work that nobody waits for waits after the store didn't make a command of it.
+const STORE_PAUSE: Duration = Duration::from_millis(500);
 
 /// The control of a cluster whose data outlives the process: what it sends and what comes next, proved code decides.
 pub struct StoredController {
     pub(super) cluster: Arc<Cluster>,
     pub(super) control: Control,
-    observer: Observer,
-    tasks: Vec<Task>,
+    pub(super) observer: Observer,
+    pub(super) tasks: Vec<Task>,
+    /// The other processes, where this one leads several.
+    pub(super) peers: Option<Arc<Peers>>,
+    /// Whether another process leads, as far as a command told.
+    pub(super) is_lost: bool,
+}
+
+/// Why this process leads no further.
+#[derive(Clone, Copy, Debug, PartialEq, Eq)]
+pub(super) enum Led {
+    /// Another process does, or may.
+    Elsewhere,
+    /// Nobody can ask any more.
+    Over,
 }
 
 /// Work that goes on by itself.
-struct Task {
+pub(super) struct Task {
     work: Work,
     /// Who is answered at its end, if somebody asked.
     reply_to: Option<ReplyTo>,
     due: Instant,
+}
+
+impl Task {
+    /// The migration, or what else is under way, of this shard.
+    pub(super) fn going_on(shard: u16) -> Task {
+        Task::of(Work::Moving(Moving::going_on(shard)))
+    }
+
+    /// The restart of this server, which was asked for already.
+    pub(super) fn restart(server: u16) -> Task {
+        Task::of(Work::Restarting(Restarting::going_on(server)))
+    }
+
+    fn of(work: Work) -> Task {
+        let (reply_to, due) = (None, Instant::now());
+        Task {
+            work,
+            reply_to,
+            due,
+        }
+    }
+
+    /// The shard with which it goes on, where nobody asked for that.
+    pub(super) fn shard_going_on(&self) -> Option<u16> {
+        match &self.work {
+            Work::Moving(moving) if self.reply_to.is_none() => Some(moving.shard()),
+            _ => None,
+        }
+    }
 }
 
 /// What goes on by itself.
@@ -61,6 +110,8 @@ impl StoredController {
             cluster,
             control,
             tasks: Vec::new(),
+            peers: None,
+            is_lost: false,
         })
     }
 
@@ -73,26 +124,30 @@ impl StoredController {
             }
             self.note_state(server)?;
         }
+        self.resume_left()?;
         for shard in 0..self.cluster.shards() {
             if self.control.next_of_shard(shard)? != Next::Nothing {
-                self.tasks.push(Task {
-                    work: Work::Moving(Moving::going_on(shard)),
-                    reply_to: None,
-                    due: Instant::now(),
-                });
+                self.tasks.push(Task::going_on(shard));
             }
-            let is_vacant = self.observer.shard(shard).is_some_and(|it| it.owner == 0);
-            if assigns && is_vacant {
-                let server = shard % self.control.servers() + 1;
-                match self.control.command(Command::Assign(shard, server)) {
-                    Err(durkenzo_driver::Refused::Judged(_)) | Ok(()) => {}
-                    Err(error) => return Err(error.into()),
-                }
+            if assigns {
+                self.assign(shard, shard % self.control.servers() + 1)?;
             }
         }
         match assigns {
             true => self.place().map(drop),
             false => Ok(()),
+        }
+    }
+
+    /// Gives the shard this owner where it is vacant, and the server takes it.
+    pub(super) fn assign(&mut self, shard: u16, server: u16) -> Result<(), Refusal> {
+        let is_vacant = self.observer.shard(shard).is_some_and(|it| it.owner == 0);
+        if !is_vacant {
+            return Ok(());
+        }
+        match self.control.command(Command::Assign(shard, server)) {
+            Err(durkenzo_driver::Refused::Judged(_)) | Ok(()) => Ok(()),
+            Err(error) => Err(error.into()),
         }
     }
 
@@ -105,9 +160,14 @@ impl StoredController {
             3 => Standing::Stopped,
             _ => Standing::Failed,
         };
-        self.cluster.presence.set(server, standing);
-        if let Some(durable) = self.cluster.storage.durable() {
-            durable.set_away(server, !standing.is_reached());
+        if self.cluster.presence.standing(server) != Some(standing) {
+            tracing::info!(server, standing = standing.name(), "server");
+            self.cluster.presence.set(server, standing);
+        }
+        match (&self.peers, self.cluster.storage.durable()) {
+            // Each process sees by itself whom requests reach.
+            (Some(_), _) | (None, None) => {}
+            (None, Some(durable)) => durable.set_away(server, !standing.is_reached()),
         }
         Ok(())
     }
@@ -115,6 +175,7 @@ impl StoredController {
     /// Makes a command, and notes what others are told of it.
     pub(super) fn make(&mut self, command: Command) -> Result<(), Refusal> {
         let made = self.control.command(command);
+        self.is_lost |= matches!(made, Err(durkenzo_driver::Refused::NotLeader));
         let mut named = |shard| self.observer.shard(shard);
         made.map_err(|refused| match command {
             Command::Ask(server)
@@ -151,9 +212,7 @@ impl StoredController {
             let due = self.tasks.iter().map(|it| it.due).min();
             let next = match due {
                 None => asked.recv().map_err(RecvTimeoutError::from),
-                Some(due) => {
-                    asked.recv_timeout(due.saturating_duration_since(Instant::now()).min(TICK))
-                }
+                Some(due) => asked.recv_timeout(wait_for(due)),
             };
             match next {
                 Ok(asked) => self.take(asked),
@@ -164,8 +223,32 @@ impl StoredController {
         }
     }
 
+    /// How long a leader waits for who asks.
+    pub(super) fn wait_as_leader(&self) -> Duration {
+        let due = self.tasks.iter().map(|it| it.due).min();
+        due.map_or(2 * TICK, wait_for)
+    }
+
+    /// Answers all tasks that another process goes on with what is under way.
+    pub(super) fn leave(&mut self) {
+        for task in std::mem::take(&mut self.tasks) {
+            let refusal = match self.cluster.is_stopping() {
+                true => Refusal::stopping(),
+                false => Refusal::led_elsewhere(),
+            };
+            answer(task.reply_to, Err(refusal));
+        }
+    }
+
     /// Answers the command, or begins work of it.
-    fn take(&mut self, asked: Asked) {
+    pub(super) fn take(&mut self, asked: Asked) {
+        let asked = match self.peers.clone() {
+            Some(peers) => match routes::told(&self.cluster, &peers, asked) {
+                Some(asked) => asked,
+                None => return,
+            },
+            None => asked,
+        };
         let Asked { command, reply_to } = asked;
         let begun = self.begin_one(command.command());
         match begun {
@@ -218,7 +301,7 @@ impl StoredController {
     }
 
     /// Gives each vacant shard the owner of the proved plan.
-    fn place(&mut self) -> Result<Answer, Refusal> {
+    pub(super) fn place(&mut self) -> Result<Answer, Refusal> {
         let mut placed = Vec::new();
         while let Next::Command(command) = self.control.next_of_drain(0)? {
             self.make(command)?;
@@ -229,32 +312,56 @@ impl StoredController {
         Ok(Answer::Lines(placed))
     }
 
-    /// Makes a step of all work that is due.
-    fn run_tasks(&mut self) {
-        for mut task in std::mem::take(&mut self.tasks) {
+    /// Makes steps of work that is due, for a while: of what had no turn then first the next time.
+    pub(super) fn run_tasks(&mut self) {
+        let end = Instant::now() + TURN;
+        let mut waiting = VecDeque::from(std::mem::take(&mut self.tasks));
+        while let Some(task) = waiting.pop_front() {
             let now = Instant::now();
-            if self.cluster.is_stopping() {
-                // At the next start it goes on from where it stands.
-                answer(task.reply_to, Err(Refusal::stopping()));
-                continue;
+            if now >= end {
+                waiting.push_front(task);
+                break;
             }
-            if task.due > now {
+            if task.due > now && !self.cluster.is_stopping() {
                 self.tasks.push(task);
                 continue;
             }
-            match task.work.advance(self) {
-                Ok(Advance::Again) => {
-                    task.due = now + self.cluster.configuration.pace;
-                    self.tasks.push(task);
+            match self.advanced(task, now) {
+                // One shard is served again before the next one's turn.
+                Some(task) if task.due <= now && task.shard_going_on().is_some() => {
+                    waiting.push_front(task);
                 }
-                Ok(Advance::Later) => {
-                    task.due = now + TICK;
-                    self.tasks.push(task);
-                }
-                Ok(Advance::Done(done)) => answer(task.reply_to, Ok(done)),
-                Err(refusal) => answer(task.reply_to, Err(refusal)),
+                task => self.tasks.extend(task),
             }
         }
+        waiting.extend(self.tasks.drain(..));
+        self.tasks = waiting.into();
+    }
+
+    /// Makes a step of the task; gives it back where it isn't over.
+    fn advanced(&mut self, mut task: Task, now: Instant) -> Option<Task> {
+        if self.cluster.is_stopping() {
+            // At the next start it goes on from where it stands.
+            answer(task.reply_to, Err(Refusal::stopping()));
+            return None;
+        }
+        match task.work.advance(self) {
+            Ok(Advance::Again) => task.due = now + self.cluster.configuration.pace,
+            Ok(Advance::Later) => task.due = now + TICK,
+            Ok(Advance::Told(told)) => answer(task.reply_to.take(), Ok(told)),
+            Err(refusal) if task.reply_to.is_none() && refusal.is_of_store() => {
+                task.due = now + STORE_PAUSE;
+            }
+            Ok(Advance::Done(done)) => {
+                answer(task.reply_to, Ok(done));
+                return None;
+            }
+            Err(refusal) => {
+                answer(task.reply_to, Err(refusal));
+                return None;
+            }
+        }
+        Some(task)
     }
 }
 
@@ -262,6 +369,10 @@ impl fmt::Debug for StoredController {
     fn fmt(&self, f: &mut fmt::Formatter<'_>) -> fmt::Result {
         f.debug_struct("StoredController").finish_non_exhaustive()
     }
+}
+
+fn wait_for(due: Instant) -> Duration {
+    due.saturating_duration_since(Instant::now()).min(TICK)
 }
 
 /// What becomes of a command.
@@ -284,7 +395,7 @@ fn lines(lines: impl Iterator<Item = impl ToString>) -> Begun {
 fn answer(reply_to: Option<ReplyTo>, answer: Result<Answer, Refusal>) {
     match (reply_to, answer) {
         (Some(reply_to), answer) => send(reply_to, answer),
-        (None, Err(refusal)) => tracing::warn!(%refusal, "what was under way at the start"),
+        (None, Err(refusal)) => tracing::warn!(%refusal, "what was under way isn't done"),
         (None, Ok(_)) => {}
     }
 }

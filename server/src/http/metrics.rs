@@ -1,11 +1,15 @@
 use crate::cluster::Cluster;
 use crate::command::memory_used;
+use crate::peers::Peers;
 use crate::snapshot::Snapshot;
 use crate::stats::{Stats, LATENCY_BOUNDS};
 use prometheus::{Encoder, IntCounterVec, IntGaugeVec, Opts, Registry, TextEncoder};
 
 /// A count of each thread: its name, what it is, and where it stands.
 type OfThreads = (&'static str, &'static str, fn(&Stats) -> u64);
+
+/// The same where servers have a process each.
+type OfProcesses = (&'static str, &'static str, fn(&Peers) -> u64);
 
 const DONE: &str = "Commands that were done, refused ones among them";
 const FORWARDED: &str = "Requests that a server forwarded to the one that executed them";
@@ -34,6 +38,40 @@ const OF_THREADS: [OfThreads; 10] = [
     ("sent_bytes_total", "Bytes that went", |it| it.sent.get()),
 ];
 
+const SENT: &str = "Works that went to other processes";
+const CAME: &str = "Works that came from other processes";
+const AGAIN: &str = "Works that came back and went on here";
+const UNASKED: &str = "Works for which a process couldn't be asked";
+/// What there is where servers have a process each: its name, what it is, and where it stands.
+const OF_PROCESSES: [OfProcesses; 10] = [
+    ("works_sent_total", SENT, |it| it.counts().sent()),
+    ("works_came_total", CAME, |it| it.counts().came()),
+    ("works_again_total", AGAIN, |it| it.counts().again()),
+    ("works_refused_total", UNASKED, |it| it.counts().refused()),
+    (
+        "processes_reached",
+        "Processes that this one has reached",
+        |it| it.connections().0 as u64,
+    ),
+    (
+        "processes_answered",
+        "Processes that reached this one",
+        |it| it.connections().1 as u64,
+    ),
+    ("servers_there", "Servers whose process is there", |it| {
+        it.member().members().len() as u64
+    }),
+    ("leads", "Whether this process leads", |it| {
+        u64::from(it.leader() == Some(it.member().server()))
+    }),
+    ("led", "Whether a process leads", |it| {
+        u64::from(it.leader().is_some())
+    }),
+    ("lease_kept", "Whether this process has a lease", |it| {
+        u64::from(it.member().lease().is_some())
+    }),
+];
+
 /// How all stands, in the text format of Prometheus.
 pub(super) fn text(cluster: &Cluster, snapshot: &Snapshot) -> prometheus::Result<Vec<u8>> {
     let registry = Registry::new_custom(Some("durkenzo".into()), None)?;
@@ -46,6 +84,9 @@ pub(super) fn text(cluster: &Cluster, snapshot: &Snapshot) -> prometheus::Result
     servers(&registry, cluster, snapshot)?;
     by_name(&registry, cluster)?;
     shards(&registry, snapshot)?;
+    if let Some(peers) = cluster.storage.peers() {
+        processes(&registry, peers)?;
+    }
     let uptime = Family::new(&registry, "uptime_seconds", "Seconds since the start", &[])?;
     uptime.set(&[], cluster.started.elapsed().as_secs());
     let memory = Family::new(&registry, "memory_bytes", "Memory of the process", &[])?;
@@ -121,6 +162,14 @@ fn servers(registry: &Registry, cluster: &Cluster, snapshot: &Snapshot) -> prome
                 done.commands.get().saturating_sub(errors),
             );
         }
+    }
+    Ok(())
+}
+
+/// What there is between this process and others of its cluster.
+fn processes(registry: &Registry, peers: &Peers) -> prometheus::Result<()> {
+    for (name, help, of) in OF_PROCESSES {
+        Family::new(registry, name, help, &[])?.set(&[], of(peers));
     }
     Ok(())
 }

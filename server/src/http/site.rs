@@ -4,16 +4,28 @@ use crate::observer::Observer;
 use crate::run::Fault;
 use crate::snapshot::Snapshot;
 use hyper::header::{CACHE_CONTROL, CONTENT_TYPE};
-use hyper::server::conn::AddrIncoming;
-use hyper::service::{make_service_fn, service_fn};
-use hyper::{Body, Method, Request, Response, Server, StatusCode};
+use hyper::server::conn::Http;
+use hyper::service::service_fn;
+use hyper::{Body, Method, Request, Response, StatusCode};
 use std::convert::Infallible;
 use std::error::Error;
 use std::net::SocketAddr;
 use std::sync::{Arc, Mutex, PoisonError};
+use std::time::Duration;
+use tokio::io::{AsyncRead, AsyncWrite};
+use tokio::net::{TcpListener, TcpStream};
+use tokio::sync::Semaphore;
+use tokio::time::{sleep, timeout};
+use tokio_rustls::TlsAcceptor;
 
 const PAGE: &str = include_str!("page.html");
 const TEXT: &str = "text/plain; charset=utf-8";
+
+/// How many connections there are at a time, and how long one lasts.
+const MOST: usize = 256;
+const LASTS: Duration = Duration::from_secs(60);
+/// How long nothing is accepted after the system had no room for a connection.
+const PAUSE: Duration = Duration::from_millis(20);
 
 /// What a request is answered from.
 struct Site {
@@ -26,20 +38,56 @@ pub async fn serve(cluster: Arc<Cluster>, address: SocketAddr) -> Result<(), Fau
     let observer = Mutex::new(Observer::new(cluster.clone())?);
     let site = Arc::new(Site { cluster, observer });
     let told = |error| format!("{address}: {error}; --http-port takes another port");
-    let incoming = AddrIncoming::bind(&address).map_err(told)?;
-    tracing::info!(address = %incoming.local_addr(), "page, /metrics and /healthz");
-    let service = make_service_fn(move |_| {
-        let site = site.clone();
-        let answer = move |request| {
-            let answered = site.answer(&request);
-            async move { Ok::<_, Infallible>(answered) }
-        };
-        async move { Ok::<_, Infallible>(service_fn(answer)) }
-    });
-    Ok(Server::builder(incoming).serve(service).await?)
+    let listener = TcpListener::bind(address).await.map_err(told)?;
+    tracing::info!(address = %listener.local_addr()?, "page, /metrics and /healthz");
+    let safety = &site.cluster.configuration.safety;
+    let tls = safety.tls.as_ref().map(|it| it.config().into());
+    let room = Arc::new(Semaphore::new(MOST));
+    loop {
+        let place = room.clone().acquire_owned().await?;
+        let (site, tls) = (site.clone(), tls.clone());
+        match listener.accept().await {
+            Ok((socket, _)) => drop(tokio::spawn(async move {
+                let _place = place;
+                // One that takes longer is cut off.
+                let _ = timeout(LASTS, site.meet(socket, tls)).await;
+            })),
+            Err(error) => {
+                tracing::warn!(%error, "a connection to the page isn't accepted");
+                sleep(PAUSE).await;
+            }
+        }
+    }
 }
 
 impl Site {
+    /// Answers what comes over a connection, by TLS where clients are met so.
+    async fn meet(self: Arc<Site>, socket: TcpStream, tls: Option<TlsAcceptor>) {
+        let Some(tls) = tls else {
+            return self.converse(socket).await;
+        };
+        let login_time = self.cluster.configuration.safety.login_time;
+        match timeout(login_time, tls.accept(socket)).await {
+            Ok(Ok(stream)) => self.converse(stream).await,
+            Ok(Err(error)) => tracing::debug!(%error, "a connection to the page has no TLS"),
+            Err(_) => {}
+        }
+    }
+
+    async fn converse(
+        self: Arc<Site>,
+        stream: impl AsyncRead + AsyncWrite + Unpin + Send + 'static,
+    ) {
+        let answer = move |request| {
+            let answered = self.answer(&request);
+            async move { Ok::<_, Infallible>(answered) }
+        };
+        let service = service_fn(answer);
+        if let Err(error) = Http::new().serve_connection(stream, service).await {
+            tracing::debug!(%error, "a connection to the page has ended");
+        }
+    }
+
     fn answer(&self, request: &Request<Body>) -> Response<Body> {
         if !matches!(*request.method(), Method::GET | Method::HEAD) {
             return told(StatusCode::METHOD_NOT_ALLOWED, TEXT, "only GET\n");

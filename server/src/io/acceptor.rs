@@ -22,10 +22,14 @@ pub struct Acceptor {
 }
 
 impl Acceptor {
-    /// One that listens there.
-    pub fn new(cluster: Arc<Cluster>, address: SocketAddr) -> io::Result<Acceptor> {
+    /// Listens there; who connects waits until there is an acceptor.
+    pub fn bind(address: SocketAddr) -> io::Result<TcpListener> {
+        TcpListener::bind(address)
+    }
+
+    /// One of those who connect there.
+    pub fn new(cluster: Arc<Cluster>, mut listener: TcpListener) -> io::Result<Acceptor> {
         let poll = Poll::new()?;
-        let mut listener = TcpListener::bind(address)?;
         poll.registry()
             .register(&mut listener, LISTENER, Interest::READABLE)?;
         let waker = Arc::new(Waker::new(poll.registry(), WAKE)?);
@@ -85,9 +89,14 @@ impl Acceptor {
     fn hand_on(&mut self, mut stream: TcpStream) {
         let inlets = self.cluster.inlets();
         let open: u64 = inlets.iter().map(|it| it.stats().open.get()).sum();
-        if open as usize >= self.cluster.configuration.most_clients {
-            // Whether it reads that or not, it is let go.
-            let _ = stream.write_all(b"-ERR max number of clients reached\r\n");
+        let strangers = inlets.iter().map(|it| it.strangers()).sum();
+        let configuration = &self.cluster.configuration;
+        let is_full = open as usize >= configuration.most_clients;
+        if is_full || !configuration.takes_stranger(strangers) {
+            // Whether it reads that or not, it is let go; by TLS nothing can be told yet.
+            if configuration.safety.tls.is_none() {
+                let _ = stream.write_all(b"-ERR max number of clients reached\r\n");
+            }
             return;
         }
         self.turn = (self.turn + 1) % inlets.len();

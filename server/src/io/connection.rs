@@ -1,16 +1,21 @@
+use super::stream::Stream;
 use crate::command::{Asked, Executor, Session, Stop};
 use crate::resp::{OwnedCommand, Replies};
 use crate::stats::ErrorCounts;
 use crate::wait::Wait;
 use mio::event::Event;
-use mio::net::TcpStream;
-use std::io::{self, ErrorKind, Read, Write};
+use std::io::{self, ErrorKind};
 use std::time::{Duration, Instant};
 
 /// How many bytes are unsent before nothing more is read.
 const MOST_UNSENT: usize = 256 << 10;
 /// How long a command waits at least for a shard that other threads have, of which each has it for a short time.
 const LEAST_BUSY_WAIT: Duration = Duration::from_secs(1);
+/// The most bytes of a command of a client that gave no password yet.
+const MOST_OF_A_STRANGER: usize = 16 << 10;
+
+/// What a client is answered that sends more than that: its words are those of Redis.
+const NOT_YET: &str = "ERR Protocol error: unauthenticated bulk length";
 
 /// What comes next for a connection after its turn.
 #[derive(Debug)]
@@ -32,7 +37,7 @@ pub(super) enum Turn {
 /// A client's connection.
 #[derive(Debug)]
 pub(super) struct Connection {
-    stream: TcpStream,
+    stream: Stream,
     pub(super) session: Session,
     /// What was read, and isn't done.
     input: Vec<u8>,
@@ -48,6 +53,8 @@ pub(super) struct Connection {
     is_last: bool,
     /// Since when the control or shards owe it an answer, if they do.
     owed_since: Option<Instant>,
+    /// When it came, until it has shown who it is; most have, so there is little room for that.
+    stranger_since: Option<Box<Instant>>,
     /// Since when its next command waits.
     waits_since: Option<Instant>,
     /// Whether the thread will give it a turn.
@@ -55,10 +62,12 @@ pub(super) struct Connection {
 }
 
 impl Connection {
-    pub(super) fn new(stream: TcpStream, session: Session) -> Connection {
+    pub(super) fn new(stream: Stream, session: Session) -> Connection {
+        let is_stranger = stream.is_handshaking() || !session.is_known;
         Connection {
             stream,
             session,
+            stranger_since: is_stranger.then(|| Box::new(Instant::now())),
             input: Vec::new(),
             needs: 1,
             replies: Replies::default(),
@@ -72,15 +81,26 @@ impl Connection {
         }
     }
 
-    pub(super) fn stream(&mut self) -> &mut TcpStream {
+    pub(super) fn stream(&mut self) -> &mut Stream {
         &mut self.stream
+    }
+
+    /// When it came, where it hasn't shown yet who it is.
+    pub(super) fn stranger_since(&self) -> Option<Instant> {
+        self.stranger_since.as_deref().copied()
+    }
+
+    /// Whether it has shown since this was asked last who it is.
+    pub(super) fn becomes_known(&mut self) -> bool {
+        let is_known = self.session.is_known && !self.stream.is_handshaking();
+        is_known && self.stranger_since.take().is_some()
     }
 
     /// Notes what happened at the socket, and returns whether a turn is due.
     pub(super) fn note(&mut self, event: &Event) -> bool {
         self.is_half_closed |= event.is_read_closed() || event.is_error();
         self.is_readable |= event.is_readable() || self.is_half_closed;
-        let is_due = self.is_readable || !self.replies.unsent().is_empty();
+        let is_due = self.is_readable || !self.is_sent();
         is_due && self.owed_since.is_none() && self.waits_since.is_none()
     }
 
@@ -99,7 +119,12 @@ impl Connection {
 
     /// Whether there is nothing that it would still be answered.
     pub(super) fn is_quiet(&self) -> bool {
-        !self.is_readable && self.owed_since.is_none() && self.replies.unsent().is_empty()
+        !self.is_readable && self.owed_since.is_none() && self.is_sent()
+    }
+
+    /// Whether the socket has taken all answers.
+    fn is_sent(&self) -> bool {
+        self.replies.unsent().is_empty() && !self.stream.has_unsent()
     }
 
     /// Since when a command of it waits, if one does.
@@ -130,7 +155,7 @@ impl Connection {
     ) -> io::Result<Turn> {
         self.send(executor)?;
         let unsent = self.replies.unsent().len();
-        if self.is_last && unsent == 0 {
+        if self.is_last && self.is_sent() {
             return Ok(Turn::Over);
         }
         if self.is_last || self.owed_since.is_some() || unsent > MOST_UNSENT {
@@ -141,7 +166,11 @@ impl Connection {
         } else if self.is_ended {
             // A client that sends no more may still read what it is answered.
             self.is_last = true;
-            return Ok(if unsent == 0 { Turn::Over } else { Turn::Rest });
+            return Ok(if self.is_sent() {
+                Turn::Over
+            } else {
+                Turn::Rest
+            });
         } else if self.is_readable {
             self.read(executor, buffer)?
         } else {
@@ -157,6 +186,11 @@ impl Connection {
         let waits_since = self.waits_since.take();
         self.needs = 1;
         match stop {
+            Stop::Incomplete(needs) if self.is_too_much(needs) => {
+                self.replies.error(NOT_YET);
+                self.is_last = true;
+                Turn::Again
+            }
             Stop::Incomplete(needs) => {
                 self.needs = needs;
                 match self.is_readable || self.is_ended {
@@ -179,6 +213,11 @@ impl Connection {
             }
             Stop::Wait(reason) => self.wait(reason, waits_since, executor, wait),
         }
+    }
+
+    /// Whether a command of so many bytes is more than who gave no password yet may send.
+    fn is_too_much(&self, needs: usize) -> bool {
+        !self.session.is_known && needs.max(self.input.len()) > MOST_OF_A_STRANGER
     }
 
     /// Has the next command wait, or refuses it where it has waited for so long.
@@ -236,8 +275,9 @@ impl Connection {
             Err(error) => return Err(error),
         };
         self.is_ended = count == 0;
-        // A short read took all that was there, and more will be told; the end is told once.
-        self.is_readable = count == buffer.len() || self.is_half_closed && count > 0;
+        // More will be told, where all that was there is taken; the end is told once.
+        let has_more = self.stream.may_have_more(count, buffer.len());
+        self.is_readable = count > 0 && (has_more || self.is_half_closed);
         executor.admission().stats().received.add(count as u64);
         if !self.input.is_empty() {
             self.input.extend_from_slice(&buffer[..count]);
@@ -266,6 +306,6 @@ impl Connection {
                 Err(error) => return Err(error),
             }
         }
-        Ok(())
+        self.stream.flush()
     }
 }

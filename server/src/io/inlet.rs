@@ -3,7 +3,7 @@ use mio::net::TcpStream;
 use mio::{Poll, Token, Waker};
 use std::fmt;
 use std::io;
-use std::sync::atomic::{AtomicU64, Ordering};
+use std::sync::atomic::{AtomicU64, AtomicUsize, Ordering};
 use std::sync::{Arc, Mutex, PoisonError};
 
 /// The token of what wakes a thread.
@@ -15,6 +15,7 @@ pub struct Inlet {
     waker: Waker,
     stats: Arc<Stats>,
     version: AtomicU64,
+    strangers: AtomicUsize,
 }
 
 /// What others brought since the thread looked last.
@@ -48,11 +49,13 @@ impl Inlet {
             waker: Waker::new(poll.registry(), WAKE)?,
             stats: Arc::new(Stats::new(servers)),
             version: AtomicU64::new(0),
+            strangers: AtomicUsize::new(0),
         })
     }
 
-    /// Has the thread own a connection.
+    /// Has the thread own a connection, of a stranger as yet.
     pub fn bring(&self, stream: TcpStream) {
+        self.strangers.fetch_add(1, Ordering::Relaxed);
         self.change(|it| it.streams.push(stream));
     }
 
@@ -61,6 +64,16 @@ impl Inlet {
         if let Err(error) = self.waker.wake() {
             tracing::error!(%error, "a thread can't be woken");
         }
+    }
+
+    /// How many connections the thread has whose clients haven't shown who they are.
+    pub fn strangers(&self) -> usize {
+        self.strangers.load(Ordering::Relaxed)
+    }
+
+    /// Notes that a stranger has shown that, or went.
+    pub(super) fn note_stranger_less(&self) {
+        self.strangers.fetch_sub(1, Ordering::Relaxed);
     }
 
     /// What the thread counts.
@@ -104,35 +117,69 @@ impl fmt::Debug for Inlet {
     }
 }
 
-/// Where the answer to a command of the control goes.
-#[derive(Clone, Debug)]
-pub struct ReplyTo {
-    pub(super) inlet: Arc<Inlet>,
-    pub(super) place: usize,
-    pub(super) id: u64,
+/// Where an answer goes, once.
+pub struct ReplyTo(To);
+
+enum To {
+    /// To a connection of a thread.
+    Connection {
+        inlet: Arc<Inlet>,
+        place: usize,
+        id: u64,
+    },
+    /// To another process.
+    Process(Box<dyn FnOnce(Vec<u8>) + Send>),
 }
 
 impl ReplyTo {
-    /// Counts the errors of an answer.
-    pub fn note_errors(&self, errors: ErrorCounts) {
-        self.inlet.stats.note_errors(errors);
+    /// To the connection with this number, at this place of the thread.
+    pub(super) fn connection(inlet: Arc<Inlet>, place: usize, id: u64) -> ReplyTo {
+        ReplyTo(To::Connection { inlet, place, id })
     }
 
-    /// Sends the answer, once.
+    /// To another process, by who is given the answer.
+    pub fn process(tell: impl FnOnce(Vec<u8>) + Send + 'static) -> ReplyTo {
+        ReplyTo(To::Process(Box::new(tell)))
+    }
+
+    /// Whether another process asked.
+    pub fn is_of_process(&self) -> bool {
+        matches!(self.0, To::Process(_))
+    }
+
+    /// Counts the errors of an answer.
+    pub fn note_errors(&self, errors: ErrorCounts) {
+        if let To::Connection { inlet, .. } = &self.0 {
+            inlet.stats.note_errors(errors);
+        }
+    }
+
+    /// Sends the answer.
     pub fn send(self, bytes: Vec<u8>) {
         self.send_of(bytes, 0);
     }
 
-    /// Sends the answer to so many commands that weren't counted yet, once.
+    /// Sends the answer to so many commands that weren't counted yet.
     pub fn send_of(self, bytes: Vec<u8>, commands: u64) {
-        let ReplyTo { inlet, place, id } = self;
-        inlet.change(|it| {
-            it.answers.push(Delivery {
-                place,
-                id,
-                bytes,
-                commands,
-            });
-        });
+        match self.0 {
+            To::Connection { inlet, place, id } => inlet.change(|it| {
+                it.answers.push(Delivery {
+                    place,
+                    id,
+                    bytes,
+                    commands,
+                });
+            }),
+            To::Process(tell) => tell(bytes),
+        }
+    }
+}
+
+impl fmt::Debug for ReplyTo {
+    fn fmt(&self, f: &mut fmt::Formatter<'_>) -> fmt::Result {
+        match &self.0 {
+            To::Connection { place, id, .. } => write!(f, "ReplyTo({place}, {id})"),
+            To::Process(_) => f.write_str("ReplyTo(process)"),
+        }
     }
 }

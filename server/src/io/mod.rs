@@ -3,6 +3,8 @@ mod acceptor;
 mod busy_poll;
 mod connection;
 mod inlet;
+mod stream;
+mod tls_stream;
 mod worker;
 
 pub use acceptor::Acceptor;

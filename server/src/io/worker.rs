@@ -1,6 +1,7 @@
 use super::busy_poll::BusyPoll;
 use super::connection::{Connection, Turn};
 use super::inlet::{Brought, Inlet, ReplyTo, WAKE};
+use super::stream::Stream;
 use crate::cluster::Cluster;
 use crate::command::{Asked as AskedOfShards, Executor, Session};
 use crate::control::Asked;
@@ -22,6 +23,9 @@ const EVENTS: usize = 256;
 /// How long a thread with commands that wait sleeps, where nobody wakes it: so exact is the time that they wait.
 const TICK: Duration = Duration::from_millis(5);
 
+/// How often connections are looked through for those who took too long to show who they are.
+const SWEEP: Duration = Duration::from_millis(500);
+
 /// The number of the last connection.
 static LAST_ID: AtomicU64 = AtomicU64::new(0);
 
@@ -42,6 +46,8 @@ pub struct Worker {
     is_racing: bool,
     changes: u64,
     busy_poll: BusyPoll,
+    /// When connections were looked through for those who took too long.
+    swept: Instant,
     buffer: Box<[u8]>,
 }
 
@@ -67,6 +73,7 @@ impl Worker {
             is_racing: false,
             changes: 0,
             busy_poll,
+            swept: Instant::now(),
             buffer: vec![0; ROOM].into(),
         }
     }
@@ -81,6 +88,7 @@ impl Worker {
                 self.note(event);
             }
             self.refresh()?;
+            self.close_strangers();
             self.look_at_waiting();
             self.run_queue();
             if self.cluster.is_stopping() {
@@ -112,7 +120,8 @@ impl Worker {
             polled?;
         }
         if events.is_empty() {
-            self.look(events, None)?;
+            let timeout = (self.inlet.strangers() > 0).then_some(SWEEP);
+            self.look(events, timeout)?;
         }
         self.busy_poll.note(since.elapsed());
         Ok(())
@@ -149,6 +158,7 @@ impl Worker {
         let Brought { streams, answers } = self.inlet.take();
         for stream in streams {
             if let Err(error) = self.open(stream) {
+                self.inlet.note_stranger_less();
                 tracing::warn!(%error, "a connection isn't served");
             }
         }
@@ -166,20 +176,39 @@ impl Worker {
         }
     }
 
-    fn open(&mut self, mut stream: TcpStream) -> io::Result<()> {
-        stream.set_nodelay(true)?;
+    fn open(&mut self, socket: TcpStream) -> io::Result<()> {
+        socket.set_nodelay(true)?;
+        let safety = &self.cluster.configuration.safety;
+        let mut stream = Stream::new(socket, safety.tls.as_ref())?;
         let entry = self.connections.vacant_entry();
         let interest = Interest::READABLE | Interest::WRITABLE;
         let token = Token(entry.key());
         self.poll
             .registry()
-            .register(&mut stream, token, interest)?;
+            .register(stream.socket(), token, interest)?;
         let id = LAST_ID.fetch_add(1, Ordering::Relaxed) + 1;
-        let is_known = self.cluster.configuration.password.is_none();
-        entry.insert(Connection::new(stream, Session::new(id, is_known)));
+        let connection = Connection::new(stream, Session::of(id, safety));
+        if connection.stranger_since().is_none() {
+            self.inlet.note_stranger_less();
+        }
+        entry.insert(connection);
         self.inlet.stats().accepted.add(1);
         self.count_open();
         Ok(())
+    }
+
+    /// Closes from time to time the connections of those who took too long to show who they are.
+    fn close_strangers(&mut self) {
+        if self.inlet.strangers() == 0 || self.swept.elapsed() < SWEEP {
+            return;
+        }
+        self.swept = Instant::now();
+        let most = self.cluster.configuration.safety.login_time;
+        let is_late = |it: &Connection| it.stranger_since().is_some_and(|it| it.elapsed() >= most);
+        let late = self.connections.iter().filter(|it| is_late(it.1));
+        for place in late.map(|it| it.0).collect::<Vec<_>>() {
+            self.close(place);
+        }
     }
 
     fn count_open(&self) {
@@ -268,6 +297,9 @@ impl Worker {
         if done > 0 {
             stats.latency.note(since.unwrap_or(began).elapsed(), done);
         }
+        if connection.becomes_known() {
+            self.inlet.note_stranger_less();
+        }
         if let Some(errors) = connection.take_errors() {
             stats.note_errors(errors);
         }
@@ -277,7 +309,7 @@ impl Worker {
     /// Where what is owed to the connection there goes.
     fn reply_to(&self, place: usize) -> ReplyTo {
         let (inlet, id) = (self.inlet.clone(), self.connections[place].session.id);
-        ReplyTo { inlet, place, id }
+        ReplyTo::connection(inlet, place, id)
     }
 
     fn ask_shards(&mut self, place: usize, asked: AskedOfShards) {
@@ -298,8 +330,12 @@ impl Worker {
 
     fn close(&mut self, place: usize) {
         let mut connection = self.connections.remove(place);
+        if connection.stranger_since().is_some() {
+            self.inlet.note_stranger_less();
+        }
         // The drop closes it, by which it is deregistered too.
-        let _ = self.poll.registry().deregister(connection.stream());
+        let socket = connection.stream().socket();
+        let _ = self.poll.registry().deregister(socket);
         self.count_open();
     }
 

@@ -1,4 +1,6 @@
 use super::arguments::Span;
+use super::{parse, Arguments};
+use std::io::Write;
 
 /// A command: its name and its arguments, which may be any bytes.
 #[derive(Clone, Copy, Debug)]
@@ -72,10 +74,53 @@ impl OwnedCommand {
         OwnedCommand { bytes, spans }
     }
 
+    /// The command of these words.
+    pub fn of(words: &[&str]) -> OwnedCommand {
+        let (mut bytes, mut spans) = (Vec::new(), Vec::new());
+        for word in words {
+            let start = bytes.len();
+            bytes.extend_from_slice(word.as_bytes());
+            let end = bytes.len();
+            spans.push(Span { start, end });
+        }
+        let (bytes, spans) = (bytes.into(), spans.into());
+        OwnedCommand { bytes, spans }
+    }
+
     /// A copy of these of its words.
     pub fn of_words(command: Command<'_>, places: &[usize]) -> OwnedCommand {
         let spans: Vec<Span> = places.iter().map(|it| command.spans[*it]).collect();
         OwnedCommand::new(Command::new(command.bytes, &spans))
+    }
+
+    /// The command whose bytes these are, as [`OwnedCommand::spell`] writes them; none where they aren't one's.
+    pub fn spelled(bytes: &[u8]) -> Option<OwnedCommand> {
+        let (command, end) = OwnedCommand::first_spelled(bytes)?;
+        (end == bytes.len()).then_some(command)
+    }
+
+    /// The command with which the bytes begin, and where it ends.
+    pub fn first_spelled(bytes: &[u8]) -> Option<(OwnedCommand, usize)> {
+        let mut arguments = Arguments::default();
+        if bytes.first() != Some(&b'*') {
+            return None;
+        }
+        let end = parse(bytes, &mut arguments).ok()?;
+        Some((OwnedCommand::new(arguments.command(bytes)), end))
+    }
+
+    /// Its bytes, as a client would send it.
+    pub fn spell(&self) -> Vec<u8> {
+        let command = self.command();
+        let mut bytes = Vec::with_capacity(command.size() + 16 * (1 + command.len()));
+        // Memory takes whatever is written.
+        let _ = write!(bytes, "*{}\r\n", command.len());
+        for argument in command.iter() {
+            let _ = write!(bytes, "${}\r\n", argument.len());
+            bytes.extend_from_slice(argument);
+            bytes.extend_from_slice(b"\r\n");
+        }
+        bytes
     }
 
     /// The command.

@@ -60,6 +60,18 @@ impl Replies {
         self.bytes.extend_from_slice(reply);
     }
 
+    /// A whole reply of another process, in the same version, which is counted where it is an error.
+    pub fn append_told(&mut self, reply: &[u8]) {
+        let start = self.bytes.len() + 1;
+        let line = reply.strip_prefix(b"-");
+        let line = line.and_then(|it| it.strip_suffix(b"\r\n"));
+        self.append(reply);
+        if line.is_some() {
+            let end = self.bytes.len() - 2;
+            self.count_error(start, end);
+        }
+    }
+
     /// Replies that were written elsewhere, with the errors among them.
     pub fn take_over(&mut self, mut other: Replies) {
         self.append(other.unsent());
@@ -102,14 +114,14 @@ impl Replies {
                 *byte = b' ';
             }
         }
-        self.count_error(start);
+        self.count_error(start, self.bytes.len());
         self.bytes.extend_from_slice(b"\r\n");
     }
 
-    /// Counts the error that begins there by its name.
-    fn count_error(&mut self, start: usize) {
+    /// Counts the error that stands there by its name.
+    fn count_error(&mut self, start: usize, end: usize) {
         self.error_count += 1;
-        let told = &self.bytes[start..];
+        let told = &self.bytes[start..end];
         let told = told.strip_prefix(b"REFUSED ").unwrap_or(told);
         let name = told.split(|it| matches!(it, b' ' | b':')).next();
         let name = String::from_utf8_lossy(name.unwrap_or_default());

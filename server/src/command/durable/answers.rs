@@ -45,6 +45,13 @@ impl Answers {
         Replies::new(self.protocol)
     }
 
+    /// Brings the part at this place, once, as another process has written it.
+    pub(super) fn bring_bytes(&self, place: usize, answer: &[u8]) {
+        let mut part = self.part();
+        part.append_told(answer);
+        self.bring(place, part);
+    }
+
     /// Brings the part at this place, once.
     pub(super) fn bring(&self, place: usize, part: Replies) {
         let mut state = self.state.lock().unwrap_or_else(PoisonError::into_inner);

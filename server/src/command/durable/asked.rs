@@ -1,12 +1,16 @@
 use super::answers::{in_order, Answers, Join};
+use super::found::Told;
 use super::keyed::{keys_of_all, Keyed};
+use super::listing::Listing;
+use super::query::Query;
 use super::together::Together;
+use super::walk::{Walk, Walker};
 use crate::cluster::Cluster;
 use crate::command::data::DataWord;
 use crate::command::transaction::Transaction;
 use crate::io::ReplyTo;
 use crate::resp::{OwnedCommand, Protocol, Replies};
-use durkenzo_driver::Durable;
+use durkenzo_driver::{Durable, Numbered};
 use std::sync::Arc;
 
 /// What a connection asks of shards whose data outlives the process, in the version in which it is answered.
@@ -20,10 +24,16 @@ pub struct Asked {
 enum What {
     /// Commands with keys of this shard, one after another.
     Keyed(u16, Vec<(DataWord, OwnedCommand)>),
+    /// A command with keys of this shard, to which its client gave this number.
+    Numbered(u16, Numbered, (DataWord, OwnedCommand)),
     /// One command with keys of several shards, each by itself.
     Each(DataWord, Vec<(u16, OwnedCommand)>),
     /// The commands of EXEC.
     Together(u16, Box<Transaction>),
+    /// What goes over shards, one after another.
+    Walk(Box<dyn Walk>),
+    /// How many keys all shards have.
+    Count,
 }
 
 impl Asked {
@@ -34,6 +44,17 @@ impl Asked {
         commands: Vec<(DataWord, OwnedCommand)>,
     ) -> Asked {
         let what = What::Keyed(shard, commands);
+        Asked { protocol, what }
+    }
+
+    /// A command of this shard, to which its client gave this number.
+    pub(in crate::command) fn numbered(
+        protocol: Protocol,
+        shard: u16,
+        numbered: Numbered,
+        command: (DataWord, OwnedCommand),
+    ) -> Asked {
+        let what = What::Numbered(shard, numbered, command);
         Asked { protocol, what }
     }
 
@@ -57,6 +78,18 @@ impl Asked {
         Asked { protocol, what }
     }
 
+    /// What goes over shards, one after another.
+    pub(super) fn walk(protocol: Protocol, walk: Box<dyn Walk>) -> Asked {
+        let what = What::Walk(walk);
+        Asked { protocol, what }
+    }
+
+    /// How many keys all shards have.
+    pub(super) fn count(protocol: Protocol) -> Asked {
+        let what = What::Count;
+        Asked { protocol, what }
+    }
+
     /// Asks it, and has the answer be sent there.
     pub fn submit(self, durable: &Durable, cluster: &Arc<Cluster>, reply_to: ReplyTo) {
         let protocol = self.protocol;
@@ -67,6 +100,17 @@ impl Asked {
                 let steps = commands.into_iter().enumerate();
                 let steps = steps.map(|(place, it)| Keyed::step(it, shard, answers.clone(), place));
                 durable.submit(shard, steps.collect());
+            }
+            What::Numbered(shard, numbered, command) => {
+                let answers = Answers::new(1, 1, protocol, in_order(), reply_to);
+                match Keyed::numbered(numbered, command, shard, answers.clone()) {
+                    Ok(step) => durable.submit(shard, vec![step]),
+                    Err(fault) => {
+                        let mut refused = answers.part();
+                        refused.error(fault);
+                        answers.bring(0, refused);
+                    }
+                }
             }
             What::Each(word, parts) => {
                 let answers = Answers::new(parts.len(), 1, protocol, joined(word), reply_to);
@@ -81,7 +125,41 @@ impl Asked {
                 let step = Together::step(transaction, cluster.clone(), shard, keys, answers);
                 durable.submit(shard, vec![step]);
             }
+            What::Walk(walk) => {
+                let cluster = cluster.clone();
+                let walker = Walker {
+                    walk,
+                    cluster,
+                    protocol,
+                    reply_to,
+                };
+                walker.go_on();
+            }
+            What::Count => count(durable, protocol, reply_to),
         }
+    }
+}
+
+/// Has all shards count their keys, each by itself.
+fn count(durable: &Durable, protocol: Protocol, reply_to: ReplyTo) {
+    let shards = durable.shards();
+    let join = joined(DataWord::Exists);
+    let answers = Answers::new(shards.into(), 1, protocol, join, reply_to);
+    for shard in 0..shards {
+        let answers = answers.clone();
+        let then = move |told: Told| {
+            let part = told.map_or_else(
+                |refused| refused,
+                |found| {
+                    let mut part = answers.part();
+                    part.count(found.count);
+                    part
+                },
+            );
+            answers.bring(shard.into(), part);
+        };
+        let step = Listing::step(Query::Count, shard, protocol, Box::new(then));
+        durable.submit(shard, vec![step]);
     }
 }
 

@@ -2,7 +2,7 @@ use super::overlay::set;
 use crate::body::MAX_TEXT;
 use crate::command::data::DataWord;
 use crate::resp::{number, Command};
-use durkenzo_driver::{Begin, Key, Request};
+use durkenzo_driver::{Begin, Key, Numbered, Request};
 
 /// How a command begins whose keys are all of one shard. What only reads, or writes whatever was there, needs one
 /// transaction; all else reads first.
@@ -26,6 +26,15 @@ pub(super) fn begin(word: DataWord, command: Command<'_>) -> Begin {
     match writes {
         Some(writes) => Begin::Write(writes),
         None => Begin::Change(different(keys_of(word, command).collect())),
+    }
+}
+
+/// What the command writes where its client numbers it; none where it may not, as it reads first, so that it isn't the
+/// same work each time, or writes more than a shard keeps note of.
+pub(super) fn written_once(word: DataWord, command: Command<'_>) -> Option<Vec<Request>> {
+    match begin(word, command) {
+        Begin::Write(requests) => Some(requests).filter(|it| it.len() <= Numbered::MOST_REQUESTS),
+        _ => None,
     }
 }
 

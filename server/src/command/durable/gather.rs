@@ -1,14 +1,20 @@
+use super::begin::written_once;
+use super::ranging::Ranging;
+use super::scanning::Scanning;
 use super::Asked;
 use crate::body::MAX_TEXT;
+use crate::command::cursors::Cursors;
 use crate::command::data::DataWord;
 use crate::command::reader::Reader;
 use crate::command::session::Session;
 use crate::command::spec::{shard_of, Spec, TalkWord, Word};
 use crate::command::step::Step;
 use crate::command::transaction::Transaction;
+use crate::command::wanted::{cursor_of, Wanted, WantedRange};
 use crate::command::Fault;
 use crate::keyspace::Keyspace;
-use crate::resp::{Command, OwnedCommand, Protocol};
+use crate::resp::{number, Command, OwnedCommand, Protocol};
+use durkenzo_driver::Numbered;
 
 /// How many commands are asked at once, so that others come to the shard.
 const MOST_AT_ONCE: usize = 128;
@@ -20,7 +26,7 @@ const MOST_ARGUMENTS: usize = 4_096;
 pub fn gather(
     reader: &mut Reader<'_>,
     session: &mut Session,
-    keyspace: &Keyspace,
+    (keyspace, cursors): (&Keyspace, &Cursors),
     protocol: Protocol,
 ) -> Result<Option<Asked>, Fault> {
     let Some(command) = reader.peek().ok().filter(|it| !it.is_empty()) else {
@@ -37,10 +43,13 @@ pub fn gather(
             may_queue(command)?;
             return Ok(None);
         }
-        Some(Step::Other(spec)) => match asked_by(spec, command, session, protocol)? {
-            Some(asked) => asked,
-            None => return Ok(None),
-        },
+        Some(Step::Other(spec)) => {
+            let asked = asked_by(spec, command, session, (keyspace, cursors), protocol)?;
+            match asked {
+                Some(asked) => asked,
+                None => return Ok(None),
+            }
+        }
         None => return Ok(None),
     };
     reader.advance();
@@ -96,13 +105,22 @@ fn asked_by(
     spec: &Spec,
     command: Command<'_>,
     session: &mut Session,
+    (keyspace, cursors): (&Keyspace, &Cursors),
     protocol: Protocol,
 ) -> Result<Option<Asked>, Fault> {
     match spec.word {
-        Word::Scan | Word::ScanRange | Word::Talk(TalkWord::DbSize) => {
-            Err(Fault::NotDurable(spec.name))
+        // Over shards nothing goes within a transaction, which is told where that is.
+        Word::Scan | Word::ScanRange if session.transaction.is_some() => Ok(None),
+        Word::Scan => scan(command, cursors, keyspace, protocol).map(Some),
+        Word::ScanRange => {
+            let walk = Ranging::new(&WantedRange::of(command)?, keyspace);
+            Ok(Some(Asked::walk(protocol, Box::new(walk))))
         }
+        Word::Talk(TalkWord::DbSize) => Ok(Some(Asked::count(protocol))),
         Word::Control if command.is(1, "AT") => Err(Fault::NotDurable("sm at")),
+        Word::Control if command.is(1, "CALL") => {
+            called(command, session, keyspace, protocol).map(Some)
+        }
         Word::Exec => {
             let is_of_a_shard =
                 |it: &mut Box<Transaction>| !it.is_aborted() && it.shard().is_some();
@@ -117,6 +135,48 @@ fn asked_by(
         }
         _ => Ok(None),
     }
+}
+
+/// What SCAN asks from its cursor on.
+fn scan(
+    command: Command<'_>,
+    cursors: &Cursors,
+    keyspace: &Keyspace,
+    protocol: Protocol,
+) -> Result<Asked, Fault> {
+    let count = Wanted::of(command)?.count;
+    let next = cursors.position(cursor_of(command)?);
+    let next = next.ok_or(Fault::BadCursor)?;
+    let (command, shards) = (OwnedCommand::new(command), keyspace.shards());
+    let walk = Scanning::new(command, count, next, shards);
+    Ok(Asked::walk(protocol, Box::new(walk)))
+}
+
+/// What `SM CALL client number COMMAND ..` asks: the command once, however often it is asked for.
+fn called(
+    command: Command<'_>,
+    session: &Session,
+    keyspace: &Keyspace,
+    protocol: Protocol,
+) -> Result<Asked, Fault> {
+    if session.transaction.is_some() {
+        return Err(Fault::NotQueued);
+    }
+    let of = |place| number::parse(command.get(place)).and_then(|it| u64::try_from(it).ok());
+    let (Some(client @ 1..=Numbered::LAST_CLIENT), Some(number @ 1..)) = (of(2), of(3)) else {
+        return Err(Fault::BadNumber);
+    };
+    let inner = command.from(4);
+    let spec = Spec::of(inner)?;
+    let (Word::Data(word), Some(shard)) = (spec.word, spec.place(inner, keyspace)?.one()?) else {
+        return Err(Fault::NotNumbered);
+    };
+    if written_once(word, inner).is_none() {
+        return Err(Fault::NotNumbered);
+    }
+    let numbered = Numbered { client, number };
+    let command = OwnedCommand::new(inner);
+    Ok(Asked::numbered(protocol, shard, numbered, (word, command)))
 }
 
 /// Whether a transaction may have the command: one with keys, or that is answered from itself.

@@ -1,10 +1,11 @@
 use super::answers::Answers;
-use super::begin::{begin, different, keys_of};
+use super::begin::{begin, different, keys_of, written_once};
 use super::overlay::{changes, loaded};
+use super::spelling::spell_keyed;
 use crate::command::data::{self, DataWord};
 use crate::command::Fault;
 use crate::resp::{OwnedCommand, Replies};
-use durkenzo_driver::{Begin, Key, Outcome, Reply, Request, Step, Work};
+use durkenzo_driver::{Begin, Key, Numbered, Outcome, Reply, Request, Step, Work};
 use std::sync::Arc;
 
 /// A command whose keys are all of one shard.
@@ -13,6 +14,8 @@ pub(super) struct Keyed {
     command: OwnedCommand,
     shard: u16,
     begins: Begins,
+    /// The number that its client gave it, if it did.
+    numbered: Option<Numbered>,
     /// The keys that were read.
     keys: Vec<Key>,
     /// The answer, where it is known before what is written is made.
@@ -40,13 +43,14 @@ impl Keyed {
         let (begins, keys) = match &begin {
             Begin::Read(keys) => (Begins::Read, keys.clone()),
             Begin::Change(keys) => (Begins::Change, keys.clone()),
-            Begin::Write(_) => (Begins::Write, Vec::new()),
+            _ => (Begins::Write, Vec::new()),
         };
         let work = Keyed {
             word,
             command,
             shard,
             begins,
+            numbered: None,
             keys,
             answer: None,
             answers,
@@ -56,6 +60,35 @@ impl Keyed {
             begin,
             work: Box::new(work),
         }
+    }
+
+    /// The step of this command, to which its client gave this number, and whose answer is the only part.
+    ///
+    /// # Errors
+    ///
+    /// Where it doesn't write whatever was there, or writes too much.
+    pub(super) fn numbered(
+        numbered: Numbered,
+        (word, command): (DataWord, OwnedCommand),
+        shard: u16,
+        answers: Arc<Answers>,
+    ) -> Result<Step, Fault> {
+        let requests = written_once(word, command.command()).ok_or(Fault::NotNumbered)?;
+        let work = Keyed {
+            word,
+            command,
+            shard,
+            begins: Begins::Write,
+            numbered: Some(numbered),
+            keys: Vec::new(),
+            answer: None,
+            answers,
+            place: 0,
+        };
+        Ok(Step {
+            begin: Begin::Numbered(numbered, requests),
+            work: Box::new(work),
+        })
     }
 
     /// The answer to what was written whatever was there.
@@ -94,6 +127,14 @@ impl Work for Keyed {
         });
         self.answer = Some(answer);
         requests
+    }
+
+    fn spell(&self) -> Vec<u8> {
+        spell_keyed(self.answers.part().protocol, self.numbered, &self.command)
+    }
+
+    fn answered(self: Box<Self>, answer: &[u8]) {
+        self.answers.bring_bytes(self.place, answer);
     }
 
     fn end(mut self: Box<Self>, outcome: Outcome) {

@@ -3,10 +3,18 @@
 mod answers;
 mod asked;
 mod begin;
+mod found;
 mod gather;
 mod keyed;
+mod listing;
 mod overlay;
+mod query;
+mod ranging;
+mod scanning;
+mod spelling;
 mod together;
+mod walk;
 
 pub use asked::Asked;
 pub(super) use gather::gather;
+pub use spelling::step_of_spelled;

@@ -1,5 +1,6 @@
 use super::answers::Answers;
 use super::overlay::{changes, loaded};
+use super::spelling::spell_together;
 use crate::cluster::Cluster;
 use crate::command::session::Session;
 use crate::command::transaction::Transaction;
@@ -70,6 +71,14 @@ impl Work for Together {
         });
         self.answer = Some(answer);
         requests
+    }
+
+    fn spell(&self) -> Vec<u8> {
+        spell_together(self.answers.part().protocol, &self.transaction)
+    }
+
+    fn answered(self: Box<Self>, answer: &[u8]) {
+        self.answers.bring_bytes(0, answer);
     }
 
     fn end(mut self: Box<Self>, outcome: Outcome) {

@@ -1,0 +1,250 @@
+//! How works are spelled for another process: the version in which the client is answered, what kind of work it is, and
+//! its commands as a client sends them.
+use super::answers::{in_order, Answers};
+use super::keyed::{keys_of_all, Keyed};
+use super::listing::Listing;
+use super::query::Query;
+use super::together::Together;
+use crate::cluster::Cluster;
+use crate::command::data::DataWord;
+use crate::command::spec::{Place, Spec, Word};
+use crate::command::transaction::Transaction;
+use crate::io::ReplyTo;
+use crate::keyspace::Keyspace;
+use crate::resp::{OwnedCommand, Protocol};
+use durkenzo_driver::{Numbered, Step};
+use std::sync::Arc;
+
+/// Kinds of works.
+const KEYED: u8 = b'k';
+const NUMBERED: u8 = b'n';
+const TOGETHER: u8 = b't';
+const LISTING: u8 = b'l';
+
+/// A command with keys of one shard.
+pub(super) fn spell_keyed(
+    protocol: Protocol,
+    numbered: Option<Numbered>,
+    command: &OwnedCommand,
+) -> Vec<u8> {
+    let mut bytes = vec![version_of(protocol)];
+    match numbered {
+        None => bytes.push(KEYED),
+        Some(Numbered { client, number }) => {
+            bytes.push(NUMBERED);
+            bytes.extend(client.to_be_bytes());
+            bytes.extend(number.to_be_bytes());
+        }
+    }
+    bytes.extend(command.spell());
+    bytes
+}
+
+/// The commands of EXEC.
+pub(super) fn spell_together(protocol: Protocol, transaction: &Transaction) -> Vec<u8> {
+    let mut bytes = vec![version_of(protocol), TOGETHER];
+    for command in transaction.commands() {
+        bytes.extend(command.spell());
+    }
+    bytes
+}
+
+/// A query of a shard's keys.
+pub(super) fn spell_listing(protocol: Protocol, query: &Query) -> Vec<u8> {
+    let mut bytes = vec![version_of(protocol), LISTING];
+    bytes.extend(query.spell());
+    bytes
+}
+
+fn version_of(protocol: Protocol) -> u8 {
+    match protocol {
+        Protocol::Two => 2,
+        Protocol::Three => 3,
+    }
+}
+
+/// The step of a work that another process spelled so for this shard, which is answered there; none where it isn't one.
+pub fn step_of_spelled(
+    bytes: &[u8],
+    shard: u16,
+    keyspace: &Keyspace,
+    cluster: &Arc<Cluster>,
+    reply_to: ReplyTo,
+) -> Option<Step> {
+    let (head, rest) = bytes.split_first_chunk()?;
+    let [version, kind] = *head;
+    let protocol = match version {
+        2 => Protocol::Two,
+        3 => Protocol::Three,
+        _ => return None,
+    };
+    if kind == LISTING {
+        let query = Query::spelled(rest)?;
+        return Some(Listing::told_to(query, shard, protocol, reply_to));
+    }
+    let answers = |commands| Answers::new(1, commands, protocol, in_order(), reply_to);
+    match kind {
+        KEYED => {
+            let command = command_of(rest, shard, keyspace)?;
+            Some(Keyed::step(command, shard, answers(1), 0))
+        }
+        NUMBERED => {
+            let (client, rest) = rest.split_first_chunk()?;
+            let (number, rest) = rest.split_first_chunk()?;
+            let numbered = Numbered {
+                client: u64::from_be_bytes(*client),
+                number: u64::from_be_bytes(*number),
+            };
+            let command = command_of(rest, shard, keyspace)?;
+            Keyed::numbered(numbered, command, shard, answers(1)).ok()
+        }
+        TOGETHER => {
+            let transaction = transaction_of(rest, shard, keyspace)?;
+            let keys = keys_of_all(transaction.data());
+            let (cluster, answers) = (cluster.clone(), answers(transaction.len()));
+            let step = Together::step(transaction, cluster, shard, keys, answers);
+            Some(step)
+        }
+        _ => None,
+    }
+}
+
+/// The command with keys of this shard alone.
+fn command_of(bytes: &[u8], shard: u16, keyspace: &Keyspace) -> Option<(DataWord, OwnedCommand)> {
+    let command = OwnedCommand::spelled(bytes)?;
+    let spec = Spec::of(command.command()).ok()?;
+    let place = spec.place(command.command(), keyspace).ok()?;
+    match (spec.word, place) {
+        (Word::Data(word), Place::Shard(of)) if of == shard => Some((word, command)),
+        _ => None,
+    }
+}
+
+/// The transaction whose keys are of this shard alone.
+fn transaction_of(bytes: &[u8], shard: u16, keyspace: &Keyspace) -> Option<Box<Transaction>> {
+    let (mut transaction, mut rest) = (Box::<Transaction>::default(), bytes);
+    while !rest.is_empty() {
+        let (command, end) = OwnedCommand::first_spelled(rest)?;
+        let spec = Spec::of(command.command()).ok()?;
+        let place = spec.place(command.command(), keyspace).ok()?;
+        let of = place.one().ok()?;
+        if !spec.is_queued() || of.is_some_and(|it| it != shard) {
+            return None;
+        }
+        transaction.push(command.command(), of).ok()?;
+        rest = &rest[end..];
+    }
+    transaction.shard().is_some().then_some(transaction)
+}
+
+#[cfg(test)]
+mod tests {
+    use super::*;
+    use crate::body::Memory;
+    use crate::chance::Chance;
+    use crate::cluster::Configuration;
+    use crate::keyspace::Rule;
+    use durkenzo_driver::Begin;
+
+    fn command(words: &[&str]) -> OwnedCommand {
+        let mut bytes = format!("*{}\r\n", words.len());
+        for word in words {
+            bytes += &format!("${}\r\n{word}\r\n", word.len());
+        }
+        OwnedCommand::spelled(bytes.as_bytes()).unwrap()
+    }
+
+    struct Place {
+        keyspace: Keyspace,
+        cluster: Arc<Cluster>,
+    }
+
+    impl Place {
+        fn new() -> Place {
+            let rule = Rule::Bounds(vec![Vec::new(), b"m".to_vec()]);
+            let keyspace = Keyspace::new(&rule).unwrap();
+            let cluster = Cluster::new(Configuration::new(rule), Box::new(Memory)).unwrap();
+            let cluster = Arc::new(cluster);
+            Place { keyspace, cluster }
+        }
+
+        fn step(&self, bytes: &[u8], shard: u16) -> Option<Step> {
+            let reply_to = ReplyTo::process(|_| {});
+            step_of_spelled(bytes, shard, &self.keyspace, &self.cluster, reply_to)
+        }
+    }
+
+    #[test]
+    fn works_are_read_as_they_were_spelled() {
+        let place = Place::new();
+        let numbered = Numbered {
+            client: 5,
+            number: 9,
+        };
+        let mut transaction = Transaction::default();
+        for words in [&["INCR", "b"][..], &["PING"], &["SET", "a", "x\r\ny"]] {
+            let command = command(words);
+            let shard = (command.command().len() > 1).then_some(0);
+            transaction.push(command.command(), shard).unwrap();
+        }
+        let spelled = [
+            spell_keyed(Protocol::Two, None, &command(&["GET", "a"])),
+            spell_keyed(Protocol::Three, Some(numbered), &command(&["INCR", "a"])),
+            spell_together(Protocol::Three, &transaction),
+        ];
+        for bytes in &spelled {
+            let step = place.step(bytes, 0).unwrap();
+            assert_eq!(&step.work.spell(), bytes);
+            assert!(place.step(bytes, 1).is_none());
+        }
+        let listing = spell_listing(Protocol::Two, &Query::Count);
+        assert_eq!(place.step(&listing, 1).unwrap().work.spell(), listing);
+        let begin = place.step(&spelled[1], 0).unwrap().begin;
+        assert!(matches!(begin, Begin::Numbered(it, _) if it == numbered));
+    }
+
+    #[test]
+    fn what_is_no_work_is_refused() {
+        let place = Place::new();
+        let wrong = [
+            b"".to_vec(),
+            b"\x02".to_vec(),
+            b"\x02k".to_vec(),
+            b"\x02t".to_vec(),
+            b"\x04k*2\r\n$3\r\nGET\r\n$1\r\na\r\n".to_vec(),
+            b"\x02x*2\r\n$3\r\nGET\r\n$1\r\na\r\n".to_vec(),
+            b"\x02k*2\r\n$3\r\nGET\r\n$1\r\na\r\n ".to_vec(),
+            b"\x02kGET a\r\n".to_vec(),
+            b"\x02k*1\r\n$4\r\nPING\r\n".to_vec(),
+            b"\x02t*1\r\n$4\r\nPING\r\n".to_vec(),
+            b"\x02t*1\r\n$4\r\nEXEC\r\n".to_vec(),
+            spell_keyed(Protocol::Two, None, &command(&["MGET", "a", "z"])),
+        ];
+        for bytes in wrong {
+            assert!(place.step(&bytes, 0).is_none(), "{bytes:?}");
+        }
+        // Numbered is what writes without reading first alone.
+        let numbered = Numbered {
+            client: 1,
+            number: 1,
+        };
+        for words in [&["APPEND", "a", "x"][..], &["GET", "a"]] {
+            let bytes = spell_keyed(Protocol::Two, Some(numbered), &command(words));
+            assert!(place.step(&bytes, 0).is_none(), "{words:?}");
+        }
+    }
+
+    #[test]
+    fn spoilt_bytes_are_a_work_or_none() {
+        let (place, mut chance) = (Place::new(), Chance::new(7_046_029_254_386_353_131));
+        let whole = spell_keyed(Protocol::Two, None, &command(&["SET", "a", "text"]));
+        for _ in 0..20_000 {
+            let mut bytes = whole.clone();
+            for _ in 0..=chance.below(3) {
+                let at = chance.below(bytes.len());
+                bytes[at] ^= 1 << chance.below(8);
+            }
+            drop(place.step(&bytes, 0));
+        }
+    }
+}

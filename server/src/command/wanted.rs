@@ -1,0 +1,93 @@
+use super::glob;
+use super::Fault;
+use crate::body::{MAX_KEY, MAX_PAIRS};
+use crate::resp::{number, Command, Replies};
+
+/// How many keys a SCAN looks at where nothing is said, as in Redis.
+const USUAL_COUNT: i64 = 10;
+/// How many keys a SCAN looks at at most.
+const MOST_COUNT: i64 = 1_000;
+
+/// What SCAN is asked for.
+pub(super) struct Wanted<'a> {
+    pattern: Option<&'a [u8]>,
+    /// How many keys it looks at.
+    pub(super) count: usize,
+    /// Whether keys of another type than Redis' strings are asked for, of which there are none.
+    is_none: bool,
+}
+
+/// What SCANRANGE is asked for.
+pub(super) struct WantedRange<'a> {
+    pub(super) low: &'a [u8],
+    /// None where there is no bound.
+    pub(super) high: Option<&'a [u8]>,
+    /// How many pairs at most.
+    pub(super) most: usize,
+}
+
+impl<'a> Wanted<'a> {
+    /// What the command says; or why it isn't one.
+    pub(super) fn of(command: Command<'a>) -> Result<Wanted<'a>, Fault> {
+        let (mut pattern, mut count, mut is_none) = (None, USUAL_COUNT, false);
+        for index in (2..command.len()).step_by(2) {
+            if index + 1 == command.len() {
+                return Err(Fault::Syntax);
+            }
+            let value = command.get(index + 1);
+            if command.is(index, "MATCH") {
+                pattern = Some(value);
+            } else if command.is(index, "COUNT") {
+                count = number::parse(value).ok_or(Fault::NotInteger)?;
+            } else if command.is(index, "TYPE") {
+                is_none = !value.eq_ignore_ascii_case(b"string");
+            } else {
+                return Err(Fault::Syntax);
+            }
+        }
+        if count < 1 {
+            return Err(Fault::Syntax);
+        }
+        let count = count.min(MOST_COUNT) as usize;
+        Ok(Wanted {
+            pattern,
+            count,
+            is_none,
+        })
+    }
+
+    /// Whether a key that was found is given.
+    pub(super) fn takes(&self, key: &[u8]) -> bool {
+        !self.is_none && self.pattern.is_none_or(|it| glob::is_match(it, key))
+    }
+}
+
+impl<'a> WantedRange<'a> {
+    /// What the command says; or why it isn't one.
+    pub(super) fn of(command: Command<'a>) -> Result<WantedRange<'a>, Fault> {
+        let (low, high) = (command.get(1), command.get(2));
+        if low.len().max(high.len()) > MAX_KEY {
+            return Err(Fault::BadKey);
+        }
+        let most = number::parse(command.get(3)).ok_or(Fault::NotInteger)?;
+        let most = usize::try_from(most).unwrap_or(0).min(MAX_PAIRS);
+        let high = (!high.is_empty()).then_some(high);
+        Ok(WantedRange { low, high, most })
+    }
+}
+
+/// The cursor of a SCAN.
+pub(super) fn cursor_of(command: Command<'_>) -> Result<u64, Fault> {
+    let cursor = std::str::from_utf8(command.get(1)).ok();
+    cursor
+        .and_then(|it| it.parse().ok())
+        .ok_or(Fault::BadCursor)
+}
+
+/// Answers a SCAN by the keys that it gives, and the cursor behind them.
+pub(super) fn answer(cursor: u64, keys: &[Box<[u8]>], replies: &mut Replies) {
+    replies.array(2);
+    replies.bulk(cursor.to_string().as_bytes());
+    replies.array(keys.len());
+    keys.iter().for_each(|it| replies.bulk(it));
+}

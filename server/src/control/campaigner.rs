@@ -1,0 +1,179 @@
+use super::controller::send;
+use super::stored::{Led, StoredController};
+use super::{Asked, Refusal};
+use crate::cluster::Cluster;
+use crate::io::ReplyTo;
+use crate::peers::Peers;
+use crate::resp::OwnedCommand;
+use durkenzo_driver::{Control, Durable};
+use std::fmt;
+use std::sync::atomic::{AtomicBool, Ordering};
+use std::sync::mpsc::{Receiver, RecvTimeoutError};
+use std::sync::Arc;
+use std::time::{Duration, Instant};
+
+/// How often a process that doesn't lead looks who does.
+const TICK: Duration = Duration::from_millis(20);
+/// How long until it tries to lead again after it couldn't.
+const PAUSE: Duration = Duration::from_millis(200);
+/// How long a command waits for somebody to lead.
+const PATIENCE: Duration = Duration::from_secs(5);
+
+/// How answers begin by which nobody has decided on a command, or may not have.
+const UNDECIDED: [&[u8]; 4] = [
+    b"-UNKNOWN",
+    b"-PEERDOWN",
+    b"-REFUSED NotLeader",
+    b"-REFUSED St",
+];
+
+/// The control in one of several processes: it leads where no other one does, and else has the one that leads answer.
+pub struct Campaigner {
+    cluster: Arc<Cluster>,
+    durable: Arc<Durable>,
+    peers: Arc<Peers>,
+    line: String,
+    /// Whether vacant shards get owners.
+    assigns: bool,
+    /// When it tries to lead, or asks who leads, again.
+    again: Instant,
+    /// Commands that wait for somebody to lead, and until when.
+    held: Vec<(Instant, Asked)>,
+    /// Whether this server was stopped before its process began, and is still to ask to be up.
+    is_back: Arc<AtomicBool>,
+}
+
+impl Campaigner {
+    /// That of a process which shares the store that this line of settings describes; whoever leads gives vacant shards
+    /// owners, where that is wanted.
+    pub fn new(
+        cluster: Arc<Cluster>,
+        durable: Arc<Durable>,
+        peers: Arc<Peers>,
+        line: String,
+        assigns: bool,
+    ) -> Campaigner {
+        Campaigner {
+            is_back: Arc::new(AtomicBool::new(peers.member().was_away())),
+            cluster,
+            durable,
+            peers,
+            line,
+            assigns,
+            again: Instant::now(),
+            held: Vec::new(),
+        }
+    }
+
+    /// Leads or follows until nobody can ask any more.
+    pub fn run(mut self, asked: Receiver<Asked>) {
+        loop {
+            let goes_on = match self.campaign() {
+                Some(controller) => self.lead(controller, &asked),
+                None => self.follow(&asked),
+            };
+            if !goes_on {
+                return;
+            }
+        }
+    }
+
+    /// The control, where this process leads from now on.
+    fn campaign(&mut self) -> Option<StoredController> {
+        let is_led = self.peers.leader().is_some();
+        if is_led || self.cluster.is_stopping() || Instant::now() < self.again {
+            return None;
+        }
+        self.again = Instant::now() + PAUSE;
+        let begun = Control::campaign(self.durable.clone(), &self.line);
+        let control = match begun {
+            Ok(control) => control?,
+            Err(error) => {
+                tracing::warn!(%error, "this process can't lead");
+                return None;
+            }
+        };
+        match StoredController::new(self.cluster.clone(), control) {
+            Ok(controller) => Some(controller),
+            Err(error) => {
+                tracing::error!(%error, "this process can't lead");
+                None
+            }
+        }
+    }
+
+    /// Leads until another process does. Returns whether somebody can still ask.
+    fn lead(&mut self, mut controller: StoredController, asked: &Receiver<Asked>) -> bool {
+        tracing::info!("this process leads");
+        for (_, asked) in self.held.drain(..) {
+            controller.take(asked);
+        }
+        let led = controller.lead(&self.peers, self.assigns, &self.is_back, asked);
+        tracing::info!("this process doesn't lead any more");
+        matches!(led, Led::Elsewhere)
+    }
+
+    /// Has the process that leads answer. Returns whether somebody can still ask.
+    fn follow(&mut self, asked: &Receiver<Asked>) -> bool {
+        match asked.recv_timeout(TICK) {
+            Ok(asked) => self.held.push((Instant::now() + PATIENCE, asked)),
+            Err(RecvTimeoutError::Timeout) => {}
+            Err(RecvTimeoutError::Disconnected) => return false,
+        }
+        let leader = self.peers.leader();
+        self.ask_to_be_back(leader);
+        for (end, asked) in std::mem::take(&mut self.held) {
+            self.pass_on(end, asked, leader);
+        }
+        true
+    }
+
+    /// Asks the process that leads that this server be up, where it was stopped when its process began: until one
+    /// decides on it.
+    fn ask_to_be_back(&mut self, leader: Option<u16>) {
+        let is_due = self.is_back.load(Ordering::Acquire) && Instant::now() >= self.again;
+        let Some(leader) = leader.filter(|_| is_due) else {
+            return;
+        };
+        self.again = Instant::now() + PAUSE;
+        self.is_back.store(false, Ordering::Release);
+        let is_back = self.is_back.clone();
+        let reply_to = ReplyTo::process(move |told| {
+            let is_undecided = UNDECIDED.iter().any(|it| told.starts_with(it));
+            is_back.store(is_undecided, Ordering::Release);
+            let told = String::from_utf8_lossy(&told);
+            tracing::info!(told = told.trim_end(), "asked for this server to be up");
+        });
+        let server = self.peers.member().server().to_string();
+        let command = OwnedCommand::of(&["SM", "BACK", &server]);
+        self.peers.ask_control(leader, command, reply_to);
+    }
+
+    /// Gives the command to the process that leads; where none does it waits. What came from another process goes no
+    /// further.
+    fn pass_on(&mut self, end: Instant, asked: Asked, leader: Option<u16>) {
+        let own = self.peers.member().server();
+        let asked = match super::routes::told(&self.cluster, &self.peers, asked) {
+            Some(asked) => asked,
+            None => return,
+        };
+        let to = leader.filter(|it| *it != own && !asked.reply_to.is_of_process());
+        if let Some(leader) = to {
+            let Asked { command, reply_to } = asked;
+            return self.peers.ask_control(leader, command, reply_to);
+        }
+        if self.cluster.is_stopping() {
+            return send(asked.reply_to, Err(Refusal::stopping()));
+        }
+        match Instant::now() < end {
+            true => self.held.push((end, asked)),
+            false => send(asked.reply_to, Err(Refusal::no_leader())),
+        }
+    }
+}
+
+impl fmt::Debug for Campaigner {
+    fn fmt(&self, f: &mut fmt::Formatter<'_>) -> fmt::Result {
+        f.debug_struct("Campaigner").finish_non_exhaustive()
+    }
+}

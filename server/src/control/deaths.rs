@@ -1,0 +1,455 @@
+//! Leaders that die after each of their commands in turn: whoever leads next ends what was under way.
+use super::{Asked, Campaigner};
+use crate::body::OnEtcd;
+use crate::cluster::{Cluster, Configuration};
+use crate::io::ReplyTo;
+use crate::keyspace::Rule;
+use crate::peers::{Identity, Peers, Terms};
+use crate::resp::OwnedCommand;
+use crate::stored;
+use durkenzo::Stand;
+use durkenzo_driver::{keys, Addresses, Durable, Member, Own};
+use durkenzo_store::{
+    CompactError, Done, Embedded, LeaseError, LeaseId, ReadError, Reading, Store, Transaction,
+    Watch, Watcher, WriteError,
+};
+use std::net::TcpListener;
+use std::sync::atomic::{AtomicBool, AtomicI64, Ordering};
+use std::sync::mpsc::{self, Receiver, Sender};
+use std::sync::Arc;
+use std::thread;
+use std::time::{Duration, Instant};
+
+const SERVERS: u16 = 3;
+const SHARDS: u16 = 6;
+const LEASE: Duration = Duration::from_secs(1);
+const PATIENCE: Duration = Duration::from_secs(40);
+
+/// A process's way to the store, which ends after so many of its commands, or when it is killed. Each takes so long.
+struct Way {
+    store: Arc<dyn Store>,
+    pause: Duration,
+    commands: AtomicI64,
+    is_dead: Arc<AtomicBool>,
+}
+
+impl Way {
+    fn is_dead(&self) -> bool {
+        self.is_dead.load(Ordering::Acquire)
+    }
+
+    fn unavailable(&self) -> Result<(), ReadError> {
+        match self.is_dead() {
+            true => Err(ReadError::Unavailable("dead".to_owned())),
+            false => Ok(()),
+        }
+    }
+
+    fn no_lease(&self) -> Result<(), LeaseError> {
+        match self.is_dead() {
+            true => Err(LeaseError::Unavailable("dead".to_owned())),
+            false => Ok(()),
+        }
+    }
+}
+
+impl Store for Way {
+    fn submit(&self, transaction: Transaction, done: Done) {
+        let unknown = || Err(WriteError::Unknown("dead".to_owned()));
+        if self.is_dead() {
+            thread::spawn(move || done(unknown()));
+            return;
+        }
+        let is_command = transaction.puts.iter().any(|it| it.key == keys::COMMANDS);
+        if is_command {
+            thread::sleep(self.pause);
+        }
+        if is_command && self.commands.fetch_sub(1, Ordering::AcqRel) == 1 {
+            self.is_dead.store(true, Ordering::Release);
+            let done = Box::new(move |_| done(unknown()));
+            return self.store.submit(transaction, done);
+        }
+        self.store.submit(transaction, done);
+    }
+
+    fn read(&self, keys: &[&[u8]]) -> Result<Reading, ReadError> {
+        self.unavailable()?;
+        self.store.read(keys)
+    }
+
+    fn read_all(&self, prefix: &[u8]) -> Result<Reading, ReadError> {
+        self.unavailable()?;
+        self.store.read_all(prefix)
+    }
+
+    fn watch(&self, prefix: &[u8], mut watcher: Watcher) -> Result<Watch, ReadError> {
+        let is_dead = self.is_dead.clone();
+        let hears = move |seen| {
+            if !is_dead.load(Ordering::Acquire) {
+                watcher(seen);
+            }
+        };
+        self.store.watch(prefix, Box::new(hears))
+    }
+
+    fn grant(&self, length: Duration) -> Result<LeaseId, LeaseError> {
+        self.no_lease()?;
+        self.store.grant(length)
+    }
+
+    fn keep(&self, lease: LeaseId) -> Result<(), LeaseError> {
+        self.no_lease()?;
+        self.store.keep(lease)
+    }
+
+    fn revoke(&self, lease: LeaseId) -> Result<(), LeaseError> {
+        self.no_lease()?;
+        self.store.revoke(lease)
+    }
+
+    fn compact(&self) -> Result<(), CompactError> {
+        self.store.compact()
+    }
+}
+
+/// A process of the cluster, in a thread.
+struct Process {
+    way: Arc<Way>,
+    cluster: Arc<Cluster>,
+    durable: Arc<Durable>,
+    peers: Arc<Peers>,
+    control: Sender<Asked>,
+}
+
+impl Process {
+    fn begin(store: &Arc<dyn Store>, server: u16, configuration: &Configuration) -> Process {
+        Process::slow(store, server, configuration, Duration::ZERO)
+    }
+
+    /// Has it begin; each of its commands takes so long.
+    fn slow(
+        store: &Arc<dyn Store>,
+        server: u16,
+        configuration: &Configuration,
+        pause: Duration,
+    ) -> Process {
+        let way = Arc::new(Way {
+            store: store.clone(),
+            pause,
+            commands: AtomicI64::new(i64::MAX),
+            is_dead: Arc::default(),
+        });
+        let listener = TcpListener::bind("127.0.0.1:0").unwrap();
+        let addresses = Addresses {
+            servers: listener.local_addr().unwrap().to_string(),
+            clients: String::new(),
+        };
+        let member = Member::join(way.clone(), server, addresses, LEASE, Box::new(|| {}));
+        let member = Arc::new(member.unwrap());
+        let terms = Terms {
+            identity: Identity {
+                server,
+                settings: 0,
+            },
+            secret: None,
+            tls: None,
+        };
+        let peers = Arc::new(Peers::new(terms, member.clone(), configuration.wait));
+        let elsewhere = peers.hand_over();
+        let own = Own { member, elsewhere };
+        let (shards, tuning) = (configuration.rule.shards(), stored::tuning(configuration));
+        let durable = Durable::open_one(way.clone(), shards, tuning, own, Box::new(|| {}));
+        let durable = Arc::new(durable.unwrap());
+        let storage = Box::new(OnEtcd::new(durable.clone(), peers.clone()));
+        let cluster = Arc::new(Cluster::new(configuration.clone(), storage).unwrap());
+        let (control, asked) = mpsc::channel();
+        let begun = peers.begin(listener, &durable, &cluster, control.clone());
+        drop(begun.unwrap());
+        let line = stored::line(configuration);
+        let campaigner =
+            Campaigner::new(cluster.clone(), durable.clone(), peers.clone(), line, true);
+        thread::spawn(move || campaigner.run(asked));
+        Process {
+            way,
+            cluster,
+            durable,
+            peers,
+            control,
+        }
+    }
+
+    fn server(&self) -> u16 {
+        self.peers.member().server()
+    }
+
+    /// Has it be as one that was killed.
+    fn kill(&self) {
+        self.way.is_dead.store(true, Ordering::Release);
+        self.cluster.stop();
+        self.peers.leave();
+    }
+
+    /// Has it die once it has made so many more commands.
+    fn dies_after(&self, commands: i64) {
+        self.way.commands.store(commands, Ordering::Release);
+    }
+
+    /// Asks its control, and gives where the answer comes.
+    fn ask(&self, words: &[&str]) -> Receiver<Vec<u8>> {
+        let (tell, told) = mpsc::channel();
+        let reply_to = ReplyTo::process(move |answer| {
+            // Who dies isn't told.
+            let _ = tell.send(answer);
+        });
+        let command = OwnedCommand::of(words);
+        self.control.send(Asked { command, reply_to }).unwrap();
+        told
+    }
+
+    fn stand(&self, shard: u16) -> Stand {
+        let standing = self.durable.standing(shard).unwrap();
+        standing.record().unwrap().stand
+    }
+
+    fn stands(&self) -> Vec<Stand> {
+        let shards = 0..self.durable.shards();
+        shards.map(|it| self.stand(it)).collect()
+    }
+
+    fn leads(&self) -> bool {
+        self.peers.leader() == Some(self.server())
+    }
+}
+
+impl Drop for Process {
+    fn drop(&mut self) {
+        self.kill();
+    }
+}
+
+fn wait_until(what: &str, is_so: impl Fn() -> bool) {
+    let end = Instant::now() + PATIENCE;
+    while !is_so() {
+        assert!(Instant::now() < end, "in vain: {what}");
+        thread::sleep(Duration::from_millis(5));
+    }
+}
+
+/// Three processes, of which the first leads, and whose servers have two shards each, or room for no more than these.
+struct Three {
+    store: Arc<dyn Store>,
+    configuration: Configuration,
+    first: Process,
+    second: Process,
+    third: Process,
+}
+
+impl Three {
+    fn begin(is_full: bool) -> Three {
+        let store: Arc<dyn Store> = Arc::new(Embedded::in_memory());
+        let mut configuration = Configuration {
+            servers: SERVERS,
+            ..Configuration::new(Rule::Hash(SHARDS))
+        };
+        if is_full {
+            let each = format!("\"capacity\":{}", SHARDS / SERVERS);
+            let much = format!("\"capacity\":{}", u32::MAX);
+            let line = stored::line(&configuration).replace(&much, &each);
+            configuration.settings = Some(line.into());
+        }
+        let start = |it| Process::begin(&store, it, &configuration);
+        let first = start(1);
+        wait_until("the first leads", || first.leads());
+        let three = Three {
+            second: start(2),
+            third: start(3),
+            first,
+            configuration: configuration.clone(),
+            store: store.clone(),
+        };
+        wait_until("all see the shards assigned", || {
+            let all = [&three.first, &three.second, &three.third];
+            all.iter().all(|it| it.stands() == owned())
+        });
+        three
+    }
+
+    fn start(&self, server: u16) -> Process {
+        Process::begin(&self.store, server, &self.configuration)
+    }
+
+    /// Waits until the leader has died.
+    fn await_death(&self) {
+        wait_until("the leader dies", || self.first.way.is_dead());
+        self.first.kill();
+    }
+
+    fn stands_become(&self, are_so: impl Fn(&[Stand]) -> bool) {
+        wait_until("shards stand so", || are_so(&self.second.stands()));
+    }
+
+    /// That all is as it was at first.
+    fn all_is_as_it_was(&self) {
+        wait_until("all is as it was", || {
+            let is_away = |it| self.second.durable.is_away(it);
+            self.second.stands() == owned() && !(1..=SERVERS).any(is_away)
+        });
+    }
+}
+
+/// How shards stand at first.
+fn owned() -> Vec<Stand> {
+    (0..SHARDS)
+        .map(|it| Stand::Serving(it % SERVERS + 1))
+        .collect()
+}
+
+/// Has the leader die after each of so many commands, each time among other processes.
+fn at_each(commands: i64, dies: impl Fn(i64) + Sync) {
+    thread::scope(|scope| {
+        let dies = &dies;
+        for number in 1..=commands {
+            scope.spawn(move || dies(number));
+        }
+    });
+}
+
+#[test]
+fn a_reassignment_is_ended_by_the_next_leader() {
+    // Server 3 has failed, and its shards are paused and go elsewhere.
+    at_each(5, |number| {
+        let three = Three::begin(false);
+        three.first.dies_after(number);
+        three.third.kill();
+        three.await_death();
+        three.stands_become(|them| them.iter().all(|it| *it == Stand::Serving(2)));
+    });
+}
+
+#[test]
+fn shards_that_fit_nowhere_are_resumed_by_the_next_leader() {
+    // Server 3 is back, and its two shards go on.
+    at_each(3, |number| {
+        let three = Three::begin(true);
+        three.third.kill();
+        three.stands_become(|them| [2, 5].iter().all(|it| them[*it] == Stand::Paused(3)));
+        three.first.dies_after(number);
+        let third = three.start(3);
+        three.await_death();
+        let first = three.start(1);
+        three.all_is_as_it_was();
+        drop((first, third));
+    });
+}
+
+#[test]
+fn a_drain_for_a_restart_is_ended_by_the_next_leader() {
+    // It is asked for and approved, both shards take four steps, and the server is stopped.
+    at_each(11, |number| {
+        let three = Three::begin(false);
+        three.first.dies_after(number);
+        three.first.ask(&["SM", "RESTART", "3"]);
+        three.await_death();
+        // No second server may be away while one has failed.
+        let first = three.start(1);
+        let second = &three.second;
+        wait_until("server 3 is stopped", || second.durable.is_away(3));
+        three.third.kill();
+        let third = three.start(3);
+        wait_until("all are up", || {
+            !(1..=SERVERS).any(|it| second.durable.is_away(it))
+        });
+        three.stands_become(|them| them.iter().all(|it| matches!(it, Stand::Serving(_))));
+        drop((first, third));
+    });
+}
+
+#[test]
+fn a_restart_without_room_elsewhere_is_ended_by_the_next_leader() {
+    // It is asked for and approved, both shards pause, the server is stopped and is back, and both shards go on.
+    at_each(8, |number| {
+        let three = Three::begin(true);
+        three.first.dies_after(number);
+        three.first.ask(&["SM", "RESTART", "3"]);
+        let (second, leader) = (&three.second, &three.first);
+        let is_stopped = || second.durable.is_away(3);
+        wait_until("it is stopped, or the leader dies", || {
+            is_stopped() || leader.way.is_dead()
+        });
+        let first = leader.way.is_dead().then(|| {
+            leader.kill();
+            three.start(1)
+        });
+        wait_until("server 3 is stopped", is_stopped);
+        three.third.kill();
+        let third = three.start(3);
+        let first = first.unwrap_or_else(|| {
+            three.await_death();
+            three.start(1)
+        });
+        three.all_is_as_it_was();
+        drop((first, third));
+    });
+}
+
+#[test]
+fn a_migration_is_ended_by_the_next_leader() {
+    // Of a shard of another server, and of one of the leader's own.
+    for shard in ["0", "1"] {
+        at_each(4, |number| {
+            let three = Three::begin(false);
+            three.first.dies_after(number);
+            three.first.ask(&["SM", "MIGRATE", shard, "3"]);
+            three.await_death();
+            let shard: usize = shard.parse().unwrap();
+            three.stands_become(|them| them[shard] == Stand::Serving(3));
+            three.stands_become(|them| them.iter().all(|it| matches!(it, Stand::Serving(2 | 3))));
+        });
+    }
+}
+
+#[test]
+fn a_shard_that_somebody_paused_stays_so() {
+    let three = Three::begin(false);
+    three.first.ask(&["SM", "PAUSE", "1"]);
+    three.stands_become(|them| them[1] == Stand::Paused(2));
+    three.first.dies_after(1);
+    three.first.ask(&["SM", "MIGRATE", "2", "2"]);
+    three.await_death();
+    three.stands_become(|them| {
+        [0, 2, 3]
+            .iter()
+            .all(|it| matches!(them[*it], Stand::Serving(2 | 3)))
+    });
+    assert_eq!(three.second.stand(1), Stand::Paused(2));
+}
+
+#[test]
+fn shards_are_served_again_one_after_another_and_the_leader_answers_meanwhile() {
+    let store: Arc<dyn Store> = Arc::new(Embedded::in_memory());
+    let configuration = Configuration {
+        servers: SERVERS,
+        ..Configuration::new(Rule::Hash(240))
+    };
+    let pause = Duration::from_millis(4);
+    let first = Process::slow(&store, 1, &configuration, pause);
+    wait_until("the first leads", || first.leads());
+    let start = |it| Process::begin(&store, it, &configuration);
+    let (second, third) = (start(2), start(3));
+    let is_serving = |it: &Stand| matches!(it, Stand::Serving(_));
+    wait_until("all have owners", || second.stands().iter().all(is_serving));
+    third.kill();
+    let left = || {
+        let stands = second.stands();
+        let paused = stands.iter().filter(|it| !is_serving(it)).count();
+        // Each is seen at a moment of its own.
+        assert!(paused <= 10, "{paused} are paused at once");
+        let is_of_third = |it: &&Stand| matches!(it, Stand::Serving(3) | Stand::Paused(3));
+        stands.iter().filter(is_of_third).count()
+    };
+    wait_until("the first is served again", || left() < 80);
+    let told = first.ask(&["SM", "LOOK", "0"]).recv_timeout(PATIENCE);
+    assert!(told.unwrap().starts_with(b"+Serving 1 "));
+    assert!(left() > 20, "it answers before it has gone on with all");
+    wait_until("all are served again", || left() == 0);
+}

@@ -1,0 +1,50 @@
+//! What each process of a cluster answers by itself, whoever leads.
+use super::controller::{send, Answer, Asked};
+use super::Refusal;
+use crate::cluster::Cluster;
+use crate::peers::Peers;
+use durkenzo_store::Revision;
+use std::sync::Arc;
+use std::thread;
+
+/// Answers the command, if it is such a one; else it is given back.
+pub(super) fn told(cluster: &Arc<Cluster>, peers: &Peers, asked: Asked) -> Option<Asked> {
+    let command = asked.command.command();
+    match command.len() {
+        2 if command.is(1, "ROUTES") => send(asked.reply_to, Ok(routes(cluster, peers))),
+        2 if command.is(1, "COMPACT") => compact(cluster, asked),
+        _ => return Some(asked),
+    }
+    None
+}
+
+/// For each shard its owner, and where clients reach that; before them the revision of the latest record among these.
+fn routes(cluster: &Cluster, peers: &Peers) -> Answer {
+    let (members, mut revision) = (peers.member().members(), Revision::NEVER);
+    let mut lines = vec![String::new()];
+    for shard in 0..cluster.shards() {
+        let standing = cluster.storage.durable().and_then(|it| it.standing(shard));
+        let owner = standing.as_ref().and_then(|it| it.record()?.owner());
+        revision = revision.max(standing.map_or(Revision::NEVER, |it| it.revision()));
+        let live = owner.and_then(|it| members.get(&it));
+        let address = live.map_or("-", |it| &*it.addresses.clients);
+        lines.push(format!("{shard} {} {address}", owner.unwrap_or(0)));
+    }
+    lines[0] = format!("revision {revision}");
+    Answer::Lines(lines)
+}
+
+/// Has a thread of its own make room, as that takes long.
+fn compact(cluster: &Arc<Cluster>, asked: Asked) {
+    let (cluster, reply_to) = (cluster.clone(), asked.reply_to);
+    let compacting = move || {
+        let durable = cluster.storage.durable();
+        let done = durable.map_or(Ok(()), |it| it.compact());
+        let told = |error| Refusal::new("StoreDown", format!("{error}"), "try again");
+        send(reply_to, done.map(|()| Answer::Done).map_err(told));
+    };
+    let thread = thread::Builder::new().name("compact".to_owned());
+    if let Err(error) = thread.spawn(compacting) {
+        tracing::error!(%error, "nothing is compacted");
+    }
+}

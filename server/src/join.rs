@@ -1,0 +1,103 @@
+//! How a process becomes a server of a cluster of several.
+use crate::body::OnEtcd;
+use crate::cluster::{Cluster, Configuration};
+use crate::control::Asked;
+use crate::joining::JoinOptions;
+use crate::peers::{checksum, may_listen, Identity, Peers, Terms};
+use crate::run::Fault;
+use crate::stored;
+use durkenzo_driver::{Durable, Member, Own};
+use durkenzo_store::{Etcd, Store};
+use std::net::{SocketAddr, TcpListener};
+use std::sync::mpsc::Sender;
+use std::sync::Arc;
+use std::thread::JoinHandle;
+use std::time::Duration;
+
+/// A server of a cluster of several, which other processes see, and that answers none of them yet.
+#[derive(Debug)]
+pub struct Joined {
+    durable: Arc<Durable>,
+    peers: Arc<Peers>,
+    listener: TcpListener,
+}
+
+impl Joined {
+    /// The server of these options, whose clients are met there.
+    ///
+    /// # Errors
+    ///
+    /// By name: where there is no such server, another process runs it, the store can't be reached or is of other
+    /// settings, or others could connect who know no secret.
+    pub fn new(
+        options: &JoinOptions,
+        server: u16,
+        configuration: &Configuration,
+        clients: SocketAddr,
+    ) -> Result<Joined, Fault> {
+        if server > configuration.servers {
+            let most = configuration.servers;
+            return Err(
+                format!("--name {server}: there are servers 1 to {most}, by --servers").into(),
+            );
+        }
+        let store: Arc<dyn Store> = Arc::new(Etcd::new(options.access()?)?);
+        let terms = terms(&*store, server, configuration)?;
+        may_listen(&terms, options.listen)?;
+        let listener = TcpListener::bind(options.listen);
+        let listener = listener.map_err(|error| format!("{}: {error}", options.listen))?;
+        let addresses = options.addresses(listener.local_addr()?, clients);
+        tracing::info!(
+            server,
+            at = addresses.servers,
+            clients = addresses.clients,
+            "joining"
+        );
+        let lease = Duration::from_secs(options.lease);
+        // Who wants to know who is there looks often enough.
+        let on_change = Box::new(|| {});
+        let member = Member::join(store.clone(), server, addresses, lease, on_change)?;
+        let member = Arc::new(member);
+        let peers = Arc::new(Peers::new(terms, member.clone(), configuration.wait));
+        let elsewhere = peers.hand_over();
+        let own = Own { member, elsewhere };
+        let (shards, tuning) = (configuration.rule.shards(), stored::tuning(configuration));
+        let durable = Durable::open_one(store, shards, tuning, own, Box::new(|| {}))?;
+        Ok(Joined {
+            durable: Arc::new(durable),
+            peers,
+            listener,
+        })
+    }
+
+    /// Where data lies.
+    pub fn storage(&self) -> OnEtcd {
+        OnEtcd::new(self.durable.clone(), self.peers.clone())
+    }
+
+    /// Begins to answer other processes.
+    ///
+    /// # Errors
+    ///
+    /// Where the system gives no thread.
+    pub fn begin(
+        self,
+        cluster: &Arc<Cluster>,
+        control: Sender<Asked>,
+    ) -> Result<JoinHandle<()>, Fault> {
+        let peers = self.peers;
+        Ok(peers.begin(self.listener, &self.durable, cluster, control)?)
+    }
+}
+
+/// How this server's process and others know each other.
+fn terms(store: &dyn Store, server: u16, configuration: &Configuration) -> Result<Terms, Fault> {
+    let otherwise = "name another cluster of etcd";
+    let settings = stored::agree(store, "the cluster", otherwise, configuration)?;
+    let settings = checksum(settings.as_bytes());
+    Ok(Terms {
+        identity: Identity { server, settings },
+        secret: configuration.safety.peer_secret.clone(),
+        tls: configuration.safety.peer_tls.clone(),
+    })
+}

@@ -1,0 +1,116 @@
+use super::frame::{Frame, Told};
+use super::handed::{written, Handed};
+use crate::io::ReplyTo;
+use crate::resp::{OwnedCommand, Replies};
+use std::fmt;
+use std::time::{Duration, Instant};
+
+/// How long an answer may take beyond the time for which work waits: for a transaction that is under way there.
+const BEYOND: Duration = Duration::from_secs(6);
+
+/// What another process is asked.
+pub(super) struct Ask {
+    pub(super) who: Who,
+    /// When its answer is given up.
+    end: Option<Instant>,
+}
+
+/// Who is told.
+pub(super) enum Who {
+    /// The works of a client.
+    Works(Handed),
+    /// Who gave the control a command.
+    Control(OwnedCommand, ReplyTo),
+}
+
+impl Ask {
+    /// That of works which wait for so long.
+    pub(super) fn works(handed: Handed, wait: Duration) -> Ask {
+        let end = Some(Instant::now() + wait + BEYOND);
+        let who = Who::Works(handed);
+        Ask { who, end }
+    }
+
+    /// That of a command for the control, whose answer may take as long as it likes.
+    pub(super) fn control(command: OwnedCommand, reply_to: ReplyTo) -> Ask {
+        let who = Who::Control(command, reply_to);
+        Ask { who, end: None }
+    }
+
+    /// Its frame with this number; none where that is larger than one may be.
+    pub(super) fn written(&self, number: u64) -> Option<Vec<u8>> {
+        match &self.who {
+            Who::Works(handed) => written(handed.frame(), number),
+            Who::Control(command, _) => {
+                let mut bytes = Vec::new();
+                Frame::Control(command.spell()).write(number, &mut bytes);
+                Some(bytes)
+            }
+        }
+    }
+
+    /// Whether its answer is given up.
+    pub(super) fn is_late(&self, now: Instant) -> bool {
+        self.end.is_some_and(|it| it <= now)
+    }
+
+    /// What became of the work at this place; returns the ask where more is to be told.
+    pub(super) fn told(self, place: u16, told: Told) -> Result<Ask, Option<Handed>> {
+        let Ask { who, end } = self;
+        match who {
+            Who::Works(mut handed) => {
+                handed.told(place, told);
+                match handed.is_told() {
+                    true => Err(Some(handed)),
+                    false => Ok(Ask {
+                        who: Who::Works(handed),
+                        end,
+                    }),
+                }
+            }
+            Who::Control(_, reply_to) => {
+                match told {
+                    Told::Answer(bytes) => reply_to.send(bytes),
+                    Told::NotDone(why) => refuse(reply_to, format_args!("REFUSED NotDone: {why}")),
+                }
+                Err(None)
+            }
+        }
+    }
+
+    /// It was sent, and nothing more will be told; returns what may be done here.
+    pub(super) fn lost(self, why: &str) -> Option<Handed> {
+        match self.who {
+            Who::Works(mut handed) => {
+                handed.lost(why);
+                Some(handed)
+            }
+            Who::Control(_, reply_to) => {
+                let told = format_args!("UNKNOWN {why}: look before you try again");
+                refuse(reply_to, told);
+                None
+            }
+        }
+    }
+
+    /// It wasn't sent; returns what may be done here.
+    pub(super) fn unsent(self, why: &str) -> Option<Handed> {
+        match self.who {
+            Who::Works(handed) => Some(handed),
+            Who::Control(_, reply_to) => {
+                let told = format_args!("PEERDOWN nothing has changed: {why}: try again");
+                refuse(reply_to, told);
+                None
+            }
+        }
+    }
+}
+
+fn refuse(reply_to: ReplyTo, why: impl fmt::Display) {
+    let mut replies = Replies::default();
+    replies.error(why);
+    if let Some(errors) = replies.take_errors() {
+        reply_to.note_errors(errors);
+    }
+    reply_to.send(replies.unsent().to_vec());
+}

@@ -1,0 +1,187 @@
+use super::ask::Ask;
+use super::channel::{End, Terms};
+use super::counts::Counts;
+use super::handed::{Handed, Returned};
+use super::link::{Link, Unasked};
+use super::outbox::Outbox;
+use crate::cluster::Cluster;
+use crate::control::Asked;
+use durkenzo_driver::{Durable, Member};
+use std::collections::BTreeMap;
+use std::sync::atomic::{AtomicBool, AtomicUsize, Ordering};
+use std::sync::mpsc::Sender;
+use std::sync::{Arc, Mutex, MutexGuard, OnceLock, PoisonError, Weak};
+use std::time::{Duration, Instant};
+
+/// How long until what couldn't be sent is tried again.
+const AGAIN: Duration = Duration::from_millis(30);
+
+/// What the threads between processes share.
+pub(super) struct Inner {
+    pub(super) terms: Terms,
+    pub(super) member: Arc<Member>,
+    /// How long work waits.
+    pub(super) wait: Duration,
+    pub(super) counts: Counts,
+    pub(super) durable: OnceLock<Weak<Durable>>,
+    pub(super) cluster: OnceLock<Weak<Cluster>>,
+    /// Who answers commands for the control, until the process ends.
+    pub(super) control: Mutex<Option<Sender<Asked>>>,
+    pub(super) links: Mutex<BTreeMap<u16, Arc<Link>>>,
+    /// What is tried again, and when.
+    pub(super) returned: Mutex<Vec<(Instant, Returned)>>,
+    /// How many connections of others there are, what ends them, and what they are answered.
+    pub(super) serving: AtomicUsize,
+    pub(super) served: Mutex<Vec<(Weak<End>, Weak<Outbox>)>>,
+    pub(super) stops: AtomicBool,
+}
+
+impl Inner {
+    pub(super) fn new(terms: Terms, member: Arc<Member>, wait: Duration) -> Inner {
+        Inner {
+            terms,
+            member,
+            wait,
+            counts: Counts::default(),
+            durable: OnceLock::new(),
+            cluster: OnceLock::new(),
+            control: Mutex::default(),
+            links: Mutex::default(),
+            returned: Mutex::default(),
+            serving: AtomicUsize::new(0),
+            served: Mutex::default(),
+            stops: AtomicBool::new(false),
+        }
+    }
+
+    /// Where the server's process is reached, if it is there.
+    pub(super) fn address_of(&self, server: u16) -> Option<String> {
+        let members = self.member.members();
+        members.get(&server).map(|it| it.addresses.servers.clone())
+    }
+
+    /// The shards of this process, while it runs.
+    pub(super) fn durable(&self) -> Option<Arc<Durable>> {
+        self.durable.get()?.upgrade()
+    }
+
+    /// The cluster of this process, while it runs.
+    pub(super) fn cluster(&self) -> Option<Arc<Cluster>> {
+        self.cluster.get()?.upgrade()
+    }
+
+    /// Whether nothing more is begun.
+    pub(super) fn is_stopping(&self) -> bool {
+        self.stops.load(Ordering::Acquire)
+    }
+
+    /// Asks the server's process.
+    pub(super) fn ask(self: &Arc<Inner>, server: u16, ask: Ask) {
+        let asked = match self.link(server) {
+            Ok(link) => link.ask(ask),
+            Err(error) => Err(Box::new(Unasked {
+                ask,
+                why: error.to_string(),
+            })),
+        };
+        if let Err(unasked) = asked {
+            let Unasked { ask, why } = *unasked;
+            if let Some(returned) = ask.unsent(&why).and_then(Handed::returned) {
+                self.refuse(returned, &why);
+            }
+        }
+    }
+
+    fn refuse(&self, returned: Returned, why: &str) {
+        self.counts.refused.fetch_add(1, Ordering::Relaxed);
+        returned.refuse(why);
+    }
+
+    fn link(self: &Arc<Inner>, server: u16) -> std::io::Result<Arc<Link>> {
+        let mut links = locked(&self.links);
+        if let Some(link) = links.get(&server) {
+            return Ok(link.clone());
+        }
+        let link = Link::begin(server, self.clone())?;
+        links.insert(server, link.clone());
+        Ok(link)
+    }
+
+    /// Has what another process gave back go on here: at once where it said why, and else a little later; but not where
+    /// it has waited for as long as it may.
+    pub(super) fn go_on(&self, handed: Handed, why: Option<&str>) {
+        // What would be tried again too late is refused by its reason, which its shard doesn't know.
+        let pause = why.map_or(Duration::ZERO, |_| 2 * AGAIN);
+        let has_waited = handed.has_waited(self.wait.saturating_sub(pause));
+        let Some(returned) = handed.returned() else {
+            return;
+        };
+        match why {
+            why if has_waited || self.is_stopping() => {
+                self.refuse(returned, why.unwrap_or("its shard moved all the time"));
+            }
+            None => self.submit_again(returned),
+            Some(_) => locked(&self.returned).push((Instant::now() + AGAIN, returned)),
+        }
+    }
+
+    fn submit_again(&self, returned: Returned) {
+        self.counts.again.fetch_add(1, Ordering::Relaxed);
+        match self.durable() {
+            Some(durable) => {
+                durable.submit_again(returned.elsewhere, returned.steps, returned.revision);
+            }
+            None => self.refuse(returned, "this process ends"),
+        }
+    }
+
+    /// Has go on what is due, and ends connections that don't answer, or to servers that have gone.
+    pub(super) fn tick(&self) {
+        let now = Instant::now();
+        let mut waiting = locked(&self.returned);
+        let (due, later) = waiting.drain(..).partition(|it| it.0 <= now);
+        *waiting = later;
+        drop(waiting);
+        let due: Vec<(Instant, Returned)> = due;
+        due.into_iter().for_each(|it| self.submit_again(it.1));
+        let (links, members) = (locked(&self.links).clone(), self.member.members());
+        for (server, link) in links {
+            link.tick(now, members.contains_key(&server));
+        }
+    }
+
+    /// Refuses all that was to be tried again.
+    pub(super) fn refuse_returned(&self) {
+        let returned = std::mem::take(&mut *locked(&self.returned));
+        for (_, it) in returned {
+            self.refuse(it, "this process ends");
+        }
+    }
+
+    /// Notes a connection of another process, and forgets those that ended.
+    pub(super) fn note_served(&self, end: &Arc<End>, outbox: &Arc<Outbox>) {
+        let mut served = locked(&self.served);
+        served.retain(|it| it.0.strong_count() > 0);
+        served.push((Arc::downgrade(end), Arc::downgrade(outbox)));
+    }
+
+    /// Whether something is under way that another process asked for.
+    pub(super) fn is_answering(&self) -> bool {
+        let served = locked(&self.served);
+        let mut outboxes = served.iter().filter_map(|it| it.1.upgrade());
+        outboxes.any(|it| it.is_answering())
+    }
+
+    /// Ends all connections of others.
+    pub(super) fn end_serving(&self) {
+        let served = std::mem::take(&mut *locked(&self.served));
+        served
+            .iter()
+            .filter_map(|it| it.0.upgrade())
+            .for_each(|it| it.end());
+    }
+}
+
+pub(super) fn locked<T>(it: &Mutex<T>) -> MutexGuard<'_, T> {
+    it.lock().unwrap_or_else(PoisonError::into_inner)
+}

@@ -1,0 +1,170 @@
+//! How a process that connected is answered.
+use super::channel::{accept, Channel};
+use super::frame::{Frame, Told, Works};
+use super::greet::welcome;
+use super::inner::{locked, Inner};
+use super::outbox::{Outbox, Teller};
+use super::received::Received;
+use super::WireFault;
+use crate::command::step_of_spelled;
+use crate::control::Asked;
+use crate::io::ReplyTo;
+use crate::keyspace::Keyspace;
+use crate::resp::OwnedCommand;
+use durkenzo_driver::{NotDone, Step};
+use std::io::{self, ErrorKind, Read};
+use std::net::TcpStream;
+use std::sync::atomic::Ordering;
+use std::sync::Arc;
+use std::thread;
+use std::time::{Duration, Instant};
+
+/// How much is read at once.
+const ROOM: usize = 64 << 10;
+
+/// A process that connected.
+pub(super) struct Serving {
+    inner: Arc<Inner>,
+    keyspace: Keyspace,
+    outbox: Arc<Outbox>,
+    /// The server that the process runs.
+    server: u16,
+}
+
+impl Serving {
+    /// Welcomes whoever connected, and answers it until it ends.
+    pub(super) fn run(inner: Arc<Inner>, stream: TcpStream) -> io::Result<()> {
+        let mut channel = accept(&inner.terms, stream)?;
+        let server = welcome(&mut channel, &inner.terms)?;
+        channel.end.set_patience(None)?;
+        let Some(cluster) = inner.cluster() else {
+            return Ok(());
+        };
+        let keyspace = Keyspace::new(&cluster.configuration.rule).map_err(io::Error::other)?;
+        let outbox = Arc::new(Outbox::default());
+        let serving = Serving {
+            inner,
+            keyspace,
+            outbox,
+            server,
+        };
+        serving.answer(channel)
+    }
+
+    fn answer(self, channel: Channel) -> io::Result<()> {
+        let Channel {
+            mut reader,
+            mut writer,
+            end,
+        } = channel;
+        let end = Arc::new(end);
+        self.inner.note_served(&end, &self.outbox);
+        let (outbox, ending) = (self.outbox.clone(), end.clone());
+        let name = format!("answers-{}", self.server);
+        let writing = thread::Builder::new().name(name).spawn(move || {
+            while let Some(bytes) = outbox.take() {
+                if writer
+                    .write_all(&bytes)
+                    .and_then(|()| writer.flush())
+                    .is_err()
+                {
+                    break;
+                }
+            }
+            ending.end();
+        })?;
+        let ended = self.read_all(&mut *reader);
+        end.end();
+        self.outbox.end();
+        // A thread that panicked has said so.
+        let _ = writing.join();
+        ended
+    }
+
+    /// Reads frames until the connection ends, or one is wrong.
+    fn read_all(&self, reader: &mut dyn Read) -> io::Result<()> {
+        let (mut input, mut room) = (Vec::new(), vec![0; ROOM]);
+        loop {
+            match reader.read(&mut room) {
+                Ok(0) => return Ok(()),
+                Ok(count) => input.extend_from_slice(&room[..count]),
+                Err(error) if error.kind() == ErrorKind::Interrupted => {}
+                Err(error) => return Err(error),
+            }
+            if !self.take_frames(&mut input).map_err(io::Error::other)? {
+                return Ok(());
+            }
+        }
+    }
+
+    /// Takes the whole frames of the input. Returns whether there is still somebody to answer.
+    fn take_frames(&self, input: &mut Vec<u8>) -> Result<bool, WireFault> {
+        let (mut at, mut is_there) = (0, true);
+        while let Some((number, frame, length)) = Frame::read(&input[at..])? {
+            at += length;
+            is_there = match frame {
+                Frame::Works(works) => self.begin(number, works)?,
+                Frame::Control(words) => self.ask_control(number, &words)?,
+                // It answers where it is to ask.
+                Frame::Told(..) => return Err(WireFault::Kind(2)),
+            };
+            if !is_there {
+                break;
+            }
+        }
+        input.drain(..at);
+        Ok(is_there)
+    }
+
+    /// Begins works.
+    fn begin(&self, number: u64, works: Works) -> Result<bool, WireFault> {
+        let is_there = self.outbox.begin(works.works.len());
+        let teller = |place: usize| Teller::new(self.outbox.clone(), number, place as u16);
+        let steps = works.works.iter().enumerate();
+        let steps = steps.map(|(place, it)| self.step(it, works.shard, teller(place)));
+        let steps = steps.collect::<Result<Vec<_>, _>>()?;
+        let count = steps.len() as u64;
+        self.inner.counts.came.fetch_add(count, Ordering::Relaxed);
+        match self.inner.durable().filter(|_| !self.inner.is_stopping()) {
+            Some(durable) if works.server == self.inner.terms.identity.server => {
+                let waited = Duration::from_millis(works.waited.into());
+                let now = Instant::now();
+                // A machine that has just begun has no moment so long ago.
+                let since = now.checked_sub(waited).unwrap_or(now);
+                durable.submit_from(works.shard, steps, works.came, since);
+            }
+            Some(_) => {
+                let moved = || NotDone::Moved(works.came.revision);
+                steps.into_iter().for_each(|it| it.work.end(Err(moved())));
+            }
+            None => {
+                let stopped = |it: Step| it.work.end(Err(NotDone::Stopped));
+                steps.into_iter().for_each(stopped);
+            }
+        }
+        Ok(is_there)
+    }
+
+    fn step(&self, spelled: &[u8], shard: u16, teller: Teller) -> Result<Step, WireFault> {
+        let cluster = self.inner.cluster().ok_or(WireFault::Words)?;
+        let told = teller.clone();
+        let reply_to = ReplyTo::process(move |bytes| told.tell(Told::Answer(bytes)));
+        let step = step_of_spelled(spelled, shard, &self.keyspace, &cluster, reply_to);
+        step.map(|it| Received::step(it, teller))
+            .ok_or(WireFault::Words)
+    }
+
+    fn ask_control(&self, number: u64, words: &[u8]) -> Result<bool, WireFault> {
+        let is_there = self.outbox.begin(1);
+        let command = OwnedCommand::spelled(words).ok_or(WireFault::Words)?;
+        let teller = Teller::new(self.outbox.clone(), number, 0);
+        let told = teller.clone();
+        let reply_to = ReplyTo::process(move |bytes| told.tell(Told::Answer(bytes)));
+        let control = locked(&self.inner.control).clone();
+        let is_asked = control.is_some_and(|it| it.send(Asked { command, reply_to }).is_ok());
+        if !is_asked {
+            teller.tell(Told::NotDone(NotDone::Stopped));
+        }
+        Ok(is_there)
+    }
+}

@@ -1,0 +1,109 @@
+use super::shared::Shared;
+use std::io::{self, ErrorKind, Read};
+use std::net::{Shutdown, TcpStream};
+use std::sync::Arc;
+use std::time::Duration;
+
+/// How many bytes are taken from the socket at once.
+const ROOM: usize = 16 << 10;
+
+/// What reads a peer's bytes, on a thread of its own if it likes.
+#[derive(Debug)]
+pub struct ReadHalf {
+    socket: TcpStream,
+    tls: Option<Received>,
+}
+
+/// What came by TLS.
+#[derive(Debug)]
+struct Received {
+    shared: Arc<Shared>,
+    buffer: Box<[u8]>,
+    /// Which part of the buffer wasn't looked at yet.
+    begin: usize,
+    end: usize,
+}
+
+impl ReadHalf {
+    /// That of a connection without TLS.
+    pub fn plain(socket: TcpStream) -> ReadHalf {
+        ReadHalf { socket, tls: None }
+    }
+
+    pub(super) fn new(socket: TcpStream, shared: Arc<Shared>) -> ReadHalf {
+        let tls = Some(Received {
+            shared,
+            buffer: vec![0; ROOM].into(),
+            begin: 0,
+            end: 0,
+        });
+        ReadHalf { socket, tls }
+    }
+
+    /// Has a read end by `WouldBlock` or `TimedOut` after so long in which nothing came; none is never.
+    ///
+    /// # Errors
+    ///
+    /// Where the system refuses that, as a time of zero.
+    pub fn set_timeout(&self, most: Option<Duration>) -> io::Result<()> {
+        self.socket.set_read_timeout(most)
+    }
+
+    /// Ends the connection both ways, so that the other half notices too.
+    pub fn end(&self) {
+        // Where the peer was quicker it is done already.
+        let _ = self.socket.shutdown(Shutdown::Both);
+    }
+}
+
+impl Read for ReadHalf {
+    /// The next bytes; 0 is the end that the peer told.
+    ///
+    /// # Errors
+    ///
+    /// `UnexpectedEof` where a connection by TLS ends untold, `InvalidData` where bytes aren't the peer's, and those of
+    /// the socket.
+    fn read(&mut self, bytes: &mut [u8]) -> io::Result<usize> {
+        let Some(tls) = &mut self.tls else {
+            return self.socket.read(bytes);
+        };
+        loop {
+            match tls.take(bytes) {
+                Err(error) if error.kind() == ErrorKind::WouldBlock => {}
+                taken => return taken,
+            }
+            tls.begin = 0;
+            tls.end = 0;
+            let count = self.socket.read(&mut tls.buffer)?;
+            match count {
+                0 => tls.note_end()?,
+                _ => tls.end = count,
+            }
+        }
+    }
+}
+
+impl Received {
+    /// Takes what can be read of what came; `WouldBlock` where more has to come first.
+    fn take(&mut self, bytes: &mut [u8]) -> io::Result<usize> {
+        let mut connection = self.shared.lock();
+        loop {
+            match connection.reader().read(bytes) {
+                Err(error) if error.kind() == ErrorKind::WouldBlock => {}
+                taken => return taken,
+            }
+            if self.begin == self.end {
+                return Err(ErrorKind::WouldBlock.into());
+            }
+            let mut rest = &self.buffer[self.begin..self.end];
+            self.begin += connection.read_tls(&mut rest)?;
+            let invalid = |error| io::Error::new(ErrorKind::InvalidData, error);
+            connection.process_new_packets().map_err(invalid)?;
+        }
+    }
+
+    /// Notes that the socket has ended.
+    fn note_end(&mut self) -> io::Result<()> {
+        self.shared.lock().read_tls(&mut io::empty()).map(drop)
+    }
+}

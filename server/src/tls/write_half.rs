@@ -1,0 +1,102 @@
+use super::shared::Shared;
+use std::io::{self, ErrorKind, Write};
+use std::net::{Shutdown, TcpStream};
+use std::sync::Arc;
+use std::time::Duration;
+
+/// How long the end may take to tell.
+const LAST: Duration = Duration::from_millis(10);
+
+/// What sends bytes to a peer, on a thread of its own if it likes. Bytes are sent by the time that `write` returns, so
+/// who sends much puts a buffer before it. Once it is dropped the peer is told the end.
+#[derive(Debug)]
+pub struct WriteHalf {
+    socket: TcpStream,
+    tls: Option<Arc<Shared>>,
+    /// Bytes of TLS that are on their way.
+    sealed: Vec<u8>,
+}
+
+impl WriteHalf {
+    /// That of a connection without TLS.
+    pub fn plain(socket: TcpStream) -> WriteHalf {
+        WriteHalf::of(socket, None)
+    }
+
+    pub(super) fn new(socket: TcpStream, shared: Arc<Shared>) -> WriteHalf {
+        WriteHalf::of(socket, Some(shared))
+    }
+
+    fn of(socket: TcpStream, tls: Option<Arc<Shared>>) -> WriteHalf {
+        let sealed = Vec::new();
+        WriteHalf {
+            socket,
+            tls,
+            sealed,
+        }
+    }
+
+    /// Has a write end by `WouldBlock` or `TimedOut` after so long in which the peer took nothing; none is never. After
+    /// that the connection is of no use any more.
+    ///
+    /// # Errors
+    ///
+    /// Where the system refuses that, as a time of zero.
+    pub fn set_timeout(&self, most: Option<Duration>) -> io::Result<()> {
+        self.socket.set_write_timeout(most)
+    }
+
+    /// Ends the connection both ways, so that the other half notices too.
+    pub fn end(&self) {
+        // Where the peer was quicker it is done already.
+        let _ = self.socket.shutdown(Shutdown::Both);
+    }
+
+    /// Sends what the connection has to send, its own words among them.
+    fn send(&mut self) -> io::Result<()> {
+        self.sealed.clear();
+        if let Some(shared) = &self.tls {
+            let mut connection = shared.lock();
+            while connection.wants_write() {
+                connection.write_tls(&mut self.sealed)?;
+            }
+        }
+        self.socket.write_all(&self.sealed)
+    }
+}
+
+impl Write for WriteHalf {
+    /// Sends these bytes, or the first of them; returns how many.
+    ///
+    /// # Errors
+    ///
+    /// Those of the socket; after one the connection is of no use any more.
+    fn write(&mut self, bytes: &[u8]) -> io::Result<usize> {
+        let Some(shared) = &self.tls else {
+            return self.socket.write(bytes);
+        };
+        // All that went in before was taken out, so there is room.
+        let count = shared.lock().writer().write(bytes)?;
+        if count == 0 && !bytes.is_empty() {
+            return Err(ErrorKind::WriteZero.into());
+        }
+        self.send().map(|()| count)
+    }
+
+    fn flush(&mut self) -> io::Result<()> {
+        Ok(())
+    }
+}
+
+impl Drop for WriteHalf {
+    fn drop(&mut self) {
+        if let Some(shared) = &self.tls {
+            shared.lock().send_close_notify();
+            // A peer that takes no bytes isn't waited for: it finds out by the socket's end.
+            if self.socket.set_write_timeout(Some(LAST)).is_ok() {
+                let _ = self.send();
+            }
+        }
+        let _ = self.socket.shutdown(Shutdown::Write);
+    }
+}

@@ -1,0 +1,560 @@
+#!/usr/bin/env python3
+"""Several processes over etcd, each with one server: any answers any key, kills lose nothing that was answered, and
+migrations lose no addition.
+
+    server/tests/cluster.py PROGRAM
+
+Three processes and a member of etcd run on loopback, in a folder that is removed."""
+import contextlib
+import pathlib
+import random
+import shutil
+import signal
+import socket
+import subprocess
+import sys
+import tempfile
+import threading
+import time
+import urllib.request
+
+sys.dont_write_bytecode = True
+import durable
+import scans
+import served
+from served import Refused, main
+
+SHARDS = 12
+SERVERS = 3
+LEASE = 2
+# How long after a lease's end shards are answered for elsewhere; on a busy machine it takes longer.
+RECOVERY = 2
+# What a machine with other work may take besides.
+SLOW = 6
+PATIENCE = 20
+WAIT = 10_000
+
+
+def free_ports(count):
+    sockets = [socket.create_server(("127.0.0.1", 0)) for _ in range(count)]
+    ports = [it.getsockname()[1] for it in sockets]
+    for it in sockets:
+        it.close()
+    return ports
+
+
+class Etcd:
+    """Members of etcd, in a folder of their own."""
+
+    def __init__(self, count, room):
+        ports = free_ports(2 * count)
+        self.clients, peers = ports[:count], ports[count:]
+        named = ",".join(f"m{it}=http://127.0.0.1:{port}" for it, port in enumerate(peers))
+        self.commands = [member(it, room, self.clients[it], peers[it], named) for it in range(count)]
+        self.processes = [self.begin(it) for it in range(count)]
+        self.urls = ",".join(f"http://127.0.0.1:{it}" for it in self.clients)
+
+    def begin(self, number):
+        quiet = {"stdin": subprocess.DEVNULL, "stdout": subprocess.DEVNULL, "stderr": subprocess.DEVNULL}
+        return subprocess.Popen(self.commands[number], **quiet)
+
+    def wait_until_up(self):
+        end = time.monotonic() + PATIENCE
+        while not all(is_up(it) for it in self.clients):
+            assert time.monotonic() < end, "etcd doesn't begin"
+            time.sleep(0.05)
+
+    def stop(self):
+        for it in self.processes:
+            it.kill()
+            it.wait()
+
+
+def member(number, room, client, peer, named):
+    here = "http://127.0.0.1"
+    return [
+        "etcd", "--name", f"m{number}", "--data-dir", f"{room}/etcd-{number}", "--log-level", "error",
+        "--listen-client-urls", f"{here}:{client}", "--advertise-client-urls", f"{here}:{client}",
+        "--listen-peer-urls", f"{here}:{peer}", "--initial-advertise-peer-urls", f"{here}:{peer}",
+        "--initial-cluster", named,
+    ]
+
+
+def is_up(port):
+    with contextlib.suppress(OSError):
+        with urllib.request.urlopen(f"http://127.0.0.1:{port}/health", timeout=1) as told:
+            return b"true" in told.read()
+    return False
+
+
+class Process(served.Server):
+    """A process of the cluster, whose log is kept."""
+
+    def __init__(self, program, cluster, server, options=()):
+        # It ends by SIGTERM with 0, whatever a test does meanwhile.
+        process = subprocess.Popen(
+            command(program, cluster, server, options), stderr=subprocess.PIPE, stdin=subprocess.DEVNULL, text=True
+        )
+        super().__init__(process, served.port_of(process))
+        self.log = []
+        self.reading = threading.Thread(target=lambda: self.log.extend(process.stderr), daemon=True)
+        self.reading.start()
+
+    def kill(self, how=signal.SIGKILL):
+        self.process.send_signal(how)
+        status = self.process.wait(PATIENCE)
+        self.reading.join(PATIENCE)
+        return status
+
+
+def command(program, cluster, server, options=()):
+    return [
+        program, "--port", "0", "--http-port", "0", "--log-format", "json", "--etcd", cluster.etcd.urls,
+        "--name", str(server), "--listen", "127.0.0.1:0", "--servers", str(SERVERS), "--shards", str(SHARDS),
+        "--lease", str(LEASE), "--wait", str(WAIT), "--threads", "2", *map(str, options),
+    ]
+
+
+class Cluster:
+    """Processes over members of etcd, by the numbers of their servers."""
+
+    def __init__(self, program, etcd, options):
+        self.program, self.etcd, self.options, self.processes = program, etcd, options, {}
+
+    def begin(self, server):
+        self.processes[server] = Process(self.program, self, server, self.options)
+        return self.processes[server]
+
+    def client(self, server):
+        return self.processes[server].client()
+
+    def any(self):
+        """A client of any process that runs."""
+        return self.client(next(it for it, process in self.processes.items() if process.is_alive()))
+
+    def leader(self):
+        """The server whose process leads."""
+        with self.any() as client:
+            return eventually(lambda: next((int(it[0]) for it in rows(client) if "leads" in it), None))
+
+    def settled(self, without=None):
+        """Waits until each shard has an owner that is there, and serves; not this one."""
+        with self.any() as client:
+            eventually(lambda: is_settled(client, str(without)))
+
+    def stop(self):
+        for it in self.processes.values():
+            if it.is_alive():
+                it.process.send_signal(signal.SIGTERM)
+        ends = {number: it.process.wait(PATIENCE) for number, it in self.processes.items()}
+        wrong = {number: it for number, it in ends.items() if it not in (0, -signal.SIGKILL)}
+        assert not wrong, f"processes ended by {wrong}: {[self.processes[it].log[-3:] for it in wrong]}"
+
+
+@contextlib.contextmanager
+def cluster(program, *options, members=1):
+    with tempfile.TemporaryDirectory(prefix="sm-cluster-") as room:
+        etcd = Etcd(members, room)
+        try:
+            etcd.wait_until_up()
+            found = Cluster(program, etcd, options)
+            try:
+                for server in range(1, SERVERS + 1):
+                    found.begin(server)
+                found.settled()
+                yield found
+            except BaseException:
+                for it in found.processes.values():
+                    it.process.kill()
+                raise
+            finally:
+                found.stop()
+        finally:
+            etcd.stop()
+
+
+def eventually(look, seconds=PATIENCE):
+    """What this gives once it gives something."""
+    end = time.monotonic() + seconds
+    while True:
+        if found := look():
+            return found
+        assert time.monotonic() < end, f"not within {seconds} s: {look.__name__}"
+        time.sleep(0.02)
+
+
+def rows(client):
+    """What SM SERVERS tells of each server."""
+    return [it.decode().split() for it in client.ask("SM", "SERVERS")]
+
+
+def shards(client):
+    """The stand and the owner of each shard."""
+    return [tuple(it.decode().split()[1:3]) for it in client.ask("SM", "SHARDS")]
+
+
+def is_settled(client, without=None):
+    with contextlib.suppress(Refused):
+        there = {it[0] for it in rows(client) if "gone" not in it} - {without}
+        return all(stand == "Serving" and owner in there for stand, owner in shards(client))
+
+
+def any_process_answers_any_key(program):
+    with contextlib.ExitStack() as stack:
+        several, memory = (stack.enter_context(it(program)) for it in (cluster, served.served))
+        one = stack.enter_context(memory.client())
+        clients = [stack.enter_context(several.client(it)) for it in several.processes]
+        for words in durable.random_lines(random.Random(5), 500):
+            # A transaction is a connection's own.
+            is_of_one = words[0] in ("MULTI", "EXEC", "PING") or one_is_queued(one)
+            client = clients[0] if is_of_one else random.choice(clients)
+            told, wanted = (served_answer(it, words) for it in (client, one))
+            one.is_queued = words[0] == "MULTI" or one_is_queued(one) and words[0] != "EXEC"
+            assert str(told) == str(wanted), f"{words}: {told}, not {wanted}"
+        routes = [it.decode().split() for it in clients[1].ask("SM", "ROUTES")]
+        assert routes[0][0] == "revision" and len(routes) == SHARDS + 1, routes
+        ports = {it: process.port for it, process in several.processes.items()}
+        assert all(it[2] == f"127.0.0.1:{ports[int(it[1])]}" for it in routes[1:]), routes
+        told = clients[2].ask("INFO", "cluster").decode()
+        assert "servers_there:3" in told and "lease_kept:1" in told, told
+        answered_once(clients)
+        refused_by_name(program, several)
+        strangers_are_refused(several)
+        assert clients[1].ask("GET", "{once}") == b"2"
+
+
+def any_process_scans_all_keys(program):
+    with cluster(program, "--log-batches", 50) as several:
+        ones = {it: scans.of(process) for it, process in several.processes.items()}
+        scans.written(ones[1])
+        for server, one in ones.items():
+            scans.checked(one, f"at server {server}")
+        with several.client(1) as client:
+            stays = {it.encode() for it in scans.KEYS}
+            with Load(several, 3):
+                for shard in range(SHARDS):
+                    client.ask("SM", "MIGRATE", shard, int(shards(client)[shard][1]) % SERVERS + 1)
+                    found = scans.scanned(client, random.choice((7, 1000)))
+                    assert stays <= found and len(found) <= len(stays) + 3, len(stays - found)
+        gone = next(it for it in several.processes if it != several.leader())
+        several.processes.pop(gone).kill()
+        other = next(iter(several.processes))
+        with several.client(other) as client:
+            # What a shard that nobody executes has isn't left out: it is waited for.
+            assert stays <= scans.scanned(client, 1000)
+            assert client.ask("DBSIZE") >= scans.COUNT
+
+
+def reads_by_lease_make_no_transaction(program):
+    count = 500
+    for reads, is_few in (("exact", False), ("lease", True)):
+        with cluster(program, "--reads", reads) as several, several.client(1) as client:
+            assert client.ask("INCR", "count") == 1
+            before = transactions(several)
+            assert all(client.ask("GET", "count") == b"1" for _ in range(count))
+            made = transactions(several) - before
+            by_lease = sum(reads_by_lease(process) for process in several.processes.values())
+            assert (made < count / 5 and by_lease > count / 2) == is_few, (reads, made, by_lease)
+            assert made >= count or is_few, made
+            with Load(several, 6) as load:
+                time.sleep(1)
+                client.ask("SM", "MIGRATE", 0, int(shards(client)[0][1]) % SERVERS + 1)
+            load.checked(client)
+            told = [at(it, "count") for it in several.processes.values()]
+            assert told == [b"1"] * SERVERS, told
+    return f"{made} transactions for {count} reads"
+
+
+def transactions(several):
+    """How many transactions etcd has answered."""
+    with urllib.request.urlopen(f"{several.etcd.urls.split(',')[0]}/metrics", timeout=PATIENCE) as told:
+        lines = told.read().decode().splitlines()
+    counted = [it for it in lines if it.startswith("grpc_server_handled_total") and 'grpc_method="Txn"' in it]
+    return sum(float(it.rsplit(" ", 1)[1]) for it in counted)
+
+
+def reads_by_lease(process):
+    """How many reads the process has answered without a transaction."""
+    with process.client() as client:
+        told = client.ask("INFO", "cluster").decode()
+    return int(told.partition("reads_by_lease:")[2].split()[0])
+
+
+def at(process, key):
+    with process.client() as client:
+        return client.ask("GET", key)
+
+
+def a_process_past_its_lease_tells_what_others_wrote(program):
+    with cluster(program, "--reads", "lease") as several:
+        gone = next(it for it in several.processes if it != several.leader())
+        other = next(it for it in several.processes if it != gone)
+        with several.client(gone) as client, several.client(other) as writer:
+            owned = [it for it, (_, owner) in enumerate(shards(writer)) if owner == str(gone)]
+            keys = [f"key:{it}" for it in range(60)]
+            client.piped([("SET", it, "old") for it in keys])
+            assert client.piped([("GET", it) for it in keys]) == [b"old"] * len(keys)
+            before = reads_by_lease(several.processes[gone])
+            assert owned and before > 0
+            several.processes[gone].process.send_signal(signal.SIGSTOP)
+            several.settled(without=gone)
+            assert writer.piped([("SET", it, "new") for it in keys]) == ["OK"] * len(keys)
+            several.processes[gone].process.send_signal(signal.SIGCONT)
+            told = client.piped([("GET", it) for it in keys])
+            # One that is refused tells nothing.
+            assert all(it == b"new" or isinstance(it, Refused) for it in told), told
+            return f"{sum(it == b'new' for it in told)} of {len(keys)} answered at once"
+
+
+def processes_speak_tls_and_know_a_secret(program):
+    with tempfile.TemporaryDirectory(prefix="sm-peers-") as folder:
+        certify(folder)
+        tls = ["--peer-ca", f"{folder}/ca.pem", "--peer-cert", f"{folder}/peer.pem", "--peer-key", f"{folder}/peer.key"]
+        with cluster(program, *tls, "--peer-secret-file", f"{folder}/secret", "--wait", 300) as several:
+            with several.client(2) as client:
+                assert client.piped([("INCR", f"key:{it}") for it in range(20)]) == [1] * 20
+            several.processes.pop(3).kill(signal.SIGTERM)
+            several.options = (*tls, "--peer-secret-file", f"{folder}/other", "--wait", 300)
+            several.begin(3)
+            with several.client(1) as client, several.client(3) as stranger:
+                eventually(lambda: rows(client)[2][1] == "up")
+                told = [it for it in stranger.piped([("GET", f"key:{it}") for it in range(20)]) if isinstance(it, Refused)]
+                assert told and all("its secret is another one" in str(it) for it in told), told
+                assert client.ask("SET", "key:1", 1) == "OK"
+
+
+def certify(folder):
+    """Writes two secrets, an authority, and a certificate of it for peers."""
+    for name in ("secret", "other"):
+        pathlib.Path(folder, name).write_text(f"the {name} one\n")
+    pathlib.Path(folder, "names").write_text("subjectAltName=DNS:peer.durkenzo\nbasicConstraints=CA:FALSE\n")
+    key = ["-newkey", "ec", "-pkeyopt", "ec_paramgen_curve:P-256", "-nodes"]
+    by = ["-CA", "ca.pem", "-CAkey", "ca.key", "-CAcreateserial", "-extfile", "names"]
+    for words in (
+        ["req", "-x509", *key, "-keyout", "ca.key", "-out", "ca.pem", "-subj", "/CN=ca"],
+        ["req", *key, "-keyout", "peer.key", "-out", "peer.csr", "-subj", "/CN=peer"],
+        ["x509", "-req", "-in", "peer.csr", "-out", "peer.pem", *by],
+    ):
+        subprocess.run(["openssl", *words], cwd=folder, check=True, capture_output=True)
+
+
+def one_is_queued(client):
+    return getattr(client, "is_queued", False)
+
+
+def served_answer(client, words):
+    client.send(*words)
+    return client.read()
+
+
+def answered_once(clients):
+    first = clients[0].ask("SM", "CALL", 7, 1, "INCR", "{once}")
+    assert first == 1 and clients[1].ask("SM", "CALL", 7, 1, "INCR", "{once}") == 1
+    assert clients[2].ask("SM", "CALL", 7, 2, "INCR", "{once}") == 2
+    for words, name in (
+        ((7, 1, "INCR", "{once}"), "PASSED"), ((7, 3, "GET", "{once}"), "NOTNUMBERED"),
+        ((7, 0, "DEL", "a"), "BADNUMBER"), ((0, 1, "DEL", "a"), "BADNUMBER"), ((4097, 1, "DEL", "a"), "BADNUMBER"),
+        ((7, 3, "DEL", *["{once}"] * 17), "NOTNUMBERED"),
+    ):
+        with durable.served_refusal(name):
+            clients[0].ask("SM", "CALL", *words)
+    assert clients[0].ask("GET", "{once}") == b"2"
+    assert clients[0].ask("SM", "CALL", 4096, 1, "DEL", *["{once}x"] * 16) == 0
+
+
+def strangers_are_refused(several):
+    """What nobody of the cluster sends where processes reach each other ends that connection, and nothing else."""
+    with several.any() as client:
+        places = [it[8].rpartition(":") for it in rows(client)]
+    chance, hello = random.Random(9), b"SMP\0\x01\0\0\0\x11\x01"
+    spoilt = [b"*1\r\n$4\r\nPING\r\n", b"SMP\0\x09", b"SMP\0\x01\xff\xff\xff\xff", hello + bytes(16), hello, b""]
+    spoilt += [hello + chance.randbytes(chance.randrange(99)) for _ in range(50)]
+    for bytes_of_one in spoilt:
+        host, _, port = chance.choice(places)
+        with socket.create_connection((host, int(port)), PATIENCE) as stranger:
+            stranger.sendall(bytes_of_one)
+            stranger.shutdown(socket.SHUT_WR)
+            # It is told nothing but why it is refused.
+            with contextlib.suppress(ConnectionError):
+                told = b"".join(iter(lambda: stranger.recv(4096), b""))
+                assert not told or told[9] == 3, told
+    assert all(it.is_alive() for it in several.processes.values())
+
+
+def refused_by_name(program, several):
+    """Starts that are refused, beside a cluster that runs."""
+    for options, server, name in (
+        (("--servers", 2), 1, "OTHERSETTINGS"), (("--shards", 5), 1, "OTHERSETTINGS"), ((), 2, "running already"),
+        ((), 9, "--name 9"),
+    ):
+        ran = subprocess.run(command(program, several, server, (*several.options, *options)), capture_output=True, text=True, timeout=PATIENCE)
+        assert ran.returncode == 1 and name in ran.stderr, f"{name}: {ran.returncode}, {ran.stderr[-500:]}"
+
+
+class Load(contextlib.AbstractContextManager):
+    """Clients that add to counts of their own, at all processes; a client goes on at another one where its own ends."""
+
+    def __init__(self, several, keys):
+        self.several, self.stop = several, threading.Event()
+        self.acked, self.unknown, self.errors = [0] * keys, [0] * keys, []
+        self.longest = 0.0
+        self.threads = [threading.Thread(target=self.add, args=(it,), daemon=True) for it in range(keys)]
+
+    def __enter__(self):
+        for it in self.threads:
+            it.start()
+        return self
+
+    def __exit__(self, *_):
+        self.stop.set()
+        for it in self.threads:
+            it.join(2 * PATIENCE)
+
+    def add(self, number):
+        server = number % SERVERS + 1
+        while not self.stop.is_set():
+            with contextlib.suppress(OSError, ValueError):
+                with self.several.client(server) as client:
+                    self.add_by(client, number)
+            # Whether the last one was made isn't known.
+            self.unknown[number] += not self.stop.is_set()
+            server = server % SERVERS + 1
+
+    def add_by(self, client, number):
+        while not self.stop.is_set():
+            began = time.monotonic()
+            try:
+                client.ask("INCR", f"count:{number}")
+                self.acked[number] += 1
+            except Refused as refused:
+                self.unknown[number] += str(refused).startswith("UNKNOWN")
+                self.errors.append(str(refused))
+            self.longest = max(self.longest, time.monotonic() - began)
+
+    def checked(self, client):
+        """Sees that each answered addition is counted, and no other but those of which nothing is known."""
+        for number, (acked, unknown) in enumerate(zip(self.acked, self.unknown)):
+            counted = int(client.ask("GET", f"count:{number}") or 0)
+            told = f"count {number}: {acked} answered, {unknown} unknown, {counted} counted"
+            assert acked <= counted <= acked + unknown, told
+        return sum(self.acked)
+
+
+def migrations_lose_no_addition(program):
+    with cluster(program) as several, Load(several, 6) as load, several.any() as client:
+        end, moves = time.monotonic() + 3, 0
+        while time.monotonic() < end:
+            shard = moves % SHARDS
+            client.ask("SM", "MIGRATE", shard, int(shards(client)[shard][1]) % SERVERS + 1)
+            moves += 1
+        load.__exit__()
+        assert not load.errors, load.errors[:3]
+        assert not sum(load.unknown), load.unknown
+        total = load.checked(client)
+    return f"{total} additions, {moves} migrations"
+
+
+def kills_of_a_process_lose_nothing(program):
+    with cluster(program) as several:
+        leader = several.leader()
+        killed = next(it for it in several.processes if it != leader)
+        with Load(several, 6) as load:
+            time.sleep(1)
+            several.processes[killed].kill()
+            began = time.monotonic()
+            del several.processes[killed]
+            several.settled(without=killed)
+            took = time.monotonic() - began
+            time.sleep(1)
+        wrong = [it for it in load.errors if not it.startswith(("UNKNOWN", "PEERDOWN"))]
+        assert not wrong, wrong[:3]
+        with several.any() as client:
+            total = load.checked(client)
+        assert took < LEASE + RECOVERY + SLOW, f"it took {took:.1f} s"
+        several.begin(killed)
+        with several.any() as client:
+            eventually(lambda: rows(client)[killed - 1][1] == "up")
+            client.ask("SM", "MIGRATE", 0, killed)
+            several.settled()
+    return f"{total} additions, answered elsewhere after {took:.1f} s, longest {load.longest:.1f} s"
+
+
+def who_does_not_wait_is_told(program):
+    """A process that is stopped, and one that is gone: what it was asked may be made, and what it isn't asked is not."""
+    with cluster(program, "--wait", 150) as several:
+        gone = next(it for it in several.processes if it != several.leader())
+        with Load(several, 18) as load:
+            time.sleep(0.3)
+            several.processes[gone].process.send_signal(signal.SIGSTOP)
+            time.sleep(LEASE + 1.5)
+            several.processes[gone].process.send_signal(signal.SIGCONT)
+            with several.any() as client:
+                eventually(lambda: rows(client)[gone - 1][1] == "up")
+                for shard in range(0, SHARDS, 2):
+                    client.ask("SM", "MIGRATE", shard, gone)
+            several.processes[gone].kill()
+            del several.processes[gone]
+            time.sleep(LEASE + 1)
+        names = {it.split()[0] for it in load.errors}
+        known = {"UNKNOWN", "PEERDOWN", "SHARDPAUSED", "SERVERDOWN", "SHARDBUSY"}
+        assert {"UNKNOWN", "PEERDOWN"} <= names <= known, names
+        with several.any() as client:
+            total = load.checked(client)
+    return f"{total} additions, {', '.join(sorted(names))}"
+
+
+def kills_of_the_leader_let_migrations_go_on(program):
+    with cluster(program, "--pace", 150) as several:
+        leader = several.leader()
+        others = [it for it in several.processes if it != leader]
+        with Load(several, 6) as load, several.client(others[0]) as client:
+            shard = next(it for it, (_, owner) in enumerate(shards(client)) if int(owner) == others[0])
+            with several.client(others[1]) as asking:
+                asking.send("SM", "MIGRATE", shard, others[1])
+                eventually(lambda: shards(client)[shard][0] != "Serving")
+                several.processes[leader].kill()
+                del several.processes[leader]
+                several.settled(without=leader)
+            assert shards(client)[shard] == ("Serving", str(others[1])), shards(client)[shard]
+            time.sleep(1)
+        wrong = [it for it in load.errors if not it.startswith(("UNKNOWN", "PEERDOWN"))]
+        assert not wrong, wrong[:3]
+        with several.any() as client:
+            return f"{load.checked(client)} additions"
+
+
+def restarts_are_told_when_a_process_may_end(program):
+    with cluster(program) as several, Load(several, 6) as load, several.client(1) as client:
+        followers = [it for it in several.processes if it != several.leader()]
+        server = next(it for it in followers if it != 1) if followers != [1] else followers[0]
+        told = client.ask("SM", "RESTART", server)
+        assert "is stopped" in told, told
+        owned = [owner for _, owner in shards(client)]
+        assert str(server) not in owned, owned
+        assert several.processes[server].kill(signal.SIGTERM) == 0
+        several.begin(server)
+        eventually(lambda: rows(client)[server - 1][1] == "up")
+        eventually(lambda: str(server) in [owner for _, owner in shards(client)])
+        several.settled()
+        load.__exit__()
+        wrong = [it for it in load.errors if not it.startswith(("UNKNOWN", "PEERDOWN"))]
+        assert not wrong, wrong[:3]
+        return f"{load.checked(client)} additions, {len(load.errors)} of unknown outcome"
+
+
+TESTS = [
+    any_process_answers_any_key,
+    any_process_scans_all_keys,
+    reads_by_lease_make_no_transaction,
+    a_process_past_its_lease_tells_what_others_wrote,
+    migrations_lose_no_addition,
+    kills_of_a_process_lose_nothing,
+    who_does_not_wait_is_told,
+    kills_of_the_leader_let_migrations_go_on,
+    restarts_are_told_when_a_process_may_end,
+]
+
+if __name__ == "__main__":
+    if not shutil.which("etcd"):
+        sys.exit("etcd isn't installed: tools/setup installs it")
+    main([*TESTS, *([processes_speak_tls_and_know_a_secret] if shutil.which("openssl") else [])])

@@ -1,0 +1,69 @@
+"""SCAN, SCANRANGE and DBSIZE by redis-py, of any server: each key that stays is given once, in order."""
+import itertools
+
+import served
+from served import Refused
+
+COUNT = 700
+KEYS = sorted(f"k{it}" for it in range(COUNT))
+# How keys go to shards.
+OPTIONS = ([], ["--ranges", 8], ["--bounds", "k1,k25,k9"], ["--ranges", 5, "--hash"])
+
+
+def of(server):
+    """A client of the server, by redis-py, which what doesn't ask for one does without."""
+    import redis
+
+    return redis.Redis(port=server.port, decode_responses=True)
+
+
+def written(client):
+    """Writes each key, with its number, and another one that goes again."""
+    with client.pipeline(transaction=False) as pipe:
+        for key in KEYS:
+            pipe.set(key, key[1:])
+            pipe.set(f"{key}:gone", "x")
+        pipe.delete(*(f"{key}:gone" for key in KEYS))
+        pipe.execute()
+
+
+def checked(client, told=""):
+    """Sees that these are the keys, and those alone."""
+    assert sorted(client.scan_iter(count=7)) == KEYS, told
+    assert sorted(client.scan_iter("k1*", count=500)) == [it for it in KEYS if it.startswith("k1")], told
+    assert client.scan(0, _type="list") is not None and list(client.scan_iter(_type="list")) == []
+    found = client.execute_command("SCANRANGE", "k2", "k3", 40)
+    assert found[::2] == [it for it in KEYS if "k2" <= it < "k3"][:40], (told, found)
+    assert found[1::2] == [it[1:] for it in found[::2]]
+    assert client.execute_command("SCANRANGE", "", "", 1000)[::2] == KEYS[:100]
+    assert client.execute_command("SCANRANGE", "z", "a", 9) == []
+    assert client.execute_command("SCANRANGE", "", "", 0) == []
+    assert client.dbsize() == COUNT, told
+
+
+def pages(client, count):
+    """The keys of each SCAN, until the cursor is 0."""
+    cursor = b"0"
+    for number in itertools.count():
+        assert number < 10_000, "SCAN has no end"
+        cursor, keys = client.ask("SCAN", cursor, "COUNT", count)
+        yield keys
+        if cursor == b"0":
+            return
+
+
+def scanned(client, count=100):
+    """All keys, each of which is given once."""
+    found = list(itertools.chain(*pages(client, count)))
+    assert len(set(found)) == len(found), "a key is given twice"
+    return set(found)
+
+
+def refused(server, *words):
+    """The name by which the command is refused."""
+    with served.Client(server.port) as client:
+        try:
+            client.ask(*words)
+        except Refused as why:
+            return str(why).split()[0]
+    raise AssertionError(f"{words} isn't refused")

@@ -1,0 +1,388 @@
+#!/usr/bin/env python3
+"""TLS, passwords and roles, and those who show neither certificate nor password: secure.py PROGRAM."""
+import contextlib
+import functools
+import os
+import pathlib
+import random
+import resource
+import select
+import shutil
+import socket
+import ssl
+import subprocess
+import tempfile
+import time
+import urllib.error
+import urllib.request
+
+import redis
+from served import SECONDS, Client, Refused, main, packed, served
+
+SM = pathlib.Path(__file__).resolve().parent.parent.parent / "sm"
+HOST = "127.0.0.1"
+SEED = 20_261_126
+# Connections by TLS at a time, and what one may take of memory.
+MANY = 500
+MOST_BYTES = 64 << 10
+# Of a value, and of how many in a pipeline.
+LONG, PIPED = 60_000, 200
+# For how long nobody may be held up by others.
+SOON = 5
+
+
+@functools.cache
+def certificates():
+    """A folder with an authority `ca`, certificates of it for `server` and `client`, and one `foreign` by itself."""
+    folder = pathlib.Path(tempfile.mkdtemp(prefix="durkenzo-secure-"))
+
+    def openssl(*words):
+        subprocess.run(["openssl", *words], cwd=folder, check=True, capture_output=True)
+
+    names = "subjectAltName=DNS:localhost,IP:127.0.0.1\nbasicConstraints=CA:FALSE\n"
+    (folder / "names").write_text(names)
+    key = ["-newkey", "ec", "-pkeyopt", "ec_paramgen_curve:P-256", "-nodes"]
+    for name in ("ca", "foreign"):
+        openssl("req", "-x509", *key, "-keyout", f"{name}.key", "-out", f"{name}.pem", "-subj", f"/CN={name}")
+    for name in ("server", "client"):
+        openssl("req", *key, "-keyout", f"{name}.key", "-out", f"{name}.csr", "-subj", f"/CN={name}")
+        by = ["-CA", "ca.pem", "-CAkey", "ca.key", "-CAcreateserial", "-extfile", "names"]
+        openssl("x509", "-req", "-in", f"{name}.csr", "-out", f"{name}.pem", *by)
+    return folder
+
+
+def file(name):
+    return str(certificates() / name)
+
+
+def with_tls(*more):
+    """The options by which the server speaks TLS."""
+    return ["--tls-cert", file("server.pem"), "--tls-key", file("server.key"), *more]
+
+
+def context(own=None):
+    """What a client trusts, and what it shows."""
+    tls = ssl.create_default_context(cafile=file("ca.pem"))
+    if own:
+        tls.load_cert_chain(file(f"{own}.pem"), file(f"{own}.key"))
+    return tls
+
+
+class TlsClient(Client):
+    """A connection by TLS."""
+
+    def __init__(self, port, tls=None):
+        plain = socket.create_connection((HOST, port), SECONDS)
+        plain.setsockopt(socket.IPPROTO_TCP, socket.TCP_NODELAY, 1)
+        self.socket = (tls or context()).wrap_socket(plain, server_hostname=HOST)
+        self.stream = self.socket.makefile("rb", 1 << 16)
+
+
+def refused(client, *words):
+    """By which name the command is refused."""
+    client.send(*words)
+    answer = client.read()
+    assert isinstance(answer, Refused), (words, answer)
+    return str(answer).split()[0]
+
+
+def is_ended(one):
+    """Whether the other side ends the connection within some seconds, whatever it says before."""
+    with contextlib.suppress(ConnectionError, ssl.SSLError):
+        while one.recv(4096):
+            pass
+    return True
+
+
+@contextlib.contextmanager
+def environment(**variables):
+    os.environ.update(variables)
+    try:
+        yield
+    finally:
+        for name in variables:
+            del os.environ[name]
+
+
+def clients_of_redis_speak_tls(program):
+    with served(program, *with_tls()) as server:
+        command = ["-p", str(server.port), "--tls", "--cacert", file("ca.pem")]
+        ran = subprocess.run(["redis-cli", *command, "set", "a", "b"], capture_output=True, text=True, timeout=20)
+        assert ran.stdout.strip() == "OK", ran
+        load = [*command, "-t", "set,get,incr", "-n", "20000", "-c", "50", "-P", "8", "-q"]
+        ran = subprocess.run(["redis-benchmark", *load], capture_output=True, text=True, timeout=30, check=True)
+        assert "requests per second" in ran.stdout and "rror" not in ran.stderr, ran
+        client = redis.Redis(port=server.port, ssl=True, ssl_ca_certs=file("ca.pem"))
+        with client.pipeline(transaction=True) as pipe:
+            assert pipe.set("{t}a", 1).incr("{t}a").get("{t}a").execute() == [True, 2, b"2"]
+        client.close()
+        shell = [SM, "shell", "--connect", f"localhost:{server.port}", "--tls", "--ca", file("ca.pem")]
+        ran = subprocess.run(shell, input="get a\nlook 0\n", capture_output=True, text=True, timeout=20)
+        assert ran.stdout.splitlines()[0] == "b" and ran.returncode == 0, ran
+        del shell[-2:]
+        ran = subprocess.run(shell, input="", capture_output=True, text=True, timeout=20)
+        assert ran.returncode == 1 and "certificate" in ran.stderr, ran
+
+
+def the_page_speaks_tls_too(program):
+    with socket.socket() as one:
+        one.bind((HOST, 0))
+        port = one.getsockname()[1]
+    address = f"https://localhost:{port}/metrics"
+    with served(program, *with_tls("--tls-ca", file("ca.pem"), "--http-port", port)):
+        for _ in range(100):
+            with contextlib.suppress(ConnectionRefusedError, urllib.error.URLError):
+                with urllib.request.urlopen(address, timeout=5, context=context("client")) as answer:
+                    assert b"durkenzo_connections" in answer.read()
+                break
+            time.sleep(0.05)
+        else:
+            raise AssertionError("nothing answers")
+        for ask in (
+            lambda: urllib.request.urlopen(address, timeout=5, context=context()),
+            lambda: urllib.request.urlopen(address.replace("https", "http"), timeout=5),
+        ):
+            with contextlib.suppress(OSError):
+                raise AssertionError(ask().read()[:80])
+
+
+def who_shows_no_certificate_gets_nothing(program):
+    with served(program, *with_tls("--tls-ca", file("ca.pem"))) as server:
+        before = server.at_rest()
+        for own in (None, "foreign"):
+            with contextlib.suppress(ssl.SSLError, ConnectionError):
+                with TlsClient(server.port, context(own)) as client:
+                    raise AssertionError((own, client.ask("PING")))
+        with TlsClient(server.port, context("client")) as client:
+            assert client.ask("SET", "a", 1) == "OK" and client.ask("ACL", "WHOAMI") == b"default"
+        assert server.settle(before) <= before
+
+
+def what_is_no_tls_gets_nothing(program):
+    chance = random.Random(SEED)
+    with served(program, *with_tls()) as server, TlsClient(server.port) as client:
+        before = server.at_rest()
+        spoilt = [b"PING\r\n", packed("GET", "a") * 1_000, b"\x16\x03\x01\xff\xff", b"GET / HTTP/1.1\r\n\r\n"]
+        spoilt += [b"\x16\x03\x01" + chance.randbytes(chance.randrange(1, 2_000)) for _ in range(100)]
+        for bytes_ in spoilt:
+            with socket.create_connection((HOST, server.port), 10) as one, contextlib.suppress(ConnectionError):
+                one.sendall(bytes_)
+                # The server may have been quicker to end it.
+                with contextlib.suppress(OSError):
+                    one.shutdown(socket.SHUT_WR)
+                said = b""
+                while more := one.recv(4096):
+                    said += more
+                # An alert is all that TLS says there.
+                assert len(said) <= 7 and said[:1] in (b"", b"\x15"), (bytes_[:20], said)
+        assert client.ask("PING") == "PONG" and server.settle(before) <= before
+
+
+def who_stalls_holds_nobody_up(program):
+    """Half a handshake, or none, and no password: others go on, and these are ended in time."""
+    options = with_tls("--login-time", 1_000)
+    with environment(DURKENZO_PASSWORD="secret"), served(program, *options) as server, contextlib.ExitStack() as stack:
+        client = stack.enter_context(TlsClient(server.port))
+        assert refused(client, "GET", "a") == "NOAUTH" and client.ask("AUTH", "secret") == "OK"
+        before = server.at_rest()
+        stalled = [stack.enter_context(socket.create_connection((HOST, server.port), 10)) for _ in range(40)]
+        for one in stalled[::2]:
+            one.sendall(b"\x16\x03\x01\x02\x00\x01")
+        unknown = stack.enter_context(TlsClient(server.port))
+        assert refused(unknown, "PING") == "NOAUTH"
+        slow = stack.enter_context(TlsClient(server.port))
+        longest, end = 0, time.monotonic() + 0.5
+        while time.monotonic() < end:
+            began = time.monotonic()
+            assert client.ask("INCR", "n") > 0
+            longest = max(longest, time.monotonic() - began)
+        for byte in packed("AUTH", "secret") + packed("GET", "n"):
+            slow.socket.sendall(bytes([byte]))
+        assert slow.read() == "OK" and int(slow.read()) > 0 and longest < SOON, longest
+        assert all(is_ended(it) for it in [*stalled, unknown.socket])
+        # Two clients are left, the one from before among them.
+        assert server.settle(before + 1) == before + 1
+        assert client.ask("PING") == slow.ask("PING") == "PONG"
+        return f"at most {longest * 1000:.0f} ms for others"
+
+
+def strangers_leave_room_for_others(program):
+    options = ["--max-clients", "300", "--login-time", "1000"]
+    with environment(DURKENZO_PASSWORD="secret"), served(program, *options) as server, contextlib.ExitStack() as stack:
+
+        def known():
+            client = stack.enter_context(server.client())
+            assert client.ask("HELLO", "2", "AUTH", "default", "secret")[0] == b"server"
+            return client
+
+        clients = [known() for _ in range(100)]
+        for _ in range(75):
+            one = stack.enter_context(server.client())
+            assert refused(one, "PING") == "NOAUTH"
+        with server.client() as one:
+            assert "max number of clients" in str(one.read())
+        assert all(it.ask("PING") == "PONG" for it in clients)
+        time.sleep(1.6)
+        assert known().ask("PING") == "PONG"
+
+
+def little_is_taken_before_a_password(program):
+    with environment(DURKENZO_PASSWORD="secret"), served(program) as server:
+        for bytes_ in (b"*2\r\n$4\r\nAUTH\r\n$20000\r\n", b"AUTH " + b"x" * 20_000):
+            with socket.create_connection((HOST, server.port), 10) as one:
+                one.sendall(bytes_)
+                assert one.recv(100) == b"-ERR Protocol error: unauthenticated bulk length\r\n" and is_ended(one)
+        with server.client() as client:
+            answers = client.piped([("SET", "a", "b" * 9_000)] * 40 + [("AUTH", "secret"), ("SET", "a", "b" * 40_000)])
+            assert answers[40:] == ["OK", "OK"] and {str(it).split()[0] for it in answers[:40]} == {"NOAUTH"}
+
+
+def many_connections_by_tls(program):
+    with served(program, *with_tls()) as server, contextlib.ExitStack() as stack:
+        before, memory, tls = server.at_rest(), server.memory(), context()
+        clients = [stack.enter_context(TlsClient(server.port, tls)) for _ in range(MANY)]
+        for client in clients:
+            client.send("INCR", "n")
+        assert sorted(it.read() for it in clients) == [*range(1, MANY + 1)]
+        each = (server.memory() - memory) / MANY
+        assert each < MOST_BYTES, f"{each:.0f} bytes each"
+        stack.close()
+        assert server.settle(before) <= before, server.descriptors()
+        return f"{MANY} connections, {each:.0f} bytes each"
+
+
+def exchanged(one, bytes_, wanted):
+    """Sends these, and reads as soon as there is something, until as many bytes came as are wanted or none come."""
+    found, left = bytearray(), memoryview(bytes_)
+    one.setblocking(False)
+    while len(found) < wanted:
+        assert any(select.select([one], [one] if left else [], [], SECONDS)), f"{len(found)} bytes came, and no more"
+        with contextlib.suppress(ssl.SSLWantReadError, ssl.SSLWantWriteError):
+            left = left[one.send(left[:100_000]) :] if left else left
+        with contextlib.suppress(ssl.SSLWantReadError, ssl.SSLWantWriteError):
+            while more := one.recv(1 << 16):
+                found += more
+            break
+    return bytes(found)
+
+
+def large_values_go_both_ways(program):
+    chance = random.Random(SEED)
+    values = [chance.randbytes(chance.randrange(LONG)) for _ in range(PIPED)]
+    with served(program, *with_tls()) as server, TlsClient(server.port) as client:
+        assert client.ask("SET", "k", values[-1]) == "OK"
+        commands = b"".join(packed("SET", "k", it, "GET") for it in values)
+        # Each is answered by the one before it.
+        wanted = b"".join(b"$%d\r\n%s\r\n" % (len(it), it) for it in [values[-1], *values[:-1]])
+        assert exchanged(client.socket, commands, len(wanted)) == wanted
+        return f"{len(wanted)} bytes each way"
+
+
+def a_stop_answers_what_came(program):
+    with served(program, *with_tls()) as server, TlsClient(server.port) as client:
+        client.ask("SET", "k", b"v" * LONG)
+        client.socket.sendall(packed("GET", "k") * 100 + b"PING\r\n")
+        time.sleep(0.2)
+        server.process.terminate()
+        assert [client.read() for _ in range(100)] == [b"v" * LONG] * 100 and client.read() == "PONG"
+        # The end is told, so that it isn't taken for a cut.
+        assert client.socket.recv(1) == b""
+        server.process.wait(SECONDS)
+        server.is_alive = lambda: True
+
+
+def roles_are_kept_apart(program):
+    changes = [("SM", "MIGRATE", 0, 2), ("sm", "restart", 1), ("SM", "DUMP", "f"), ("SM", "NOSUCH"), ("SM", "PLAN")]
+    passwords = {"DURKENZO_CONTROL_PASSWORD": "master", "DURKENZO_PASSWORD": "secret"}
+    with tempfile.TemporaryDirectory() as folder, environment(**passwords):
+        for options in ([], ["--data", f"{folder}/data"]):
+            with served(program, *options) as server, server.client() as client:
+                assert refused(client, "ACL", "WHOAMI") == "NOAUTH" == refused(client, "SM", "LOOK", 0)
+                assert refused(client, "AUTH", "master") == "WRONGPASS" == refused(client, "AUTH", "control", "secret")
+                assert client.ask("AUTH", "secret") == "OK" and client.ask("ACL", "WHOAMI") == b"default"
+                for words in changes:
+                    assert refused(client, *words) == "NOPERM", words
+                client.send(*changes[0])
+                said = str(client.read())
+                assert said == "NOPERM this user has no permissions to run the 'sm|migrate' command", said
+                for words in [("HELP",), ("SHARDS",), ("look", 0), ("SERVERS",), ("SETTINGS",)]:
+                    assert client.ask("SM", *words), words
+                # Who gives a wrong password stays what it was.
+                assert refused(client, "AUTH", "control", "wrong") == "WRONGPASS"
+                assert refused(client, *changes[0]) == "NOPERM" and client.ask("SET", "a", 1) == "OK"
+                assert client.ask("AUTH", "control", "master") == "OK" and client.ask("ACL", "WHOAMI") == b"control"
+                assert client.ask("SM", "MIGRATE", 0, 2) == "OK" and client.ask("GET", "a") == b"1"
+                client.ask("HELLO", 2, "AUTH", "default", "secret")
+                assert client.ask("ACL", "WHOAMI") == b"default" and refused(client, *changes[0]) == "NOPERM"
+                client.ask("HELLO", 2, "AUTH", "control", "master")
+                assert client.ask("RESET") == "RESET" and refused(client, "ACL", "WHOAMI") == "NOAUTH"
+                shell = [SM, "shell", "--connect", str(server.port), "--user", "control"]
+                ran = subprocess.run(shell, input="migrate 0 1\n", capture_output=True, text=True, timeout=20)
+                assert ran.stdout.splitlines() == ["OK", "OK"], ran
+                shell[-1] = "default"
+                ran = subprocess.run(shell, input="migrate 0 2\n", capture_output=True, text=True, timeout=20)
+                assert ran.stdout.splitlines()[1].startswith("NOPERM"), ran
+
+
+def one_password_alone_keeps_the_control(program):
+    with environment(DURKENZO_CONTROL_PASSWORD="master"), served(program) as server, server.client() as client:
+        assert client.ask("SET", "a", 1) == "OK" and refused(client, "SM", "PAUSE", 0) == "NOPERM"
+        assert refused(client, "SM", "AT", 9, "GET", "a") == "REFUSED"
+        assert client.ask("AUTH", "control", "master") == "OK" and client.ask("SM", "PAUSE", 0) == "OK"
+    with served(program) as server, server.client() as client:
+        assert client.ask("SM", "PAUSE", 0) == "OK" and client.ask("ACL", "WHOAMI") == b"default"
+        assert refused(client, "AUTH", "control", "") == "WRONGPASS"
+        assert refused(client, "ACL", "LIST") == "ERR"
+
+
+def what_gives_no_safety_is_told(program):
+    given = [
+        (["--tls-cert", "/nowhere"], {}, "--tls-key"),
+        (["--tls-ca", "/nowhere"], {}, "--tls-cert"),
+        (["--tls-cert", "/nowhere", "--tls-key", "/nowhere"], {}, "/nowhere: No such file"),
+        (["--tls-cert", "/dev/null", "--tls-key", "/dev/null"], {}, "/dev/null: it has no certificate in PEM"),
+        (["--peer-ca", "/nowhere"], {}, "--peer-cert"),
+        ([], {"DURKENZO_PASSWORD": ""}, "DURKENZO_PASSWORD is empty"),
+        (["--control-password-file", "/dev/null"], {}, "/dev/null: its first line is empty"),
+    ]
+    if shutil.which("openssl"):
+        given += [
+            (["--tls-cert", file("ca.pem"), "--tls-key", "/dev/null"], {}, "/dev/null: it has no key in PEM"),
+            (
+                ["--peer-ca", file("ca.pem"), "--peer-cert", file("server.pem"), "--peer-key", file("server.key")],
+                {},
+                "hasn't the name DNS:peer.durkenzo",
+            ),
+        ]
+    for words, variables, wanted in given:
+        how = {"capture_output": True, "text": True, "timeout": 20, "stdin": subprocess.DEVNULL}
+        ran = subprocess.run([program, "--port", "0", *words], env={**os.environ, **variables}, **how)
+        assert ran.returncode in (1, 2) and wanted in ran.stderr, (words, ran.returncode, ran.stderr[-300:])
+
+
+TESTS = [
+    strangers_leave_room_for_others,
+    little_is_taken_before_a_password,
+    roles_are_kept_apart,
+    one_password_alone_keeps_the_control,
+    what_gives_no_safety_is_told,
+]
+BY_TLS = [
+    clients_of_redis_speak_tls,
+    the_page_speaks_tls_too,
+    who_shows_no_certificate_gets_nothing,
+    what_is_no_tls_gets_nothing,
+    who_stalls_holds_nobody_up,
+    many_connections_by_tls,
+    large_values_go_both_ways,
+    a_stop_answers_what_came,
+]
+
+if __name__ == "__main__":
+    most = resource.getrlimit(resource.RLIMIT_NOFILE)[1]
+    resource.setrlimit(resource.RLIMIT_NOFILE, (most, most))
+    try:
+        main([*TESTS, *BY_TLS] if shutil.which("openssl") else TESTS)
+    finally:
+        if shutil.which("openssl"):
+            shutil.rmtree(certificates())
