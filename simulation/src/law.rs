@@ -316,43 +316,39 @@ impl World {
 
     fn judge(&mut self, claim: &Claim) -> Result<(), Broken> {
         let shard = self.shards.entry(claim.shard).or_default();
+        let (promise, is_kept) = shard.keeps(claim);
+        if is_kept {
+            return Ok(());
+        }
         let made = shard.made.get(&(claim.client, claim.number));
+        broken(promise, format!("{claim:?}, {made:?}"))
+    }
+}
+
+impl Shard {
+    /// What is promised of such a claim, and whether it holds of this one.
+    fn keeps(&self, claim: &Claim) -> (&'static str, bool) {
+        let made = self.made.get(&(claim.client, claim.number));
+        let is_made_later = made.is_some_and(|it| it.1 > claim.at);
         match &claim.said {
-            Said::Replied { kind, value } => match made {
-                Some((reply, since))
-                    if *since <= claim.at && (reply.0, reply.1) == (*kind, *value) =>
-                {
-                    Ok(())
-                }
-                _ => broken(
-                    "a reply that was told is that of one thread",
-                    format!("{claim:?}, {made:?}"),
-                ),
-            },
+            Said::Replied { kind, value } => (
+                "a reply that was told is that of one thread",
+                made.is_some_and(|(reply, since)| {
+                    *since <= claim.at && (reply.0, reply.1) == (*kind, *value)
+                }),
+            ),
             Said::Passed => {
-                let later = shard.made.iter().any(|(request, (_, since))| {
+                let later = self.made.iter().any(|(request, (_, since))| {
                     request.0 == claim.client && request.1 > claim.number && *since <= claim.at
                 });
-                let is_made = made.is_some_and(|it| it.1 > claim.at);
-                if later && !is_made {
-                    return Ok(());
-                }
-                broken("what is passed isn't made", format!("{claim:?}, {made:?}"))
+                ("what is passed isn't made", later && !is_made_later)
             }
             Said::Forgotten => {
-                let is_made = made.is_some_and(|it| it.1 > claim.at);
-                if shard.floor_at(claim.at) > claim.client && !is_made {
-                    return Ok(());
-                }
-                broken("who is forgotten was to be", format!("{claim:?}, {made:?}"))
+                let is_below = self.floor_at(claim.at) > claim.client;
+                let is_kept = is_below && !is_made_later;
+                ("who is forgotten was to be", is_kept)
             }
-            Said::NotMade => match made {
-                None => Ok(()),
-                Some(_) => broken(
-                    "what wasn't made isn't made",
-                    format!("{claim:?}, {made:?}"),
-                ),
-            },
+            Said::NotMade => ("what wasn't made isn't made", made.is_none()),
             Said::Read {
                 key,
                 kind,
@@ -361,13 +357,9 @@ impl World {
                 asked,
             } => {
                 let told = (*kind, *value, text.clone());
-                if (*asked..=claim.at).any(|revision| shard.map_at(revision).get(key) == told) {
-                    return Ok(());
-                }
-                broken(
-                    "a read is of a moment after it was asked",
-                    format!("{claim:?}"),
-                )
+                let mut moments = *asked..=claim.at;
+                let is_of_one = moments.any(|revision| self.map_at(revision).get(key) == told);
+                ("a read is of a moment after it was asked", is_of_one)
             }
         }
     }

@@ -2,11 +2,21 @@
 use crate::bug::Bug;
 use crate::claim::Said;
 use crate::control::UNWRITTEN;
-use crate::raw::{head_of, Decision, Server, Told};
 use crate::store::{Key, Store, Txn};
+use durkenzo_store_sys::{Asked, Code, Decision, Head, Limits, Passing, Server, Told};
+
+/// How much a server takes: little, so that schedules come to each bound.
+const LIMITS: Limits = Limits {
+    batch_bytes: 1_000,
+    batch_requests: 3,
+    waiting: 4,
+    clients: 4,
+};
+/// What is asked of a server here it has to do: a code is a bug.
+const DOES: &str = "a proved server does it";
 
 /// The head of a log with no batch is read as these bytes.
-const EMPTY: [u8; 25] = {
+pub const EMPTY: [u8; 25] = {
     let mut bytes = [0; 25];
     bytes[0] = 1;
     bytes
@@ -27,6 +37,19 @@ pub struct Envelope {
     pub request: Vec<u8>,
     /// The store's revision when its client asked it.
     pub asked: u64,
+}
+
+impl Envelope {
+    fn asked(&self) -> Asked<'_> {
+        Asked {
+            client: self.client,
+            number: self.number,
+            from: self.from,
+            hops: self.hops,
+            forgets: self.forgets,
+            request: &self.request,
+        }
+    }
 }
 
 /// What a server does.
@@ -80,7 +103,7 @@ impl Driver {
         Driver {
             me,
             shard,
-            core: Server::new(me, shard, count, 4, 4),
+            core: Server::new(me, shard, count, LIMITS).expect(DOES),
             is_read: false,
             ticket: 0,
             is_sent: false,
@@ -103,7 +126,7 @@ impl Driver {
         let (record, stood) = store.read_at(Key::Record(self.shard), stood_at);
         let (head, logged) = store.read_at(Key::Head(self.shard), logged_at);
         let mut head = head.unwrap_or(&EMPTY).to_vec();
-        let mut counts = head_of(&head);
+        let mut counts = Head::of(&head).expect(DOES);
         if self.has(Bug::TornReading) && counts.batches > counts.base {
             // It takes the head of the latest moment with the batches of an earlier one.
             counts.batches -= 1;
@@ -118,12 +141,32 @@ impl Driver {
             .collect();
         let record = record.unwrap_or(&UNWRITTEN);
         self.forget();
-        self.is_read = self
-            .core
-            .read(record, stood, &head, logged, &parts, &batches);
+        self.is_read = self.follow((record, stood), (&head, logged), &parts, &batches);
         self.batches = counts.batches;
         if self.is_read {
             self.decide_again(deeds);
+        }
+    }
+
+    /// Whether the log could be followed: not where a batch or a part is missing.
+    fn follow(
+        &mut self,
+        record: (&[u8], u64),
+        head: (&[u8], u64),
+        parts: &[&[u8]],
+        batches: &[&[u8]],
+    ) -> bool {
+        let core = &mut self.core;
+        parts.iter().for_each(|it| core.add_part(it).expect(DOES));
+        batches
+            .iter()
+            .for_each(|it| core.add_batch(it).expect(DOES));
+        match core.read(record, head) {
+            Err(Code::MISSING) => false,
+            found => {
+                found.expect(DOES);
+                true
+            }
         }
     }
 
@@ -137,7 +180,9 @@ impl Driver {
     /// Sees the record by the watch.
     pub fn record(&mut self, store: &Store, stood_at: u64, deeds: &mut Vec<Deed>) {
         let (record, stood) = store.read_at(Key::Record(self.shard), stood_at);
-        self.core.record(record.unwrap_or(&UNWRITTEN), stood);
+        self.core
+            .record(record.unwrap_or(&UNWRITTEN), stood)
+            .expect(DOES);
         if self.is_sent {
             self.forget();
         }
@@ -155,7 +200,7 @@ impl Driver {
     /// A request came.
     pub fn take(&mut self, envelope: Envelope, deeds: &mut Vec<Deed>) {
         let Envelope { client, number, .. } = envelope;
-        let said = match self.core.take(&envelope) {
+        let said = match self.core.take(&envelope.asked()).expect(DOES) {
             Decision::Replied(reply) => Said::Replied {
                 kind: reply.kind,
                 value: reply.value,
@@ -178,7 +223,7 @@ impl Driver {
                 }));
                 return;
             }
-            Decision::Refused => return,
+            Decision::Refused(_) => return,
         };
         deeds.push(Deed::Tells {
             shard: self.shard,
@@ -190,16 +235,16 @@ impl Driver {
 
     /// Sends what waits.
     pub fn flush(&mut self, store: &Store, deeds: &mut Vec<Deed>) {
-        if !self.core.flush() {
+        if !self.core.flush().expect(DOES) {
             return;
         }
-        let mut sent = self.core.sending();
+        let mut sent = self.core.sending().expect(DOES);
         self.ticket += 1;
         self.is_sent = true;
         self.number = sent.number;
         self.is_naming = sent.number == 0 && !sent.head.is_empty();
         if self.is_naming && self.has(Bug::ShortBase) {
-            let base = head_of(&sent.head).base + 1;
+            let base = Head::of(&sent.head).expect(DOES).base + 1;
             sent.head[9..17].copy_from_slice(&base.to_be_bytes());
         }
         let mut txn = Txn::default();
@@ -234,7 +279,7 @@ impl Driver {
 
     fn made(&mut self, revision: u64, deeds: &mut Vec<Deed>) {
         self.is_sent = false;
-        let (made, read) = self.core.made(revision);
+        let (made, read) = self.core.made(revision).expect(DOES);
         if self.number > 0 {
             self.batches = self.number;
         } else if self.is_naming {
@@ -277,7 +322,7 @@ impl Driver {
     }
 
     fn lost(&mut self) {
-        self.core.lost();
+        self.core.lost().expect(DOES);
         self.forget();
     }
 
@@ -305,7 +350,7 @@ impl Driver {
     }
 
     fn begin(&mut self) {
-        let Some(base) = self.core.base() else {
+        let Some(base) = self.core.base().expect(DOES) else {
             return;
         };
         self.bases += 1;
@@ -325,7 +370,7 @@ impl Driver {
         let were_left = !writing.left.is_empty();
         writing.left.retain(|&it| it != place);
         if were_left && writing.left.is_empty() {
-            self.core.parts_made();
+            self.core.parts_made().expect(DOES);
         }
     }
 
@@ -333,11 +378,11 @@ impl Driver {
     pub fn clear(&mut self, key: Key, deeds: &mut Vec<Deed>) {
         let is_behind = match key {
             Key::Batch(_, number) => {
-                self.core.is_behind(false, number, 0)
+                self.is_behind(Passing::Batch(number))
                     || self.has(Bug::EarlyDeletion)
                         && self.writing.as_ref().is_some_and(|it| number <= it.number)
             }
-            Key::Part(_, number, place) => self.core.is_behind(true, number, place),
+            Key::Part(_, number, place) => self.is_behind(Passing::Part(number, place)),
             _ => false,
         };
         if is_behind {
@@ -347,6 +392,10 @@ impl Driver {
                 ..Txn::default()
             }));
         }
+    }
+
+    fn is_behind(&mut self, passing: Passing) -> bool {
+        self.core.is_behind(passing).expect(DOES)
     }
 
     /// It isn't known what became of the transaction that was sent.

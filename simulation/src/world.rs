@@ -308,31 +308,7 @@ impl World {
         let at = self.chance.below(CLIENTS) as usize;
         let to = 1 + self.chance.below(u64::from(SERVERS)) as u16;
         if self.clients[at].current.is_none() || self.chance.is_true(1, 10) {
-            let request = self.request();
-            let shard = self.chance.below(u64::from(SHARDS)) as u16;
-            let asked = self.store.revision;
-            if self.chance.is_true(1, 12) {
-                self.names += 1;
-                (self.clients[at].name, self.clients[at].number) = (self.names, 0);
-            }
-            let name = self.clients[at].name;
-            let forgets = match request[0] != 1 && self.chance.is_true(1, 8) {
-                true => self.chance.below(name + 1),
-                false => 0,
-            };
-            let client = &mut self.clients[at];
-            client.number += 1;
-            client.current = Some(Envelope {
-                to,
-                from: 0,
-                shard,
-                client: name,
-                number: client.number,
-                hops: 0,
-                forgets,
-                request,
-                asked,
-            });
+            self.ask_anew(at, to);
         }
         let client = &mut self.clients[at];
         if self.bug == Some(Bug::NewNumber) && self.chance.is_true(1, 4) {
@@ -346,6 +322,35 @@ impl World {
                 ..envelope.clone()
             });
         }
+    }
+
+    /// The client there has something new to ask, of this server first.
+    fn ask_anew(&mut self, at: usize, to: u16) {
+        let request = self.request();
+        let shard = self.chance.below(u64::from(SHARDS)) as u16;
+        let asked = self.store.revision;
+        if self.chance.is_true(1, 12) {
+            self.names += 1;
+            (self.clients[at].name, self.clients[at].number) = (self.names, 0);
+        }
+        let name = self.clients[at].name;
+        let forgets = match request[0] != 1 && self.chance.is_true(1, 8) {
+            true => self.chance.below(name + 1),
+            false => 0,
+        };
+        let client = &mut self.clients[at];
+        client.number += 1;
+        client.current = Some(Envelope {
+            to,
+            from: 0,
+            shard,
+            client: name,
+            number: client.number,
+            hops: 0,
+            forgets,
+            request,
+            asked,
+        });
     }
 
     /// A request reaches its server, or is lost, or comes again later.
@@ -415,27 +420,28 @@ impl World {
             return;
         }
         let made = self.store.make(&flying.txn);
-        match made {
-            Some(_) => self.tally.made += 1,
-            None => self.tally.lost += 1,
+        self.count(&flying.txn, made);
+        if !self.chance.is_true(1, 10) {
+            self.tell_sender(flying.sender, made);
         }
-        if flying
-            .txn
-            .puts
-            .iter()
-            .any(|it| matches!(it.0, Key::Record(_) | Key::State(_)))
-            && made.is_some()
-        {
-            self.tally.changes += 1;
-        }
-        if made.is_some() {
-            self.tally.deleted += flying.txn.deletes.len() as u64;
-            self.tally.bases += u64::from(names_base(&flying.txn));
-        }
-        if self.chance.is_true(1, 10) {
+    }
+
+    /// Counts what became of a transaction.
+    fn count(&mut self, txn: &Txn, made: Option<u64>) {
+        if made.is_none() {
+            self.tally.lost += 1;
             return;
         }
-        match flying.sender {
+        let is_change = |key: &Key| matches!(key, Key::Record(_) | Key::State(_));
+        self.tally.made += 1;
+        self.tally.changes += u64::from(txn.puts.iter().any(|it| is_change(&it.0)));
+        self.tally.deleted += txn.deletes.len() as u64;
+        self.tally.bases += u64::from(names_base(txn));
+    }
+
+    /// Who sent a transaction hears what became of it, if it still waits for that.
+    fn tell_sender(&mut self, sender: Sender, made: Option<u64>) {
+        match sender {
             Sender::Control { at, ticket } => {
                 let control = &mut self.controls[at];
                 if control.is_sent && control.ticket == ticket {
@@ -448,27 +454,20 @@ impl World {
                 life,
                 shard,
                 ticket,
-                part: Some(place),
-            } => {
-                let process = &mut self.servers[server];
-                if process.life == life {
-                    process.shards[shard].part_made(ticket, place);
-                }
-            }
-            Sender::Server {
-                server,
-                life,
-                shard,
-                ticket,
-                part: None,
+                part,
             } => {
                 let process = &mut self.servers[server];
                 let driver = &mut process.shards[shard];
-                if process.life == life && driver.is_sent && driver.ticket == ticket {
-                    let mut deeds = Vec::new();
-                    driver.outcome(made, self.store.revision, &mut deeds);
-                    self.perform(server, shard, deeds);
+                let mut deeds = Vec::new();
+                match part {
+                    _ if process.life != life => {}
+                    Some(place) => driver.part_made(ticket, place),
+                    None if driver.is_sent && driver.ticket == ticket => {
+                        driver.outcome(made, self.store.revision, &mut deeds);
+                    }
+                    None => {}
                 }
+                self.perform(server, shard, deeds);
             }
         }
     }

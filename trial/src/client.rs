@@ -33,15 +33,19 @@ impl From<io::Error> for Failure {
 }
 
 impl Client {
-    /// Connects, and waits for replies no longer than this.
+    /// Connects, and waits for that and for replies no longer than this.
     ///
     /// # Errors
     ///
-    /// Where nobody listens there.
+    /// Where nobody listens there, or takes the connection in time.
     pub fn connect(address: impl ToSocketAddrs, patience: Duration) -> io::Result<Client> {
-        let stream = TcpStream::connect(address)?;
+        let address = address.to_socket_addrs()?.next();
+        let address = address.ok_or_else(|| io::Error::from(io::ErrorKind::NotFound))?;
+        // A process that is stopped takes no connection, and closes none.
+        let stream = TcpStream::connect_timeout(&address, patience)?;
         stream.set_nodelay(true)?;
         stream.set_read_timeout(Some(patience))?;
+        stream.set_write_timeout(Some(patience))?;
         Ok(Client {
             stream: BufReader::new(stream),
         })

@@ -1,128 +1,195 @@
-use crate::{Answer, Call, Client, Command, Failure, Reply};
-use std::collections::BTreeMap;
+use crate::chance::Chance;
+use crate::{Answer, Call, Client, Command, History, Plan, Reply, Routes, Told};
+use std::thread::sleep;
 use std::time::{Duration, Instant};
 
-/// A client that calls by chance, and records what it asked and what it was answered.
-pub struct Hand {
-    name: u64,
-    address: String,
-    patience: Duration,
-    start: Instant,
-    chance: u64,
-    calls: BTreeMap<String, Vec<Call<Command, Answer>>>,
-    /// How many calls were refused by name, which then did nothing.
-    pub refused: u64,
-    /// The refusal that came last.
-    pub last_refusal: Option<String>,
+/// How a client reaches servers.
+#[derive(Clone, Copy, Debug, PartialEq, Eq)]
+pub enum Way {
+    /// It calls the server of its turn, and the next one where that isn't there.
+    Server,
+    /// It reads which server owns what, and calls that.
+    Routes,
+    /// It numbers its writes, and sends one again until it is answered.
+    Numbers,
+    /// It reads alone.
+    Reads,
 }
 
-impl Hand {
-    /// One with a name of its own; all that are compared count their moments from one start.
-    pub fn new(name: u64, address: &str, patience: Duration, start: Instant, seed: u64) -> Hand {
-        let chance = seed ^ name.wrapping_mul(0x9e37_79b9_7f4a_7c15);
+/// How long a client waits that found no server, or sends a request again.
+const PAUSE: Duration = Duration::from_millis(10);
+
+/// How many clients may number their requests.
+const MOST_CLIENTS: u64 = 4_096;
+
+/// How long after the end a numbered request is sent again.
+const GRACE: Duration = Duration::from_secs(10);
+
+/// A client that calls by chance, and records what it asked and what it was answered.
+pub struct Hand<'a> {
+    plan: &'a Plan,
+    name: u64,
+    way: Way,
+    chance: Chance,
+    client: Option<(String, Client)>,
+    routes: Routes,
+    /// Which server it calls.
+    turn: u64,
+    /// How many numbered requests it made.
+    numbered: u64,
+    history: History,
+}
+
+impl<'a> Hand<'a> {
+    /// One with a name of its own, which calls the server of this turn.
+    pub fn new(plan: &'a Plan, name: u64, way: Way, turn: u64) -> Hand<'a> {
         Hand {
+            plan,
             name,
-            address: address.to_owned(),
-            patience,
-            start,
-            chance,
-            calls: BTreeMap::new(),
-            refused: 0,
-            last_refusal: None,
+            way,
+            chance: Chance::new(plan.seed, name),
+            client: None,
+            routes: Routes::default(),
+            turn,
+            numbered: 0,
+            history: History::default(),
         }
     }
 
-    /// Calls one after another until then, of so many keys; connects anew where a reply doesn't come.
-    pub fn work(&mut self, keys: u64, end: Instant) {
-        let mut client = None;
+    /// Calls one after another until the end, and gives what it recorded.
+    pub fn work(mut self) -> History {
         for number in 0.. {
-            if Instant::now() >= end {
-                return;
+            if Instant::now() >= self.plan.end {
+                break;
             }
-            let connected = client
-                .take()
-                .or_else(|| Client::connect(self.address.as_str(), self.patience).ok());
-            let Some(mut connected) = connected else {
-                std::thread::sleep(Duration::from_millis(10));
-                continue;
+            let (key, input) = self.next(number);
+            let began = self.plan.moment();
+            let told = match self.way {
+                Way::Numbers if input.may_be_numbered() => self.numbered(&key, &input),
+                _ => self.call(&key, &input.words(&key)),
             };
-            if self.call(&mut connected, keys, number).is_ok() {
-                client = Some(connected);
+            let ended = self.plan.moment();
+            self.record(key, input, began, ended, told);
+        }
+        self.history
+    }
+
+    /// A key and a command by chance; what it writes no other call writes.
+    fn next(&mut self, number: u64) -> (String, Command) {
+        if self.way == Way::Numbers && self.chance.below(4) == 0 {
+            return (self.plan.count(self.name), Command::Incr);
+        }
+        let key = self.plan.key(self.chance.below(self.plan.keys));
+        if self.way == Way::Reads {
+            return (key, Command::Get);
+        }
+        let input = match self.chance.below(8) {
+            0 => Command::Set(format!("{}.{number}.", self.name)),
+            1 if self.plan.epoch.is_none() || self.chance.below(4) == 0 => {
+                Command::Append(format!("+{}.{number}", self.name))
+            }
+            2 => Command::Set(number.to_string()),
+            3 | 4 => Command::Incr,
+            5 if self.chance.below(4) == 0 => Command::Del,
+            _ => Command::Get,
+        };
+        (key, input)
+    }
+
+    /// Sends a request under a number, until it is answered or it is too late.
+    fn numbered(&mut self, key: &str, input: &Command) -> Told {
+        self.numbered += 1;
+        let (client, number) = (self.client_number(), self.numbered.to_string());
+        let words: Vec<_> = ["SM", "CALL", &client, &number]
+            .into_iter()
+            .chain(input.words(key))
+            .collect();
+        loop {
+            let told = self.call(key, &words);
+            let is_answer = matches!(&told, Told::Reply(it) if input.answer(it).is_some());
+            if is_answer || matches!(&told, Told::Reply(it) if is_final(it)) {
+                return told;
+            }
+            if Instant::now() > self.plan.end + GRACE {
+                return Told::Unknown;
+            }
+            self.history.send_again(match &told {
+                Told::Reply(Reply::Error(it)) => it,
+                Told::Reply(_) => "garbled",
+                Told::NotSent => "nobody is there",
+                Told::Unknown => "no answer",
+            });
+            self.turn += 1;
+            sleep(PAUSE);
+        }
+    }
+
+    /// The number of this client among those that number their requests.
+    fn client_number(&self) -> String {
+        (self.name % MOST_CLIENTS + 1).to_string()
+    }
+
+    /// Sends a command where its key is to be sent.
+    fn call(&mut self, key: &str, words: &[&str]) -> Told {
+        let address = match self.way {
+            Way::Routes => self.routes.address(self.plan, key, self.turn),
+            _ => self.plan.address(self.turn).to_owned(),
+        };
+        let kept = self.client.take().filter(|(at, _)| *at == address);
+        let connect = || Client::connect(address.as_str(), self.plan.patience).ok();
+        let Some(mut client) = kept.map(|(_, it)| it).or_else(connect) else {
+            self.pass_over();
+            return Told::NotSent;
+        };
+        match client.call(words) {
+            Ok(Reply::Error(it)) if it.starts_with("UNKNOWN") => {
+                self.client = Some((address, client));
+                Told::Unknown
+            }
+            Ok(reply) => {
+                self.client = Some((address, client));
+                Told::Reply(reply)
+            }
+            Err(_) => {
+                self.pass_over();
+                Told::Unknown
             }
         }
     }
 
-    /// What was recorded of each key.
-    pub fn into_calls(self) -> BTreeMap<String, Vec<Call<Command, Answer>>> {
-        self.calls
+    /// Has the next call go to another server.
+    fn pass_over(&mut self) {
+        sleep(PAUSE);
+        self.turn += 1;
+        self.routes.forget();
     }
 
-    fn call(&mut self, client: &mut Client, keys: u64, number: u64) -> Result<(), Failure> {
-        let key = key_named(self.below(keys));
-        let input = self.command(number);
-        let began = self.moment();
-        let reply = client.call(&input.words(&key));
-        let ended = self.moment();
-        let output = match &reply {
-            Ok(reply) => match answer(&input, reply) {
-                Some(answer) => Some(answer),
-                None => {
-                    self.refused += 1;
-                    self.last_refusal = Some(format!("{reply:?}"));
-                    return Ok(());
-                }
+    fn record(&mut self, key: String, input: Command, began: u64, ended: u64, told: Told) {
+        let output = match &told {
+            Told::NotSent => return,
+            Told::Unknown if input == Command::Get => return,
+            Told::Unknown => {
+                self.plan.note_open(&key);
+                None
+            }
+            Told::Reply(reply) => match (input.answer(reply), reply) {
+                (Some(answer), _) => Some(answer),
+                (None, Reply::Error(told)) => return self.history.refuse(told),
+                (None, reply) => return self.history.refuse(&format!("{reply:?}")),
             },
-            Err(_) => None,
         };
-        self.calls.entry(key).or_default().push(Call {
+        let call: Call<Command, Answer> = Call {
             input,
             output,
             began,
             ended,
-        });
-        reply.map(drop)
-    }
-
-    /// A command by chance; what it writes no other call writes.
-    fn command(&mut self, number: u64) -> Command {
-        match self.below(8) {
-            0 => Command::Set(format!("{}.{number}.", self.name)),
-            1 => Command::Append(format!("+{}.{number}", self.name)),
-            2 => Command::Set(number.to_string()),
-            3 | 4 => Command::Incr,
-            5 if self.below(4) == 0 => Command::Del,
-            _ => Command::Get,
-        }
-    }
-
-    fn moment(&self) -> u64 {
-        u64::try_from(self.start.elapsed().as_nanos()).unwrap_or(u64::MAX)
-    }
-
-    fn below(&mut self, bound: u64) -> u64 {
-        self.chance = self.chance.wrapping_add(0x9e37_79b9_7f4a_7c15);
-        let mut mixed = (self.chance ^ (self.chance >> 30)).wrapping_mul(0xbf58_476d_1ce4_e5b9);
-        mixed = (mixed ^ (mixed >> 27)).wrapping_mul(0x94d0_49bb_1331_11eb);
-        (mixed ^ (mixed >> 31)) % bound
+        };
+        self.history.record(key, call);
     }
 }
 
-/// The key of a number.
-pub fn key_named(number: u64) -> String {
-    format!("trial:{number}")
-}
-
-/// What a reply says of a command; none where it refuses it, so that it did nothing.
-fn answer(input: &Command, reply: &Reply) -> Option<Answer> {
-    match (input, reply) {
-        (Command::Set(_), Reply::Line(it)) if it == "OK" => Some(Answer::Done),
-        (Command::Get, Reply::Text(text)) => Some(Answer::Text(text.clone())),
-        (Command::Append(_) | Command::Incr | Command::Del, Reply::Number(it)) => {
-            Some(Answer::Number(*it))
-        }
-        (Command::Incr, Reply::Error(it)) if it.contains("not an integer") => {
-            Some(Answer::NoNumber)
-        }
-        _ => None,
-    }
+/// Whether a numbered request that was answered so may not be sent again.
+fn is_final(reply: &Reply) -> bool {
+    let is_known = |it: &String| it.starts_with("ERR") || it.starts_with("WRONGTYPE");
+    matches!(reply, Reply::Error(it) if is_known(it)) || !matches!(reply, Reply::Error(_))
 }

@@ -1,20 +1,36 @@
 //! Whether what a server answered is what one map on one thread could have answered.
 //!
-//! Clients record when each of their calls began and ended and what it gave ([`Call`]). [`is_linearizable`] looks for an
-//! order of these calls that one thread could have made ([`Model`]), in which each lies between its beginning and its
-//! end: the search of Wing and Gong, which with Lowe's cut meets no set of calls with the same state twice.
+//! Clients record when each of their calls began and ended and what it gave ([`Call`]). [`is_linearizable`] looks for
+//! an order of these calls that one thread could have made ([`Model`]), in which each lies between its beginning and
+//! its end: the search of Wing and Gong, which with Lowe's cut meets no set of calls with the same state twice.
 #![warn(missing_docs)]
 
 mod call;
+mod chance;
 mod client;
+mod events;
 mod hand;
+mod history;
 mod linearizable;
+mod model;
 mod mover;
+mod plan;
 mod register;
+mod report;
+mod routes;
+mod search;
+mod taken;
+mod told;
 
 pub use call::Call;
 pub use client::{Client, Failure, Reply};
-pub use hand::{key_named, Hand};
-pub use linearizable::{is_linearizable, Model};
+pub use hand::{Hand, Way};
+pub use history::History;
+pub use linearizable::{is_linearizable, judge, judge_until, Verdict};
+pub use model::Model;
 pub use mover::Mover;
+pub use plan::Plan;
 pub use register::{Answer, Command, Register};
+pub use report::{Report, Unexplained};
+pub(crate) use routes::Routes;
+pub use told::Told;

@@ -1,28 +1,49 @@
-//! Calls a server for a while beside moving shards, and says whether its answers are those of one thread.
+//! Calls servers for a while beside moving shards and faults, and says whether their answers are those of one thread.
 use clap::Parser;
-use durkenzo_trial::{is_linearizable, key_named, Call, Client, Hand, Mover, Register};
-use std::collections::BTreeMap;
+use durkenzo_trial::{Answer, Call, Client, Command, Hand, History, Mover, Plan, Report, Way};
+use std::collections::VecDeque;
+use std::path::{Path, PathBuf};
 use std::process::ExitCode;
+use std::sync::atomic::AtomicU64;
 use std::thread;
 use std::time::{Duration, Instant};
 
-/// How long a reply is waited for.
-const PATIENCE: Duration = Duration::from_secs(10);
+/// How long a last read is tried.
+const LAST: Duration = Duration::from_secs(60);
 
-/// Calls a server for Redis clients by chance while shards move and servers restart, and checks for each key that its
+/// The exit statuses where nothing wrong was found: but a key isn't answered any more, or not all are decided.
+const UNREAD: u8 = 3;
+const UNDECIDED: u8 = 4;
+
+/// Calls servers for Redis clients by chance while shards move and servers restart, and checks for each key that the
 /// answers are those of one map on one thread.
 #[derive(Parser)]
 #[command(version)]
 struct Options {
-    /// Where the server listens
-    #[arg(long, default_value = "127.0.0.1:7379")]
-    address: String,
+    /// Where the server listens, or several do
+    #[arg(long, default_value = "127.0.0.1:7379", value_delimiter = ',')]
+    address: Vec<String>,
     /// How many clients call
     #[arg(long, default_value_t = 8)]
     clients: u64,
+    /// How many of them follow the servers' routes
+    #[arg(long, default_value_t = 0)]
+    followers: u64,
+    /// How many of them number their writes
+    #[arg(long, default_value_t = 0)]
+    numbered: u64,
     /// How many keys they call of
     #[arg(long, default_value_t = 16)]
     keys: u64,
+    /// How many of them read alone, at the first server, at which then no other one begins
+    #[arg(long, default_value_t = 0)]
+    readers: u64,
+    /// After how many seconds other keys take their place, and at the end all are read; 0 is never
+    #[arg(long, default_value_t = 0)]
+    epoch: u64,
+    /// How many seconds a reply is waited for
+    #[arg(long, default_value_t = 10)]
+    patience: u64,
     /// How long
     #[arg(long, default_value_t = 10)]
     seconds: u64,
@@ -38,81 +59,208 @@ struct Options {
     /// What chance begins with
     #[arg(long, default_value_t = 1)]
     seed: u64,
+    /// How many seconds keys are judged at most
+    #[arg(long, default_value_t = 120)]
+    judging: u64,
+    /// The folder in which the calls are written of each key of which no order is known
+    #[arg(long)]
+    unexplained: Option<PathBuf>,
+}
+
+impl Options {
+    fn plan(&self) -> Plan {
+        let start = Instant::now();
+        Plan {
+            addresses: self.address.clone(),
+            keys: self.keys,
+            epoch: Some(Duration::from_secs(self.epoch)).filter(|it| !it.is_zero()),
+            patience: Duration::from_secs(self.patience),
+            start,
+            end: start + Duration::from_secs(self.seconds),
+            seed: self.seed,
+            open: (0..self.keys).map(|_| AtomicU64::new(0)).collect(),
+        }
+    }
+
+    /// The turn of the server that the client of this name calls.
+    fn turn(&self, name: u64) -> u64 {
+        match self.way(name) {
+            Way::Reads => 0,
+            _ if self.readers == 0 => name,
+            _ => 1 + name % (self.address.len() as u64).saturating_sub(1).max(1),
+        }
+    }
+
+    /// How the client of this name reaches servers.
+    fn way(&self, name: u64) -> Way {
+        match name {
+            it if it < self.followers => Way::Routes,
+            it if it < self.followers + self.numbered => Way::Numbers,
+            it if it + self.readers >= self.clients => Way::Reads,
+            _ => Way::Server,
+        }
+    }
 }
 
 fn main() -> ExitCode {
     let options = Options::parse();
-    let start = Instant::now();
-    let end = start + Duration::from_secs(options.seconds);
-    if let Err(error) = clear(&options) {
-        eprintln!("trial: {} doesn't answer: {error}", options.address);
+    let plan = options.plan();
+    // Keys of an epoch are new ones.
+    if let Some(error) = plan.epoch.is_none().then(|| clear(&plan).err()).flatten() {
+        eprintln!("trial: {} doesn't answer: {error}", plan.address(0));
         return ExitCode::from(2);
     }
-    let (hands, mover) = thread::scope(|threads| {
-        let work = |name| {
-            let mut hand = Hand::new(name, &options.address, PATIENCE, start, options.seed);
-            hand.work(options.keys, end);
-            hand
-        };
-        let working: Vec<_> = (0..options.clients)
-            .map(|name| threads.spawn(move || work(name)))
-            .collect();
-        let mut mover = Mover::connect(&options.address, options.servers, options.shards).ok();
-        if let Some(mover) = mover.as_mut().filter(|_| options.shards > 0) {
-            mover.work(options.restart_every, end);
+    let (mut history, mover) = recorded(&options, &plan);
+    let read = Instant::now();
+    let unread = plan
+        .epoch
+        .map_or_else(Vec::new, |_| read_all(&plan, &mut history));
+    eprintln!(
+        "trial: {} keys are read at the end, in {:.0?}",
+        history.calls.len(),
+        read.elapsed()
+    );
+    let end = Instant::now() + Duration::from_secs(options.judging);
+    let report = Report::of(&history, end);
+    if let Some(folder) = &options.unexplained {
+        if let Err(error) = write_unexplained(&history, &report, folder) {
+            eprintln!("trial: {} can't be written: {error}", folder.display());
         }
-        let hands: Vec<_> = working
-            .into_iter()
-            .filter_map(|it| it.join().ok())
-            .collect();
-        (hands, mover)
-    });
-    tell(hands, mover)
+    }
+    tell(&history, &report, mover, &unread)
 }
 
-/// Has no key be there when the clients begin.
-fn clear(options: &Options) -> std::io::Result<()> {
-    let mut client = Client::connect(options.address.as_str(), PATIENCE)?;
-    for key in 0..options.keys {
-        client.call(&["DEL", &key_named(key)]).map_err(|it| it.0)?;
+/// Writes the calls of each key of which no order is known, in the order of their beginnings.
+fn write_unexplained(history: &History, report: &Report, folder: &Path) -> std::io::Result<()> {
+    std::fs::create_dir_all(folder)?;
+    for it in report.wrong.iter().chain(&report.undecided) {
+        let mut calls: Vec<_> = history.calls.get(&it.key).into_iter().flatten().collect();
+        calls.sort_by_key(|it| it.began);
+        let lines = calls.into_iter().map(|it| {
+            let Call {
+                input,
+                output,
+                began,
+                ended,
+            } = it;
+            format!("{began} {ended} {input:?} {output:?}\n")
+        });
+        std::fs::write(folder.join(&it.key), lines.collect::<String>())?;
     }
     Ok(())
 }
 
-/// Says what was done, and what is wrong.
-fn tell(hands: Vec<Hand>, mover: Option<Mover>) -> ExitCode {
-    let refused: u64 = hands.iter().map(|it| it.refused).sum();
-    let refusal = hands.iter().find_map(|it| it.last_refusal.clone());
-    let mut of_key: BTreeMap<_, Vec<Call<_, _>>> = BTreeMap::new();
-    for hand in hands {
-        for (key, calls) in hand.into_calls() {
-            of_key.entry(key).or_default().extend(calls);
+/// Has clients call until the end, and shards move meanwhile; what they recorded.
+fn recorded(options: &Options, plan: &Plan) -> (History, Option<Mover>) {
+    let mut history = History::default();
+    let mover = thread::scope(|threads| {
+        let work = |name| Hand::new(plan, name, options.way(name), options.turn(name)).work();
+        let working: Vec<_> = (0..options.clients)
+            .map(|name| threads.spawn(move || work(name)))
+            .collect();
+        let mut mover = Mover::connect(plan.address(0), options.servers, options.shards).ok();
+        if let Some(mover) = mover.as_mut().filter(|_| options.shards > 0) {
+            mover.work(options.restart_every, plan.end);
+        }
+        working
+            .into_iter()
+            .filter_map(|it| it.join().ok())
+            .for_each(|it| history.take(it));
+        mover
+    });
+    (history, mover)
+}
+
+/// Has no key be there when the clients begin.
+fn clear(plan: &Plan) -> std::io::Result<()> {
+    let mut client = Client::connect(plan.address(0), plan.patience)?;
+    for key in 0..plan.keys {
+        client.call(&["DEL", &plan.key(key)]).map_err(|it| it.0)?;
+    }
+    Ok(())
+}
+
+/// Reads each key a last time, at any server, and returns those that weren't read. Those that aren't answered come
+/// again after the others.
+fn read_all(plan: &Plan, history: &mut History) -> Vec<String> {
+    let (end, mut client) = (Instant::now() + LAST, None);
+    let mut left: VecDeque<String> = history.calls.keys().cloned().collect();
+    let mut turn = 0;
+    while Instant::now() < end {
+        let Some(key) = left.pop_front() else {
+            break;
+        };
+        match read(plan, &mut client, turn, &key) {
+            Some(call) => history.calls.entry(key).or_default().push(call),
+            None => {
+                left.push_back(key);
+                turn += 1;
+                thread::sleep(Duration::from_millis(50));
+            }
         }
     }
-    let unknown = of_key
-        .values()
-        .flatten()
-        .filter(|it| it.output.is_none())
-        .count();
+    left.into()
+}
+
+/// Reads the key at the server to which there is a connection, or at that of this turn.
+fn read(
+    plan: &Plan,
+    client: &mut Option<Client>,
+    turn: u64,
+    key: &str,
+) -> Option<Call<Command, Answer>> {
+    let began = plan.moment();
+    let connect = || Client::connect(plan.address(turn), plan.patience).ok();
+    let mut connected = client.take().or_else(connect)?;
+    let reply = connected.call(&["GET", key]).ok()?;
+    let output = Some(Command::Get.answer(&reply)?);
+    *client = Some(connected);
+    Some(Call {
+        input: Command::Get,
+        output,
+        began,
+        ended: plan.moment(),
+    })
+}
+
+/// Says what was done, and what is wrong.
+fn tell(history: &History, report: &Report, mover: Option<Mover>, unread: &[String]) -> ExitCode {
+    let (calls, unknown) = history.counts();
     let (moved, restarted) = mover.map_or((0, 0), |it| (it.moved, it.restarted));
     println!(
-        "{} calls, {refused} refused, {unknown} without answer",
-        of_key.values().map(Vec::len).sum::<usize>()
+        "{calls} calls, {} refused, {unknown} without answer, {} sent again",
+        history.refused(),
+        history.again.values().sum::<u64>()
     );
-    println!("{moved} shards moved, {restarted} servers restarted");
-    if let Some(refusal) = refusal {
+    if moved + restarted > 0 {
+        println!("{moved} shards moved, {restarted} servers restarted");
+    }
+    for (name, count) in &history.refusals {
+        println!("refused {count} times by {name}");
+    }
+    for (why, count) in &history.again {
+        println!("sent again {count} times after {why}");
+    }
+    if let Some(refusal) = &history.last_refusal {
         println!("the last refusal: {refusal}");
     }
-    let wrong: Vec<_> = of_key
-        .iter()
-        .filter(|(_, calls)| !is_linearizable::<Register>(calls))
-        .collect();
-    for (key, calls) in &wrong {
+    let (longest, number, began) = &report.longest;
+    println!(
+        "{} ms is the longest time without an answer of a key, of {number} from {} s on",
+        longest / 1_000_000,
+        began / 1_000_000_000
+    );
+    if let Some(first) = unread.first() {
         println!(
-            "no order of one thread explains the {} calls of {key}",
-            calls.len()
+            "{} keys could not be read at the end, as {first}",
+            unread.len()
         );
     }
-    println!("{} keys, {} wrong", of_key.len(), wrong.len());
-    ExitCode::from(u8::from(!wrong.is_empty() || of_key.is_empty()))
+    println!("{report}");
+    match (report.is_right(), report.undecided.len(), unread.len()) {
+        (true, 0, 0) => ExitCode::SUCCESS,
+        (true, 0, _) => ExitCode::from(UNREAD),
+        (true, ..) => ExitCode::from(UNDECIDED),
+        (false, ..) => ExitCode::FAILURE,
+    }
 }

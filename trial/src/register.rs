@@ -1,4 +1,4 @@
-use crate::Model;
+use crate::{Model, Reply};
 
 /// A command of one key.
 #[derive(Clone, Debug, PartialEq, Eq)]
@@ -24,6 +24,26 @@ impl Command {
             Command::Append(text) => vec!["APPEND", key, text],
             Command::Incr => vec!["INCR", key],
             Command::Del => vec!["DEL", key],
+        }
+    }
+
+    /// Whether it may be sent under a number: it writes, and that without reading first.
+    pub fn may_be_numbered(&self) -> bool {
+        matches!(self, Command::Set(_) | Command::Incr | Command::Del)
+    }
+
+    /// What a reply says of it; none where it refuses it, so that it did nothing.
+    pub fn answer(&self, reply: &Reply) -> Option<Answer> {
+        match (self, reply) {
+            (Command::Set(_), Reply::Line(it)) if it == "OK" => Some(Answer::Done),
+            (Command::Get, Reply::Text(text)) => Some(Answer::Text(text.clone())),
+            (Command::Append(_) | Command::Incr | Command::Del, Reply::Number(it)) => {
+                Some(Answer::Number(*it))
+            }
+            (Command::Incr, Reply::Error(it)) if it.contains("not an integer") => {
+                Some(Answer::NoNumber)
+            }
+            _ => None,
         }
     }
 }

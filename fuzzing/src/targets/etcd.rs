@@ -1,0 +1,144 @@
+use crate::target::{holds, Target};
+use durkenzo_store::{Change, LeaseId, Outcome, Pair, Revision};
+use serde_json::{json, Value};
+
+#[path = "../../../store/src/etcd/call_error.rs"]
+#[allow(dead_code)]
+mod call_error;
+#[path = "../../../store/src/etcd/wire.rs"]
+#[allow(dead_code)]
+mod wire;
+
+use call_error::{CallError, Refusal};
+use wire::{Granted, Kept, RangeResult, Streamed, TransactionResult, WatchRequest, WatchResult};
+
+/// What etcd's gateway answers.
+pub struct Etcd;
+
+impl Target for Etcd {
+    fn check(&mut self, input: &[u8]) -> Result<(), String> {
+        if let Ok(found) = serde_json::from_slice::<TransactionResult>(input) {
+            of_transaction(found.outcome())?;
+        }
+        if let Ok(found) = serde_json::from_slice::<RangeResult>(input) {
+            let revision = found.revision();
+            of_range(revision, found.pairs.into_iter().map(Pair::from).collect())?;
+        }
+        if let Ok(Streamed {
+            result: Some(found),
+        }) = serde_json::from_slice::<Streamed<WatchResult>>(input)
+        {
+            of_watch(found)?;
+        }
+        if let Ok(refusal) = serde_json::from_slice::<Refusal>(input) {
+            let error = CallError::Refused(refusal);
+            let told = (
+                error.clone().of_write(),
+                error.clone().of_read(),
+                error.clone().of_compaction(),
+                error.of_lease(LeaseId(1)),
+            );
+            holds(!format!("{told:?}").is_empty(), || {
+                "it says nothing".to_owned()
+            })?;
+        }
+        // Numbers alone.
+        let _ = serde_json::from_slice::<Granted>(input).map(|it| it.id);
+        let _ = serde_json::from_slice::<Streamed<Kept>>(input);
+        Ok(())
+    }
+
+    fn words(&self) -> &[&'static [u8]] {
+        &[
+            b"\"header\":{\"revision\":\"7\"}",
+            b"\"succeeded\":true",
+            b"\"responses\":[{\"response_range\":{\"kvs\":[]}}]",
+            b"\"kvs\":[{\"key\":\"YQ==\",\"mod_revision\":\"3\",\"value\":\"Yg==\"}]",
+            b"\"events\":[{\"type\":\"DELETE\",\"kv\":{\"key\":\"YQ==\"}}]",
+            b"\"result\":{",
+            b"\"canceled\":true",
+            b"\"TTL\":\"5\"",
+            b"\"ID\":\"7\"",
+            b"\"code\":8,\"message\":\"etcdserver: mvcc: database space exceeded\"",
+            b"\\ud800",
+            b"null",
+            b"[[[[",
+            b"{},",
+        ]
+    }
+
+    fn seeds(&mut self) -> Vec<Vec<u8>> {
+        let pairs = [Pair {
+            key: b"a".to_vec(),
+            value: b"b".to_vec(),
+            revision: Revision(3),
+        }];
+        let range = range(Revision(7), &pairs);
+        let answers = [
+            json!({"header": {"revision": "7"}, "succeeded": true, "responses": [{"response_put": {}}]}),
+            json!({"header": {"revision": "7"}, "responses": [{"response_range": range}]}),
+            json!({"result": {"header": {"revision": "9"}, "events": [{"kv": stored(&pairs[0])}]}}),
+            json!({"result": {"TTL": "5"}, "ID": "7", "code": 5, "message": "lease not found"}),
+            range,
+        ];
+        answers
+            .iter()
+            .map(|it| it.to_string().into_bytes())
+            .collect()
+    }
+}
+
+/// Its pairs are the same where they are spelled anew.
+fn of_transaction(outcome: Outcome) -> Result<(), String> {
+    let Outcome::Lost(reading) = outcome else {
+        return Ok(());
+    };
+    let range = range(reading.revision, &reading.pairs);
+    let header = json!({"revision": reading.revision.0.to_string()});
+    let spelled = json!({"header": header, "responses": [{"response_range": range}]});
+    let again: TransactionResult = read(&spelled)?;
+    let is_same = matches!(again.outcome(), Outcome::Lost(it) if it == reading);
+    holds(is_same, || format!("{reading:?} is another one"))
+}
+
+fn of_range(revision: Revision, pairs: Vec<Pair>) -> Result<(), String> {
+    // From there on it would be watched.
+    WatchRequest::after(b"record/", revision);
+    let again: RangeResult = read(&range(revision, &pairs))?;
+    let found: Vec<Pair> = again.pairs.into_iter().map(Pair::from).collect();
+    holds(found == pairs, || format!("{pairs:?} are {found:?}"))
+}
+
+fn of_watch(found: WatchResult) -> Result<(), String> {
+    for change in found.events.into_iter().map(Change::from) {
+        let Change {
+            key,
+            value,
+            revision,
+        } = change;
+        let pair = Pair {
+            key,
+            value: value.unwrap_or_default(),
+            revision,
+        };
+        of_range(pair.revision, vec![pair])?;
+    }
+    Ok(())
+}
+
+fn range(revision: Revision, pairs: &[Pair]) -> Value {
+    let pairs: Vec<Value> = pairs.iter().map(stored).collect();
+    json!({"header": {"revision": revision.0.to_string()}, "kvs": pairs})
+}
+
+fn stored(pair: &Pair) -> Value {
+    json!({
+        "key": base64::encode(&pair.key),
+        "value": base64::encode(&pair.value),
+        "mod_revision": pair.revision.0.to_string(),
+    })
+}
+
+fn read<T: serde::de::DeserializeOwned>(spelled: &Value) -> Result<T, String> {
+    serde_json::from_value(spelled.clone()).map_err(|it| format!("{spelled} is refused: {it}"))
+}

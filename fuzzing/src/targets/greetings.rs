@@ -1,0 +1,71 @@
+use crate::chance::Chance;
+use crate::mutator;
+use crate::target::{holds, Target};
+use durkenzo_server::peers::Greeting;
+
+/// How many bytes stand before what the length of a greeting counts, and where that stands.
+const HEAD: usize = 9;
+const LENGTH: usize = 5;
+
+/// How a connection between two processes begins.
+pub struct Greetings;
+
+impl Target for Greetings {
+    fn check(&mut self, input: &[u8]) -> Result<(), String> {
+        let Ok(Some((greeting, end))) = Greeting::read(input) else {
+            return Ok(());
+        };
+        holds(HEAD < end && end <= input.len(), || {
+            format!("a greeting ends at {end}")
+        })?;
+        let short = Greeting::read(&input[..end - 1]);
+        holds(short == Ok(None), || {
+            format!("without its last byte it is {short:?}")
+        })?;
+        let mut spelled = Vec::new();
+        greeting.write(&mut spelled);
+        let again = Greeting::read(&spelled);
+        let is_same = match (&greeting, &again) {
+            // Why is a text for people, which is cut, and in which other bytes are marked.
+            (Greeting::Refusal(_), Ok(Some((Greeting::Refusal(_), length)))) => {
+                *length == spelled.len()
+            }
+            _ => spelled == input[..end],
+        };
+        holds(is_same, || {
+            format!("spelled anew {greeting:?} is {again:?}")
+        })
+    }
+
+    fn words(&self) -> &[&'static [u8]] {
+        &[b"SMP\0", b"\x01\0\0\0", b"a secret", b"\xc3\xbc"]
+    }
+
+    fn seeds(&mut self) -> Vec<Vec<u8>> {
+        let identity = [0, 3, 1, 2, 3, 4, 5, 6, 7, 8];
+        vec![
+            greeted(
+                1,
+                &[&identity[..], &[0, 2, 0, 0, 0, 8], b"a secret"].concat(),
+            ),
+            greeted(1, &[&identity[..], &[0, 2, 0, 0, 0, 0]].concat()),
+            greeted(2, &identity),
+            greeted(3, b"its secret is another one"),
+        ]
+    }
+
+    /// Else all ends at the length.
+    fn spoil(&self, input: &mut Vec<u8>, other: &[u8], chance: &mut Chance) {
+        mutator::spoil(input, other, self.words(), chance);
+        let length = input.len().saturating_sub(HEAD) as u32;
+        if let Some(place) = input.get_mut(LENGTH..HEAD).filter(|_| chance.below(4) > 0) {
+            place.copy_from_slice(&length.to_be_bytes());
+        }
+    }
+}
+
+/// A greeting of this kind.
+fn greeted(kind: u8, rest: &[u8]) -> Vec<u8> {
+    let length = (1 + rest.len()) as u32;
+    [b"SMP\0\x01", &length.to_be_bytes()[..], &[kind], rest].concat()
+}

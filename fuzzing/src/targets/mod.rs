@@ -1,0 +1,25 @@
+//! The parsers.
+mod dump;
+mod etcd;
+mod frames;
+mod greetings;
+mod log;
+mod pattern;
+mod pieces;
+mod records;
+mod resp;
+mod sent;
+mod settings;
+mod sqlite;
+
+pub use dump::Dump;
+pub use etcd::Etcd;
+pub use frames::Frames;
+pub use greetings::Greetings;
+pub use log::Log;
+pub use pattern::Pattern;
+pub use records::Records;
+pub use resp::Resp;
+pub use sent::SentBytes;
+pub use settings::SettingsLine;
+pub use sqlite::SqliteFile;

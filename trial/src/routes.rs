@@ -1,0 +1,58 @@
+use crate::{Client, Plan, Reply};
+
+/// Which server is called for a key, as the servers tell.
+#[derive(Debug, Default)]
+pub(crate) struct Routes {
+    /// Where clients reach the owner of each shard; empty where that isn't known.
+    owners: Vec<String>,
+}
+
+impl Routes {
+    /// Where the key's owner listens; the address of this turn where nobody tells.
+    pub(crate) fn address(&mut self, plan: &Plan, key: &str, turn: u64) -> String {
+        if self.owners.is_empty() {
+            self.owners = read(plan, turn).unwrap_or_default();
+        }
+        let at = hash(key.as_bytes()) as usize % self.owners.len().max(1);
+        match self.owners.get(at) {
+            Some(address) if !address.is_empty() => address.clone(),
+            _ => plan.address(turn).to_owned(),
+        }
+    }
+
+    /// Has them be asked for anew.
+    pub(crate) fn forget(&mut self) {
+        self.owners.clear();
+    }
+}
+
+/// The addresses of the owners, as the server of this turn says: lines of a shard, its owner, and where clients reach
+/// it.
+fn read(plan: &Plan, turn: u64) -> Option<Vec<String>> {
+    let mut client = Client::connect(plan.address(turn), plan.patience).ok()?;
+    let Reply::List(lines) = client.call(&["SM", "ROUTES"]).ok()? else {
+        return None;
+    };
+    let address = |line: &Reply| match line {
+        Reply::Text(Some(it)) | Reply::Line(it) => {
+            let last = it.rsplit(' ').next().unwrap_or_default();
+            last.trim_start_matches('-').to_owned()
+        }
+        _ => String::new(),
+    };
+    Some(lines.iter().skip(1).map(address).collect())
+}
+
+/// The sum by which the server spreads keys without braces.
+fn hash(bytes: &[u8]) -> u64 {
+    const ODD: u64 = 0x9e37_79b9_7f4a_7c15;
+    let add = |sum: u64, word| (sum.rotate_left(29) ^ u64::from_le_bytes(word)).wrapping_mul(ODD);
+    let chunks = bytes.chunks(8).map(|it| {
+        let mut word = [0; 8];
+        word[..it.len()].copy_from_slice(it);
+        word
+    });
+    let sum = chunks.fold(bytes.len() as u64, add);
+    let sum = (sum ^ sum >> 32).wrapping_mul(ODD);
+    sum ^ sum >> 29
+}

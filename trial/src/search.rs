@@ -1,0 +1,225 @@
+use crate::events::Events;
+use crate::linearizable::Verdict;
+use crate::taken::Taken;
+use crate::{Call, Model};
+use std::collections::HashMap;
+use std::time::Instant;
+
+/// After how many steps it is looked whether it is time to give up.
+const STEPS: u64 = 1_024;
+
+/// A call that may come next.
+#[derive(Clone, Copy)]
+enum Next {
+    /// One with an answer, by its beginning among the events.
+    Answered(usize),
+    /// One without, by its number.
+    Open(usize),
+}
+
+/// A call without answer.
+struct Open<'a, I> {
+    input: &'a I,
+    began: u64,
+    /// The one before it that asks the same.
+    twin: Option<usize>,
+}
+
+/// What was met: the calls with an answer that are in the order, and the state after it.
+type Met<S> = ((usize, Box<[u64]>), S);
+
+/// A search for an order, which tries calls with an answer first.
+pub(crate) struct Search<'a, M: Model> {
+    answered: Vec<&'a Call<M::Input, M::Output>>,
+    open: Vec<Open<'a, M::Input>>,
+    events: Events,
+    state: M::State,
+    taken: Taken,
+    open_taken: Taken,
+    /// What was met, each with the fewest calls without answer that led there: no such call has to be made, so whatever
+    /// follows with more of them follows with fewer.
+    seen: HashMap<Met<M::State>, Vec<Box<[u64]>>>,
+    /// How often something was met.
+    met: usize,
+    /// The calls in the order, with the state before each.
+    order: Vec<(Next, M::State)>,
+}
+
+impl<'a, M: Model> Search<'a, M> {
+    pub(crate) fn new(calls: &'a [Call<M::Input, M::Output>]) -> Search<'a, M> {
+        let (mut answered, mut without): (Vec<_>, Vec<_>) =
+            calls.iter().partition(|it| it.output.is_some());
+        // In this order what is taken lies close together.
+        answered.sort_by_key(|it| it.began);
+        without.sort_by_key(|it| it.began);
+        let open: Vec<_> = without
+            .iter()
+            .enumerate()
+            .map(|(at, it)| Open {
+                input: &it.input,
+                began: it.began,
+                twin: without[..at]
+                    .iter()
+                    .rposition(|other| other.input == it.input),
+            })
+            .collect();
+        Search {
+            events: Events::new(answered.iter().copied()),
+            taken: Taken::new(answered.len()),
+            open_taken: Taken::new(open.len()),
+            answered,
+            open,
+            state: M::State::default(),
+            seen: HashMap::new(),
+            met: 0,
+            order: Vec::new(),
+        }
+    }
+
+    /// Searches, and gives up where it has met so much, or then.
+    pub(crate) fn result(mut self, most: usize, end: Option<Instant>) -> Verdict {
+        let (mut next, mut steps) = (self.first(), 0);
+        while !self.events.is_empty() {
+            let is_late = steps % STEPS == 0 && end.is_some_and(|it| Instant::now() >= it);
+            if is_late || self.met >= most {
+                return Verdict::Undecided;
+            }
+            steps += 1;
+            next = match next {
+                Some(it) if self.take(it) => self.first(),
+                Some(it) => self.after(it),
+                None => match self.take_back() {
+                    Some(last) => self.after(last),
+                    None => return Verdict::Wrong,
+                },
+            };
+        }
+        Verdict::Linearizable
+    }
+
+    fn first(&self) -> Option<Next> {
+        let answered = self.events.first().map(Next::Answered);
+        answered.or_else(|| self.open_from(0))
+    }
+
+    /// What is tried where this one can't come next.
+    fn after(&self, last: Next) -> Option<Next> {
+        match last {
+            Next::Answered(at) => self
+                .events
+                .next(at)
+                .map(Next::Answered)
+                .or_else(|| self.open_from(0)),
+            Next::Open(number) => self.open_from(number + 1),
+        }
+    }
+
+    /// A call without answer from this number on that has begun, and of those that ask the same is the first.
+    fn open_from(&self, number: usize) -> Option<Next> {
+        let end = self.events.first_end();
+        (number..self.open.len())
+            .take_while(|it| self.open[*it].began <= end)
+            .find(|it| {
+                let is_first = self.open[*it].twin.is_none_or(|it| self.open_taken.has(it));
+                is_first && !self.open_taken.has(*it)
+            })
+            .map(Next::Open)
+    }
+
+    /// Has this call come next, where its answer and what was tried allow it.
+    fn take(&mut self, next: Next) -> bool {
+        let (input, output) = match next {
+            Next::Answered(at) => {
+                let call = self.answered[self.events.call(at)];
+                (&call.input, call.output.as_ref())
+            }
+            Next::Open(number) => (self.open[number].input, None),
+        };
+        let (state, found) = M::step(&self.state, input);
+        if output.map_or(state == self.state, |it| *it != found) {
+            // It was answered otherwise, or without an answer it does nothing.
+            return false;
+        }
+        if self.is_tried_otherwise(next, (input, output), &state) {
+            return false;
+        }
+        self.mark(next, true);
+        if !self.is_new(&state) {
+            self.mark(next, false);
+            return false;
+        }
+        self.order
+            .push((next, std::mem::replace(&mut self.state, state)));
+        if let Next::Answered(at) = next {
+            self.events.take(at);
+        }
+        true
+    }
+
+    /// Notes what the order has come to, with this state; whether it wasn't met with as few calls without answer.
+    fn is_new(&mut self, state: &M::State) -> bool {
+        let met = self
+            .seen
+            .entry((self.taken.key(), state.clone()))
+            .or_default();
+        let open = self.open_taken.bits();
+        if met.iter().any(|it| is_part(it, open)) {
+            return false;
+        }
+        met.retain(|it| !is_part(open, it));
+        met.push(open.into());
+        self.met += 1;
+        true
+    }
+
+    /// Whether the last call of the order has no answer, and this one comes to the same state without it, which leaves
+    /// more, or before it: that is tried too. So such a call comes as late as it may, and of several that make no
+    /// difference to each other the first comes first.
+    fn is_tried_otherwise(
+        &self,
+        next: Next,
+        (input, output): (&M::Input, Option<&M::Output>),
+        state: &M::State,
+    ) -> bool {
+        let Some((Next::Open(last), before)) = self.order.last() else {
+            return false;
+        };
+        let (without, found) = M::step(before, input);
+        if output.is_some_and(|it| *it != found) {
+            return false;
+        }
+        let may_come_before = match next {
+            Next::Answered(_) => true,
+            Next::Open(number) => number < *last,
+        };
+        without == *state
+            || may_come_before && M::step(&without, self.open[*last].input).0 == *state
+    }
+
+    /// Takes the last call of the order back.
+    fn take_back(&mut self) -> Option<Next> {
+        let (last, state) = self.order.pop()?;
+        self.state = state;
+        self.mark(last, false);
+        if let Next::Answered(at) = last {
+            self.events.put_back(at);
+        }
+        Some(last)
+    }
+
+    fn mark(&mut self, next: Next, is_taken: bool) {
+        let (set, number) = match next {
+            Next::Answered(at) => (&mut self.taken, self.events.call(at)),
+            Next::Open(number) => (&mut self.open_taken, number),
+        };
+        match is_taken {
+            true => set.add(number),
+            false => set.remove(number),
+        }
+    }
+}
+
+/// Whether all of these calls are among the others.
+fn is_part(some: &[u64], others: &[u64]) -> bool {
+    some.iter().zip(others).all(|(it, other)| it & !other == 0)
+}

@@ -1,0 +1,76 @@
+//! What a report says of histories: counts of numbered requests, and the longest time without an answer.
+use durkenzo_trial::{Answer, Call, Command, History, Report};
+use std::time::{Duration, Instant};
+
+fn in_time() -> Instant {
+    Instant::now() + Duration::from_secs(60)
+}
+
+fn incr(began: u64, answer: Option<i64>) -> Call<Command, Answer> {
+    let output = answer.map(Answer::Number);
+    Call {
+        input: Command::Incr,
+        output,
+        began,
+        ended: began + 1,
+    }
+}
+
+fn get(began: u64, text: &str) -> Call<Command, Answer> {
+    Call {
+        input: Command::Get,
+        output: Some(Answer::Text(Some(text.to_owned()))),
+        began,
+        ended: began + 1,
+    }
+}
+
+fn report(key: &str, calls: Vec<Call<Command, Answer>>) -> Report {
+    let mut history = History::default();
+    history.calls.insert(key.to_owned(), calls);
+    Report::of(&history, in_time())
+}
+
+#[test]
+fn finds_numbered_requests_that_were_made_twice_or_never() {
+    let key = "trial:0:count:3";
+    let of = |last: &str| {
+        vec![
+            incr(0, Some(1)),
+            incr(2, None),
+            incr(4, Some(2)),
+            get(6, last),
+        ]
+    };
+    // The one without answer may be made at last, or never.
+    for last in ["2", "3"] {
+        assert!(report(key, of(last)).is_right(), "{last}");
+    }
+    for last in ["1", "4"] {
+        let found = report(key, of(last));
+        assert_eq!(
+            (found.miscounted.len(), found.wrong.len()),
+            (1, 1),
+            "{last}"
+        );
+    }
+    // Of other keys nothing is counted.
+    assert!(report("trial:0:3", of("4")).miscounted.is_empty());
+}
+
+#[test]
+fn tells_the_longest_time_without_an_answer() {
+    let calls = vec![
+        incr(0, Some(1)),
+        incr(2, Some(2)),
+        incr(100, Some(3)),
+        incr(150, None),
+    ];
+    let longest = report("trial:0:3", calls).longest;
+    assert_eq!(longest, (98, "3".to_owned(), 3));
+}
+
+#[test]
+fn is_not_right_without_calls() {
+    assert!(!Report::of(&History::default(), in_time()).is_right());
+}

@@ -1,0 +1,300 @@
+//! The checker on histories in which many calls have no answer: each was made at any later moment, or never.
+use durkenzo_trial::{judge, judge_until, Answer, Call, Command, Model, Register, Verdict};
+use std::time::{Duration, Instant};
+
+const SEED: u64 = 0x9e37_79b9_7f4a_7c15;
+
+/// Numbers that a seed gives.
+struct Chance(u64);
+
+impl Chance {
+    fn below(&mut self, bound: u64) -> u64 {
+        self.0 ^= self.0 << 13;
+        self.0 ^= self.0 >> 7;
+        self.0 ^= self.0 << 17;
+        self.0 % bound
+    }
+}
+
+fn command(chance: &mut Chance, at: u64) -> Command {
+    match chance.below(10) {
+        0 | 1 => Command::Set(format!("{at}x")),
+        2 => Command::Set(at.to_string()),
+        3 | 4 => Command::Incr,
+        5 => Command::Append(format!("+{at}")),
+        6 => Command::Del,
+        _ => Command::Get,
+    }
+}
+
+/// A history that one thread made, some calls without answer; of these some are made long after, and some never.
+fn history(
+    chance: &mut Chance,
+    count: u64,
+    one_in: u64,
+    spread: u64,
+) -> Vec<Call<Command, Answer>> {
+    let (mut state, mut calls, mut waiting) = (None, Vec::new(), Vec::new());
+    for at in 0..count {
+        let (input, moment) = (command(chance, at), 1_000 + at * 10);
+        let began = moment - chance.below(spread);
+        if one_in > 0 && chance.below(one_in) == 0 {
+            waiting.push((
+                moment + chance.below(20) * chance.below(20) * 10,
+                input.clone(),
+            ));
+            calls.push(Call {
+                input,
+                output: None,
+                began,
+                ended: 0,
+            });
+            continue;
+        }
+        // A third of those without answer is never made.
+        waiting.retain(|(due, input)| {
+            let is_due = *due <= moment;
+            if is_due && chance.below(3) > 0 {
+                state = Register::step(&state, input).0;
+            }
+            !is_due
+        });
+        let (next, output) = Register::step(&state, &input);
+        state = next;
+        calls.push(Call {
+            input,
+            output: Some(output),
+            began,
+            ended: moment + 1 + chance.below(spread),
+        });
+    }
+    calls
+}
+
+/// Tries all orders.
+fn has_order(calls: &[Call<Command, Answer>], taken: u32, state: &Option<String>) -> bool {
+    let left = |it: &usize| taken >> it & 1 == 0;
+    let answered = (0..calls.len()).filter(|it| left(it) && calls[*it].output.is_some());
+    let Some(end) = answered.map(|it| calls[it].ended).min() else {
+        return true;
+    };
+    (0..calls.len()).filter(left).any(|it| {
+        let (next, found) = Register::step(state, &calls[it].input);
+        let explains = calls[it].output.as_ref().is_none_or(|it| *it == found);
+        calls[it].began <= end && explains && has_order(calls, taken | 1 << it, &next)
+    })
+}
+
+#[test]
+fn finds_what_all_orders_find() {
+    let (mut wrong, mut right) = (0, 0);
+    for seed in 1..3_000 {
+        let mut chance = Chance(SEED.wrapping_mul(seed));
+        let mut calls = history(&mut chance, 8, 3, 60);
+        let at = chance.below(8) as usize;
+        if chance.below(2) == 0 && calls[at].output.is_some() {
+            let other = calls[chance.below(8) as usize].output.clone();
+            calls[at].output = other.or(calls[at].output.take());
+        }
+        let wanted = match has_order(&calls, 0, &None) {
+            true => Verdict::Linearizable,
+            false => Verdict::Wrong,
+        };
+        assert_eq!(judge::<Register>(&calls), wanted, "seed {seed}: {calls:#?}");
+        match wanted {
+            Verdict::Wrong => wrong += 1,
+            _ => right += 1,
+        }
+    }
+    assert!(wrong > 100 && right > 100, "{wrong} wrong, {right} right");
+}
+
+#[test]
+fn takes_long_histories() {
+    for seed in 1..20 {
+        let mut chance = Chance(SEED.wrapping_mul(seed));
+        let calls = history(&mut chance, 600, 40, 20);
+        assert_eq!(
+            judge::<Register>(&calls),
+            Verdict::Linearizable,
+            "seed {seed}"
+        );
+    }
+}
+
+/// Of each kind of wrong answer one in a long history of which a part has no answer.
+#[test]
+fn finds_wrong_answers_in_long_histories() {
+    let set = |at: u64, text: &str| answered(at, Command::Set(text.to_owned()), Answer::Done);
+    let get = |at: u64, text: &str| answered(at, Command::Get, Answer::Text(Some(text.to_owned())));
+    let incr = |at: u64, number: i64| answered(at, Command::Incr, Answer::Number(number));
+    let planted: [(&str, Vec<_>); 5] = [
+        ("a lost update", vec![set(1, "5"), incr(2, 6), incr(3, 6)]),
+        (
+            "a doubled increment",
+            vec![set(1, "5"), incr(2, 6), incr(3, 8)],
+        ),
+        ("a stale read", vec![set(1, "5"), set(2, "6"), get(3, "5")]),
+        (
+            "a write that goes",
+            vec![set(1, "5"), get(2, "5"), get(3, "4"), get(4, "5")],
+        ),
+        (
+            "a write made again",
+            vec![
+                open(0, "w"),
+                set(1, "5"),
+                get(2, "w"),
+                set(3, "6"),
+                get(4, "w"),
+            ],
+        ),
+    ];
+    for (name, last) in planted {
+        for seed in 1..6 {
+            let mut calls = history(&mut Chance(SEED.wrapping_mul(seed)), 300, 40, 20);
+            assert_eq!(
+                judge::<Register>(&calls),
+                Verdict::Linearizable,
+                "{name}, seed {seed}"
+            );
+            // Those without answer write nothing that is read here.
+            calls.retain(|it| {
+                it.output.is_some() || !matches!(it.input, Command::Incr | Command::Set(_))
+            });
+            calls.extend(last.clone());
+            assert_ne!(
+                judge::<Register>(&calls),
+                Verdict::Linearizable,
+                "{name}, seed {seed}"
+            );
+        }
+    }
+}
+
+fn answered(at: u64, input: Command, output: Answer) -> Call<Command, Answer> {
+    let began = 1_000_000 + at * 10;
+    Call {
+        input,
+        output: Some(output),
+        began,
+        ended: began + 5,
+    }
+}
+
+fn open(at: u64, text: &str) -> Call<Command, Answer> {
+    let input = Command::Set(text.to_owned());
+    Call {
+        input,
+        output: None,
+        began: 1_000_000 + at * 10,
+        ended: 0,
+    }
+}
+
+/// A write without answer may be made at any later moment, once.
+#[test]
+fn takes_a_write_that_comes_late() {
+    let text = |it: &str| Answer::Text(Some(it.to_owned()));
+    let set = answered(1, Command::Set("5".to_owned()), Answer::Done);
+    let (five, late) = (
+        |at| answered(at, Command::Get, text("5")),
+        |at| answered(at, Command::Get, text("w")),
+    );
+    let calls = vec![open(0, "w"), set, five(2), late(3), late(4)];
+    assert_eq!(judge::<Register>(&calls), Verdict::Linearizable);
+    let again = [calls.clone(), vec![five(5)]].concat();
+    assert_eq!(judge::<Register>(&again), Verdict::Wrong);
+    // An increment without answer counts once at most.
+    let incr = Call {
+        input: Command::Incr,
+        output: None,
+        began: 0,
+        ended: 0,
+    };
+    let (one, two) = (
+        answered(1, Command::Incr, Answer::Number(1)),
+        answered(2, Command::Get, text("2")),
+    );
+    assert_eq!(
+        judge::<Register>(&[incr.clone(), one.clone(), two.clone()]),
+        Verdict::Linearizable
+    );
+    let three = answered(2, Command::Get, text("3"));
+    assert_eq!(
+        judge::<Register>(&[incr.clone(), one.clone(), three.clone()]),
+        Verdict::Wrong
+    );
+    assert_eq!(
+        judge::<Register>(&[incr.clone(), incr, one, three]),
+        Verdict::Linearizable
+    );
+}
+
+/// As many calls as clients make of one key in a trial, of which as many have no answer as its key may have: an order
+/// is found, and a read of the past by the last of them is found too, in seconds.
+#[test]
+fn decides_what_a_key_of_a_trial_has() {
+    let in_time = || Instant::now() + Duration::from_secs(20);
+    for seed in 1..6 {
+        let mut calls = history(&mut Chance(SEED.wrapping_mul(seed)), 2_000, 0, 20);
+        let open = calls.iter().skip(500).filter(|it| it.input != Command::Get);
+        let open: Vec<_> = open.step_by(200).take(12).cloned().collect();
+        calls.extend(open.into_iter().map(|it| Call {
+            output: None,
+            input: Command::Set(format!("lost{}", it.began)),
+            ..it
+        }));
+        let right = judge_until::<Register>(&calls, in_time());
+        assert_eq!(right, Verdict::Linearizable, "seed {seed}");
+        calls.push(answered(1, Command::Set("5".to_owned()), Answer::Done));
+        calls.push(answered(2, Command::Set("6".to_owned()), Answer::Done));
+        let text = Answer::Text(Some("5".to_owned()));
+        calls.push(answered(3, Command::Get, text));
+        let wrong = judge_until::<Register>(&calls, in_time());
+        assert_eq!(wrong, Verdict::Wrong, "seed {seed}");
+    }
+}
+
+/// Calls without answer that make no difference to what follows are tried once, and not at each place.
+#[test]
+fn decides_where_calls_without_answer_make_no_difference() {
+    let mut calls = vec![answered(0, Command::Set("word".to_owned()), Answer::Done)];
+    calls.extend((0..20).map(|it| open(1, &format!("lost{it}"))));
+    let later = |at| answered(at, Command::Incr, Answer::NoNumber);
+    calls.extend((2..200).map(later));
+    for (text, wanted) in [
+        ("word", Verdict::Linearizable),
+        ("lost7", Verdict::Linearizable),
+        ("other", Verdict::Wrong),
+    ] {
+        let last = answered(200, Command::Get, Answer::Text(Some(text.to_owned())));
+        let whole = [calls.clone(), vec![last]].concat();
+        assert_eq!(judge::<Register>(&whole), wanted, "{text}");
+    }
+}
+
+/// What has more orders than can be tried is given up when the time is over.
+#[test]
+fn gives_up_in_time() {
+    let append = |at: u64| Call {
+        input: Command::Append(format!("+{at}")),
+        output: None,
+        began: at,
+        ended: 0,
+    };
+    let mut calls: Vec<_> = (0..40).map(append).collect();
+    calls.push(answered(
+        1,
+        Command::Get,
+        Answer::Text(Some("no order gives it".to_owned())),
+    ));
+    let began = Instant::now();
+    let found = judge_until::<Register>(&calls, began + Duration::from_millis(100));
+    assert_eq!(found, Verdict::Undecided);
+    assert!(
+        began.elapsed() < Duration::from_secs(10),
+        "{:?}",
+        began.elapsed()
+    );
+}
