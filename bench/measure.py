@@ -3,8 +3,8 @@
 What is timed on our side is a crate that only these scripts prove, when somebody measures: bench/NAME/crate, and
 bench/crates.list says what it stands on. It is proved and built in a tree outside of the repository (tools/beside.py),
 over what earlier runs kept there: many minutes the first time, with the crates below, and seconds where nothing
-changed. How far that is goes to standard error, what was measured to standard output. What fails ends the script with
-exit status 1, after its reason. A crate is proved without measuring by
+changed. How far that is goes to standard error, what was measured to standard output, and rows to where bench/rows.py
+says. What fails ends the script with exit status 1, after its reason. A crate is proved without measuring by
 
     cd "$(python3 tools/beside.py bench)/crates/bench_rule" && rt check
 """
@@ -19,6 +19,9 @@ import sys
 sys.dont_write_bytecode = True
 sys.path.insert(0, str(pathlib.Path(__file__).resolve().parent.parent / "tools"))
 import beside
+import exported
+import runs
+import without_proof
 
 
 def need(*commands):
@@ -36,14 +39,46 @@ def said(*command):
     return ran.stdout.strip()
 
 
-def program(crate):
-    """Proves and builds a crate that is a program, and returns the program."""
-    return proved(crate, "run") / crate
+def lib(crate):
+    """Proves and builds the library of a crate of crates.txt, and returns the folder that holds it."""
+    folder = beside.TOP / "crates" / crate
+    if subprocess.run(["rt", "lib"], cwd=folder, stdin=subprocess.DEVNULL, stdout=sys.stderr).returncode:
+        sys.exit("`rt lib` in %s failed, and says why above" % folder)
+    # What is as it was isn't written again, and bench/proved.py asks what is newer.
+    (folder / "out" / f"lib{crate}.a").touch()
+    return folder / "out"
 
 
-def library(crate):
-    """Proves and builds a crate that is a static library, and returns the folder that holds it."""
-    return proved(crate, "lib")
+def unproved_libraries():
+    """Builds the libraries that programs in Rust and C link without proof, and returns the folder that holds them."""
+    return told_unbuilt(without_proof.libraries)
+
+
+def served(is_unproved):
+    """Builds the server for Redis clients over the proved libraries, or over others; returns the program."""
+    serve = runs.loaded("serve")
+    try:
+        return serve.built(unproved_libraries if is_unproved else serve.proved_library)
+    except serve.Missing as missing:
+        sys.exit(str(missing))
+
+
+def program(crate, is_unproved):
+    """Proves and builds a crate that is a program, or builds it without proof, and returns the program."""
+    return told_unbuilt(without_proof.program, crate) if is_unproved else proved(crate, "run") / crate
+
+
+def library(crate, is_unproved):
+    """Proves and builds a crate that is a static library, or builds it without proof; returns the folder that holds
+    it."""
+    return told_unbuilt(without_proof.library, crate) if is_unproved else proved(crate, "lib")
+
+
+def told_unbuilt(build, *crates):
+    try:
+        return build(*crates)
+    except exported.NotBuilt as why:
+        sys.exit(str(why))
 
 
 def proved(crate, command):
@@ -56,6 +91,7 @@ def proved(crate, command):
     ran = subprocess.run(["rt", command], cwd=folder, stdin=subprocess.DEVNULL, stdout=sys.stderr)
     if ran.returncode:
         sys.exit("`rt %s` in %s ended with %d, and says why above" % (command, folder, ran.returncode))
+    (folder / "out" / (crate if command == "run" else f"lib{crate}.a")).touch()
     return folder / "out"
 
 
@@ -68,12 +104,17 @@ def in_rust(folder, **environment):
     return folder / "target/release" / folder.name
 
 
-def linked(folder, crate):
+def linked(folder, crate, is_unproved):
     """Builds the Rust program of a bench's folder, linked with our static library and what its allocator is in C."""
     need("cargo")
-    built = library(crate)
+    built = library(crate, is_unproved)
     toolchain = pathlib.Path(shutil.which("rt")).resolve().parent.parent
     return in_rust(folder, PROVED=str(built), KIT_C=str(toolchain / "c"))
+
+
+def quotients(ours, theirs):
+    """The ratios within each round."""
+    return [one / other for one, other in zip(ours, theirs)]
 
 
 def middle(values, digits=0):
@@ -84,7 +125,7 @@ def middle(values, digits=0):
 
 def ratios(ours, theirs):
     """The median of the ratios within each round, with the quartiles."""
-    return middle([one / other for one, other in zip(ours, theirs)], 2)
+    return middle(quotients(ours, theirs), 2)
 
 
 def circumstances(load_before, rounds):

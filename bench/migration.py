@@ -38,6 +38,16 @@ def free_port():
                 return port
 
 
+def wait(port, process):
+    for _ in range(200):
+        if process.poll() is not None:
+            sys.exit(f"{process.args[0]} ended with {process.returncode}")
+        with contextlib.suppress(OSError), socket.create_connection(("127.0.0.1", port), 1):
+            return
+        time.sleep(0.05)
+    sys.exit(f"{process.args[0]} doesn't listen")
+
+
 class Asker:
     """A client that follows a slot from node to node."""
 
@@ -165,12 +175,14 @@ def of_ours(port):
         return under_load(port, works), took[0]
 
 
-def table(rounds):
+def table(rounds, bench):
     """Rows of the longest requests, in milliseconds: the middle of the rounds, and the longest of all."""
     print("| request | Redis, nothing moves | a slot moves | ours, nothing moves | a shard moves |")
     print("|---|---|---|---|---|")
     for kind in REQUESTS:
         columns = [[side[0][kind][phase] for side in sides] for sides in zip(*rounds) for phase in (0, 1)]
+        for what, longest in zip(("nothing moves", "a shard moves"), columns[2:]):
+            bench.row(f"the longest {kind}, {what}", "", longest, "ms")
         print(f"| {kind} | {' | '.join(f'{statistics.median(it):.1f} (at most {max(it):.1f})' for it in columns)} |")
     slots, shards = ([side[1] for side in sides] for sides in zip(*rounds))
     print(

@@ -1,5 +1,6 @@
 //! Times looks, admissions and notes on a board of 4,096 shards: the proved board of bench_rule of crate/, atomic words in Rust, and a
 //! lock for each shard in Rust, in alternating rounds. Each line is a row, a way, its round and its nanoseconds for each operation.
+//! With a row, a way and a number it makes so many operations that way alone, so that a profiler sees these.
 
 mod board;
 mod choice;
@@ -70,8 +71,18 @@ fn measure(row: &Row, round: usize) {
     assert!(answers.iter().all(|answer| *answer == answers[0]), "{}: the ways answer {answers:?}", row.name);
 }
 
+fn make(name: &str, way: &str, operations: u64) {
+    let row = ROWS.iter().find(|row| row.name == name).expect("a row");
+    let (_, of_way) = row.ways.iter().find(|it| it.0 == way).expect("a way");
+    println!("{}", of_way(operations));
+}
+
 fn main() {
-    let rounds = std::env::args().nth(1).and_then(|word| word.parse().ok()).expect("a number of rounds");
+    let words: Vec<String> = std::env::args().skip(1).collect();
+    if let [row, way, operations] = words.as_slice() {
+        return make(row, way, operations.parse().expect("a number of operations"));
+    }
+    let rounds = words.first().and_then(|word| word.parse().ok()).expect("a number of rounds");
     for round in 0..rounds {
         for row in &ROWS {
             measure(row, round);

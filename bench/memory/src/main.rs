@@ -1,6 +1,7 @@
 //! Times whole runs of bench_map of crate/ against the same runs over Rust's own memory and maps, in turn, and compares the answers.
 //! Each line names a run, and has the nanoseconds of an operation on both sides in one round. With three arguments it only fills a map, so
-//! that a heap profiler sees what that takes: whose (`none`, `ours`, `rebuilt` or `theirs`), how many keys, and in which order.
+//! that a heap profiler sees what that takes: whose (`none`, `ours`, `rebuilt` or `theirs`), how many keys, and in which order. With
+//! `scan`, whose, how many keys and how many turns it only scans, for other profilers.
 
 mod ours;
 mod theirs;
@@ -129,8 +130,18 @@ fn fill(whose: &str, count: u32, order: &str) {
     assert_eq!(answer, u64::from(count), "{whose}: keys are missing");
 }
 
+/// Scans so often from keys at random.
+fn scan(whose: &str, count: u32, turns: usize) {
+    let rows = Rows { order: at_random(count, turns), ..rows_of(count) };
+    let run = if whose == "ours" { ours::scan } else { theirs::scan };
+    println!("{}", run(&rows));
+}
+
 fn main() {
     let words: Vec<String> = std::env::args().skip(1).collect();
+    if let [_, whose, count, turns] = words.as_slice() {
+        return scan(whose, count.parse().expect("a number of keys"), turns.parse().expect("a number of turns"));
+    }
     if let [whose, count, order] = words.as_slice() {
         return fill(whose, count.parse().expect("a number of keys"), order);
     }

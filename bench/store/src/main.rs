@@ -1,10 +1,7 @@
 //! Times the steps of a proved server of a shared store: 10,000 clients put texts of 32 bytes at 10,000 keys of 16, in batches of 100. While
 //! requests come, 100 others are in a transaction that isn't made yet. Each line names a step, and has its nanoseconds in one round.
 
-mod raw;
-
-use raw::{Answer, Forward, Handle, Numbers, Reply};
-use std::ptr::null_mut;
+use durkenzo_store_sys::calls::{self, Answer, Forward, Handle, Reply, SentNumbers};
 use std::time::Instant;
 
 const CLIENTS: u64 = 10_000;
@@ -67,12 +64,9 @@ fn timed<T>(total: &mut f64, run: impl FnOnce() -> T) -> T {
 // Of all calls below: the handle is this value's alone, and pointers go with their lengths.
 impl Server {
     fn new() -> Server {
-        let mut handle = Handle {
-            full: false,
-            owned: null_mut(),
-        };
+        let mut handle = Handle::empty();
         must(
-            unsafe { raw::durkenzo_server(&mut handle, 1, 0, 1, 1_000_000, 100, 1_000, 20_000) },
+            unsafe { calls::durkenzo_server(&mut handle, 1, 0, 1, 1_000_000, 100, 1_000, 20_000) },
             OK,
             "a server",
         );
@@ -83,7 +77,7 @@ impl Server {
         head[0] = 1;
         must(
             unsafe {
-                raw::durkenzo_server_read(
+                calls::durkenzo_server_read(
                     &mut handle,
                     record.as_ptr(),
                     record.len(),
@@ -108,7 +102,7 @@ impl Server {
     fn take(&mut self, client: u64, number: u64, request: &[u8], wanted: u32) {
         let (mut reply, mut forward) = (Reply::default(), Forward::default());
         let code = unsafe {
-            raw::durkenzo_server_take(
+            calls::durkenzo_server_take(
                 &mut self.handle,
                 client,
                 number,
@@ -148,7 +142,7 @@ impl Server {
     fn flush(&mut self) {
         let mut sends = false;
         must(
-            unsafe { raw::durkenzo_server_flush(&mut self.handle, &mut sends) },
+            unsafe { calls::durkenzo_server_flush(&mut self.handle, &mut sends) },
             OK,
             "a flush",
         );
@@ -156,10 +150,10 @@ impl Server {
     }
 
     fn sending(&mut self) {
-        let mut numbers = Numbers::default();
+        let mut numbers = SentNumbers::default();
         let (into, room) = (self.room.as_mut_ptr(), self.room.len());
         must(
-            unsafe { raw::durkenzo_server_sending(&mut self.handle, &mut numbers, into, room) },
+            unsafe { calls::durkenzo_server_sending(&mut self.handle, &mut numbers, into, room) },
             OK,
             "what is sent",
         );
@@ -171,7 +165,7 @@ impl Server {
         self.revision += 1;
         must(
             unsafe {
-                raw::durkenzo_server_made(&mut self.handle, self.revision, &mut made, &mut read)
+                calls::durkenzo_server_made(&mut self.handle, self.revision, &mut made, &mut read)
             },
             OK,
             "what was made",
@@ -184,14 +178,16 @@ impl Server {
         let (into, room) = (self.room.as_mut_ptr(), self.room.len());
         for at in 0..made {
             must(
-                unsafe { raw::durkenzo_server_answer(&mut self.handle, at, &mut answer) },
+                unsafe { calls::durkenzo_server_answer(&mut self.handle, at, &mut answer) },
                 OK,
                 "an answer",
             );
         }
         for at in 0..read {
             must(
-                unsafe { raw::durkenzo_server_text(&mut self.handle, at, &mut answer, into, room) },
+                unsafe {
+                    calls::durkenzo_server_text(&mut self.handle, at, &mut answer, into, room)
+                },
                 OK,
                 "a text",
             );
@@ -281,5 +277,5 @@ fn main() {
     for _ in 0..rounds {
         round(&mut server);
     }
-    unsafe { raw::durkenzo_server_close(&mut server.handle) }
+    unsafe { calls::durkenzo_server_close(&mut server.handle) }
 }

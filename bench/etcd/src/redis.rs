@@ -1,0 +1,132 @@
+use crate::{Caller, KEYS};
+use std::io::{BufRead, BufReader, Read, Write};
+use std::net::TcpStream;
+use std::time::Duration;
+
+/// How long an answer is waited for.
+const PATIENCE: Duration = Duration::from_secs(30);
+
+/// A client of servers.
+pub(crate) struct Redis {
+    streams: Vec<Stream>,
+    /// For each shard, which of the streams is asked.
+    routes: Vec<usize>,
+    writes: bool,
+    name: u64,
+}
+
+impl Redis {
+    /// One with a name of its own, which asks this server for keys of so many shards.
+    pub(crate) fn of_one(address: &str, shards: usize, name: u64) -> Result<Redis, String> {
+        Ok(Redis {
+            streams: vec![Stream::connect(address)?],
+            routes: vec![0; shards],
+            writes: true,
+            name,
+        })
+    }
+
+    /// One that asks for each key the server that owns its shard, as this one tells.
+    pub(crate) fn of_owners(address: &str, name: u64) -> Result<Redis, String> {
+        let (mut streams, mut routes) = (Vec::new(), Vec::new());
+        let mut known: Vec<String> = Vec::new();
+        for owner in Stream::connect(address)?.owners()? {
+            let place = known.iter().position(|it| *it == owner);
+            routes.push(place.unwrap_or(known.len()));
+            if place.is_none() {
+                streams.push(Stream::connect(&owner)?);
+                known.push(owner);
+            }
+        }
+        Ok(Redis {
+            streams,
+            routes,
+            writes: true,
+            name,
+        })
+    }
+}
+
+impl Caller for Redis {
+    /// Writes all of its keys.
+    fn prepare(&mut self, writes: bool) -> Result<(), String> {
+        (0..KEYS).try_for_each(|it| self.call(it))?;
+        self.writes = writes;
+        Ok(())
+    }
+
+    fn call(&mut self, number: u64) -> Result<(), String> {
+        let at = number % KEYS;
+        let shard = (self.name + at) as usize % self.routes.len();
+        let key = format!("{shard:04}:{:05}:{at:02}", self.name);
+        let length = key.len();
+        let asked = match self.writes {
+            true => format!("*3\r\n$3\r\nSET\r\n${length}\r\n{key}\r\n$32\r\n{number:032}\r\n"),
+            false => format!("*2\r\n$3\r\nGET\r\n${length}\r\n{key}\r\n"),
+        };
+        let stream = &mut self.streams[self.routes[shard]];
+        match stream.ask(&asked)? {
+            "+OK" => Ok(()),
+            "$32" => stream.skip_text(),
+            other => Err(format!("{key} is answered {other:?}")),
+        }
+    }
+}
+
+/// A connection to a server.
+struct Stream {
+    stream: BufReader<TcpStream>,
+    line: String,
+}
+
+impl Stream {
+    fn connect(address: &str) -> Result<Stream, String> {
+        let connected = TcpStream::connect(address).and_then(|it| {
+            it.set_nodelay(true)?;
+            it.set_read_timeout(Some(PATIENCE))?;
+            Ok(it)
+        });
+        Ok(Stream {
+            stream: BufReader::new(connected.map_err(|error| format!("{address}: {error}"))?),
+            line: String::new(),
+        })
+    }
+
+    /// The first line of the answer.
+    fn ask(&mut self, asked: &str) -> Result<&str, String> {
+        let sent = self.stream.get_mut().write_all(asked.as_bytes());
+        sent.map_err(|error| error.to_string())?;
+        self.next_line()
+    }
+
+    fn next_line(&mut self) -> Result<&str, String> {
+        self.line.clear();
+        let read = self.stream.read_line(&mut self.line);
+        read.map_err(|error| error.to_string())?;
+        Ok(self.line.trim_end())
+    }
+
+    /// Goes behind the text whose length was just read.
+    fn skip_text(&mut self) -> Result<(), String> {
+        let read = self.stream.read_exact(&mut [0; 34]);
+        read.map_err(|error| error.to_string())
+    }
+
+    /// Where clients reach the owner of each shard.
+    fn owners(&mut self) -> Result<Vec<String>, String> {
+        let told = self.ask("*2\r\n$2\r\nSM\r\n$6\r\nROUTES\r\n")?;
+        let count = told.strip_prefix('*').and_then(|it| it.parse().ok());
+        let mut left: usize = count.ok_or_else(|| format!("SM ROUTES is answered {told:?}"))?;
+        let mut owners = Vec::new();
+        while left > 0 {
+            let line = self.next_line()?;
+            if line.starts_with('$') {
+                continue;
+            }
+            left -= 1;
+            // The first one tells a revision.
+            owners.extend(line.split(' ').nth(2).map(str::to_owned));
+        }
+        Ok(owners)
+    }
+}

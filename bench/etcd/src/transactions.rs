@@ -1,0 +1,56 @@
+use crate::{Caller, KEYS};
+use durkenzo_store::{Access, Etcd, Outcome, Revision, Store, Transaction};
+use std::sync::Arc;
+
+/// A client of etcd that compares its key's revision and puts it.
+pub(crate) struct Transactions {
+    store: Arc<Etcd>,
+    name: u64,
+    revisions: Vec<Revision>,
+}
+
+impl Transactions {
+    /// So many, which share a connection of their own to each member.
+    pub(crate) fn several(endpoints: &[&str], count: u64) -> Result<Vec<Box<dyn Caller>>, String> {
+        let on = |at: usize| {
+            let turned = (0..endpoints.len()).map(|it| endpoints[(at + it) % endpoints.len()]);
+            Etcd::new(Access::new(turned)).map(Arc::new)
+        };
+        let stores: Vec<_> = (0..endpoints.len())
+            .map(on)
+            .collect::<Result<_, _>>()
+            .map_err(|error| error.to_string())?;
+        let made = |it: u64| -> Box<dyn Caller> {
+            Box::new(Transactions {
+                store: stores[it as usize % stores.len()].clone(),
+                name: it,
+                revisions: vec![Revision::NEVER; KEYS as usize],
+            })
+        };
+        Ok((0..count).map(made).collect())
+    }
+}
+
+impl Caller for Transactions {
+    /// Writes all of its keys.
+    fn prepare(&mut self, _writes: bool) -> Result<(), String> {
+        (0..KEYS).try_for_each(|it| self.call(it))
+    }
+
+    fn call(&mut self, number: u64) -> Result<(), String> {
+        let at = (number % KEYS) as usize;
+        // Another run has written other keys.
+        let key = format!("bench/{}/{:05}/{at:02}", std::process::id(), self.name);
+        let transaction = Transaction::new()
+            .compare(key.as_str(), self.revisions[at])
+            .put(key.as_str(), format!("{number:032}"));
+        match self.store.make(transaction) {
+            Ok(Outcome::Made(revision)) => {
+                self.revisions[at] = revision;
+                Ok(())
+            }
+            Ok(Outcome::Lost(_)) => Err(format!("{key} was written by another")),
+            Err(error) => Err(error.to_string()),
+        }
+    }
+}

@@ -1,0 +1,39 @@
+//! What is asked for next: at random (xorshift64), of each thread by itself.
+use crate::sizes::Sizes;
+use crate::way::Asked;
+
+pub struct Choice {
+    state: u64,
+    shards: u64,
+    keys: u64,
+}
+
+impl Choice {
+    pub fn new(sizes: &Sizes, thread: usize) -> Choice {
+        Choice {
+            state: 88_172_645_463_325_252_u64.wrapping_mul(2 * thread as u64 + 1),
+            shards: sizes.shards as u64,
+            keys: u64::from(sizes.keys),
+        }
+    }
+
+    fn number(&mut self) -> u64 {
+        self.state ^= self.state << 13;
+        self.state ^= self.state >> 7;
+        self.state ^= self.state << 17;
+        self.state
+    }
+
+    /// A number below this one.
+    pub fn below(&mut self, end: u64) -> u64 {
+        ((u128::from(self.number()) * u128::from(end)) >> 64) as u64
+    }
+
+    pub fn next(&mut self) -> Asked {
+        Asked {
+            shard: self.below(self.shards) as usize,
+            key: self.below(self.keys) as u32,
+            is_write: self.number() >> 63 == 1,
+        }
+    }
+}

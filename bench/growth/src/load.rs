@@ -1,0 +1,84 @@
+//! Clients of a server, each a thread with a connection, of which one request is under way at a time: half of them get
+//! a text; the others add to a count, or put a text where texts have another size than usual.
+use crate::choice::Choice;
+use crate::client::{command, Client};
+use crate::round::{self, Round};
+use crate::sizes::Sizes;
+use crate::told::MOST_TIMES;
+use crate::way::Asked;
+use std::time::Instant;
+
+/// The size of texts at which requests that write are additions.
+const USUAL: usize = 32;
+/// How many bytes of commands are sent before their answers are read.
+const ROOM: u64 = 1 << 16;
+
+fn name_of(kind: &str, number: u64) -> Vec<u8> {
+    format!("{kind}:{number:010}").into_bytes()
+}
+
+/// Writes each text once, which is in the server then.
+fn fill(sizes: &Sizes, text: &[u8]) {
+    let mut client = Client::new(sizes.port);
+    let all = sizes.shards as u64 * u64::from(sizes.keys);
+    let batch = (ROOM / (sizes.text as u64 + 64)).max(1);
+    for start in (0..all).step_by(batch as usize) {
+        let numbers = start..all.min(start + batch);
+        let commands = numbers
+            .clone()
+            .map(|number| command(&[b"SET", &name_of("text", number), text]));
+        client.send(&commands.flatten().collect::<Vec<u8>>());
+        numbers.for_each(|_| _ = client.answer());
+    }
+}
+
+fn request(asked: Asked, sizes: &Sizes, text: &[u8]) -> Vec<u8> {
+    let number = asked.shard as u64 * u64::from(sizes.keys) + u64::from(asked.key);
+    match (asked.is_write, sizes.text == USUAL) {
+        (false, _) => command(&[b"GET", &name_of("text", number)]),
+        (true, true) => command(&[b"INCR", &name_of("count", number)]),
+        (true, false) => command(&[b"SET", &name_of("text", number), text]),
+    }
+}
+
+/// The requests of a client until the end: how many, and the times of the first.
+fn call(sizes: &Sizes, client: usize, text: &[u8], round: &Round) -> (u64, Vec<u64>) {
+    let (mut connection, mut choice) = (Client::new(sizes.port), Choice::new(sizes, client));
+    let (mut made, mut times) = (0, Vec::with_capacity(MOST_TIMES));
+    round.begin();
+    while !round.is_over() {
+        let bytes = request(choice.next(), sizes, text);
+        let began = Instant::now();
+        connection.send(&bytes);
+        connection.answer();
+        if times.len() < MOST_TIMES {
+            times.push(began.elapsed().as_nanos() as u64);
+        }
+        made += 1;
+    }
+    (made, times)
+}
+
+/// Moves shards in turn between servers 1 and 2 until the end, and returns how often.
+fn migrate(sizes: &Sizes, round: &Round) -> u64 {
+    let mut client = Client::new(sizes.port);
+    // Some are at server 1 already, which is refused.
+    for shard in 0..sizes.shards {
+        let _ = client.migrate(shard, 1);
+    }
+    round.begin();
+    round.paced(sizes.migrations, |made| {
+        let (shard, turn) = (made as usize % sizes.shards, made as usize / sizes.shards);
+        let moved = client.migrate(shard, if turn % 2 == 0 { 2 } else { 1 });
+        moved.expect("a server that is up");
+    })
+}
+
+pub fn run(sizes: &Sizes) {
+    let text = &vec![b'x'; sizes.text][..];
+    if sizes.filled == 0 {
+        fill(sizes, text);
+    }
+    let call = |client: usize, round: &Round| call(sizes, client, text, round);
+    round::run(sizes, sizes.clients, call, |round| migrate(sizes, round)).print("load");
+}

@@ -1,0 +1,123 @@
+//! A lock for each shard in Rust, round its owner and its body, a count or a `BTreeMap`. A worker that meets another
+//! owner than it last knew learns it there; a migration is one step under the lock.
+use crate::keys::{bound_of, key_of};
+use crate::sizes::Sizes;
+use crate::way::{Asked, Way, Worker};
+use std::collections::BTreeMap;
+use std::sync::{Mutex, MutexGuard};
+
+/// What is behind a lock.
+pub struct Held<B> {
+    owner: u16,
+    body: B,
+}
+
+pub type Shards<B> = Vec<Mutex<Held<B>>>;
+
+fn shards_of<B: Default>(count: usize) -> Shards<B> {
+    let held = || Held {
+        owner: 1,
+        body: B::default(),
+    };
+    (0..count).map(|_| Mutex::new(held())).collect()
+}
+
+/// The shard, held, once it is known who owns it.
+fn locked<'a, B>(
+    shards: &'a Shards<B>,
+    owners: &mut [u16],
+    shard: usize,
+) -> MutexGuard<'a, Held<B>> {
+    let held = shards[shard].lock().expect("no thread panics");
+    if held.owner != owners[shard] {
+        owners[shard] = held.owner;
+    }
+    held
+}
+
+fn move_to<B>(shards: &Shards<B>, shard: usize, to: u16) {
+    shards[shard].lock().expect("no thread panics").owner = to;
+}
+
+pub struct LockedCounts(Shards<u64>);
+
+impl LockedCounts {
+    pub fn new(shards: usize) -> LockedCounts {
+        LockedCounts(shards_of(shards))
+    }
+}
+
+impl Way for LockedCounts {
+    type Worker<'a> = (&'a Shards<u64>, Vec<u16>);
+
+    fn worker(&self) -> Self::Worker<'_> {
+        (&self.0, vec![1; self.0.len()])
+    }
+
+    fn migrate(&self, shard: usize, to: u16) {
+        move_to(&self.0, shard, to);
+    }
+}
+
+impl Worker for (&Shards<u64>, Vec<u16>) {
+    fn request(&mut self, asked: Asked) -> u64 {
+        let mut held = locked(self.0, &mut self.1, asked.shard);
+        held.body += 1;
+        held.body
+    }
+}
+
+type Map = BTreeMap<Vec<u8>, Vec<u8>>;
+
+pub struct LockedTexts {
+    bounds: Vec<Vec<u8>>,
+    shards: Shards<Map>,
+    text: Vec<u8>,
+}
+
+impl LockedTexts {
+    pub fn new(sizes: &Sizes) -> LockedTexts {
+        LockedTexts {
+            bounds: (0..sizes.shards).map(bound_of).collect(),
+            shards: shards_of(sizes.shards),
+            text: vec![7; sizes.text],
+        }
+    }
+}
+
+impl Way for LockedTexts {
+    type Worker<'a> = (&'a LockedTexts, Vec<u16>);
+
+    fn worker(&self) -> Self::Worker<'_> {
+        (self, vec![1; self.shards.len()])
+    }
+
+    fn migrate(&self, shard: usize, to: u16) {
+        move_to(&self.shards, shard, to);
+    }
+}
+
+impl Worker for (&LockedTexts, Vec<u16>) {
+    /// The request is made with memory of its own, and its shard is found by the key, as in the library.
+    fn request(&mut self, asked: Asked) -> u64 {
+        let (texts, key) = (self.0, key_of(asked.shard, asked.key).to_vec());
+        let text = asked.is_write.then(|| texts.text.clone());
+        let shard = texts
+            .bounds
+            .partition_point(|bound| bound.as_slice() <= key.as_slice())
+            - 1;
+        let mut held = locked(&texts.shards, &mut self.1, shard);
+        match text {
+            Some(text) => {
+                held.body.insert(key, text);
+                1
+            }
+            None => held
+                .body
+                .get(&key)
+                .expect("a key that is there")
+                .clone()
+                .len() as u64,
+        }
+    }
+}

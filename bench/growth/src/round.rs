@@ -1,0 +1,81 @@
+//! A round: threads make requests for a while, beside one that moves shards.
+use crate::sizes::Sizes;
+use crate::told::Told;
+use std::sync::atomic::{AtomicBool, Ordering::Relaxed};
+use std::sync::Barrier;
+use std::thread;
+use std::time::{Duration, Instant};
+
+/// How long a thread sleeps at most before it looks again whether the round is over.
+const NAP: Duration = Duration::from_millis(5);
+
+/// What the threads of a round share: they begin together, and end soon after each other.
+pub struct Round {
+    start: Barrier,
+    is_over: AtomicBool,
+}
+
+impl Round {
+    /// Has this thread wait until all are ready.
+    pub fn begin(&self) {
+        self.start.wait();
+    }
+
+    pub fn is_over(&self) -> bool {
+        self.is_over.load(Relaxed)
+    }
+
+    /// Has the work done at this rate a second until the end, as far as it comes, and returns how often; the work is
+    /// told how often it was done.
+    pub fn paced(&self, rate: u64, mut work: impl FnMut(u64)) -> u64 {
+        let (began, mut made) = (Instant::now(), 0);
+        while !self.is_over() {
+            let next = Duration::from_secs_f64(made as f64 / rate as f64);
+            match next.checked_sub(began.elapsed()) {
+                Some(early) => thread::sleep(early.min(NAP)),
+                None => {
+                    work(made);
+                    made += 1;
+                }
+            }
+        }
+        made
+    }
+}
+
+/// Runs a round of so many threads: each makes requests, and returns how many and the times of some; one moves shards,
+/// where some are to be moved, and returns how many it moved.
+pub fn run(
+    sizes: &Sizes,
+    threads: usize,
+    work: impl Fn(usize, &Round) -> (u64, Vec<u64>) + Sync,
+    migrate: impl FnOnce(&Round) -> u64 + Send,
+) -> Told {
+    let is_moving = sizes.migrations > 0;
+    let round = &Round {
+        start: Barrier::new(threads + usize::from(is_moving) + 1),
+        is_over: AtomicBool::new(false),
+    };
+    thread::scope(|scope| {
+        let work = &work;
+        let workers: Vec<_> = (0..threads)
+            .map(|thread| scope.spawn(move || work(thread, round)))
+            .collect();
+        let mover = is_moving.then(|| scope.spawn(move || migrate(round)));
+        round.begin();
+        let began = Instant::now();
+        thread::sleep(Duration::from_millis(sizes.milliseconds));
+        round.is_over.store(true, Relaxed);
+        let taken = began.elapsed();
+        let told: Vec<_> = workers
+            .into_iter()
+            .map(|it| it.join().expect("no thread panics"))
+            .collect();
+        Told {
+            requests: told.iter().map(|it| it.0).sum(),
+            migrations: mover.map_or(0, |it| it.join().expect("no thread panics")),
+            taken,
+            times: told.into_iter().flat_map(|it| it.1).collect(),
+        }
+    })
+}

@@ -1,0 +1,104 @@
+//! Texts on the library's board of the sample service. A worker has a pass of each server, and one to make envelopes.
+use crate::keys::{bound_of, key_of};
+use crate::sizes::Sizes;
+use crate::way::{Asked, Way, Worker};
+use durkenzo::{
+    Envelope, Layout, Reply, Request, ServeFault, ServeRefused, Served, Service, ServicePass, Value,
+};
+use std::thread;
+
+pub struct Texts {
+    service: Service,
+    text: Vec<u8>,
+}
+
+pub struct Asker<'a> {
+    client: ServicePass,
+    servers: [ServicePass; 2],
+    owners: Vec<u16>,
+    text: &'a [u8],
+}
+
+impl Texts {
+    pub fn new(sizes: &Sizes) -> Texts {
+        let layout = Layout::new((0..sizes.shards).map(bound_of)).expect("rising bounds");
+        let service = Service::builder(layout).servers(2).build().expect("memory");
+        for shard in 0..sizes.shards as u16 {
+            service.control().assign(shard, 1).expect("a vacant shard");
+        }
+        Texts {
+            service,
+            text: vec![7; sizes.text],
+        }
+    }
+}
+
+impl Way for Texts {
+    type Worker<'a> = Asker<'a>;
+
+    fn worker(&self) -> Asker<'_> {
+        let pass = |server| self.service.pass(server).expect("memory");
+        Asker {
+            client: pass(1),
+            servers: [1, 2].map(pass),
+            owners: vec![1; self.service.layout().count()],
+            text: &self.text,
+        }
+    }
+
+    fn migrate(&self, shard: usize, to: u16) {
+        self.service
+            .control()
+            .migrate(shard as u16, to)
+            .expect("a server that is up");
+    }
+}
+
+impl Asker<'_> {
+    fn envelope(&mut self, key: &[u8], is_write: bool) -> Envelope {
+        let request = match is_write {
+            true => Request::Put(key, self.text),
+            false => Request::Get(key),
+        };
+        self.client.envelope(0, &request).expect("memory")
+    }
+}
+
+impl Worker for Asker<'_> {
+    fn request(&mut self, asked: Asked) -> u64 {
+        let key = key_of(asked.shard, asked.key);
+        let (mut envelope, mut server) = (
+            self.envelope(&key, asked.is_write),
+            self.owners[asked.shard],
+        );
+        loop {
+            let pass = &mut self.servers[usize::from(server) - 1];
+            match pass.serve(envelope) {
+                Ok(Served::Answered(answer)) => {
+                    return match answer.reply() {
+                        Reply::Value(Value::Text(text)) => text.len() as u64,
+                        Reply::Done => 1,
+                        other => panic!("the reply is {other:?}"),
+                    }
+                }
+                Ok(Served::Forward(to, back)) => (envelope, server) = (back, to),
+                Err(refused) if is_passing(&refused) => {
+                    thread::yield_now();
+                    envelope = refused.envelope;
+                }
+                // What was forwarded to a server that owns the shard no more comes anew.
+                Err(_) => {
+                    let read = pass.look(asked.shard as u16).expect("a shard");
+                    server = read.owner().expect("an owner");
+                    self.owners[asked.shard] = server;
+                    envelope = self.envelope(&key, asked.is_write);
+                }
+            }
+        }
+    }
+}
+
+/// Whether another thread had the shard or was first.
+fn is_passing(refused: &ServeRefused) -> bool {
+    matches!(refused.fault, ServeFault::Admit(fault) if fault.is_passing())
+}

@@ -1,0 +1,27 @@
+//! What each way does: it keeps a body for each shard, which threads share, and moves shards between two servers.
+
+/// A way to keep the bodies.
+pub trait Way: Sync {
+    /// What one thread acts with.
+    type Worker<'a>: Worker
+    where
+        Self: 'a;
+
+    fn worker(&self) -> Self::Worker<'_>;
+
+    /// Moves the shard to this server, 1 or 2, while workers use it.
+    fn migrate(&self, shard: usize, to: u16);
+}
+
+pub trait Worker {
+    /// Makes a request to the shard, and returns what its reply tells.
+    fn request(&mut self, asked: Asked) -> u64;
+}
+
+/// A request: the shard, the number of the key in it, and whether the key is written.
+#[derive(Clone, Copy)]
+pub struct Asked {
+    pub shard: usize,
+    pub key: u32,
+    pub is_write: bool,
+}
