@@ -24,19 +24,31 @@ static struct admission *of(void *pass) {
 }
 
 #define ADMIT I_WRAP_SONAME_FNNAME_ZZ(NONE, durkenzo_admit)
+#define ADMIT_WORD I_WRAP_SONAME_FNNAME_ZZ(NONE, durkenzo_admit_word)
 #define FINISH I_WRAP_SONAME_FNNAME_ZZ(NONE, durkenzo_finish)
 
-uint64_t ADMIT(void *pass, uint64_t shard, uint64_t from, uint64_t number, uint64_t read);
-uint64_t ADMIT(void *pass, uint64_t shard, uint64_t from, uint64_t number, uint64_t read) {
-  OrigFn original;
+static uint64_t admitted(OrigFn original, void *pass, uint64_t shard, uint64_t from, uint64_t number, uint64_t told) {
   uint64_t code;
-  VALGRIND_GET_ORIG_FN(original);
-  CALL_FN_W_5W(code, original, pass, shard, from, number, read);
+  CALL_FN_W_5W(code, original, pass, shard, from, number, told);
   if ((uint32_t)code == 0) {
     *of(pass) = (struct admission){pass, (uint16_t)shard};
     ANNOTATE_HAPPENS_AFTER(&ends[(uint16_t)shard]);
   }
   return code;
+}
+
+uint64_t ADMIT(void *pass, uint64_t shard, uint64_t from, uint64_t number, uint64_t read);
+uint64_t ADMIT(void *pass, uint64_t shard, uint64_t from, uint64_t number, uint64_t read) {
+  OrigFn original;
+  VALGRIND_GET_ORIG_FN(original);
+  return admitted(original, pass, shard, from, number, read);
+}
+
+uint64_t ADMIT_WORD(void *pass, uint64_t shard, uint64_t from, uint64_t number, uint64_t word);
+uint64_t ADMIT_WORD(void *pass, uint64_t shard, uint64_t from, uint64_t number, uint64_t word) {
+  OrigFn original;
+  VALGRIND_GET_ORIG_FN(original);
+  return admitted(original, pass, shard, from, number, word);
 }
 
 uint64_t FINISH(void *pass, uint64_t generation);

@@ -11,7 +11,9 @@ from testing.program import tool
 
 RATTLE = pathlib.Path(shutil.which("rt") or "rt").resolve().with_name("rattle")
 ENDINGS = (".rt", ".antt")
-RUST = [sources.TOP / it for it in ("driver", "library/rust/durkenzo", "server", "simulation", "store", "trial")]
+LIBRARY = ("library/rust/durkenzo", "library/rust/durkenzo-store-sys")
+OURS = ("driver", "fuzzing", *LIBRARY, "server", "simulation", "store", "trial")
+RUST = [sources.TOP / it for it in OURS]
 
 
 def files_of(folder):

@@ -1,21 +1,40 @@
-"""What the library passes, over the static library that the proofs built: its Rust crate, its C example and its Python
-module, each with what this machine has for it."""
+"""What the library passes: its Rust crate, its C example and its Python module, each with what this machine has for it.
+
+`rt ci` proves the crates of static libraries, and builds none: `rt lib` does, which proves each crate below once more
+where nothing is kept. So where it left none, the library and what stands on it are tried over those that are built
+without proof."""
 import os
 import pathlib
 import shutil
 import subprocess
 
+import exported
+import runs
 import sources
 from testing.part import Verdict, verdict
 
 FOLDER = sources.TOP / "library"
 CRATE = FOLDER / "rust/durkenzo"
-PROVED = sources.CRATES / "sm_c/out/libsm_c.a"
+PROVED = [sources.CRATES / it / "out" / exported.library_of(it) for it in exported.CRATES]
+NAMED = "DURKENZO_LIB"
 PROGRAM = sources.CRATES / "sm_cli/out/sm_cli"
 COUNTED = "every admission was counted\n"
 SECONDS = 170
 # The Pythons of which one may have what makes a wheel: Debian's, and the first of the PATH.
 PYTHONS = ("/usr/bin/python3", "python3")
+
+
+def is_there():
+    """Whether there are libraries: in the folder that is named, or each where it was proved."""
+    return NAMED in os.environ or all(it.is_file() for it in PROVED)
+
+
+def without_proof():
+    """Names the libraries that are built without proof to all that is tried from here on."""
+    try:
+        os.environ[NAMED] = str(runs.loaded("unproved").kept_library())
+    except exported.NotBuilt as why:
+        yield Verdict("the libraries, built without proof", str(why))
 
 
 def ran(name, command, folder, wanted=None, **env):
@@ -98,7 +117,7 @@ def in_wheel(room, python):
 def passed(room):
     """All of it; nothing where the library wasn't built: that it has to be is the proofs' part."""
     room = pathlib.Path(room)
-    if not PROVED.is_file():
+    if not is_there():
         return
     if shutil.which("cargo"):
         yield from in_rust(room)

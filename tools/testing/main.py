@@ -3,7 +3,8 @@
 What is cheap comes first, so that most failures show within minutes:
 
   without proof   the sources' layout, the docs, the tests, and the examples on a program that is built without proof
-  proofs          rt ci: each crate from nothing, and each wrong body, which the prover must refuse
+  proofs          rt ci: each crate, and each wrong body, which the prover must refuse; what an earlier run on this
+                  machine proved of the same files over the same libraries, by their checksums, it takes as it is
   what is proved  the examples, and tools that look for faults, on the program that was just proved, as each of two
                   compilers built it
 
@@ -37,9 +38,7 @@ def arguments():
         "--quick", action="store_true", help="proves nothing: pages, tests and examples, in some five minutes"
     )
     parser.add_argument(
-        "--cached",
-        action="store_true",
-        help="takes what was proved of the same sources on this machine before; never in CI",
+        "--anew", action="store_true", help="proves all from nothing, whatever an earlier run on this machine proved"
     )
     endings = parser.add_mutually_exclusive_group()
     endings.add_argument(
@@ -53,12 +52,10 @@ def arguments():
         "--write-costs", action="store_true", help="writes what a whole run took into tools/testing/costs.md"
     )
     given = parser.parse_args()
-    if given.cached and os.environ.get("CI") == "true":
-        parser.error("in CI all is proved from nothing, so --cached is not for it")
     if given.quick and (given.crates or given.proved_tests):
         parser.error("--quick proves nothing, and takes no crates")
-    if given.write_costs and (given.quick or given.cached or given.crates):
-        parser.error("--write-costs is for a whole run from nothing")
+    if given.write_costs and (given.quick or not given.anew or given.crates):
+        parser.error("--write-costs is for a whole run --anew")
     return given
 
 
@@ -73,7 +70,7 @@ def proofs_of(given):
     """What is to be proved: nothing, these crates and those on which they stand, or all."""
     if given.quick:
         return Proofs([], [])
-    words = ["rt", "ci", *(["--anew"] if keeps() and not given.cached else [])]
+    words = ["rt", "ci", *(["--anew"] if keeps() and given.anew else [])]
     if not given.crates:
         return Proofs(words, stages.listed())
     if not keeps():

@@ -182,14 +182,14 @@ def are_proved():
     return are_there
 
 
-def passed(how):
-    """All of it, of what was proved or of what is built without proof; nothing where something it needs isn't there."""
+def passed(wanted):
+    """All of it, of what was proved, where all of that is there, or of what is built without proof; nothing where cargo or
+    crates aren't."""
 
     def work(room):
+        how = "proved" if wanted == "proved" and are_proved() else "unproved"
         room = pathlib.Path(room) / f"packed-{how}"
         if not shutil.which("cargo") or not runs.loaded("serve").has_crates():
-            return
-        if how == "proved" and not are_proved():
             return
         try:
             for name in ("one", "two"):

@@ -1,21 +1,30 @@
-"""What the server for Redis clients passes, over the static library that the proofs built: its unit tests, and the
+"""What the server for Redis clients passes, over the libraries of tools/testing/library.py: its unit tests, and the
 scripts of server/tests/ over a server that runs."""
+import pathlib
 import shutil
 import subprocess
 import sys
 
-import exported
 import other_crates
 import runs
 import sources
+from testing import library
 from testing.part import Verdict, verdict
 from testing.program import tool
 
 FOLDER = sources.TOP / "server"
-PROVED = [sources.CRATES / it / "out" / exported.library_of(it) for it in exported.CRATES]
-SCRIPTS = ("commands", "moves", "durable", "dumps", "hostile", "scripts", "site")
+SCRIPTS = ("commands", "moves", "durable", "dumps", "upgrade", "hostile", "secure", "scripts", "site")
 REDIS = ("redis-server", "redis-cli", "redis-benchmark")
-HEADINGS = ("Network:", "Servers and shards:", "Data:", "Threads and waiting:", "Log:")
+CLUSTER = "cluster"
+HEADINGS = (
+    "Network:",
+    "Safety:",
+    "Servers and shards:",
+    "Data:",
+    "Cluster:",
+    "Threads and waiting:",
+    "Log:",
+)
 PASSED, FAILED, REASON = "passed: ", "FAILED: ", "    "
 
 
@@ -41,6 +50,10 @@ def skipped(say):
         say("cargo finds no crates: the server for Redis clients isn't tried; tools/setup installs them")
     elif absent := lacking():
         say(f"no {', '.join(absent)}: of the server for Redis clients unit tests run alone; tools/setup installs them")
+    elif not shutil.which("openssl"):
+        say("openssl isn't installed: the server's TLS isn't tried")
+    elif not shutil.which("etcd"):
+        say("etcd isn't installed: of the server for Redis clients several processes aren't tried; tools/setup installs it")
 
 
 def by_cargo(serve, name, *words):
@@ -95,10 +108,10 @@ def driver():
 def passed(room):
     """All of it; nothing where the library wasn't built, or cargo or other people's crates aren't there."""
     serve = runs.loaded("serve")
-    if not all(it.is_file() for it in PROVED) or not shutil.which("cargo") or not serve.has_crates():
+    if not library.is_there() or not shutil.which("cargo") or not serve.has_crates():
         return
-    # They were just proved, or taken over as proved: they are as new as their sources, which is how ./sm serve sees that.
-    for it in PROVED:
+    # They are of the sources that were just proved, so as new as these, which is how ./sm serve sees that they are proved.
+    for it in filter(pathlib.Path.is_file, library.PROVED):
         it.touch()
     try:
         program = serve.built()
@@ -114,8 +127,10 @@ def passed(room):
     if other_crates.has_crates(sources.TOP / "trial"):
         yield tool("trial", "--seconds", 5, program)
         yield tool("trial", "--seconds", 5, "--data", program)
+    if other_crates.has_crates(sources.TOP / "fuzzing"):
+        yield tool("fuzz-parsers", "--seconds", 2)
     if shutil.which("make"):
         yield from installed(room)
     if not lacking():
-        for script in SCRIPTS:
+        for script in (*SCRIPTS, *([CLUSTER] if shutil.which("etcd") else [])):
             yield from said_by(script, python_with_redis(), program)

@@ -4,11 +4,23 @@ import shutil
 
 import beside
 import sources
-from testing import alone, front, layout, library, packed, server, simulation, tests
+from testing import (
+    alone,
+    benches,
+    cluster,
+    front,
+    layout,
+    library,
+    packed,
+    server,
+    simulation,
+    tests,
+)
 from testing.part import Part, verdict
 from testing.program import EXAMPLES, Program, opens_nothing, tool
 
 DOCS = (
+    "doc-aims",
     "doc-crates",
     "doc-examples",
     "doc-figures",
@@ -58,8 +70,9 @@ def below(crates):
 
 
 def pages():
-    """The layout of all sources, and what the docs say of them."""
-    return [Part("layout", layout.laid_out), Part("docs", lambda _room: map(tool, DOCS))]
+    """The layout of all sources, what the docs say of them, and the tools that fill their tables."""
+    docs = Part("docs", lambda _room: map(tool, DOCS))
+    return [Part("layout", layout.laid_out), docs, Part("benches", benches.passed)]
 
 
 def built(name, path):
@@ -151,13 +164,14 @@ def faults(say):
 
 
 def program(_room):
-    """What the proofs built. `rt ci` may have taken over a program that it built before, under --cached; it is as new as
+    """What the proofs built. `rt ci` may have taken over a program that it built before; it is as new as
     its sources all the same, which is how ./sm sees that it is proved."""
     yield verdict(f"{PROVED.name} was proved and built", PROVED.exists())
     if PROVED.exists():
         PROVED.touch()
-    if not library.PROVED.is_file():
-        print("this kit's `rt ci` builds no static library: the library, what stands on it, and packages aren't tried")
+    if not library.is_there():
+        print("`rt ci` builds no static library: what stands on one is tried over those that are built without proof")
+        yield from library.without_proof()
 
 
 def proved(say):
@@ -167,6 +181,7 @@ def proved(say):
     if not library.wheel_maker():
         say("no python3 has pip, setuptools and wheel: the library's wheel isn't tried")
     server.skipped(say)
+    cluster.skipped(say)
     alone.skipped(say)
     packed.skipped(say)
     parts = [
@@ -175,6 +190,7 @@ def proved(say):
         Part("./sm", front.words),
         Part("library", library.passed),
         Part("server", server.passed),
+        Part("cluster of processes", cluster.passed),
         Part("simulation", simulation.passed),
         Part("packages", packed.passed("proved")),
         *faults(say),

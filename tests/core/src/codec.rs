@@ -29,7 +29,7 @@ fn reads_a_batch_again(rt: HostRuntime) {
     let request = Vec::from_slice(rt.alloc(), b"add 5").expect(&rt, "memory");
     let item = Item {
         client: 7,
-        number: 1,
+        number: 4,
         mode: Mode::Forwarded(ServerId::of(2)),
         hops: 3,
         forgets: 0,
@@ -37,13 +37,14 @@ fn reads_a_batch_again(rt: HostRuntime) {
     };
     assert!(rt; items.push(item).is_ok());
     let batch = StoredBatch {
-        server: ServerId::of(1),
+        server: ServerId::of(3),
         items,
     };
     let mut bytes = write_batch(rt.alloc(), &batch).expect(&rt, "memory");
     assert!(rt; bytes.len() == 47);
     let again = read_batch(rt.alloc(), &bytes).ok().expect(&rt, "a batch");
-    assert!(rt; again.server == ServerId::of(1));
+    assert!(rt; again.server == ServerId::of(3));
+    assert!(rt; (again.items[0].client, again.items[0].number) == (7, 4));
     assert!(rt; again.items[0].mode == Mode::Forwarded(ServerId::of(2)));
     assert!(rt; again.items[0].request.as_slice() == b"add 5".as_slice());
     bytes[4] = 0;

@@ -19,6 +19,15 @@ fn puts_a_text(rt: HostRuntime) {
 }
 
 #[test]
+fn looks_at_no_change(rt: HostRuntime) {
+    let texts = StoreTexts::new(rt.alloc());
+    let get = Vec::from_slice(rt.alloc(), b"\x01\x01a").expect(&rt, "memory");
+    let put = Vec::from_slice(rt.alloc(), b"\x02\x01avalue").expect(&rt, "memory");
+    assert!(rt; matches!(texts.peek(rt.alloc(), &get), Ok(Some(reply)) if reply.kind == 0));
+    assert!(rt; matches!(texts.peek(rt.alloc(), &put), Ok(None)));
+}
+
+#[test]
 fn saves_and_loads(rt: HostRuntime) {
     let mut texts = StoreTexts::new(rt.alloc());
     let _ = asked(&rt, rt.alloc(), &mut texts, b"\x02\x01avalue");

@@ -12,9 +12,16 @@ use std::test::Fail;
 const SETTINGS: &[u8] =
     b"{\"version\":1,\"bounds\":[\"\",\"m\"],\"servers\":[{\"id\":1,\"domain\":0,\"capacity\":2},{\"id\":2,\"domain\":1,\"capacity\":2},{\"id\":3,\"domain\":1,\"capacity\":2}],\"groups\":[{\"limit\":2,\"down\":1}],\"shards\":[{\"group\":0,\"load\":1,\"cap\":0},{\"group\":0,\"load\":1,\"cap\":1}],\"ops\":1,\"kept\":1000,\"ceiling\":100000,\"workers\":2}\n";
 
-/// Settings that ask for 72 workers.
-const CROWDED: &[u8] =
-    b"{\"version\":1,\"bounds\":[\"\"],\"servers\":[{\"id\":1,\"domain\":0,\"capacity\":2},{\"id\":2,\"domain\":0,\"capacity\":2},{\"id\":3,\"domain\":0,\"capacity\":2},{\"id\":4,\"domain\":0,\"capacity\":2},{\"id\":5,\"domain\":0,\"capacity\":2},{\"id\":6,\"domain\":0,\"capacity\":2},{\"id\":7,\"domain\":0,\"capacity\":2},{\"id\":8,\"domain\":0,\"capacity\":2},{\"id\":9,\"domain\":0,\"capacity\":2}],\"groups\":[{\"limit\":2,\"down\":1}],\"shards\":[{\"group\":0,\"load\":1,\"cap\":0}],\"ops\":1,\"kept\":100,\"ceiling\":1000,\"workers\":8}\nlook 0\n";
+/// Settings of eight servers with eight workers each, as many as may be, cut before the servers' end.
+const EIGHT: &[u8] =
+    b"{\"version\":1,\"bounds\":[\"\"],\"servers\":[{\"id\":1,\"domain\":0,\"capacity\":2},{\"id\":2,\"domain\":0,\"capacity\":2},{\"id\":3,\"domain\":0,\"capacity\":2},{\"id\":4,\"domain\":0,\"capacity\":2},{\"id\":5,\"domain\":0,\"capacity\":2},{\"id\":6,\"domain\":0,\"capacity\":2},{\"id\":7,\"domain\":0,\"capacity\":2},{\"id\":8,\"domain\":0,\"capacity\":2}";
+
+/// A ninth one, whose workers are too many.
+const NINTH: &[u8] = b",{\"id\":9,\"domain\":0,\"capacity\":2}";
+
+/// What follows the servers.
+const REST: &[u8] =
+    b"],\"groups\":[{\"limit\":2,\"down\":1}],\"shards\":[{\"group\":0,\"load\":1,\"cap\":0}],\"ops\":1,\"kept\":100,\"ceiling\":1000,\"workers\":8}\nlook 0\n";
 
 /// The settings, and these lines after them.
 fn script_of(alloc: Global, lines: &[u8]) -> Result<Vec<u8>, Fail> {
@@ -52,13 +59,34 @@ fn load_calls_the_servers(rt: HostRuntime) -> Result<(), Fail> {
     Ok(())
 }
 
+/// The settings of these servers, the last of which may be one too many, and a look.
+fn crowded(alloc: Global, ninth: &[u8]) -> Result<Vec<u8>, Fail> {
+    let mut script = Vec::from_slice(alloc, EIGHT)?;
+    script.extend_from_slice(ninth)?;
+    script.extend_from_slice(REST)?;
+    Ok(script)
+}
+
 #[test]
 fn too_many_workers_are_refused(rt: HostRuntime) -> Result<(), Fail> {
     let alloc = rt.alloc();
+    let script = crowded(alloc, NINTH)?;
     let mut written = Vec::new(alloc);
-    let mut dialogue = Dialogue::new(alloc, CROWDED, &mut written)?;
+    let mut dialogue = Dialogue::new(alloc, script.as_slice(), &mut written)?;
     let status = run_threads(&rt, alloc, &mut dialogue, &Open)?;
     assert_eq!(rt; status, Status::BadSettings);
     assert_eq!(rt; written.as_slice(), b"settings TooManyWorkers\n".as_slice());
+    Ok(())
+}
+
+#[test]
+fn as_many_workers_as_may_be_are_started(rt: HostRuntime) -> Result<(), Fail> {
+    let alloc = rt.alloc();
+    let script = crowded(alloc, b"")?;
+    let mut written = Vec::new(alloc);
+    let mut dialogue = Dialogue::new(alloc, script.as_slice(), &mut written)?;
+    let status = run_threads(&rt, alloc, &mut dialogue, &Open)?;
+    assert_eq!(rt; status, Status::Ran);
+    assert_eq!(rt; written.as_slice(), b"Vacant 0 0 idle 0\n".as_slice());
     Ok(())
 }

@@ -1,0 +1,84 @@
+"""What a cluster of several processes over etcd passes, where etcd is installed: it begins and ends as a demo, a short
+trial by faults finds nothing wrong and finds planted bugs, and what its page says to type does what it says."""
+import re
+import shutil
+import signal
+import subprocess
+
+import fleet
+import other_crates
+import runs
+import sources
+from testing import library
+from testing.part import Verdict, verdict
+from testing.program import tool
+
+SECONDS = 90
+# Each is found within this many minutes.
+PLANTED = {"lost-is-made": 0.2, "early-drop": 0.1}
+TRIES = 4
+
+
+def skipped(say):
+    """Says what isn't tried, for want of what."""
+    if not shutil.which("etcd"):
+        say("etcd isn't installed: no cluster of several processes is tried; tools/setup installs it")
+
+
+def demo(room, program):
+    """The demo begins, answers, and leaves nothing but logs."""
+    folder = f"{room}/demo"
+    command = [sources.TOP / "sm", "cluster", "demo", "--program", program, "--port", "0", "--folder", folder]
+    with subprocess.Popen(command, stdout=subprocess.PIPE, stderr=subprocess.STDOUT, text=True) as run:
+        said = []
+        for line in run.stdout:
+            said.append(line)
+            if line.startswith("Ctrl-C"):
+                break
+        text = "".join(said)
+        ports, processes = re.findall(r"port (\d+)", text), re.findall(r"process (\d+)", text)
+        answers = [asked(int(it)) for it in ports]
+        run.send_signal(signal.SIGINT)
+        rest = run.communicate(timeout=SECONDS)[0]
+    yield verdict("the demo of a cluster answers", len(ports) == 3 and set(answers) == {b"hello"}, f"{text}{answers}")
+    yield verdict("the demo ends", run.returncode == 0 and "stopped" in rest, f"{run.returncode}: {rest}")
+    left = [it for it in processes if runs.pathlib.Path(f"/proc/{it}").exists()]
+    yield verdict("the demo leaves no process", len(processes) == 6 and not left, str(left))
+    again = subprocess.run(command, capture_output=True, text=True)
+    yield verdict("the demo wants an empty folder", again.returncode == 1 and "isn't empty" in again.stderr, again.stderr)
+
+
+def asked(port):
+    """What a server of the demo answers to a text that each is given."""
+    with fleet.served.Client(port) as client:
+        client.ask("SET", "greeting", "hello")
+        return client.ask("GET", "greeting")
+
+
+def found(bug, minutes, program):
+    """A planted bug has to be found, by chance: in one of some tries."""
+    words = ["--cluster", "--minutes", minutes, "--plant", bug, "--no-replay", program]
+    for seed in range(TRIES):
+        ran = tool("trial", "--seed", seed + 1, *words)
+        if ran.reason and "exit status 1" in ran.reason and "the planted bug changed" in ran.reason:
+            return verdict(f"a trial finds {bug}", True)
+    return verdict(f"a trial finds {bug}", False, f"{TRIES} trials found nothing")
+
+
+def passed(room):
+    """All of it; nothing where the server isn't tried either, or etcd isn't installed."""
+    serve = runs.loaded("serve")
+    if not library.is_there() or not all(map(shutil.which, ("cargo", "etcd"))):
+        return
+    if not serve.has_crates() or not other_crates.has_crates(sources.TOP / "trial"):
+        return
+    try:
+        program = serve.built()
+    except serve.Missing as missing:
+        yield Verdict("the server is built", str(missing))
+        return
+    yield from demo(room, program)
+    yield tool("trial", "--cluster", "--nemesis", "kill-server,moves", "--minutes", 0.25, program)
+    for bug, minutes in PLANTED.items():
+        yield found(bug, minutes, program)
+    yield tool("operations", program)
