@@ -14,12 +14,12 @@ PARTS = ("proof", "tests", "edits")
 
 
 class Check:
-    """One run of the prover: its crate and part, its folder, whether it goes on from what was proved before, when it
-    was first and last seen, its processor seconds and its memory in KiB."""
+    """One run of the prover: its process, how many jobs it has, its crate and part, its folder, whether it goes on from
+    what was proved before, when it was first and last seen, its processor seconds and its memory in KiB."""
 
-    def __init__(self, crate, part, folder, goes_on, now):
-        self.crate, self.part, self.folder, self.goes_on, self.began = crate, part, folder, goes_on, now
-        self.ended, self.seconds, self.memory = now, 0.0, 0
+    def __init__(self, pid, jobs, crate, part, folder, goes_on, now):
+        self.pid, self.jobs, self.crate, self.part, self.folder, self.goes_on = pid, jobs, crate, part, folder, goes_on
+        self.began, self.ended, self.seconds, self.memory = now, now, 0.0, 0
 
 
 def read(pid, name):
@@ -52,6 +52,12 @@ def crate_of(words):
     return found[1] if found and os.path.basename(words[0]) == "rattle" else None
 
 
+def jobs_of(words):
+    """Returns how many jobs a prover was given: one where none is told."""
+    found = re.search(r"--jobs[ =](\d+)", " ".join(words))
+    return int(found[1]) if found else 1
+
+
 def look(root, checks):
     """Notes in `checks` what each check that runs now has used so far, and returns those that run."""
     running, now, provers = [], time.time(), set()
@@ -69,7 +75,9 @@ def look(root, checks):
         except (OSError, IndexError, ValueError):  # it has just ended
             continue
         part = "edits" if "/rt-edit-" in folder else "tests" if "--test" in words else "proof"
-        check = checks.setdefault((pid, fields[19]), Check(crate, part, folder, "--incremental" in words, now))
+        if not (check := checks.get((pid, fields[19]))):
+            check = Check(pid, jobs_of(words), crate, part, folder, "--incremental" in words, now)
+            checks[pid, fields[19]] = check
         check.ended, check.seconds = now, sum(map(int, fields[11:15])) / TICKS
         check.memory = max(check.memory, int(memory[1]) if memory else 0)
         running.append(check)

@@ -11,6 +11,7 @@ import time
 
 import sources
 from testing import checks, costs
+from testing.cores import Cores
 from testing.part import Verdict
 
 STEP = 1
@@ -84,8 +85,10 @@ class Proofs:
             yield Verdict("rt ci", "\n".join([f"it ended with {status}; its last lines:", *self.last]))
 
     def watch(self):
+        cores = Cores()
         while self.process.poll() is None:
             self.now = checks.look(self.process.pid, self.checks)
+            cores.keep(self.now)
             for check in self.now:
                 self.doubt(check)
             time.sleep(STEP)
