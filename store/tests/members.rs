@@ -15,6 +15,10 @@ use std::time::{Duration, Instant};
 
 const ASIDE: Duration = Duration::from_secs(60);
 const SHORT: Duration = Duration::from_secs(2);
+/// How many write in parallel.
+const WRITERS: usize = 64;
+/// For how long they begin anew, where none of them is told wrongly.
+const ENOUGH: Duration = Duration::from_secs(12);
 
 fn on(endpoints: &[&str], patience: Duration) -> Etcd {
     let access = Access {
@@ -131,6 +135,62 @@ fn says_that_the_quota_is_reached() {
     let made = store.make(Transaction::new().put("b", vec![7; 200_000]));
     assert!(matches!(made, Ok(Outcome::Made(_))), "{made:?}");
     store.compact().expect("again");
+}
+
+/// Has writers fill the store in parallel, each until it is refused: by what, and which key it was to write.
+fn fill(store: &Etcd, round: usize) -> Vec<(Vec<u8>, WriteError)> {
+    let write = |writer: usize| {
+        let refused = |at: usize| {
+            let key = format!("a/{round}/{writer}/{at}").into_bytes();
+            let new = Transaction::new().compare(key.clone(), Revision::NEVER);
+            let made = store.make(new.put(key.clone(), vec![7; 20_000]));
+            made.err().map(|it| (key, it))
+        };
+        (0..1_000).find_map(refused).expect("there is a quota")
+    };
+    thread::scope(|scope| {
+        let writers: Vec<_> = (0..WRITERS)
+            .map(|it| scope.spawn(move || write(it)))
+            .collect();
+        let refused = writers.into_iter().map(|it| it.join().expect("a refusal"));
+        refused.collect()
+    })
+}
+
+/// Deletes what those wrote, and has it give the room back.
+fn empty(store: &Etcd) {
+    let all = store.read_all(b"a/").expect("reads go on").pairs;
+    for some in all.chunks(100) {
+        let keys = some.iter().map(|it| it.key.clone());
+        let deleted = store.make(keys.fold(Transaction::new(), Transaction::delete));
+        assert!(matches!(deleted, Ok(Outcome::Made(_))), "{deleted:?}");
+    }
+    store.compact().expect("it makes room");
+}
+
+/// Of what is under way while the last room is taken a member makes some, and answers of it too that there is no space:
+/// that isn't told as if it weren't made.
+#[test]
+fn says_nothing_of_what_takes_the_last_room() {
+    let Some(member) = Member::start(&["--quota-backend-bytes", "4000000"]) else {
+        return;
+    };
+    let (store, end) = (member.store(), Instant::now() + ENOUGH);
+    let (mut taken, mut rounds) = (0, 0..);
+    while taken == 0 && Instant::now() < end {
+        for (key, error) in fill(&store, rounds.next().expect("a number")) {
+            let lies = !store.read(&[&key]).expect("reads go on").pairs.is_empty();
+            let is_full = matches!(error, WriteError::Full(_));
+            let is_unknown = matches!(error, WriteError::Unknown(_));
+            assert!(
+                is_unknown || is_full && !lies,
+                "{error:?}, and it lies: {lies}"
+            );
+            taken += usize::from(lies);
+        }
+        empty(&store);
+    }
+    assert!(taken > 0, "none of these was made");
 }
 
 #[test]
