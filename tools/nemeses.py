@@ -242,7 +242,7 @@ KINDS = {
 def lacking(kind):
     """What a nemesis needs that isn't there, or none."""
     if kind == "clock" and not pathlib.Path(LIBFAKETIME).is_file():
-        return "libfaketime isn't installed (Debian's package faketime): no clock is turned"
+        return "faketime isn't installed: no clock is turned; tools/setup installs it"
     if kind != "moves" and not shutil.which("etcd"):
         return "etcd isn't installed"
     return None
