@@ -1,12 +1,12 @@
 //! Processes of one server each over one store, in one process: what goes from one to another goes by a call.
+use super::handing::{Handed, Handing};
 use super::{ask, Decide, Told};
 use durkenzo_driver::{
     Addresses, Begin, Command, Control, Durable, Elsewhere, Member, Next, NotDone, Outcome, Own,
     Reads, Reply, Request, Step, Tuning, Work,
 };
 use durkenzo_store::{
-    CompactError, Done, LeaseError, LeaseId, ReadError, Reading, Store, Transaction, Watch,
-    Watcher, WriteError,
+    Done, LeaseError, LeaseId, ReadError, Reading, Store, Transaction, Watch, Watcher, WriteError,
 };
 use std::collections::BTreeMap;
 use std::sync::atomic::{AtomicBool, AtomicUsize, Ordering};
@@ -32,14 +32,14 @@ pub struct Line {
 }
 
 impl Line {
-    pub fn to(store: &Arc<dyn Store>) -> Line {
-        Line {
+    pub fn to(store: &Arc<dyn Store>) -> Handed<Line> {
+        Handed(Line {
             meanwhile: Meanwhile::default(),
             store: store.clone(),
             is_cut: Arc::default(),
             is_deaf: Arc::default(),
             sent: Arc::default(),
-        }
+        })
     }
 
     fn is_cut(&self) -> bool {
@@ -52,7 +52,11 @@ impl Line {
     }
 }
 
-impl Store for Line {
+impl Handing for Line {
+    fn store(&self) -> &dyn Store {
+        &*self.store
+    }
+
     fn submit(&self, transaction: Transaction, done: Done) {
         let mut compares = transaction.compares.iter();
         if compares.any(|it| it.key.starts_with(b"head/")) {
@@ -96,10 +100,6 @@ impl Store for Line {
         self.store.watch(prefix, Box::new(hears))
     }
 
-    fn grant(&self, length: Duration) -> Result<LeaseId, LeaseError> {
-        self.store.grant(length)
-    }
-
     fn keep(&self, lease: LeaseId) -> Result<(), LeaseError> {
         match self.is_cut() {
             true => Err(LeaseError::Unavailable("cut".to_owned())),
@@ -112,10 +112,6 @@ impl Store for Line {
             true => Err(LeaseError::Unavailable("cut".to_owned())),
             false => self.store.revoke(lease),
         }
-    }
-
-    fn compact(&self) -> Result<(), CompactError> {
-        self.store.compact()
     }
 }
 
@@ -183,7 +179,7 @@ impl Net {
         store: &Arc<dyn Store>,
         server: u16,
         shards: u16,
-        by: impl FnOnce(Line) -> Arc<dyn Store>,
+        by: impl FnOnce(Handed<Line>) -> Arc<dyn Store>,
     ) -> Node {
         let line = Line::to(store);
         let (is_cut, is_deaf) = (line.is_cut.clone(), line.is_deaf.clone());

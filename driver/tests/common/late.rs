@@ -1,9 +1,7 @@
 //! A store whose transactions come late, twice or never where it doesn't say what became of them.
 use super::cluster::Dice;
-use durkenzo_store::{
-    CompactError, Done, LeaseError, LeaseId, ReadError, Reading, Store, Transaction, Watch,
-    Watcher, WriteError,
-};
+use super::handing::{Handed, Handing};
+use durkenzo_store::{Done, ReadError, Reading, Store, Transaction, WriteError};
 use std::sync::{Arc, Mutex};
 use std::thread;
 use std::time::Duration;
@@ -21,11 +19,11 @@ pub struct Late {
 }
 
 impl Late {
-    pub fn new(store: impl Store + 'static, seed: u64) -> Late {
-        Late {
+    pub fn new(store: impl Store + 'static, seed: u64) -> Handed<Late> {
+        Handed(Late {
             store: Arc::new(store),
             dice: Mutex::new(Dice(seed)),
-        }
+        })
     }
 
     fn below(&self, bound: u64) -> u64 {
@@ -42,7 +40,11 @@ impl Late {
     }
 }
 
-impl Store for Late {
+impl Handing for Late {
+    fn store(&self) -> &dyn Store {
+        &*self.store
+    }
+
     fn submit(&self, transaction: Transaction, done: Done) {
         let mut puts = transaction.puts.iter();
         let is_batch = puts.any(|it| it.key.starts_with(b"head/"));
@@ -68,29 +70,5 @@ impl Store for Late {
             thread::sleep(Duration::from_millis(self.below(SLOWEST)));
         }
         reading
-    }
-
-    fn read_all(&self, prefix: &[u8]) -> Result<Reading, ReadError> {
-        self.store.read_all(prefix)
-    }
-
-    fn watch(&self, prefix: &[u8], watcher: Watcher) -> Result<Watch, ReadError> {
-        self.store.watch(prefix, watcher)
-    }
-
-    fn grant(&self, length: Duration) -> Result<LeaseId, LeaseError> {
-        self.store.grant(length)
-    }
-
-    fn keep(&self, lease: LeaseId) -> Result<(), LeaseError> {
-        self.store.keep(lease)
-    }
-
-    fn revoke(&self, lease: LeaseId) -> Result<(), LeaseError> {
-        self.store.revoke(lease)
-    }
-
-    fn compact(&self) -> Result<(), CompactError> {
-        self.store.compact()
     }
 }

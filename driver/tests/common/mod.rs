@@ -1,16 +1,15 @@
 //! What tests of the driver need: work that waits for its answer, and a store that doesn't tell all.
 #![allow(dead_code)]
 pub mod cluster;
+pub mod handing;
 pub mod late;
 pub mod withheld;
 
 use durkenzo_driver::{
     Begin, Command, Control, Durable, Key, NotDone, Reply, Request, Step, Tuning, Work,
 };
-use durkenzo_store::{
-    CompactError, LeaseError, LeaseId, Outcome, ReadError, Reading, Store, Transaction, Watch,
-    Watcher, WriteError,
-};
+use durkenzo_store::{Done, Store, Transaction, WriteError};
+use handing::{Handed, Handing};
 use std::sync::atomic::{AtomicU64, Ordering};
 use std::sync::mpsc::{self, Receiver, Sender};
 use std::sync::Arc;
@@ -122,22 +121,22 @@ pub struct Uncertain<S> {
 }
 
 impl<S> Uncertain<S> {
-    pub fn new(store: S, every: u64) -> Uncertain<S> {
+    pub fn new(store: S, every: u64) -> Handed<Uncertain<S>> {
         let count = AtomicU64::new(0);
-        Uncertain {
+        Handed(Uncertain {
             store,
             every,
             count,
-        }
+        })
     }
 }
 
-impl<S: Store> Store for Uncertain<S> {
-    fn submit(
-        &self,
-        transaction: Transaction,
-        done: Box<dyn FnOnce(Result<Outcome, WriteError>) + Send>,
-    ) {
+impl<S: Store> Handing for Uncertain<S> {
+    fn store(&self) -> &dyn Store {
+        &self.store
+    }
+
+    fn submit(&self, transaction: Transaction, done: Done) {
         let count = self.count.fetch_add(1, Ordering::Relaxed);
         // What a control is elected by, and the process begins with, is told.
         let is_batch = transaction
@@ -153,33 +152,5 @@ impl<S: Store> Store for Uncertain<S> {
         }
         self.store
             .submit(transaction, Box::new(move |_| done(unknown())));
-    }
-
-    fn read(&self, keys: &[&[u8]]) -> Result<Reading, ReadError> {
-        self.store.read(keys)
-    }
-
-    fn read_all(&self, prefix: &[u8]) -> Result<Reading, ReadError> {
-        self.store.read_all(prefix)
-    }
-
-    fn watch(&self, prefix: &[u8], watcher: Watcher) -> Result<Watch, ReadError> {
-        self.store.watch(prefix, watcher)
-    }
-
-    fn grant(&self, length: Duration) -> Result<LeaseId, LeaseError> {
-        self.store.grant(length)
-    }
-
-    fn keep(&self, lease: LeaseId) -> Result<(), LeaseError> {
-        self.store.keep(lease)
-    }
-
-    fn revoke(&self, lease: LeaseId) -> Result<(), LeaseError> {
-        self.store.revoke(lease)
-    }
-
-    fn compact(&self) -> Result<(), CompactError> {
-        self.store.compact()
     }
 }

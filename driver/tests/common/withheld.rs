@@ -1,8 +1,6 @@
 //! A store that withholds one transaction, and what is read after it, until somebody changes a record.
-use durkenzo_store::{
-    CompactError, Done, LeaseError, LeaseId, ReadError, Reading, Store, Transaction, Watch,
-    Watcher, WriteError,
-};
+use super::handing::{Handed, Handing};
+use durkenzo_store::{Done, ReadError, Reading, Store, Transaction, WriteError};
 use std::sync::atomic::{AtomicBool, Ordering};
 use std::sync::{Arc, Condvar, Mutex};
 use std::time::Duration;
@@ -62,13 +60,13 @@ impl Blocked {
 }
 
 impl Withheld {
-    pub fn new(store: impl Store + 'static) -> Withheld {
-        Withheld {
+    pub fn new(store: impl Store + 'static) -> Handed<Withheld> {
+        Handed(Withheld {
             store: Arc::new(store),
             is_armed: Arc::default(),
             withheld: Mutex::default(),
             reading: Arc::default(),
-        }
+        })
     }
 
     /// The reading that comes late.
@@ -77,7 +75,11 @@ impl Withheld {
     }
 }
 
-impl Store for Withheld {
+impl Handing for Withheld {
+    fn store(&self) -> &dyn Store {
+        &*self.store
+    }
+
     fn submit(&self, transaction: Transaction, done: Done) {
         let writes = |prefix: &[u8]| transaction.puts.iter().any(|it| it.key.starts_with(prefix));
         if writes(b"head/") && self.is_armed.swap(false, Ordering::AcqRel) {
@@ -100,29 +102,5 @@ impl Store for Withheld {
             self.reading.wait_while(|it| it == Delay::Waits);
         }
         reading
-    }
-
-    fn read_all(&self, prefix: &[u8]) -> Result<Reading, ReadError> {
-        self.store.read_all(prefix)
-    }
-
-    fn watch(&self, prefix: &[u8], watcher: Watcher) -> Result<Watch, ReadError> {
-        self.store.watch(prefix, watcher)
-    }
-
-    fn grant(&self, length: Duration) -> Result<LeaseId, LeaseError> {
-        self.store.grant(length)
-    }
-
-    fn keep(&self, lease: LeaseId) -> Result<(), LeaseError> {
-        self.store.keep(lease)
-    }
-
-    fn revoke(&self, lease: LeaseId) -> Result<(), LeaseError> {
-        self.store.revoke(lease)
-    }
-
-    fn compact(&self) -> Result<(), CompactError> {
-        self.store.compact()
     }
 }

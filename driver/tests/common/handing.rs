@@ -1,0 +1,80 @@
+//! What stores of tests have in common that hand calls on to another one.
+use durkenzo_store::{
+    CompactError, Done, LeaseError, LeaseId, ReadError, Reading, Store, Transaction, Watch, Watcher,
+};
+use std::ops::Deref;
+use std::time::Duration;
+
+/// A store that hands all calls on, but for those that it sees to itself.
+pub trait Handing: Send + Sync {
+    fn store(&self) -> &dyn Store;
+
+    fn submit(&self, transaction: Transaction, done: Done) {
+        self.store().submit(transaction, done);
+    }
+
+    fn read(&self, keys: &[&[u8]]) -> Result<Reading, ReadError> {
+        self.store().read(keys)
+    }
+
+    fn read_all(&self, prefix: &[u8]) -> Result<Reading, ReadError> {
+        self.store().read_all(prefix)
+    }
+
+    fn watch(&self, prefix: &[u8], watcher: Watcher) -> Result<Watch, ReadError> {
+        self.store().watch(prefix, watcher)
+    }
+
+    fn keep(&self, lease: LeaseId) -> Result<(), LeaseError> {
+        self.store().keep(lease)
+    }
+
+    fn revoke(&self, lease: LeaseId) -> Result<(), LeaseError> {
+        self.store().revoke(lease)
+    }
+}
+
+/// The store that it is.
+pub struct Handed<H>(pub H);
+
+impl<H> Deref for Handed<H> {
+    type Target = H;
+
+    fn deref(&self) -> &H {
+        &self.0
+    }
+}
+
+impl<H: Handing> Store for Handed<H> {
+    fn submit(&self, transaction: Transaction, done: Done) {
+        self.0.submit(transaction, done);
+    }
+
+    fn read(&self, keys: &[&[u8]]) -> Result<Reading, ReadError> {
+        self.0.read(keys)
+    }
+
+    fn read_all(&self, prefix: &[u8]) -> Result<Reading, ReadError> {
+        self.0.read_all(prefix)
+    }
+
+    fn watch(&self, prefix: &[u8], watcher: Watcher) -> Result<Watch, ReadError> {
+        self.0.watch(prefix, watcher)
+    }
+
+    fn grant(&self, length: Duration) -> Result<LeaseId, LeaseError> {
+        self.0.store().grant(length)
+    }
+
+    fn keep(&self, lease: LeaseId) -> Result<(), LeaseError> {
+        self.0.keep(lease)
+    }
+
+    fn revoke(&self, lease: LeaseId) -> Result<(), LeaseError> {
+        self.0.revoke(lease)
+    }
+
+    fn compact(&self) -> Result<(), CompactError> {
+        self.0.store().compact()
+    }
+}
