@@ -8,6 +8,8 @@
 //! | `server/SERVER` | a process that runs this server, under its lease: where it is, and how far it follows records |
 //! | `commands` | the process that sent the latest command |
 //! | `state/SERVER` | how far a server's restart has come |
+//! | `drain/SERVER` | that the server's shards go elsewhere, until they have |
+//! | `home/SHARD` | the server to which the shard comes home, which it left for that one's restart |
 //! | `record/SHARD` | who executes the shard |
 //! | `head/SHARD` | how many batches its log has, and what stands for the first of them |
 //! | `batch/SHARD/NUMBER` | requests that were made together |
@@ -29,6 +31,10 @@ pub const RECORDS: &[u8] = b"record/";
 pub(crate) const SERVERS: &[u8] = b"server/";
 /// What all states of servers begin with.
 pub(crate) const STATES: &[u8] = b"state/";
+/// What the keys of servers that are to be drained begin with.
+pub const DRAINS: &[u8] = b"drain/";
+/// What the keys of shards that come home begin with.
+pub const HOMES: &[u8] = b"home/";
 
 /// The record of a shard that was never changed: vacant, by nobody. A server's state is so where it is up.
 pub(crate) const VACANT: [u8; 17] = {
@@ -63,6 +69,16 @@ pub(crate) fn server_of_state(key: &[u8]) -> Option<u16> {
     number_behind(key, STATES)
 }
 
+/// The server of this key, where it is that of one that is to be drained.
+pub(crate) fn server_of_drain(key: &[u8]) -> Option<u16> {
+    number_behind(key, DRAINS)
+}
+
+/// The shard of this key, where it is that of one that comes home.
+pub(crate) fn shard_of_home(key: &[u8]) -> Option<u16> {
+    number_behind(key, HOMES)
+}
+
 fn number_behind(key: &[u8], prefix: &[u8]) -> Option<u16> {
     let digits = key.strip_prefix(prefix)?;
     std::str::from_utf8(digits).ok()?.parse().ok()
@@ -76,6 +92,16 @@ pub(crate) fn server(server: u16) -> Vec<u8> {
 /// The server's state.
 pub(crate) fn state(server: u16) -> Vec<u8> {
     format!("state/{server:05}").into_bytes()
+}
+
+/// The key of a server that is to be drained.
+pub(crate) fn drain(server: u16) -> Vec<u8> {
+    format!("drain/{server:05}").into_bytes()
+}
+
+/// The key of a shard that comes home.
+pub(crate) fn home(shard: u16) -> Vec<u8> {
+    format!("home/{shard:05}").into_bytes()
 }
 
 /// What lies at the leader's key for this process.

@@ -28,6 +28,7 @@ mod request;
 mod round;
 mod shard;
 mod standing;
+mod wish;
 mod work;
 
 pub use addresses::Addresses;
@@ -43,4 +44,5 @@ pub use open_fault::OpenFault;
 pub use refused::Refused;
 pub use request::{Key, Range, Reply, Request};
 pub use standing::Standing;
+pub use wish::Wish;
 pub use work::{Begin, NotDone, Numbered, Outcome, Step, Work};

@@ -39,4 +39,10 @@ impl Refused {
             code => Refused::Damaged(format!("the proved control answered code {code}")),
         }
     }
+
+    /// That what became of it isn't known, though it was tried again.
+    pub(crate) fn in_vain() -> Refused {
+        let why = "it was sent as often as may be";
+        WriteError::Unknown(why.to_owned()).into()
+    }
 }

@@ -523,6 +523,20 @@ def kills_of_the_leader_let_migrations_go_on(program):
             return f"{load.checked(client)} additions"
 
 
+def kills_of_the_leader_let_drains_go_on(program):
+    with cluster(program, "--pace", 30) as several:
+        leader = several.leader()
+        drained, other = (it for it in several.processes if it != leader)
+        with several.client(other) as client, several.client(drained) as asking:
+            asking.send("SM", "DRAIN", drained)
+            eventually(lambda: any(stand != "Serving" for stand, _ in shards(client)))
+            left = sum(owner == str(drained) for _, owner in shards(client))
+            several.processes[leader].kill()
+            del several.processes[leader]
+            eventually(lambda: is_settled(client, str(drained)))
+        return f"{left} shards were left"
+
+
 def restarts_are_told_when_a_process_may_end(program):
     with cluster(program) as several, Load(several, 6) as load, several.client(1) as client:
         followers = [it for it in several.processes if it != several.leader()]
@@ -551,6 +565,7 @@ TESTS = [
     kills_of_a_process_lose_nothing,
     who_does_not_wait_is_told,
     kills_of_the_leader_let_migrations_go_on,
+    kills_of_the_leader_let_drains_go_on,
     restarts_are_told_when_a_process_may_end,
 ]
 

@@ -283,6 +283,33 @@ def kills_lose_nothing_that_was_answered(program):
     return f"{KILLS} kills, {total} writes answered"
 
 
+def owners(client):
+    return [it.split()[2] for it in client.ask("SM", "SHARDS")]
+
+
+def wait_until(is_so, what):
+    end = time.monotonic() + served.SECONDS
+    while not is_so():
+        assert time.monotonic() < end, f"in vain: {what}"
+        time.sleep(0.01)
+
+
+def drains_and_returns_go_on_at_the_next_start(program):
+    """A process ends while shards go elsewhere, or come home after a restart."""
+    with folder() as data:
+        for word, doing in (("RESTART", b"returning"), ("DRAIN", b"draining")):
+            with over(program, data, "--pace", 50) as server, server.client() as client, server.client() as other:
+                before = owners(client)
+                other.send("SM", word, 2)
+                wait_until(lambda: any(doing in it for it in client.ask("SM", "SERVERS")), doing)
+                # Each shard takes four steps, so this is in the midst of the first one.
+                time.sleep(0.1)
+            with over(program, data) as server, server.client() as client:
+                are_elsewhere = word == "DRAIN"
+                wait_until(lambda: b"2" not in owners(client) if are_elsewhere else owners(client) == before, word)
+                wait_until(lambda: not any(b" of " in it for it in client.ask("SM", "SERVERS")), "its end is told")
+
+
 def migrations_lose_no_addition(program):
     with folder() as data, over(program, data, "--sync", "no") as server:
         acked, stop = [0] * CLIENTS, threading.Event()
@@ -436,6 +463,7 @@ TESTS = [
     damaged_logs_are_refused_by_name,
     full_disks_are_refused_by_name,
     waiting_stops_its_own_connections_alone,
+    drains_and_returns_go_on_at_the_next_start,
     migrations_lose_no_addition,
     kills_lose_nothing_that_was_answered,
 ]

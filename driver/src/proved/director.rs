@@ -1,5 +1,5 @@
 use crate::command::{Command, Next};
-use crate::CoreFault;
+use crate::{keys, CoreFault};
 use durkenzo_store::Revision;
 use durkenzo_store_sys::{self as sys, Code, Step};
 
@@ -13,6 +13,16 @@ pub(crate) struct Sending {
     pub(crate) is_state: bool,
     pub(crate) written: Vec<u8>,
     pub(crate) commands: Vec<u8>,
+}
+
+impl Sending {
+    /// The key of the record or the state.
+    pub(crate) fn key(&self) -> Vec<u8> {
+        match self.is_state {
+            true => keys::state(self.number),
+            false => keys::record(self.number),
+        }
+    }
 }
 
 /// A proved control of a store.

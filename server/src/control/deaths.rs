@@ -22,7 +22,8 @@ use std::time::{Duration, Instant};
 
 const SERVERS: u16 = 3;
 const SHARDS: u16 = 6;
-const LEASE: Duration = Duration::from_secs(1);
+/// Long enough that no process of a machine that is busy with all tests loses it.
+const LEASE: Duration = Duration::from_secs(2);
 const PATIENCE: Duration = Duration::from_secs(40);
 
 /// A process's way to the store, which ends after so many of its commands, or when it is killed. Each takes so long.
@@ -284,6 +285,14 @@ impl Three {
         self.first.kill();
     }
 
+    /// That the control wants nothing more.
+    fn nothing_is_wished(&self) {
+        wait_until("nothing is wished for", || {
+            let lies = |prefix| !self.store.read_all(prefix).unwrap().pairs.is_empty();
+            !lies(keys::DRAINS) && !lies(keys::HOMES)
+        });
+    }
+
     fn stands_become(&self, are_so: impl Fn(&[Stand]) -> bool) {
         wait_until("shards stand so", || are_so(&self.second.stands()));
     }
@@ -302,6 +311,12 @@ fn owned() -> Vec<Stand> {
     (0..SHARDS)
         .map(|it| Stand::Serving(it % SERVERS + 1))
         .collect()
+}
+
+/// Whether the shards of server 3 are as they were at first, and others have owners.
+fn of_third(stands: &[Stand]) -> bool {
+    let are_home = [2, 5].iter().all(|it| stands[*it] == Stand::Serving(3));
+    are_home && stands.iter().all(|it| matches!(it, Stand::Serving(_)))
 }
 
 /// Has the leader die after each of so many commands, each time among other processes.
@@ -359,9 +374,71 @@ fn a_drain_for_a_restart_is_ended_by_the_next_leader() {
         wait_until("all are up", || {
             !(1..=SERVERS).any(|it| second.durable.is_away(it))
         });
-        three.stands_become(|them| them.iter().all(|it| matches!(it, Stand::Serving(_))));
+        three.stands_become(of_third);
+        three.nothing_is_wished();
         drop((first, third));
     });
+}
+
+#[test]
+fn shards_come_home_by_the_next_leader() {
+    // The server was drained and stopped by eleven commands; it is up again, and each of both shards takes four steps.
+    at_each(9, |number| {
+        let three = Three::begin(false);
+        three.first.dies_after(11 + number);
+        three.first.ask(&["SM", "RESTART", "3"]);
+        wait_until("server 3 is stopped", || three.second.durable.is_away(3));
+        three.third.kill();
+        let third = three.start(3);
+        three.await_death();
+        three.stands_become(of_third);
+        three.nothing_is_wished();
+        three.stands_become(|them| them.iter().all(|it| matches!(it, Stand::Serving(2 | 3))));
+        drop(third);
+    });
+}
+
+#[test]
+fn a_drain_is_ended_by_the_next_leader() {
+    // Both shards of server 3 take four steps.
+    at_each(8, |number| {
+        let three = Three::begin(false);
+        three.first.dies_after(number);
+        three.first.ask(&["SM", "DRAIN", "3"]);
+        three.await_death();
+        three.stands_become(|them| them.iter().all(|it| *it == Stand::Serving(2)));
+        three.nothing_is_wished();
+    });
+}
+
+#[test]
+fn who_drains_a_server_is_told_where_its_shards_went() {
+    let three = Three::begin(false);
+    let told = |words: &[&str]| three.first.ask(words).recv_timeout(PATIENCE).unwrap();
+    assert_eq!(
+        told(&["SM", "DRAIN", "3"]),
+        b"*2\r\n$3\r\n2>1\r\n$3\r\n5>1\r\n"
+    );
+    assert_eq!(told(&["SM", "DRAIN", "3"]), b"*0\r\n");
+    three.nothing_is_wished();
+}
+
+#[test]
+fn a_shard_that_somebody_moves_stays_there() {
+    // It left for a restart, and would come home else.
+    let three = Three::begin(false);
+    three.first.ask(&["SM", "RESTART", "3"]);
+    wait_until("server 3 is stopped", || three.second.durable.is_away(3));
+    let moved = three.first.ask(&["SM", "MIGRATE", "5", "2"]);
+    assert_eq!(moved.recv_timeout(PATIENCE).unwrap(), b"+OK\r\n");
+    three.first.kill();
+    let first = three.start(1);
+    three.third.kill();
+    let third = three.start(3);
+    three.stands_become(|them| them[2] == Stand::Serving(3));
+    three.nothing_is_wished();
+    assert_eq!(three.second.stand(5), Stand::Serving(2));
+    drop((first, third));
 }
 
 #[test]

@@ -171,7 +171,8 @@ fn begin(control: &mut StoredController) -> Result<(), Refusal> {
             control.tasks.push(Task::restart(server));
         }
     }
-    go_on_with_shards(control)
+    go_on_with_shards(control)?;
+    control.go_on_with_wishes()
 }
 
 /// Goes on with shards of which something is under way, but for those with which it does already.

@@ -7,6 +7,7 @@ mod deaths;
 mod drain;
 mod dumping;
 mod help;
+mod homes;
 mod leading;
 mod loading;
 mod migration;

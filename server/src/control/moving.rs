@@ -3,7 +3,7 @@ use super::controller::Answer;
 use super::stored::StoredController;
 use super::Refusal;
 use crate::progress::{Doing, Share};
-use durkenzo_driver::{Command, Next};
+use durkenzo_driver::{Command, Next, Wish};
 
 /// How work goes on.
 pub(super) enum Advance {
@@ -41,8 +41,9 @@ impl Moving {
     }
 
     pub(super) fn advance(&mut self, control: &mut StoredController) -> Result<Advance, Refusal> {
-        if let Some(server) = self.to.take() {
+        if let Some(server) = self.to {
             control.make(Command::PrepareAddShard(self.shard, server))?;
+            self.to = None;
             return Ok(Advance::Again);
         }
         match control.control.next_of_shard(self.shard)? {
@@ -59,21 +60,67 @@ impl Moving {
 /// The migrations of all shards of a server to where the proved plan has them go.
 pub(super) struct Draining {
     server: u16,
+    /// Whether shards come home when the server is back.
+    is_restart: bool,
+    /// Whether it lies in the store that somebody wants it, so that whoever leads next goes on with it.
+    is_wished: bool,
     current: Option<Moving>,
     /// Which shards went where.
-    pub(super) moved: Vec<(u16, u16)>,
+    moved: Vec<(u16, u16)>,
 }
 
 impl Draining {
-    pub(super) fn new(server: u16) -> Draining {
+    /// That of the server, for a restart of it or for good.
+    pub(super) fn new(server: u16, is_restart: bool) -> Draining {
         Draining {
             server,
+            is_restart,
+            is_wished: false,
             current: None,
             moved: Vec::new(),
         }
     }
 
+    /// One for good that has begun.
+    pub(super) fn going_on(server: u16) -> Draining {
+        Draining {
+            is_wished: true,
+            ..Draining::new(server, false)
+        }
+    }
+
+    /// The server that is drained.
+    pub(super) fn server(&self) -> u16 {
+        self.server
+    }
+
+    /// Whether whoever leads goes on with it.
+    pub(super) fn is_wished(&self) -> bool {
+        self.is_wished
+    }
+
     pub(super) fn advance(&mut self, control: &mut StoredController) -> Result<Advance, Refusal> {
+        let advanced = self.go_on(control);
+        let is_over = match &advanced {
+            Ok(Advance::Done(_)) => true,
+            Ok(_) => false,
+            Err(refusal) => !refusal.is_of_store(),
+        };
+        if !(is_over && self.is_wished) {
+            return advanced;
+        }
+        let taken_back = control.control.take_back(&[Wish::Drain(self.server)]);
+        match advanced {
+            // It is taken back the next time.
+            Ok(Advance::Done(done)) if taken_back.is_err() => Ok(Advance::Told(done)),
+            advanced => {
+                self.is_wished = false;
+                advanced
+            }
+        }
+    }
+
+    fn go_on(&mut self, control: &mut StoredController) -> Result<Advance, Refusal> {
         if let Some(moving) = &mut self.current {
             match moving.advance(control)? {
                 Advance::Done(_) => self.current = None,
@@ -88,6 +135,7 @@ impl Draining {
                 return Ok(Advance::Done(Answer::Lines(lines.collect())));
             }
             Next::Command(command) => {
+                self.wish(control, command)?;
                 control.make(command)?;
                 if let Command::PrepareAddShard(shard, to) = command {
                     self.moved.push((shard, to));
@@ -102,5 +150,20 @@ impl Draining {
             .progress
             .set(self.server, Doing::Draining(share));
         Ok(Advance::Again)
+    }
+
+    /// Has it lie in the store, before its command, what is to be gone on with.
+    fn wish(&mut self, control: &mut StoredController, command: Command) -> Result<(), Refusal> {
+        match command {
+            Command::PrepareAddShard(shard, _) if self.is_restart => {
+                control.have_come_home(shard, self.server)
+            }
+            _ if self.is_restart || self.is_wished => Ok(()),
+            _ => {
+                control.control.wish(&[Wish::Drain(self.server)])?;
+                self.is_wished = true;
+                Ok(())
+            }
+        }
     }
 }

@@ -12,9 +12,17 @@ pub(super) struct Restarting {
     server: u16,
     stage: Stage,
     draining: Draining,
+    /// The shards that are still to come home.
     home: Vec<u16>,
+    /// How many come home.
+    of: usize,
     current: Option<Moving>,
 }
+
+/// The state of a server that is up, that of one that is stopped, and that of one that has failed.
+const UP: u8 = 0;
+const STOPPED: u8 = 3;
+const FAILED: u8 = 4;
 
 #[derive(Clone, Copy, PartialEq, Eq)]
 enum Stage {
@@ -30,8 +38,9 @@ impl Restarting {
         Restarting {
             server,
             stage: Stage::Asks,
-            draining: Draining::new(server),
+            draining: Draining::new(server, true),
             home: Vec::new(),
+            of: 0,
             current: None,
         }
     }
@@ -42,6 +51,19 @@ impl Restarting {
             stage: Stage::Leaves,
             ..Restarting::new(server)
         }
+    }
+
+    /// One of which shards still come home.
+    pub(super) fn returning(server: u16) -> Restarting {
+        Restarting {
+            stage: Stage::Away,
+            ..Restarting::new(server)
+        }
+    }
+
+    /// Whether whoever leads goes on with it.
+    pub(super) fn is_wished(&self) -> bool {
+        self.stage != Stage::Asks
     }
 
     pub(super) fn advance(&mut self, control: &mut StoredController) -> Result<Advance, Refusal> {
@@ -71,10 +93,14 @@ impl Restarting {
                 }
                 Ok(Advance::Again)
             }
-            // Somebody else had it be up again.
+            // Somebody else had it stop, or be up again.
             Next::Nothing => {
-                self.stage = Stage::Returns;
-                Ok(Advance::Again)
+                self.stage = Stage::Away;
+                let is_stopped = control.control.state_of(self.server)? == STOPPED;
+                Ok(match is_stopped && control.peers.is_some() {
+                    true => Advance::Told(stopped(self.server)),
+                    false => Advance::Again,
+                })
             }
             Next::Waits => {
                 let standing = control.cluster.presence.standing(self.server);
@@ -93,18 +119,24 @@ impl Restarting {
 
     /// Waits until the server is up again, as it is once another process runs it.
     fn await_process(&mut self, control: &mut StoredController) -> Result<Advance, Refusal> {
-        match control.control.state_of(self.server)? {
-            0 => {
-                self.returned(control)?;
-                Ok(Advance::Again)
-            }
-            // It failed, or a restart was asked for anew: its shards stay where they are.
-            1 | 2 | 4 => {
-                control.cluster.progress.clear(self.server);
-                Ok(Advance::Done(Answer::Done))
-            }
-            _ => Ok(Advance::Later),
+        if let Some(advance) = self.unless_up(control)? {
+            return Ok(advance);
         }
+        self.returned(control)?;
+        Ok(Advance::Again)
+    }
+
+    /// How it goes on where the server isn't up.
+    fn unless_up(&self, control: &mut StoredController) -> Result<Option<Advance>, Refusal> {
+        match control.control.state_of(self.server)? {
+            UP => return Ok(None),
+            STOPPED => return Ok(Some(Advance::Later)),
+            FAILED => control.forget_homes(self.server)?,
+            // A restart was asked for anew: at its end they come home.
+            _ => {}
+        }
+        control.cluster.progress.clear(self.server);
+        Ok(Some(Advance::Done(Answer::Done)))
     }
 
     /// It was stopped, so that no proved server of it holds anything: it is up again, and begins with what it reads.
@@ -115,8 +147,11 @@ impl Restarting {
 
     /// It is up again: what was paused for it goes on, and its shards come home.
     fn returned(&mut self, control: &mut StoredController) -> Result<(), Refusal> {
+        // Whoever is told of a fault goes on from here.
+        self.stage = Stage::Away;
         control.resume_left()?;
-        self.home = self.draining.moved.iter().map(|it| it.0).collect();
+        self.home = control.shards_of_home(self.server)?;
+        self.of = self.home.len();
         self.stage = Stage::Returns;
         Ok(())
     }
@@ -124,26 +159,52 @@ impl Restarting {
     fn come_home(&mut self, control: &mut StoredController) -> Result<Advance, Refusal> {
         if let Some(moving) = &mut self.current {
             match moving.advance(control) {
-                Ok(Advance::Done(_)) => self.current = None,
-                Ok(other) => return Ok(other),
+                Ok(Advance::Done(_)) => {}
                 // It went elsewhere meanwhile, and stays there.
-                Err(refusal) => {
+                Err(refusal) if !refusal.is_of_store() => {
                     tracing::info!(%refusal, "a shard doesn't come home");
-                    self.current = None;
+                    let shard = moving.shard();
+                    self.home.retain(|it| *it != shard);
                 }
+                other => return other,
             }
+            self.current = None;
         }
-        let of = self.draining.moved.len();
-        if let Some(shard) = self.home.pop() {
-            self.current = Some(Moving::new(shard, self.server));
-            let done = of - self.home.len() - 1;
-            let doing = Doing::Returning(Share { done, of });
-            control.cluster.progress.set(self.server, doing);
+        if let Some(advance) = self.unless_up(control)? {
+            return Ok(advance);
+        }
+        if let Some(shard) = self.home.last() {
+            self.have_come(*shard, control)?;
             return Ok(Advance::Again);
         }
+        control.forget_homes(self.server)?;
         control.cluster.progress.clear(self.server);
-        let told = format!("server {} is back, with its {of} shards", self.server);
+        let (server, of) = (self.server, self.of);
+        let told = format!("server {server} is back, with its {of} shards");
         Ok(Advance::Done(Answer::Line(told)))
+    }
+
+    /// Has the shard come home, once nothing else is under way of it.
+    fn have_come(&mut self, shard: u16, control: &mut StoredController) -> Result<(), Refusal> {
+        let is_due = matches!(control.control.next_of_shard(shard)?, Next::Command(_));
+        let record = control.control.record(shard)?;
+        if is_due || record.is_some_and(|it| it.other().is_some()) {
+            self.current = Some(Moving::going_on(shard));
+            return Ok(());
+        }
+        self.home.pop();
+        if control.homes.get(&shard) != Some(&self.server) {
+            // Somebody had it move elsewhere for good.
+            self.of -= 1;
+            return Ok(());
+        }
+        if record.is_some_and(|it| it.owner() != Some(self.server)) {
+            self.current = Some(Moving::new(shard, self.server));
+        }
+        let (done, of) = (self.of - self.home.len() - 1, self.of);
+        let doing = Doing::Returning(Share { done, of });
+        control.cluster.progress.set(self.server, doing);
+        Ok(())
     }
 }
 

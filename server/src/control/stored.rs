@@ -12,7 +12,7 @@ use crate::presence::Standing;
 use crate::resp::Command as Words;
 use durkenzo::PassFault;
 use durkenzo_driver::{Command, Control, Next};
-use std::collections::VecDeque;
+use std::collections::{BTreeMap, VecDeque};
 use std::fmt;
 use std::sync::mpsc::{Receiver, RecvTimeoutError};
 use std::sync::Arc;
@@ -31,6 +31,8 @@ pub struct StoredController {
     pub(super) control: Control,
     pub(super) observer: Observer,
     pub(super) tasks: Vec<Task>,
+    /// The shards that come home, and their servers, as it lies in the store.
+    pub(super) homes: BTreeMap<u16, u16>,
     /// The other processes, where this one leads several.
     pub(super) peers: Option<Arc<Peers>>,
     /// Whether another process leads, as far as a command told.
@@ -65,12 +67,30 @@ impl Task {
         Task::of(Work::Restarting(Restarting::going_on(server)))
     }
 
+    /// The end of this server's restart: its shards come home.
+    pub(super) fn returning(server: u16) -> Task {
+        Task::of(Work::Restarting(Restarting::returning(server)))
+    }
+
+    /// The drain of this server, which was asked for already.
+    pub(super) fn drain(server: u16) -> Task {
+        Task::of(Work::Draining(Draining::going_on(server)))
+    }
+
     fn of(work: Work) -> Task {
         let (reply_to, due) = (None, Instant::now());
         Task {
             work,
             reply_to,
             due,
+        }
+    }
+
+    /// The server that it drains for good.
+    pub(super) fn drains(&self) -> Option<u16> {
+        match &self.work {
+            Work::Draining(draining) => Some(draining.server()),
+            _ => None,
         }
     }
 
@@ -100,6 +120,15 @@ impl Work {
             Work::Rolling(it) => it.advance(control),
         }
     }
+
+    /// Whether whoever leads goes on with it, also where nobody waits for it any more.
+    fn is_wished(&self) -> bool {
+        match self {
+            Work::Draining(it) => it.is_wished(),
+            Work::Restarting(it) => it.is_wished(),
+            Work::Moving(_) | Work::Rolling(_) => false,
+        }
+    }
 }
 
 impl StoredController {
@@ -110,13 +139,14 @@ impl StoredController {
             cluster,
             control,
             tasks: Vec::new(),
+            homes: BTreeMap::new(),
             peers: None,
             is_lost: false,
         })
     }
 
-    /// Goes on where the process before this one was: its servers are up again, migrations go on, and unless it is told
-    /// otherwise each vacant shard gets an owner, in turn.
+    /// Goes on where the process before this one was: its servers are up again, migrations and drains go on, shards
+    /// come home, and unless it is told otherwise each vacant shard gets an owner, in turn.
     pub fn begin(&mut self, assigns: bool) -> Result<(), Refusal> {
         for server in 1..=self.control.servers() {
             if !matches!(self.control.state_of(server)?, 0 | 1) {
@@ -133,10 +163,10 @@ impl StoredController {
                 self.assign(shard, shard % self.control.servers() + 1)?;
             }
         }
-        match assigns {
-            true => self.place().map(drop),
-            false => Ok(()),
+        if assigns {
+            self.place()?;
         }
+        self.go_on_with_wishes()
     }
 
     /// Gives the shard this owner where it is vacant, and the server takes it.
@@ -284,9 +314,12 @@ impl StoredController {
                 return Err(Refusal::not_durable(&word))
             }
             ("MIGRATE", 4, Some(shard), Some(server)) => {
+                self.forget_home(shard)?;
                 Begun::Work(Work::Moving(Moving::new(shard, server)))
             }
-            ("DRAIN", 3, Some(server), _) => Begun::Work(Work::Draining(Draining::new(server))),
+            ("DRAIN", 3, Some(server), _) => {
+                Begun::Work(Work::Draining(Draining::new(server, false)))
+            }
             ("RESTART", 3, Some(server), _) => {
                 Begun::Work(Work::Restarting(Restarting::new(server)))
             }
@@ -294,6 +327,12 @@ impl StoredController {
             (word, length, Some(number), server) => {
                 let command = command_of(word, length, number, server).ok_or_else(usage)?;
                 self.make(command)?;
+                if let Command::Assign(shard, _)
+                | Command::PrepareAddShard(shard, _)
+                | Command::Reassign(shard, _) = command
+                {
+                    self.forget_home(shard)?;
+                }
                 Answer::Done.into()
             }
             _ => return Err(usage()),
@@ -349,7 +388,10 @@ impl StoredController {
             Ok(Advance::Again) => task.due = now + self.cluster.configuration.pace,
             Ok(Advance::Later) => task.due = now + TICK,
             Ok(Advance::Told(told)) => answer(task.reply_to.take(), Ok(told)),
-            Err(refusal) if task.reply_to.is_none() && refusal.is_of_store() => {
+            Err(refusal)
+                if refusal.is_of_store() && (task.reply_to.is_none() || task.work.is_wished()) =>
+            {
+                answer(task.reply_to.take(), Err(refusal));
                 task.due = now + STORE_PAUSE;
             }
             Ok(Advance::Done(done)) => {

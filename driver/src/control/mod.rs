@@ -1,3 +1,5 @@
+mod wishing;
+
 use crate::command::{Command, Next};
 use crate::proved::{Director, Sending};
 use crate::{keys, CoreFault, Durable, Live, Refused};
@@ -182,46 +184,62 @@ impl Control {
     ///
     /// As [`Refused`] says.
     pub fn command(&mut self, command: Command) -> Result<(), Refused> {
+        let mut doubtful = None;
         for _ in 0..TRIES {
             self.catch_up()?;
+            if self.lies(&doubtful)? {
+                self.is_behind = true;
+                return Ok(());
+            }
             if let Command::DropShard(shard) = command {
                 self.follow_if_taken(shard)?;
             }
             self.director.command(command).map_err(Refused::of)?;
             let sending = self.director.sending().map_err(Refused::of)?;
             let (number, is_state) = (sending.number, sending.is_state);
+            let sent = (sending.key(), sending.written.clone());
             self.is_behind = true;
             match self.send(sending) {
-                Ok(Outcome::Made(revision)) => {
-                    self.director.made(revision).map_err(Refused::of)?;
-                    self.written.note(number, is_state, revision);
-                    (self.is_behind, self.followers) = (false, None);
-                    return match self.durable.member() {
-                        None => self.follow_all(revision),
-                        Some(_) => Ok(()),
-                    };
-                }
+                Ok(Outcome::Made(revision)) => return self.made(number, is_state, revision),
                 Ok(Outcome::Lost(_)) => self.look_at_leader()?,
-                // What it was to do may be done: what it begins from tells.
-                Err(WriteError::Unknown(_)) => {}
+                Err(WriteError::Unknown(_)) => doubtful = Some(sent),
                 Err(error) => return Err(error.into()),
             }
         }
-        let why = "it was sent as often as may be";
-        Err(WriteError::Unknown(why.to_owned()).into())
+        Err(Refused::in_vain())
+    }
+
+    /// Whether what was sent to a key lies there: then it was made, though that wasn't known. It tells the generation,
+    /// or how far a restart has come, which no other command of this process leads to.
+    fn lies(&self, sent: &Option<(Vec<u8>, Vec<u8>)>) -> Result<bool, Refused> {
+        let Some((key, written)) = sent else {
+            return Ok(false);
+        };
+        let reading = self.durable.store().read(&[key])?;
+        Ok(reading.get(key).is_some_and(|it| &it.value == written))
+    }
+
+    /// Goes on from what was made at this revision: the server's state, or the shard's record.
+    fn made(&mut self, number: u16, is_state: bool, revision: Revision) -> Result<(), Refused> {
+        self.director.made(revision).map_err(Refused::of)?;
+        self.written.note(number, is_state, revision);
+        (self.is_behind, self.followers) = (false, None);
+        match self.durable.member() {
+            None => self.follow_all(revision),
+            Some(_) => Ok(()),
+        }
     }
 
     fn send(&self, sending: Sending) -> Result<Outcome, WriteError> {
         let transaction = Transaction::new()
             .compare(keys::LEADER, sending.elected)
             .compare(keys::COMMANDS, sending.placed)
+            .put(sending.key(), sending.written)
             .put(keys::COMMANDS, sending.commands);
-        if sending.is_state {
-            let transaction = transaction.put(keys::state(sending.number), sending.written);
-            return self.durable.store().make(transaction);
+        match sending.is_state {
+            true => self.durable.store().make(transaction),
+            false => self.durable.change(sending.number, transaction),
         }
-        let transaction = transaction.put(keys::record(sending.number), sending.written);
-        self.durable.change(sending.number, transaction)
     }
 
     /// Refuses where another process leads.

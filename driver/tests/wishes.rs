@@ -1,0 +1,138 @@
+//! What whoever leads goes on with lies in the store, also where outcomes aren't known; nobody else changes it.
+mod common;
+
+use common::cluster::{campaign, kill, Net};
+use common::handing::{Handed, Handing};
+use common::{line, opened};
+use durkenzo_driver::{keys, Command, Control, Refused, Wish};
+use durkenzo_store::{Done, Embedded, Outcome, Store, Transaction, WriteError};
+use std::sync::atomic::{AtomicU64, Ordering};
+use std::sync::Arc;
+
+/// A store that doesn't tell what became of two of three transactions on wishes, or of commands: it makes one of these
+/// two.
+struct Doubtful {
+    store: Embedded,
+    count: AtomicU64,
+}
+
+impl Handing for Doubtful {
+    fn store(&self) -> &dyn Store {
+        &self.store
+    }
+
+    fn submit(&self, transaction: Transaction, done: Done) {
+        let control = [keys::DRAINS, keys::HOMES, keys::COMMANDS];
+        let is_of_control = |key: &[u8]| control.iter().any(|it| key.starts_with(it));
+        let puts = transaction.puts.iter().any(|it| is_of_control(&it.key));
+        let number = match puts || transaction.deletes.iter().any(|it| is_of_control(it)) {
+            true => self.count.fetch_add(1, Ordering::Relaxed) % 3,
+            false => 2,
+        };
+        let unknown = || Err(WriteError::Unknown("a test".to_owned()));
+        match number {
+            0 => done(unknown()),
+            1 => self
+                .store
+                .submit(transaction, Box::new(move |_| done(unknown()))),
+            _ => self.store.submit(transaction, done),
+        }
+    }
+}
+
+fn doubtful() -> Arc<dyn Store> {
+    Arc::new(Handed(Doubtful {
+        store: Embedded::in_memory(),
+        count: AtomicU64::new(0),
+    }))
+}
+
+fn assert_wishes(control: &mut Control, wishes: &[Wish]) {
+    assert_eq!(control.wishes().unwrap(), wishes);
+}
+
+#[test]
+fn wishes_lie_there_until_they_are_taken_back() {
+    let store = doubtful();
+    let durable = Arc::new(opened(&store, 2));
+    let lead = || Control::lead(durable.clone(), &line(2)).unwrap();
+    let mut control = lead();
+    assert_wishes(&mut control, &[]);
+    control.wish(&[Wish::Drain(2)]).unwrap();
+    control.wish(&[Wish::Home(1, 2)]).unwrap();
+    // The first home of a shard stays.
+    control.wish(&[Wish::Home(0, 1), Wish::Home(1, 1)]).unwrap();
+    control.wish(&[Wish::Drain(2)]).unwrap();
+    let all = [Wish::Drain(2), Wish::Home(0, 1), Wish::Home(1, 2)];
+    assert_wishes(&mut control, &all);
+    // What a later version may write is passed over.
+    let later = Transaction::new().put("home/00009", [2, 0, 1]);
+    let later = later.put("drain/00001", [2]);
+    let mut made = (0..3).map(|_| store.make(later.clone()));
+    assert!(made.any(|it| matches!(it, Ok(Outcome::Made(_)))));
+    assert_wishes(&mut lead(), &all);
+    let mut control = lead();
+    control
+        .take_back(&[Wish::Home(1, 2), Wish::Home(0, 1)])
+        .unwrap();
+    assert_wishes(&mut control, &[Wish::Drain(2)]);
+    control.take_back(&[Wish::Drain(2)]).unwrap();
+    control.take_back(&[Wish::Drain(2)]).unwrap();
+    control.take_back(&[]).unwrap();
+    assert_wishes(&mut control, &[]);
+}
+
+#[test]
+fn a_command_that_was_made_is_not_refused() {
+    let store = doubtful();
+    let durable = Arc::new(opened(&store, 1));
+    let mut control = Control::lead(durable, &line(1)).unwrap();
+    control.command(Command::Assign(0, 1)).unwrap();
+    for (to, from) in [(2, 1), (1, 2)] {
+        for command in [
+            Command::PrepareAddShard(0, to),
+            Command::PrepareDropShard(0),
+            Command::AddShard(0),
+            Command::DropShard(0),
+            Command::Ask(from),
+            Command::Approve(from),
+            Command::Stopped(from),
+            Command::Back(from),
+        ] {
+            control.command(command).unwrap();
+        }
+    }
+    // What isn't to be made is refused as ever.
+    let again = control.command(Command::Back(1));
+    assert!(matches!(again, Err(Refused::Judged(_))), "{again:?}");
+}
+
+#[test]
+fn many_wishes_lie_there() {
+    let store: Arc<dyn Store> = Arc::new(Embedded::in_memory());
+    let durable = Arc::new(opened(&store, 1));
+    let mut control = Control::lead(durable, &line(1)).unwrap();
+    let wishes: Vec<_> = (0..500).map(|it| Wish::Home(it, 1)).collect();
+    control.wish(&wishes[..130]).unwrap();
+    control.wish(&wishes).unwrap();
+    assert_wishes(&mut control, &wishes);
+    control.take_back(&wishes).unwrap();
+    assert_wishes(&mut control, &[]);
+}
+
+#[test]
+fn who_leads_no_more_wishes_for_nothing() {
+    let store: Arc<dyn Store> = Arc::new(Embedded::in_memory());
+    let nodes = Net::of_three(&store, 1);
+    let mut before = campaign(&nodes[0]);
+    before.wish(&[Wish::Drain(1)]).unwrap();
+    // Its lease ends, and it doesn't see that.
+    nodes[0].is_deaf.store(true, Ordering::Release);
+    nodes[0].durable.member().unwrap().leave();
+    let mut control = campaign(&nodes[1]);
+    let is_refused = |it| matches!(it, Err(Refused::NotLeader));
+    assert!(is_refused(before.wish(&[Wish::Drain(2)])));
+    assert!(is_refused(before.take_back(&[Wish::Drain(1)])));
+    assert_wishes(&mut control, &[Wish::Drain(1)]);
+    kill(&nodes[0]);
+}
