@@ -54,6 +54,9 @@ impl Hints {
 
     // The block that has the key, if the hints are right.
     pub(crate) fn block_of(&self, key: &[u8]) -> usize {
+        if self.starts.len() < 2 {
+            return 0;
+        }
         let start = Start::of(key, self.skip);
         let mut low = 0;
         let mut size = self.starts.len();
@@ -107,17 +110,19 @@ fn sixteen_of(key: &[u8], skip: usize) -> u128 {
     (eight_of(key, skip) as u128) << 64 | eight_of(key, skip.saturating_add(8)) as u128
 }
 
-// The number that eight bytes of a key past so many spell, the greatest first, with zeros behind its end. Those before
-// the end are read at once, and what is before them is shifted out.
+// The number that eight bytes of a key past so many spell, the greatest first, with zeros behind its end. Where fewer
+// are left the key's last eight are read at once, and what is before them is shifted out.
 fn eight_of(key: &[u8], skip: usize) -> u64 {
-    let Some(last) = key.len().checked_sub(8) else {
-        return eight_of_few(key.get(skip..).unwrap_or(&[]));
-    };
-    let number = u64::from_be_bytes(eight_at(key, skip.min(last)));
-    match skip.saturating_sub(last) {
-        0 => number,
-        past @ 1..8 => number << (8 * past),
-        _ => 0,
+    let left = key.len().saturating_sub(skip);
+    if left >= 8 {
+        return u64::from_be_bytes(eight_at(key, skip));
+    }
+    if left == 0 {
+        return 0;
+    }
+    match key.len().checked_sub(8) {
+        Some(last) => u64::from_be_bytes(eight_at(key, last)) << (8 * (8 - left)),
+        None => eight_of_few(key.get(skip..).unwrap_or(&[])),
     }
 }
 

@@ -1,4 +1,5 @@
 use crate::words::eight_at;
+use std::simd::prelude::*;
 
 // A byte of each key's hash, in the order of a block's entries, eight in a word. They are hints: what they name is
 // compared before it is believed, so no proof rests on them.
@@ -9,14 +10,6 @@ pub(crate) struct Tags {
 
 const WORDS: usize = 8;
 
-// One in each byte of a word; all but the highest bit of each; and what brings the lowest bits of all to the highest
-// byte, by a product.
-const ONES: u64 = 0x0101_0101_0101_0101;
-
-const LOWS: u64 = 0x7f7f_7f7f_7f7f_7f7f;
-
-const GATHERING: u64 = 0x0102_0408_1020_4080;
-
 // An odd number with bits of no pattern (the golden ratio's).
 const SPREADING: u64 = 0x9e37_79b9_7f4a_7c15;
 
@@ -25,15 +18,8 @@ impl Tags {
 
     // The places that have the tag, as bits.
     pub(crate) fn places_of(&self, tag: u8) -> u64 {
-        let wanted = ONES.wrapping_mul(tag as u64);
-        let mut places = 0;
-        for word in 0..WORDS {
-            let differs = self.words[word] ^ wanted;
-            // The highest bit of each byte that is 0.
-            let same = !((differs & LOWS).wrapping_add(LOWS) | differs | LOWS);
-            places |= (same >> 7).wrapping_mul(GATHERING) >> 56 << (8 * word);
-        }
-        places
+        let tags = u64x8::from_array(self.words).to_le_bytes();
+        tags.simd_eq(u8x64::splat(tag)).to_bitmask()
     }
 
     // Puts a tag in, and moves those behind it.
