@@ -148,10 +148,10 @@ class ClusterTrial:
         """Has what was recorded of the records be judged."""
         if not recorder.caught_up(30):
             self.said.append("the last changes of records weren't told in time")
-        if program and not recorder.gaps:
+        if program:
             self.replay = recording.replayed(recorder.changes(), program)
-        elif program:
-            self.said.append(f"records: {recorder.gaps} times changes were compacted before they were told: not replayed")
+        if missing := recorder.missing():
+            self.said.append(f"records: {missing} changes were compacted before they were told")
         self.early = recording.dropped_early(recorder.told)
 
     def tell(self, told, status):

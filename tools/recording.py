@@ -25,9 +25,9 @@ TAKEN, PHASE = 4, 61
 STANDS = ("Vacant", "Serving", "Prepared", "Forwarding", "Taken", "Paused", "-", "-")
 
 
-class Told(collections.namedtuple("Told", "revision key value created at")):
-    """A change of a key, whose value is none where it was deleted, and when it was told; the key is none where changes may
-    be missing."""
+class Told(collections.namedtuple("Told", "revision key value created version at")):
+    """A change of a key, whose value is none where it was deleted, its number among those of the key, and when it was
+    told; the key is none where changes may be missing."""
 
     def is_record(self):
         return self.key is not None and self.key.startswith(RECORD)
@@ -50,7 +50,7 @@ class Recorder:
     """Follows the records from the store's first revision on, at whichever member answers."""
 
     def __init__(self, running):
-        self.fleet, self.told, self.next, self.gaps, self.start = running, [], 1, 0, time.monotonic()
+        self.fleet, self.told, self.next, self.start = running, [], 1, time.monotonic()
         self.is_over, self.thread = threading.Event(), threading.Thread(target=self.work, daemon=True)
 
     def __enter__(self):
@@ -86,16 +86,15 @@ class Recorder:
     def take(self, told):
         if told.get("canceled"):
             # What is before that revision was compacted before it was told: most often of other keys alone.
-            self.gaps += not self.has_all()
             self.next = max(self.next, int(told.get("compact_revision", 0)))
-            self.told.append(Told(self.next, None, None, 0, time.monotonic() - self.start))
+            self.told.append(Told(self.next, None, None, 0, 0, time.monotonic() - self.start))
         for event in told.get("events", []):
             pair = event["kv"]
             revision, key = int(pair["mod_revision"]), fleet.bytes_of(pair["key"])
             if revision >= self.next:
                 value = None if event.get("type") == "DELETE" else fleet.bytes_of(pair.get("value"))
-                created, at = int(pair.get("create_revision", 0)), time.monotonic() - self.start
-                self.told.append(Told(revision, key, value, created, at))
+                created, version = (int(pair.get(it, 0)) for it in ("create_revision", "version"))
+                self.told.append(Told(revision, key, value, created, version, time.monotonic() - self.start))
         if told.get("events"):
             self.next = max(self.next, self.told[-1].revision + 1)
 
@@ -103,11 +102,10 @@ class Recorder:
         """The changes of records, in their order."""
         return [it for it in self.told if it.is_record()]
 
-    def has_all(self):
-        """Whether it has the latest change of each record, and no other was made that it hasn't."""
-        versions = dict(collections.Counter(it.key for it in self.changes()))
-        found = {fleet.bytes_of(it["key"]): int(it["version"]) for it in self.pairs()}
-        return found == versions
+    def missing(self):
+        """How many changes of records were compacted before they were told."""
+        made = {fleet.bytes_of(it["key"]): int(it["version"]) for it in self.pairs()}
+        return sum(made.values()) - len({(it.key, it.version) for it in self.changes()})
 
     def pairs(self):
         found = self.fleet.ask("/v3/kv/range", {"key": fleet.text(RECORD), "range_end": fleet.text(RECORDS_END)})
@@ -128,9 +126,13 @@ class Recorder:
 
 
 def replayed(changes, program):
-    """What the replay says of these changes, and whether the rule makes them."""
-    number = lambda it: int(it.key.removeprefix(RECORD))
-    lines = "".join(f"{number(it)} {int.from_bytes(it.value[WORD], 'big')}\n" for it in changes)
+    """What the replay says of these changes, and whether the rule makes them. One behind others that weren't told is told
+    to be where its record begins anew."""
+    versions, lines = {}, ""
+    for it in changes:
+        behind = " anew" if it.version > versions.get(it.key, 0) + 1 else ""
+        lines += f"{int(it.key.removeprefix(RECORD))} {int.from_bytes(it.value[WORD], 'big')}{behind}\n"
+        versions[it.key] = it.version
     try:
         ran = subprocess.run([program], input=lines, capture_output=True, text=True, timeout=REPLAY)
     except subprocess.TimeoutExpired:

@@ -1,8 +1,9 @@
 //! Sees that what a store was told of shards' records is what the proved rule makes of them.
 //!
 //! Each line of the input is a shard's number and the word of its record after a change, in the order of the changes; a
-//! shard begins as vacant. Says how many changes there were, and those that no change of the rule leads to; the exit
-//! status is 1 where there is such a one, or a line can't be read.
+//! shard begins as vacant. With `anew` behind them the change isn't judged, as others before it weren't told. Says how
+//! many changes there were, and those that no change of the rule leads to; the exit status is 1 where there is such a
+//! one, or a line can't be read.
 use durkenzo::word::{changed, record, Change};
 use durkenzo::Stand;
 use std::collections::BTreeMap;
@@ -43,20 +44,28 @@ fn change_between(before: u64, after: u64) -> Option<Change> {
         .find(|it| changed(before, *it, CEILING) == Ok(after))
 }
 
+/// The shard, its word, and whether the change is judged, as a line says.
+fn told(line: &str) -> Option<(u16, u64, bool)> {
+    let words: Vec<&str> = line.split(' ').collect();
+    match words[..] {
+        [shard, word] => Some((shard.parse().ok()?, word.parse().ok()?, true)),
+        [shard, word, "anew"] => Some((shard.parse().ok()?, word.parse().ok()?, false)),
+        _ => None,
+    }
+}
+
 fn main() -> ExitCode {
     let mut words: BTreeMap<u16, u64> = BTreeMap::new();
-    let (mut changes, mut wrong) = (0, 0);
+    let (mut changes, mut unjudged, mut wrong) = (0, 0, 0);
     for line in stdin().lock().lines().map_while(Result::ok) {
-        let Some((Ok(shard), Ok(after))) = line
-            .split_once(' ')
-            .map(|(shard, word)| (shard.parse::<u16>(), word.parse::<u64>()))
-        else {
+        let Some((shard, after, is_judged)) = told(&line) else {
             println!("{line} can't be read");
             return ExitCode::FAILURE;
         };
         let before = words.insert(shard, after).unwrap_or(VACANT);
         changes += 1;
-        if change_between(before, after).is_none() {
+        unjudged += u32::from(!is_judged);
+        if is_judged && change_between(before, after).is_none() {
             wrong += 1;
             println!(
                 "shard {shard}: no change leads from {:?} to {:?}",
@@ -65,6 +74,7 @@ fn main() -> ExitCode {
             );
         }
     }
-    println!("{changes} changes of {} shards, {wrong} wrong", words.len());
+    let shards = words.len();
+    println!("{changes} changes of {shards} shards, {unjudged} not judged, {wrong} wrong");
     ExitCode::from(u8::from(wrong > 0))
 }
