@@ -40,6 +40,11 @@ impl Moving {
         self.shard
     }
 
+    /// Whether it has begun, so that whoever leads goes on with it.
+    pub(super) fn has_begun(&self) -> bool {
+        self.to.is_none()
+    }
+
     pub(super) fn advance(&mut self, control: &mut StoredController) -> Result<Advance, Refusal> {
         if let Some(server) = self.to {
             control.make(Command::PrepareAddShard(self.shard, server))?;
@@ -49,10 +54,7 @@ impl Moving {
         match control.control.next_of_shard(self.shard)? {
             Next::Nothing => Ok(Advance::Done(Answer::Done)),
             Next::Waits => Ok(Advance::Later),
-            Next::Command(command) => {
-                control.make(command)?;
-                Ok(Advance::Again)
-            }
+            Next::Command(command) => control.step(command),
         }
     }
 }
@@ -136,7 +138,9 @@ impl Draining {
             }
             Next::Command(command) => {
                 self.wish(control, command)?;
-                control.make(command)?;
+                if let later @ Advance::Later = control.step(command)? {
+                    return Ok(later);
+                }
                 if let Command::PrepareAddShard(shard, to) = command {
                     self.moved.push((shard, to));
                     self.current = Some(Moving::going_on(shard));

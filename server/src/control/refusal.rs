@@ -142,6 +142,11 @@ impl Refusal {
         Refusal::new(name, refused.to_string(), advice)
     }
 
+    /// Whether a process is still to read what is there already.
+    pub fn is_not_yet(&self) -> bool {
+        self.name == "NotYet"
+    }
+
     /// Whether it is the store that doesn't let the control go on for now.
     pub fn is_of_store(&self) -> bool {
         matches!(&*self.name, "StoreDown" | "StoreFull")

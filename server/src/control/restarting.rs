@@ -82,7 +82,9 @@ impl Restarting {
     fn leave(&mut self, control: &mut StoredController) -> Result<Advance, Refusal> {
         match control.control.next_of_server(self.server)? {
             Next::Command(command) => {
-                control.make(command)?;
+                if let later @ Advance::Later = control.step(command)? {
+                    return Ok(later);
+                }
                 match (command, control.peers.is_some()) {
                     (Command::Stopped(server), true) => {
                         self.stage = Stage::Away;

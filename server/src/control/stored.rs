@@ -124,9 +124,10 @@ impl Work {
     /// Whether whoever leads goes on with it, also where nobody waits for it any more.
     fn is_wished(&self) -> bool {
         match self {
+            Work::Moving(it) => it.has_begun(),
             Work::Draining(it) => it.is_wished(),
             Work::Restarting(it) => it.is_wished(),
-            Work::Moving(_) | Work::Rolling(_) => false,
+            Work::Rolling(_) => false,
         }
     }
 }
@@ -233,6 +234,15 @@ impl StoredController {
                 self.cluster.changes_made.add(word_of(command));
                 Ok(())
             }
+        }
+    }
+
+    /// Makes what comes next of work that is under way: later where a process that has just come is still to read what
+    /// the command takes for known.
+    pub(super) fn step(&mut self, command: Command) -> Result<Advance, Refusal> {
+        match self.make(command) {
+            Err(refusal) if refusal.is_not_yet() => Ok(Advance::Later),
+            made => made.map(|()| Advance::Again),
         }
     }
 
