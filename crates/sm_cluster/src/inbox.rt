@@ -2,14 +2,14 @@
 ghost use Rattle.std.specs.Prelude.{◌≡◌, IfErr};
 ghost use Rattle.sm_cluster.specs.Replies.{IsOfTheWay};
 
-use crate::LOOKS;
 use crate::call_refused::CallFault;
+use crate::waiting::{LOOKS, pause};
 use crossbeam_channel::{Receiver, RecvError, SendError, Sender, unbounded};
 use sm_ranges::server_id::ServerId;
 use std::alloc::{AllocError, Global};
 use std::sync::Wait;
 use std::sync::atomic::{AtomicBool, Ordering};
-use std::{hint, thread};
+use std::thread;
 
 /// What a worker takes out of its inbox.
 #[derive(Drop)]
@@ -138,11 +138,11 @@ impl<M: Drop> Inbox<M> {
 
     /// The next parcel, for which it looks some times before it waits.
     pub(crate) fn next<R: Wait>(&self, rt: &R) -> Result<Parcel<M>, RecvError> {
-        for _ in 0..LOOKS {
+        for look in 0..LOOKS {
             if !self.parcels.is_empty() {
                 break;
             }
-            hint::spin_loop();
+            pause(look);
         }
         self.parcels.recv(rt)
     }

@@ -40,6 +40,7 @@ pub mod setup;
 pub mod start_fault;
 pub mod stop_fault;
 pub mod told;
+mod waiting;
 mod worker;
 
 pub use call_refused::{CallFault, CallRefused};
@@ -61,8 +62,3 @@ pub use told::Told;
 
 /// How many workers a cluster has at most.
 pub const MAX_WORKERS: u32 = 64;
-
-// How often a worker looks into an empty inbox, and a client for its reply, before it sleeps: a message that comes in
-// that time costs nobody a wake-up. More looks gave no shorter round trips, and would take a processor from workers
-// that have work.
-pub(crate) const LOOKS: u32 = 200;

@@ -6,8 +6,8 @@ ghost use Rattle.crossbeam_channel.specs.Ends.{receives_on, sends_on};
 ghost use Rattle.sm_body.specs.Service.{meaning_of};
 ghost use Rattle.sm_cluster.specs.Replies.{CallValue, Fits, HoldsReplies};
 
-use crate::LOOKS;
 use crate::call_refused::CallFault;
+use crate::waiting::{LOOKS, pause};
 use crossbeam_channel::protocol::{Lesson, Outcome, Protocol, Split};
 use crossbeam_channel::{Pass, RecvError, RuledReceiver, RuledSender, TryRecvError, bounded_with};
 use sm_body::service::Service;
@@ -16,7 +16,6 @@ use sm_ranges::layout::Layout;
 use sm_rule::note::Note;
 use sm_server::Answer;
 use std::alloc::{AllocError, Global};
-use std::hint;
 use std::marker::{Brand, Model, PhantomData};
 use std::sync::Wait;
 
@@ -178,11 +177,11 @@ impl<S: Service> ReplyReceiver<S> {
         ensures { IfOk result (λ reply. Fits (meaning_of S.initial S.next S.answer S.key_of) self reply) }
     {
         let ReplyReceiver { receiver, mut pass } = self;
-        for _ in 0..LOOKS {
+        for look in 0..LOOKS {
             match receiver.try_recv_as::<ReceivesReply<S>, R>(rt, &mut pass) {
                 Ok(reply) => return Ok(reply),
                 Err(TryRecvError::Disconnected) => return Err(RecvError),
-                Err(TryRecvError::Empty) => hint::spin_loop(),
+                Err(TryRecvError::Empty) => pause(look),
             }
         }
         receiver.recv_as::<ReceivesReply<S>, R>(rt, &mut pass)

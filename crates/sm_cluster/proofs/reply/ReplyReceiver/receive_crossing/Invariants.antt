@@ -4,5 +4,5 @@ use Rattle.crossbeam_channel.specs.Ends.{receives_on}
 use Rattle.sm_cluster.proofs.reply.ReplyReceiver.receive_crossing.Given as goal
 
 -- the pass is of the channel, and knows the call still
-abbrev pub invariant-loop : goal.invariant-loop
-invariant-loop g l = IsSeatAt (receives_on l.receiver) l.pass × (view l.pass ≡ l.fn.self)
+abbrev pub invariant-loop-look : goal.invariant-loop-look
+invariant-loop-look g l = IsSeatAt (receives_on l.receiver) l.pass × (view l.pass ≡ l.fn.self)
