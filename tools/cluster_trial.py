@@ -56,7 +56,8 @@ class ClusterTrial:
     def run(self):
         """Runs it, prints its line of the table, and returns the exit status: 1 where something is wrong."""
         replay = None if self.given.no_replay else recording.program()
-        with tempfile.TemporaryDirectory(prefix="sm-trial-", dir=self.given.room) as room, contextlib.ExitStack() as stack:
+        at = {"prefix": "sm-trial-", "dir": self.given.room}
+        with tempfile.TemporaryDirectory(**at) as room, contextlib.ExitStack() as stack:
             at = stack.enter_context(phases.Phases())
             at.begin("begin", BEGIN)
             needs_relays = self.planting or {"cut", "delay"} & {*self.kinds}
@@ -106,7 +107,8 @@ class ClusterTrial:
         given = self.given
         words = {
             "address": ",".join(f"{fleet.HOST}:{it.port}" for it in running.servers), "seconds": self.seconds,
-            "clients": given.clients, "followers": given.followers, "numbered": given.numbered, "keys": given.keys, "readers": given.readers,
+            "clients": given.clients, "followers": given.followers, "numbered": given.numbered, "keys": given.keys,
+            "readers": given.readers,
             "epoch": EPOCH, "patience": PATIENCE, "shards": 0, "seed": given.seed, "judging": JUDGING - SLOW // 2,
         }  # fmt: skip
         if given.logs:
@@ -158,7 +160,8 @@ class ClusterTrial:
         """Prints what is wrong and the line of the table; returns the exit status."""
         of = lambda pattern: int((re.search(pattern, told) or [0, 0])[1])
         refused, is_graceful = of(r"(\d+) refused"), not self.others and not self.planting
-        for line in [*self.said, *self.early[:MOST], *(told.splitlines() if status or self.given.verbose or refused else [])]:
+        told_lines = told.splitlines() if status or self.given.verbose or refused else []
+        for line in [*self.said, *self.early[:MOST], *told_lines]:
             print(line)
         if not self.replay[1]:
             print(self.replay[0])

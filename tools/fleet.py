@@ -141,7 +141,8 @@ class Member(Process):
             "advertise-client-urls": self.client, "listen-peer-urls": self.peer,
             "initial-advertise-peer-urls": f"http://{HOST}:{self.peer_at}", "initial-cluster": every,
         }  # fmt: skip
-        self.command = [str(program), *(str(it) for name, value in words.items() for it in (f"--{name}", value)), *self.options]
+        named = (str(it) for name, value in words.items() for it in (f"--{name}", value))
+        self.command = [str(program), *named, *self.options]
 
     def ask(self, path, asked, seconds=SECONDS):
         """What its gateway answers to this; OSError where it doesn't, and what it refuses as it says it."""

@@ -36,7 +36,7 @@ class Nemesis:
         return self.told(*words) == DONE
 
     def told(self, *words):
-        """What a server says of the command, at which chance asks it: that it is done, the name of why not, or nothing."""
+        """What a server of chance says of the command: that it is done, the name of why not, or nothing."""
         try:
             with self.chance.choice(self.fleet.servers).client() as client:
                 client.socket.settimeout(LONG)
@@ -165,7 +165,8 @@ class Full(Nemesis):
     def make_room(self):
         """What an operator does, until it is done."""
         for _ in range(TRIES):
-            with contextlib.suppress(OSError, served.Refused), self.chance.choice(self.fleet.servers).client() as client:
+            server = self.chance.choice(self.fleet.servers)
+            with contextlib.suppress(OSError, served.Refused), server.client() as client:
                 client.socket.settimeout(LONG)
                 client.ask("SM", "COMPACT")
                 return

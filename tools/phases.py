@@ -49,7 +49,8 @@ class Phases:
     def give_up(self, name, now):
         """Ends the process, whatever it waits for; what it began ends with it."""
         faulthandler.dump_traceback(all_threads=True)
-        print(f"trial: {name} took longer than it may, {now - self.began:.0f} s: nothing from it on is decided", flush=True)
+        took = f"{now - self.began:.0f} s"
+        print(f"trial: {name} took longer than it may, {took}: nothing from it on is decided", flush=True)
         os._exit(1)
 
     def told(self):

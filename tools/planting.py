@@ -22,7 +22,8 @@ SERVER = b"server/"
 # Where a server's key tells up to which revision it has read.
 FOLLOWED = slice(9, 17)
 # How etcd says that it made nothing.
-NOT_MADE = {"error": "etcdserver: mvcc: database space exceeded", "code": 8, "message": "etcdserver: mvcc: database space exceeded"}
+FULL = "etcdserver: mvcc: database space exceeded"
+NOT_MADE = {"error": FULL, "code": 8, "message": FULL}
 
 
 class Bug:
@@ -82,7 +83,8 @@ class StaleRead(Bug):
 
     def answered(self, path, asked, answer):
         is_question = path == TXN and asked.get("compare") and not asked.get("success")
-        return {**made(answer.get("header", {})), "responses": []} if is_question and not answer.get("succeeded") else answer
+        is_lost = is_question and not answer.get("succeeded")
+        return {**made(answer.get("header", {})), "responses": []} if is_lost else answer
 
 
 class EarlyDrop(Bug):

@@ -126,8 +126,8 @@ class Recorder:
 
 
 def replayed(changes, program):
-    """What the replay says of these changes, and whether the rule makes them. One behind others that weren't told is told
-    to be where its record begins anew."""
+    """What the replay says of these changes, and whether the rule makes them. One behind others that weren't told is
+    told to be where its record begins anew."""
     versions, lines = {}, ""
     for it in changes:
         behind = " anew" if it.version > versions.get(it.key, 0) + 1 else ""
@@ -152,7 +152,8 @@ def dropped_early(told):
             stood = records.get(it.key)
             if stood and int.from_bytes(stood.value[WORD], "big") >> PHASE == TAKEN:
                 late = [server.key.decode() for server in servers.values() if is_behind(server, stood.revision)]
-                said += [f"{it.key.decode()} is dropped at revision {it.revision} before {name} has read it" for name in late]
+                dropped = f"{it.key.decode()} is dropped at revision {it.revision}"
+                said += [f"{dropped} before {name} has read it" for name in late]
             records[it.key] = it
     return said
 

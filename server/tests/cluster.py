@@ -318,7 +318,8 @@ def processes_speak_tls_and_know_a_secret(program):
             several.begin(3)
             with several.client(1) as client, several.client(3) as stranger:
                 eventually(lambda: rows(client)[2][1] == "up")
-                told = [it for it in stranger.piped([("GET", f"key:{it}") for it in range(20)]) if isinstance(it, Refused)]
+                answers = stranger.piped([("GET", f"key:{it}") for it in range(20)])
+                told = [it for it in answers if isinstance(it, Refused)]
                 assert told and all("its secret is another one" in str(it) for it in told), told
                 assert client.ask("SET", "key:1", 1) == "OK"
 
@@ -387,7 +388,8 @@ def refused_by_name(program, several):
         (("--servers", 2), 1, "OTHERSETTINGS"), (("--shards", 5), 1, "OTHERSETTINGS"), ((), 2, "running already"),
         ((), 9, "--name 9"),
     ):
-        ran = subprocess.run(command(program, several, server, (*several.options, *options)), capture_output=True, text=True, timeout=PATIENCE)
+        words = command(program, several, server, (*several.options, *options))
+        ran = subprocess.run(words, capture_output=True, text=True, timeout=PATIENCE)
         assert ran.returncode == 1 and name in ran.stderr, f"{name}: {ran.returncode}, {ran.stderr[-500:]}"
 
 
@@ -480,7 +482,7 @@ def kills_of_a_process_lose_nothing(program):
 
 
 def who_does_not_wait_is_told(program):
-    """A process that is stopped, and one that is gone: what it was asked may be made, and what it isn't asked is not."""
+    """A process that is stopped, and one that is gone: what it was asked may be made, what it isn't asked is not."""
     with cluster(program, "--wait", 150) as several:
         gone = next(it for it in several.processes if it != several.leader())
         with Load(several, 18) as load:

@@ -45,7 +45,8 @@ def demo(room, program):
     left = [it for it in processes if runs.pathlib.Path(f"/proc/{it}").exists()]
     yield verdict("the demo leaves no process", len(processes) == 6 and not left, str(left))
     again = subprocess.run(command, capture_output=True, text=True)
-    yield verdict("the demo wants an empty folder", again.returncode == 1 and "isn't empty" in again.stderr, again.stderr)
+    is_refused = again.returncode == 1 and "isn't empty" in again.stderr
+    yield verdict("the demo wants an empty folder", is_refused, again.stderr)
 
 
 def asked(port):

@@ -53,7 +53,7 @@ def skipped(say):
     elif not shutil.which("openssl"):
         say("openssl isn't installed: the server's TLS isn't tried")
     elif not shutil.which("etcd"):
-        say("etcd isn't installed: of the server for Redis clients several processes aren't tried; tools/setup installs it")
+        say("etcd isn't installed: several processes of the server aren't tried; tools/setup installs it")
 
 
 def by_cargo(serve, name, *words):
@@ -110,7 +110,7 @@ def passed(room):
     serve = runs.loaded("serve")
     if not library.is_there() or not shutil.which("cargo") or not serve.has_crates():
         return
-    # They are of the sources that were just proved, so as new as these, which is how ./sm serve sees that they are proved.
+    # They are of the sources that were just proved, so as new as these: so ./sm serve sees that they are proved.
     for it in filter(pathlib.Path.is_file, library.PROVED):
         it.touch()
     try:

@@ -199,7 +199,11 @@ fn unknown(f: &mut fmt::Formatter<'_>, name: &str, shown: &str) -> fmt::Result {
 
 fn bad_number(f: &mut fmt::Formatter<'_>) -> fmt::Result {
     let last = Numbered::LAST_CLIENT;
-    write!(f, "BADNUMBER it is written SM CALL client number COMMAND ..: give each client one of 1 to {last} of its own")?;
+    let written = "BADNUMBER it is written SM CALL client number COMMAND ..";
+    write!(
+        f,
+        "{written}: give each client one of 1 to {last} of its own"
+    )?;
     f.write_str(
         ", and its commands rising numbers from 1 on; who takes one over goes on above the last",
     )
