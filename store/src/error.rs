@@ -6,9 +6,12 @@ pub enum WriteError {
     /// It may be made, or be made later, or never: only what a later reading shows is known.
     #[error("it isn't known whether it was made: {0}")]
     Unknown(String),
-    /// It isn't made and never will be, as the store didn't get it.
+    /// It isn't made and never will be, as the store didn't get it, and takes nothing more.
     #[error("the store can't be reached: {0}")]
     Unreachable(String),
+    /// It isn't made and never will be, as the store doesn't take it now; it may take another one soon.
+    #[error("the store takes nothing now: {0}")]
+    Unavailable(String),
     /// It isn't made, as the disk or the store's quota is full; reads go on.
     #[error("the store is full: {0}")]
     Full(String),

@@ -45,6 +45,14 @@ pub trait Store: Send + std::marker::Sync {
     /// Where the store can't be asked, as [`ReadError`] says.
     fn read_all(&self, prefix: &[u8]) -> Result<Reading, ReadError>;
 
+    /// Reads the first keys from this one on and before that end, in their order, at most so many, which are one at
+    /// least, all at one moment.
+    ///
+    /// # Errors
+    ///
+    /// Where the store can't be asked, as [`ReadError`] says.
+    fn read_range(&self, from: &[u8], end: &[u8], most: usize) -> Result<Reading, ReadError>;
+
     /// Tells what lies at all keys that begin so, and from then on each change of them.
     ///
     /// # Errors

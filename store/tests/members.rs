@@ -62,7 +62,7 @@ fn reads_addresses() {
 fn says_that_no_member_got_it() {
     let store = on(&[&nobody(), &nobody()], PATIENCE);
     let made = store.make(Transaction::new().put("a", "1"));
-    assert!(matches!(made, Err(WriteError::Unreachable(_))), "{made:?}");
+    assert!(matches!(made, Err(WriteError::Unavailable(_))), "{made:?}");
     assert!(matches!(
         store.read(&[b"a"]),
         Err(ReadError::Unavailable(_))
@@ -337,7 +337,7 @@ fn speaks_tls() {
         .expect("a file")
         .make(Transaction::new().put("a", "2"));
     assert!(
-        matches!(stranger, Err(WriteError::Unreachable(_))),
+        matches!(stranger, Err(WriteError::Unavailable(_))),
         "{stranger:?}"
     );
     assert!(of(Some("ca.pem"), None)

@@ -142,6 +142,14 @@ fn reads_more_than_a_page() {
         assert_eq!(all.len(), 1_800);
         assert!(all.windows(2).all(|it| it[0].key < it[1].key));
         assert_eq!(store.read_all(b"kez").expect("a reading").pairs, []);
+        let range = |from, end, most| store.read_range(from, end, most).expect("a reading").pairs;
+        let (from, end) = (&all[3].key, &all[1_700].key);
+        assert_eq!(range(from, end, 1_000), all[3..1_003]);
+        assert_eq!(range(from, end, 5_000), all[3..1_700]);
+        assert_eq!(range(from, &all[4].key, 1), all[3..4]);
+        assert_eq!(range(end, end, 1), []);
+        assert_eq!(range(b"kez", b"key", 7), []);
+        assert_eq!(range(b"kez", b"l", 7), []);
     });
 }
 

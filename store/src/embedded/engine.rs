@@ -294,6 +294,14 @@ impl<T: Tables> Engine<T> {
         })
     }
 
+    fn reading_of_range(&self, from: &[u8], end: &[u8], most: usize) -> Result<Reading, ReadError> {
+        let pairs = self.tables.range(from, end, most).map_err(unavailable)?;
+        Ok(Reading {
+            revision: self.tables.moment(),
+            pairs,
+        })
+    }
+
     /// Answers what is no transaction. Who no longer waits needs no answer.
     fn answer(&mut self, job: Job) {
         let now = Instant::now();
@@ -307,6 +315,9 @@ impl<T: Tables> Engine<T> {
             }
             Job::ReadAll(prefix, tell) => {
                 let _ = tell.send(self.reading_of_all(&prefix));
+            }
+            Job::ReadRange(from, end, most, tell) => {
+                let _ = tell.send(self.reading_of_range(&from, &end, most));
             }
             Job::Watch(number, prefix, watcher, tell) => {
                 let reading = self.reading_of_all(&prefix);

@@ -10,6 +10,8 @@ pub(super) enum Job {
     Make(Transaction, Ticket),
     Read(Vec<Vec<u8>>, Sender<Result<Reading, ReadError>>),
     ReadAll(Vec<u8>, Sender<Result<Reading, ReadError>>),
+    /// The first keys from this one on and before that end, at most so many.
+    ReadRange(Vec<u8>, Vec<u8>, usize, Sender<Result<Reading, ReadError>>),
     Watch(u64, Vec<u8>, Watcher, Sender<Result<(), ReadError>>),
     Unwatch(u64),
     Grant(Duration, Sender<LeaseId>),

@@ -41,6 +41,12 @@ impl Tables for Memory {
             .collect())
     }
 
+    fn range(&self, from: &[u8], end: &[u8], most: usize) -> Result<Vec<Pair>, Failure> {
+        let from = self.entries.range(from.to_vec()..);
+        let before = from.take_while(|(key, _)| key.as_slice() < end);
+        Ok(before.take(most).map(pair).collect())
+    }
+
     fn begin(&mut self) -> Result<(), Failure> {
         Ok(())
     }

@@ -97,6 +97,11 @@ impl Store for Embedded {
             .unwrap_or(Err(ReadError::Stopped))
     }
 
+    fn read_range(&self, from: &[u8], end: &[u8], most: usize) -> Result<Reading, ReadError> {
+        self.ask(|tell| Job::ReadRange(from.to_vec(), end.to_vec(), most, tell))
+            .unwrap_or(Err(ReadError::Stopped))
+    }
+
     fn watch(&self, prefix: &[u8], watcher: Watcher) -> Result<Watch, ReadError> {
         let number = self.watches.fetch_add(1, Ordering::Relaxed);
         self.ask(|tell| Job::Watch(number, prefix.to_vec(), watcher, tell))

@@ -196,6 +196,14 @@ impl Tables for Sqlite {
         Ok(found)
     }
 
+    fn range(&self, from: &[u8], end: &[u8], most: usize) -> Result<Vec<Pair>, Failure> {
+        let words = "SELECT key, value, revision FROM pairs WHERE key >= ?1 AND key < ?2 ORDER BY key LIMIT ?3";
+        let mut found = self.connection.prepare_cached(words)?;
+        let most = i64::try_from(most).unwrap_or(i64::MAX);
+        let pairs = found.query_map((from, end, most), pair)?;
+        Ok(pairs.collect::<Result<_, _>>()?)
+    }
+
     fn begin(&mut self) -> Result<(), Failure> {
         Ok(self.connection.execute_batch("BEGIN IMMEDIATE")?)
     }

@@ -22,6 +22,9 @@ pub(super) trait Tables {
     /// All pairs whose keys begin so, in their order.
     fn pairs(&self, prefix: &[u8]) -> Result<Vec<Pair>, Failure>;
 
+    /// The first pairs from this key on and before that end, in their order, at most so many.
+    fn range(&self, from: &[u8], end: &[u8], most: usize) -> Result<Vec<Pair>, Failure>;
+
     /// Begins writing.
     fn begin(&mut self) -> Result<(), Failure>;
 

@@ -60,7 +60,7 @@ impl CallError {
     /// What it means for a transaction. Only what a member refuses before it proposes it isn't made.
     pub(super) fn of_write(self) -> WriteError {
         match self {
-            CallError::Unreachable(reason) => WriteError::Unreachable(reason),
+            CallError::Unreachable(reason) => WriteError::Unavailable(reason),
             CallError::Unknown(reason) => WriteError::Unknown(reason),
             CallError::Refused(it) if it.is_of_user() => WriteError::Denied(it.message),
             CallError::Refused(it) if it.is_of_size() => WriteError::TooLarge(it.message),
@@ -68,9 +68,8 @@ impl CallError {
                 Refusal::EXHAUSTED if it.message.contains("space exceeded") => {
                     WriteError::Full(it.message)
                 }
-                Refusal::EXHAUSTED => WriteError::Unreachable(it.message),
+                Refusal::EXHAUSTED | Refusal::INVALID => WriteError::Unavailable(it.message),
                 Refusal::NOT_FOUND => WriteError::LeaseEnded,
-                Refusal::INVALID => WriteError::Unreachable(it.message),
                 _ => WriteError::Unknown(it.message),
             },
         }

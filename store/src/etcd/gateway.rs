@@ -13,6 +13,13 @@ use std::sync::Mutex;
 use std::time::Duration;
 use tokio::time::timeout;
 
+/// Where changes are told, bit by bit.
+pub(super) const WATCH: &str = "/v3/watch";
+/// How long a member may take for what it does to all that it has.
+const LONG: Duration = Duration::from_secs(30);
+/// What has a member end a stream once it reaches none that leads.
+const HAS_LEADER: (&str, &str) = ("Grpc-Metadata-hasleader", "true");
+
 /// The gateways of the members: a call goes to the member that answered last, and to the next where it can't be
 /// reached.
 pub(super) struct Gateway {
@@ -86,19 +93,18 @@ impl Gateway {
         }
     }
 
-    /// Calls each member, also where one before it fails; the first failure.
+    /// Calls each member, one after another, for what may take minutes; where one fails, none after it.
     pub(super) async fn each<T: DeserializeOwned>(
         &self,
         path: &str,
         asked: &impl Serialize,
     ) -> Result<(), CallError> {
-        let mut done = Ok(());
-        for _ in &self.members {
-            let found = self.once::<T>(path, asked).await;
-            done = done.and(found.map(drop));
-            self.pass_over_current();
+        for member in 0..self.members.len() {
+            self.current.store(member, Ordering::Relaxed);
+            let call = async { whole(self.send(path, asked).await?).await };
+            read::<T>(&within(LONG, call).await?)?;
         }
-        done
+        Ok(())
     }
 
     /// Calls a member that answers by a stream, and takes the first that it gives.
@@ -126,8 +132,7 @@ impl Gateway {
         &self,
         call: impl Future<Output = Result<T, CallError>>,
     ) -> Result<T, CallError> {
-        let late = |_| CallError::Unknown("no member answered in time".to_owned());
-        timeout(self.access.patience, call).await.map_err(late)?
+        within(self.access.patience, call).await
     }
 
     /// Sends a call with the user's token, with a new one where that has ended.
@@ -212,6 +217,9 @@ impl Gateway {
             self.members[member % self.members.len()]
         ))
         .header(header::CONTENT_TYPE, "application/json");
+        if path == WATCH {
+            request = request.header(HAS_LEADER.0, HAS_LEADER.1);
+        }
         if let Some(token) = &*self.token() {
             request = request.header(header::AUTHORIZATION, token);
         }
@@ -219,6 +227,15 @@ impl Gateway {
             .body(Body::from(asked))
             .map_err(|error| CallError::Unreachable(error.to_string()))
     }
+}
+
+/// What the call gives, if it does so in that time.
+async fn within<T>(
+    patience: Duration,
+    call: impl Future<Output = Result<T, CallError>>,
+) -> Result<T, CallError> {
+    let late = |_| CallError::Unknown("no member answered in time".to_owned());
+    timeout(patience, call).await.map_err(late)?
 }
 
 /// All that a member answers, which is no more than it may be.

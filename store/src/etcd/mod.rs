@@ -107,6 +107,12 @@ impl Store for Etcd {
             .unwrap_or(Err(ReadError::Stopped))
     }
 
+    fn read_range(&self, from: &[u8], end: &[u8], most: usize) -> Result<Reading, ReadError> {
+        let (gateway, asked) = (Arc::clone(&self.gateway), Range::part(from, end, most));
+        self.wait_for(async move { read_range(&gateway, &asked).await })
+            .unwrap_or(Err(ReadError::Stopped))
+    }
+
     fn watch(&self, prefix: &[u8], watcher: Watcher) -> Result<Watch, ReadError> {
         let (gateway, prefix) = (Arc::clone(&self.gateway), prefix.to_vec());
         let reading = self.read_all(&prefix)?;
@@ -222,6 +228,16 @@ async fn read_all(gateway: &Gateway, prefix: &[u8]) -> Result<Reading, ReadError
     }
 }
 
+/// Reads this range at the present.
+async fn read_range(gateway: &Gateway, asked: &Range) -> Result<Reading, ReadError> {
+    let found = gateway.again::<RangeResult>("/v3/kv/range", asked).await;
+    let found = found.map_err(CallError::of_read)?;
+    Ok(Reading {
+        revision: found.revision(),
+        pairs: found.pairs.into_iter().map(Pair::from).collect(),
+    })
+}
+
 /// Lets go what isn't there any more, has each member give its room back, and ends the alarms of a quota that was
 /// reached.
 async fn compact(gateway: &Gateway) -> Result<(), CompactError> {
@@ -235,10 +251,9 @@ async fn compact(gateway: &Gateway) -> Result<(), CompactError> {
         Err(CallError::Refused(it)) if it.is_of_compacted() => {}
         found => drop(found.map_err(CallError::of_compaction)?),
     }
-    gateway
+    let given_back = gateway
         .each::<IgnoredAny>("/v3/maintenance/defragment", &Nothing {})
-        .await
-        .map_err(CallError::of_compaction)?;
+        .await;
     let path = "/v3/maintenance/alarm";
     let found = gateway.again::<Alarms>(path, &AlarmRequest::all()).await;
     for alarm in found.map_err(CallError::of_compaction)?.alarms {
@@ -246,5 +261,5 @@ async fn compact(gateway: &Gateway) -> Result<(), CompactError> {
         let found = gateway.again::<IgnoredAny>(path, &ended).await;
         found.map_err(CallError::of_compaction)?;
     }
-    Ok(())
+    given_back.map_err(CallError::of_compaction)
 }

@@ -1,4 +1,4 @@
-use super::gateway::Gateway;
+use super::gateway::{Gateway, WATCH};
 use super::read_all;
 use super::wire::{Streamed, WatchRequest, WatchResult};
 use crate::{Change, Reading, Revision, Seen, Watcher};
@@ -45,7 +45,7 @@ async fn follow(
     watcher: &mut Watcher,
 ) -> Ended {
     let Ok(mut stream) = gateway
-        .stream("/v3/watch", &WatchRequest::after(prefix, *moment))
+        .stream(WATCH, &WatchRequest::after(prefix, *moment))
         .await
     else {
         return Ended::Lost;

@@ -98,6 +98,16 @@ pub(super) struct Range {
 }
 
 impl Range {
+    /// The first keys from this one on and before that end, at the present.
+    pub(super) fn part(from: &[u8], end: &[u8], limit: usize) -> Range {
+        Range {
+            key: from.to_vec(),
+            range_end: end.to_vec(),
+            limit,
+            revision: Revision::NEVER.0,
+        }
+    }
+
     /// Keys from this one on that begin so.
     pub(super) fn page(from: &[u8], prefix: &[u8], limit: usize, moment: Revision) -> Range {
         Range {
