@@ -1,3 +1,4 @@
+use crate::base_parts::BaseParts;
 use crate::shard::{Deed, Shard, Ticket};
 use crate::{
     keys, process, reading, Came, Elsewhere, Member, NotDone, Numbered, OpenFault, Own, Standing,
@@ -15,9 +16,11 @@ use std::thread::{self, JoinHandle};
 use std::time::{Duration, Instant};
 
 /// How many threads read shards.
-const READERS: usize = 2;
+const READERS: usize = 4;
 /// How often it is looked for what has waited in vain.
 const TICK: Duration = Duration::from_millis(10);
+/// How many parts of a base are written at once.
+const PARTS: usize = 4;
 /// How many keys are deleted at once.
 const DELETES: usize = 64;
 /// How long a stop waits for transactions that are under way.
@@ -39,7 +42,8 @@ pub struct Durable {
 pub struct Tuning {
     /// How long work waits for a shard that nobody executes, before it is refused.
     pub wait: Duration,
-    /// How many batches a log has before a base stands for them, from which a server begins then.
+    /// How many batches a log has at most before a base stands for them, from which a server begins then; it comes
+    /// earlier where reading them takes longer than reading two of it.
     pub most_batches: u64,
     /// How reads are answered.
     pub reads: Reads,
@@ -363,7 +367,7 @@ impl Inner {
             Deed::Submit(ticket, transaction) => self.send(shard, ticket, transaction),
             Deed::Read(ticket) => self.want(Wanted::Shard(shard, ticket)),
             Deed::Sweep(server) => self.want(Wanted::Passing(shard, server)),
-            Deed::WriteBase(server, parts) => self.write_base(shard, server, parts),
+            Deed::WriteBase(ticket, parts) => self.write_base(shard, ticket, parts),
             Deed::Delete(keys) => self.delete(&keys),
             Deed::Tell(work, outcome) => work.end(outcome),
             Deed::HandOver(elsewhere, steps) => match &self.own {
@@ -388,25 +392,35 @@ impl Inner {
         let _ = readings.as_ref().map(|it| it.send(wanted));
     }
 
-    /// Writes the parts of a base, each by itself, and tells whether all were.
-    fn write_base(self: &Arc<Inner>, shard: u16, server: u16, parts: Vec<(Vec<u8>, Vec<u8>)>) {
-        let left = Arc::new(AtomicUsize::new(parts.len()));
-        let failed = Arc::new(AtomicBool::new(false));
-        for (key, bytes) in parts {
-            let (inner, left, failed) = (Arc::downgrade(self), left.clone(), failed.clone());
-            let done = move |outcome: Result<Outcome, WriteError>| {
-                failed.fetch_or(outcome.is_err(), Ordering::AcqRel);
-                let is_last = left.fetch_sub(1, Ordering::AcqRel) == 1;
-                if let Some(inner) = inner.upgrade().filter(|_| is_last) {
-                    let is_written = !failed.load(Ordering::Acquire);
-                    inner.with(shard, |it, deeds| {
-                        it.on_base(server, is_written, Instant::now(), deeds);
-                    });
-                }
-            };
-            self.store
-                .submit(Transaction::new().put(key, bytes), Box::new(done));
+    /// Writes the parts of a base, some at once and each by itself, and tells whether all were.
+    fn write_base(self: &Arc<Inner>, shard: u16, ticket: Ticket, parts: Vec<(Vec<u8>, Vec<u8>)>) {
+        if parts.is_empty() {
+            return self.with(shard, |it, deeds| {
+                it.on_base(ticket, true, Instant::now(), deeds);
+            });
         }
+        let parts = Arc::new(Mutex::new(BaseParts::new(parts)));
+        (0..PARTS).for_each(|_| self.write_part(shard, ticket, &parts));
+    }
+
+    /// Writes the next part, if there is one, and then those that follow.
+    fn write_part(self: &Arc<Inner>, shard: u16, ticket: Ticket, parts: &Arc<Mutex<BaseParts>>) {
+        let Some((key, bytes)) = locked(parts).next() else {
+            return;
+        };
+        let (inner, parts) = (Arc::downgrade(self), parts.clone());
+        let done = move |outcome: Result<Outcome, WriteError>| {
+            let ended = locked(&parts).end(outcome.is_ok());
+            match (inner.upgrade(), ended) {
+                (Some(inner), Some(is_written)) => inner.with(shard, |it, deeds| {
+                    it.on_base(ticket, is_written, Instant::now(), deeds);
+                }),
+                (Some(inner), None) => inner.write_part(shard, ticket, &parts),
+                (None, _) => {}
+            }
+        };
+        self.store
+            .submit(Transaction::new().put(key, bytes), Box::new(done));
     }
 
     /// Deletes these keys, some at once. What isn't deleted the next sweep finds.
@@ -542,7 +556,7 @@ impl Inner {
         }
         self.with(shard, |it, deeds| {
             it.tick(now, self.tuning.wait, deeds);
-            it.begin_base(deeds);
+            it.begin_base(now, deeds);
         });
         let held = locked(&self.shards[place]);
         self.stirred[place].store(held.has_waiting(), Ordering::Release);
@@ -563,8 +577,8 @@ impl Inner {
     }
 }
 
-fn locked(shard: &Mutex<Shard>) -> MutexGuard<'_, Shard> {
-    shard.lock().unwrap_or_else(PoisonError::into_inner)
+fn locked<T>(it: &Mutex<T>) -> MutexGuard<'_, T> {
+    it.lock().unwrap_or_else(PoisonError::into_inner)
 }
 
 fn spawn(name: &str, work: impl FnOnce() + Send + 'static) -> Result<JoinHandle<()>, OpenFault> {

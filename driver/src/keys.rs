@@ -131,6 +131,12 @@ pub(crate) fn batch(shard: u16, number: u64) -> Vec<u8> {
     format!("batch/{shard:05}/{number:020}").into_bytes()
 }
 
+/// The number of the batch at this key, where it is one's.
+pub(crate) fn number_of_batch(key: &[u8]) -> Option<u64> {
+    let mut words = std::str::from_utf8(key).ok()?.split('/').skip(2);
+    words.next()?.parse().ok()
+}
+
 /// What the parts of the shard's bases begin with.
 pub(crate) fn bases(shard: u16) -> Vec<u8> {
     format!("base/{shard:05}/").into_bytes()

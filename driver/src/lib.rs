@@ -7,6 +7,7 @@
 #![forbid(unsafe_code)]
 
 mod addresses;
+mod base_parts;
 mod command;
 mod control;
 mod core_fault;

@@ -5,12 +5,15 @@ use crate::keys;
 use crate::proved::Core;
 use crate::shard::NotRead;
 use crate::{core_fault::CoreFault, Standing};
-use durkenzo_store::{ReadError, Reading, Revision, Store};
+use durkenzo_store::{Pair, ReadError, Reading, Revision, Store};
 use durkenzo_store_sys::Head;
 
-/// How many batches are read at once, and how many parts.
+/// How many batches are read at first, and how many parts: then always twice as many, as long as they are small.
 const BATCHES: u64 = 64;
 const PARTS: u64 = 4;
+/// How many are read at once at most, and how many bytes are small.
+const MOST: u64 = 256;
+const SMALL: u64 = 1 << 20;
 
 impl From<ReadError> for NotRead {
     fn from(error: ReadError) -> NotRead {
@@ -62,10 +65,12 @@ pub(crate) fn read(
     let (head, logged) = found(&reading, &head, &keys::EMPTY);
     let named = Head::of(&head).map_err(CoreFault)?;
     let mut core = Core::new(server, shard, count)?;
-    let parts = (0..named.parts).map(|place| keys::part(shard, named.base, place));
-    let base = each(store, parts, PARTS, |it| core.add_part(it))?;
-    let batches = (named.base + 1..=named.batches).map(|it| keys::batch(shard, it));
-    let bytes = each(store, batches, BATCHES, |it| core.add_batch(it))?;
+    let part = |place| keys::part(shard, named.base, place);
+    let (from, end) = (part(0), part(named.parts));
+    let base = each(store, from, &end, PARTS, |it| core.add_part(&it.value))?;
+    let batch = |behind| keys::batch(shard, behind + 1);
+    let (from, end) = (batch(named.base), batch(named.batches));
+    let bytes = each(store, from, &end, BATCHES, |it| core.add_batch(&it.value))?;
     core.read((&record, stood), (&head, logged))?;
     Ok(Read {
         core,
@@ -87,30 +92,44 @@ fn found(reading: &Reading, key: &[u8], never: &[u8]) -> (Vec<u8>, Revision) {
     )
 }
 
-/// Gives what lies at each of the keys, in their order, some at once; returns how many bytes that were. Where one isn't
-/// there, the server tells so when it reads.
+/// Gives what lies at the keys from this one on and before the end, in their order, at first so many at once; returns
+/// how many bytes that were. Where one isn't there, the server tells so when it reads. A page that doesn't come is asked
+/// for again as a small one, as what it has may be large.
 fn each(
     store: &dyn Store,
-    mut keys: impl Iterator<Item = Vec<u8>>,
-    at_once: u64,
-    mut give: impl FnMut(&[u8]) -> Result<(), CoreFault>,
+    mut from: Vec<u8>,
+    end: &[u8],
+    first: u64,
+    mut give: impl FnMut(&Pair) -> Result<(), CoreFault>,
 ) -> Result<u64, NotRead> {
-    let mut bytes = 0;
-    loop {
-        let next: Vec<_> = keys.by_ref().take(at_once as usize).collect();
-        if next.is_empty() {
-            return Ok(bytes);
+    let (mut bytes, mut most) = (0, first);
+    while from.as_slice() < end {
+        let pairs = match store.read_range(&from, end, most as usize) {
+            Err(ReadError::Unavailable(_)) if most > first => {
+                most = first;
+                continue;
+            }
+            read => read?.pairs,
+        };
+        let size = pairs.iter().try_fold(0, |size, pair| {
+            give(pair)?;
+            Ok::<_, CoreFault>(size + pair.value.len() as u64)
+        })?;
+        bytes += size;
+        match pairs.last().filter(|_| pairs.len() as u64 == most) {
+            Some(last) => from = [&last.key[..], b"\0"].concat(),
+            None => break,
         }
-        let next: Vec<&[u8]> = next.iter().map(Vec::as_slice).collect();
-        for pair in store.read(&next)?.pairs {
-            bytes += pair.value.len() as u64;
-            give(&pair.value)?;
-        }
+        most = match size <= SMALL {
+            true => MOST.min(2 * most),
+            false => first,
+        };
     }
+    Ok(bytes)
 }
 
 /// What may be behind the base that the head names: all parts of bases, and the batches up to the base that are there,
-/// of which the last go last.
+/// in their order.
 pub(crate) fn passing(store: &dyn Store, shard: u16) -> Result<Vec<Passing>, NotRead> {
     let key = keys::head(shard);
     let reading = store.read(&[&key])?;
@@ -120,19 +139,10 @@ pub(crate) fn passing(store: &dyn Store, shard: u16) -> Result<Vec<Passing>, Not
     let mut passing: Vec<_> = parts
         .map(|(base, place)| Passing::Part(base, place))
         .collect();
-    let mut end = named.base;
-    while end > 0 {
-        let first = end.saturating_sub(BATCHES - 1).max(1);
-        let keys: Vec<_> = (first..=end).map(|it| keys::batch(shard, it)).collect();
-        let slices: Vec<&[u8]> = keys.iter().map(Vec::as_slice).collect();
-        let reading = store.read(&slices)?;
-        if reading.pairs.is_empty() {
-            break;
-        }
-        let there = (first..=end).zip(&keys);
-        let there = there.filter(|(_, key)| reading.get(key).is_some());
-        passing.extend(there.map(|(number, _)| Passing::Batch(number)));
-        end = first - 1;
-    }
+    let (from, end) = (keys::batch(shard, 1), keys::batch(shard, named.base + 1));
+    each(store, from, &end, BATCHES, |it| {
+        passing.extend(keys::number_of_batch(&it.key).map(Passing::Batch));
+        Ok(())
+    })?;
     Ok(passing)
 }

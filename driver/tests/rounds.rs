@@ -1,9 +1,11 @@
 //! What work of one shard sees of other work.
 mod common;
 
+use common::handing::{Handed, Handing};
 use common::{add, ask, held, led, opened, step, write};
 use durkenzo_driver::{Begin, Command, Durable, Key, NotDone, Reply, Request, Tuning};
-use durkenzo_store::{Embedded, Store};
+use durkenzo_store::{Embedded, ReadError, Reading, Store};
+use std::sync::atomic::{AtomicU64, Ordering};
 use std::sync::Arc;
 use std::thread;
 use std::time::Duration;
@@ -159,6 +161,42 @@ fn a_base_stands_for_what_was_made_before() {
         Reply::Count(40),
     ];
     assert_eq!(ask(&durable, 0, Begin::Read(keys), None), Ok(found));
+}
+
+/// A store that counts the ranges that are read of it.
+struct Counting {
+    store: Arc<dyn Store>,
+    ranges: AtomicU64,
+}
+
+impl Handing for Counting {
+    fn store(&self) -> &dyn Store {
+        &*self.store
+    }
+
+    fn read_range(&self, from: &[u8], end: &[u8], most: usize) -> Result<Reading, ReadError> {
+        self.ranges.fetch_add(1, Ordering::Relaxed);
+        self.store.read_range(from, end, most)
+    }
+}
+
+#[test]
+fn a_long_log_is_read_in_few_pages() {
+    let store: Arc<dyn Store> = Arc::new(Embedded::in_memory());
+    let opened = |store: Arc<dyn Store>| {
+        let open = Durable::open(store, 1, Tuning::default(), Box::new(|| {}));
+        Arc::new(open.unwrap())
+    };
+    let durable = opened(store.clone());
+    let _control = led(&durable);
+    (0..900).for_each(|_| drop(add(&durable, 0, b"a", 1).unwrap()));
+    durable.stop();
+    let ranges = AtomicU64::new(0);
+    let counting = Arc::new(Handed(Counting { store, ranges }));
+    let durable = opened(counting.clone());
+    assert_eq!(held(&durable, 0, b"a"), Ok(vec![Reply::Count(900)]));
+    // One of 64, one of 128, and three of 256.
+    assert_eq!(counting.ranges.load(Ordering::Relaxed), 5);
 }
 
 /// What was written before the store gives back room is there after it, and for the next process.

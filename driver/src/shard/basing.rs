@@ -1,4 +1,4 @@
-use super::{Deed, Seat, Shard};
+use super::{Deed, Seat, Shard, Ticket};
 use crate::decision::{Base, Passing};
 use crate::keys;
 use crate::reading::LogSize;
@@ -7,8 +7,10 @@ use std::time::Instant;
 /// How far a base is.
 #[derive(Clone, Copy, Debug, PartialEq, Eq)]
 pub(super) enum Basing {
-    /// Its parts are being written.
-    Writes,
+    /// Its parts are being written: those of the base with this number of a ticket.
+    Writes(u64),
+    /// One wasn't written: once no transaction is under way the server is read anew, which makes none then.
+    Failed,
     /// They are written, so the next transaction names it.
     Names,
     /// The transaction with this number does.
@@ -17,11 +19,13 @@ pub(super) enum Basing {
 
 /// How many bytes a log has at least before it gets another base for their number.
 const LEAST_BYTES: u64 = 1 << 20;
+/// How many bytes are read in the time that it takes to read a batch beside its own.
+const BATCH_BYTES: u64 = 1 << 10;
 
 impl Shard {
     /// Begins a base where the log is long.
-    pub(crate) fn begin_base(&mut self, deeds: &mut Vec<Deed>) {
-        if self.is_log_long() && self.base.is_none() {
+    pub(crate) fn begin_base(&mut self, now: Instant, deeds: &mut Vec<Deed>) {
+        if self.is_log_long() && self.base.is_none() && self.base_pause.is_over(now) {
             self.want_base(deeds);
         }
     }
@@ -33,7 +37,8 @@ impl Shard {
             batches,
             bytes,
         } = self.log;
-        batches >= self.tuning.most_batches || bytes >= LEAST_BYTES.max(2 * base)
+        let cost = bytes + batches * BATCH_BYTES;
+        batches >= self.tuning.most_batches || cost >= LEAST_BYTES.max(2 * base)
     }
 
     /// Begins a base, where the server that executes is of this process and makes none.
@@ -51,12 +56,18 @@ impl Shard {
         // Where it fails, the log stays as long as it is, and it is tried again.
         if let Ok(Some(Base { number, parts })) = core.base() {
             self.log.base = parts.iter().map(|it| it.len() as u64).sum();
-            self.base = Some((server, Basing::Writes));
+            self.log_before = self.log;
+            self.tickets += 1;
+            let ticket = Ticket {
+                server,
+                number: self.tickets,
+            };
+            self.base = Some((server, Basing::Writes(ticket.number)));
             let places = parts.into_iter().enumerate();
             let keyed = places
                 .map(|(place, it)| (keys::part(self.number, number, place as u64), it))
                 .collect();
-            deeds.push(Deed::WriteBase(server, keyed));
+            deeds.push(Deed::WriteBase(ticket, keyed));
         }
     }
 
@@ -65,15 +76,16 @@ impl Shard {
         self.base.is_some() || self.sweeps > 0
     }
 
-    /// The parts of the server's base were written, or weren't.
+    /// The parts of the base that was begun so were written, or weren't. One that was given up meanwhile is no more.
     pub(crate) fn on_base(
         &mut self,
-        server: u16,
+        ticket: Ticket,
         is_written: bool,
         now: Instant,
         deeds: &mut Vec<Deed>,
     ) {
-        if self.base != Some((server, Basing::Writes)) {
+        let Ticket { server, number } = ticket;
+        if self.base != Some((server, Basing::Writes(number))) {
             return;
         }
         let Some(Seat::Ready(core, _) | Seat::Sent(core, ..)) = self.seats.get_mut(&server) else {
@@ -82,11 +94,20 @@ impl Shard {
         };
         if is_written && core.parts_made().is_ok() {
             self.base = Some((server, Basing::Names));
-        } else if matches!(self.seats.get(&server), Some(Seat::Ready(..))) {
-            // One that is read anew makes no base, and can begin another.
-            self.read_again(server);
+        } else {
+            self.base = Some((server, Basing::Failed));
+            self.base_pause.begin(now);
+            self.end_failed_base(server);
         }
         self.go_on(now, deeds);
+    }
+
+    /// Has a server be read anew whose base failed, where nothing that it sent is under way.
+    pub(super) fn end_failed_base(&mut self, server: u16) {
+        let is_ready = matches!(self.seats.get(&server), Some(Seat::Ready(..)));
+        if is_ready && self.base == Some((server, Basing::Failed)) {
+            self.read_again(server);
+        }
     }
 
     /// Sends what names a base, where nothing else is to be sent.

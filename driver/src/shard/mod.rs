@@ -1,3 +1,4 @@
+mod base_pause;
 mod basing;
 mod leasing;
 mod parting;
@@ -10,6 +11,7 @@ use crate::reading::{LogSize, Read};
 use crate::round::{Decided, Origin, Round, Run};
 use crate::work::{self, NotDone, Step, Work};
 use crate::{Came, Elsewhere, Member, Standing, Tuning};
+use base_pause::BasePause;
 use basing::Basing;
 use durkenzo_store::{Revision, Transaction};
 use leasing::Leasing;
@@ -23,8 +25,8 @@ pub(crate) enum Deed {
     Submit(Ticket, Transaction),
     /// Reads the shard for a server, and says by its ticket what was read.
     Read(Ticket),
-    /// Writes the parts of this server's base, at these keys, and says whether all were.
-    WriteBase(u16, Vec<(Vec<u8>, Vec<u8>)>),
+    /// Writes the parts of a server's base, at these keys, and says by its ticket whether all were.
+    WriteBase(Ticket, Vec<(Vec<u8>, Vec<u8>)>),
     /// Looks for what may be behind the base of this server.
     Sweep(u16),
     /// Deletes these keys.
@@ -100,6 +102,10 @@ pub(crate) struct Shard {
     log: LogSize,
     /// The server that makes a base, and how far it is.
     base: Option<(u16, Basing)>,
+    /// How long the log was when that began.
+    log_before: LogSize,
+    /// How long none begins after one failed.
+    base_pause: BasePause,
     /// How often it is looked for what is behind a base.
     sweeps: usize,
     tuning: Tuning,
@@ -111,6 +117,8 @@ pub(crate) struct Shard {
 
 /// How long a shard isn't read again after that failed.
 const READ_AGAIN: Duration = Duration::from_millis(100);
+/// How many times longer work waits while its shard is read.
+const READING_WAITS: u32 = 4;
 /// How long steps wait that came back before they are handed over again.
 const PAUSE: Duration = Duration::from_millis(10);
 
@@ -141,6 +149,8 @@ impl Shard {
             tickets: 0,
             log: LogSize::default(),
             base: None,
+            log_before: LogSize::default(),
+            base_pause: BasePause::default(),
             sweeps: 0,
             tuning,
             leasing: Leasing::default(),
@@ -361,9 +371,11 @@ impl Shard {
         }
         let is_reading = self.seats.values().any(|it| matches!(it, Seat::Reading(_)));
         let why = self.why_not();
-        if is_reading && why == NotDone::Busy {
-            return;
-        }
+        // Whoever reads the shard will soon execute.
+        let wait = match is_reading && why == NotDone::Busy {
+            true => READING_WAITS * wait,
+            false => wait,
+        };
         if self.round.as_ref().is_some_and(|it| now >= it.since + wait) {
             self.give_up_round(&why, deeds);
         }

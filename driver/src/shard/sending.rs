@@ -37,7 +37,8 @@ impl Shard {
             self.log.bytes += sent.batch.len() as u64;
         } else if !sent.head.is_empty() {
             self.base = Some((server, Basing::Named(number)));
-            (self.log.batches, self.log.bytes) = (0, 0);
+            self.log.batches = self.log.batches.saturating_sub(self.log_before.batches);
+            self.log.bytes = self.log.bytes.saturating_sub(self.log_before.bytes);
         }
         // What only names a base compares the head alone.
         self.leasing
@@ -94,7 +95,9 @@ impl Shard {
                     }
                     self.leasing.note_held(at, sent_at);
                     self.seats.insert(server, Seat::Ready(core, at));
+                    self.end_failed_base(server);
                     if self.base == Some((server, Basing::Named(ticket.number))) {
+                        self.base_pause.end();
                         self.base = None;
                         self.sweeps += 1;
                         deeds.push(Deed::Sweep(server));

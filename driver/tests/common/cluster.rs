@@ -90,6 +90,11 @@ impl Handing for Line {
             .map_or_else(|| self.store.read_all(prefix), Err)
     }
 
+    fn read_range(&self, from: &[u8], end: &[u8], most: usize) -> Result<Reading, ReadError> {
+        self.read_error()
+            .map_or_else(|| self.store.read_range(from, end, most), Err)
+    }
+
     fn watch(&self, prefix: &[u8], mut watcher: Watcher) -> Result<Watch, ReadError> {
         let (deaf, cut) = (self.is_deaf.clone(), self.is_cut.clone());
         let hears = move |seen| {

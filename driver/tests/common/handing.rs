@@ -21,6 +21,10 @@ pub trait Handing: Send + Sync {
         self.store().read_all(prefix)
     }
 
+    fn read_range(&self, from: &[u8], end: &[u8], most: usize) -> Result<Reading, ReadError> {
+        self.store().read_range(from, end, most)
+    }
+
     fn watch(&self, prefix: &[u8], watcher: Watcher) -> Result<Watch, ReadError> {
         self.store().watch(prefix, watcher)
     }
@@ -56,6 +60,10 @@ impl<H: Handing> Store for Handed<H> {
 
     fn read_all(&self, prefix: &[u8]) -> Result<Reading, ReadError> {
         self.0.read_all(prefix)
+    }
+
+    fn read_range(&self, from: &[u8], end: &[u8], most: usize) -> Result<Reading, ReadError> {
+        self.0.read_range(from, end, most)
     }
 
     fn watch(&self, prefix: &[u8], watcher: Watcher) -> Result<Watch, ReadError> {

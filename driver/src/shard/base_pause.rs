@@ -1,0 +1,30 @@
+use std::time::{Duration, Instant};
+
+/// How long until the next base begins after one failed, at first, and at most: always twice as long.
+const FIRST_PAUSE: Duration = Duration::from_secs(1);
+const LAST_PAUSE: Duration = Duration::from_secs(64);
+
+/// When a base may begin by itself.
+#[derive(Debug, Default)]
+pub(super) struct BasePause {
+    end: Option<Instant>,
+    last: Duration,
+}
+
+impl BasePause {
+    /// Whether one may begin.
+    pub(super) fn is_over(&self, now: Instant) -> bool {
+        self.end.is_none_or(|it| now >= it)
+    }
+
+    /// One failed, so none begins for a while.
+    pub(super) fn begin(&mut self, now: Instant) {
+        self.last = (2 * self.last).clamp(FIRST_PAUSE, LAST_PAUSE);
+        self.end = Some(now + self.last);
+    }
+
+    /// One was made, so the next may begin at once.
+    pub(super) fn end(&mut self) {
+        *self = BasePause::default();
+    }
+}

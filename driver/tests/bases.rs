@@ -1,0 +1,113 @@
+//! What becomes of a base that is given up before its parts are written.
+mod common;
+
+use common::handing::{Handed, Handing};
+use common::{add, held, led, opened};
+use durkenzo_driver::{Durable, Reply};
+use durkenzo_store::{Done, Embedded, Store, Transaction, WriteError};
+use std::sync::atomic::{AtomicBool, Ordering};
+use std::sync::{Arc, Mutex};
+use std::thread;
+use std::time::{Duration, Instant};
+
+/// A store that holds parts of bases back until they are let go, and may lose what becomes of a batch.
+struct Holding {
+    store: Arc<dyn Store>,
+    parts: Mutex<Vec<(Transaction, Done)>>,
+    /// Whether the next batch isn't made, and nobody knows.
+    loses: AtomicBool,
+    /// Whether parts aren't written.
+    refuses: AtomicBool,
+}
+
+impl Handing for Holding {
+    fn store(&self) -> &dyn Store {
+        &*self.store
+    }
+
+    fn submit(&self, transaction: Transaction, done: Done) {
+        let writes = |prefix: &[u8]| transaction.puts.iter().any(|it| it.key.starts_with(prefix));
+        let unknown = || Err(WriteError::Unknown("a test".to_owned()));
+        if writes(b"base/") {
+            return self.parts.lock().unwrap().push((transaction, done));
+        }
+        if writes(b"batch/") && self.loses.swap(false, Ordering::AcqRel) {
+            thread::spawn(move || done(unknown()));
+            return;
+        }
+        self.store.submit(transaction, done);
+    }
+}
+
+impl Holding {
+    fn over(store: &Arc<dyn Store>) -> Arc<Handed<Holding>> {
+        Arc::new(Handed(Holding {
+            store: store.clone(),
+            parts: Mutex::default(),
+            loses: AtomicBool::new(false),
+            refuses: AtomicBool::new(false),
+        }))
+    }
+
+    /// Waits until so many parts are held back.
+    fn wait_for(&self, parts: usize) {
+        let end = Instant::now() + Duration::from_secs(20);
+        while self.parts.lock().unwrap().len() < parts {
+            assert!(Instant::now() < end, "no part of a base is written");
+            thread::sleep(Duration::from_millis(5));
+        }
+    }
+
+    /// Lets the first part go.
+    fn let_go(&self) {
+        let (part, done) = self.parts.lock().unwrap().remove(0);
+        match self.refuses.load(Ordering::Acquire) {
+            true => done(Err(WriteError::Full("a test".to_owned()))),
+            false => self.store.submit(part, done),
+        }
+    }
+}
+
+/// A store, one over it, and a shard in that one with a count of 8, of which a base has begun.
+fn begun() -> (Arc<dyn Store>, Arc<Handed<Holding>>, Arc<Durable>) {
+    let store: Arc<dyn Store> = Arc::new(Embedded::in_memory());
+    let holding = Holding::over(&store);
+    let durable = Arc::new(opened(&(holding.clone() as Arc<dyn Store>), 1));
+    drop(led(&durable));
+    (0..8).for_each(|_| drop(add(&durable, 0, b"a", 1).unwrap()));
+    holding.wait_for(1);
+    (store, holding, durable)
+}
+
+#[test]
+fn a_base_that_was_given_up_is_not_named() {
+    let (store, holding, durable) = begun();
+    // The server is read anew, and begins another base.
+    holding.loses.store(true, Ordering::Release);
+    assert_eq!(add(&durable, 0, b"a", 1), Ok(vec![Reply::Count(9)]));
+    holding.wait_for(2);
+    holding.let_go();
+    thread::sleep(Duration::from_millis(200));
+    durable.stop();
+    let durable = Arc::new(opened(&store, 1));
+    assert_eq!(held(&durable, 0, b"a"), Ok(vec![Reply::Count(9)]));
+}
+
+#[test]
+fn a_base_that_fails_is_begun_again_a_while_later() {
+    let (store, holding, durable) = begun();
+    holding.refuses.store(true, Ordering::Release);
+    holding.let_go();
+    assert_eq!(add(&durable, 0, b"a", 1), Ok(vec![Reply::Count(9)]));
+    thread::sleep(Duration::from_millis(300));
+    assert!(holding.parts.lock().unwrap().is_empty(), "it doesn't pause");
+    holding.refuses.store(false, Ordering::Release);
+    holding.wait_for(1);
+    holding.let_go();
+    let end = Instant::now() + Duration::from_secs(20);
+    while store.read_all(b"batch/").unwrap().pairs.len() > 7 {
+        assert!(Instant::now() < end, "no base is made");
+        thread::sleep(Duration::from_millis(5));
+    }
+    assert_eq!(held(&durable, 0, b"a"), Ok(vec![Reply::Count(9)]));
+}
