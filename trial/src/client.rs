@@ -1,10 +1,15 @@
-use std::io::{self, BufRead, BufReader, Write};
+use std::io::{self, BufRead, BufReader, Read, Write};
 use std::net::{TcpStream, ToSocketAddrs};
 use std::time::Duration;
+
+/// The most bytes of a reply: a server's has far fewer.
+const MOST: usize = 64 << 20;
 
 /// A connection that speaks the Redis protocol.
 pub struct Client {
     stream: BufReader<TcpStream>,
+    /// How many bytes the reply that is being read may have yet.
+    left: usize,
 }
 
 /// What a server answers.
@@ -25,6 +30,13 @@ pub enum Reply {
 /// Why there is no reply: the command may have been done.
 #[derive(Debug)]
 pub struct Failure(pub io::Error);
+
+impl Failure {
+    /// Whether what came is no reply.
+    pub fn is_garbled(&self) -> bool {
+        self.0.kind() == io::ErrorKind::InvalidData
+    }
+}
 
 impl From<io::Error> for Failure {
     fn from(error: io::Error) -> Failure {
@@ -48,6 +60,7 @@ impl Client {
         stream.set_write_timeout(Some(patience))?;
         Ok(Client {
             stream: BufReader::new(stream),
+            left: 0,
         })
     }
 
@@ -55,57 +68,66 @@ impl Client {
     ///
     /// # Errors
     ///
-    /// Where none comes; the connection is then of no use.
+    /// Where none comes, or one of more than 64 MiB; the connection is then of no use.
     pub fn call(&mut self, words: &[&str]) -> Result<Reply, Failure> {
         let mut sent = format!("*{}\r\n", words.len());
         for word in words {
             sent += &format!("${}\r\n{word}\r\n", word.len());
         }
         self.stream.get_mut().write_all(sent.as_bytes())?;
+        self.left = MOST;
         self.reply()
     }
 
     fn reply(&mut self) -> Result<Reply, Failure> {
         let line = self.line()?;
-        let (kind, rest) = line.split_at_checked(1).ok_or_else(garbled)?;
+        let wrong = || garbled(&line);
+        let (kind, rest) = line.split_at_checked(1).ok_or_else(wrong)?;
         match kind {
             "+" => Ok(Reply::Line(rest.to_owned())),
             "-" => Ok(Reply::Error(rest.to_owned())),
-            ":" => rest.parse().map(Reply::Number).map_err(|_| garbled()),
+            ":" => rest.parse().map(Reply::Number).map_err(|_| wrong()),
             "$" if rest == "-1" => Ok(Reply::Text(None)),
-            "$" => self
-                .text(rest.parse().map_err(|_| garbled())?)
-                .map(|it| Reply::Text(Some(it))),
+            "$" => self.text(rest).map(|it| Reply::Text(Some(it))),
             "*" => {
-                let count: usize = rest.parse().map_err(|_| garbled())?;
+                let count: usize = rest.parse().map_err(|_| wrong())?;
                 (0..count)
                     .map(|_| self.reply())
                     .collect::<Result<_, _>>()
                     .map(Reply::List)
             }
-            _ => Err(garbled()),
+            _ => Err(wrong()),
         }
     }
 
     fn line(&mut self) -> Result<String, Failure> {
-        let mut line = String::new();
-        self.stream.read_line(&mut line)?;
-        line.strip_suffix("\r\n")
-            .map(str::to_owned)
-            .ok_or_else(garbled)
+        let (mut line, most) = (String::new(), self.left);
+        let mut stream = self.stream.by_ref().take(most as u64);
+        let read = stream.read_line(&mut line)?;
+        self.left -= read;
+        match line.strip_suffix("\r\n") {
+            Some(it) => Ok(it.to_owned()),
+            None if line.ends_with('\n') || read == most => Err(garbled(&line)),
+            None => Err(Failure(io::ErrorKind::UnexpectedEof.into())),
+        }
     }
 
-    fn text(&mut self, length: usize) -> Result<String, Failure> {
-        let mut bytes = vec![0; length + 2];
-        io::Read::read_exact(&mut self.stream, &mut bytes)?;
-        bytes.truncate(length);
-        String::from_utf8(bytes).map_err(|_| garbled())
+    /// The text of this length that comes next, and the end of its line.
+    fn text(&mut self, length: &str) -> Result<String, Failure> {
+        let wrong = |came: &str| garbled(&format!("${length} {came}"));
+        let whole = length.parse().ok().and_then(|it: usize| it.checked_add(2));
+        let whole = whole.filter(|it| *it <= self.left);
+        let mut bytes = vec![0; whole.ok_or_else(|| wrong(""))?];
+        self.left -= bytes.len();
+        self.stream.read_exact(&mut bytes)?;
+        let text = bytes.strip_suffix(b"\r\n");
+        let text = text.and_then(|it| std::str::from_utf8(it).ok());
+        text.map(str::to_owned)
+            .ok_or_else(|| wrong(&String::from_utf8_lossy(&bytes)))
     }
 }
 
-fn garbled() -> Failure {
-    Failure(io::Error::new(
-        io::ErrorKind::InvalidData,
-        "the server closes, or its reply can't be read",
-    ))
+fn garbled(came: &str) -> Failure {
+    let told = format!("what is no reply: {came:?}");
+    Failure(io::Error::new(io::ErrorKind::InvalidData, told))
 }

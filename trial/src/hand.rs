@@ -1,5 +1,5 @@
 use crate::chance::Chance;
-use crate::{Answer, Call, Client, Command, History, Plan, Reply, Routes, Told};
+use crate::{Call, Client, Command, History, Plan, Routes, Told};
 use std::thread::sleep;
 use std::time::{Duration, Instant};
 
@@ -66,7 +66,7 @@ impl<'a> Hand<'a> {
             let began = self.plan.moment();
             let told = match self.way {
                 Way::Numbers if input.may_be_numbered() => self.numbered(&key, &input),
-                _ => self.call(&key, &input.words(&key)),
+                _ => self.call(&key, &input, &input.words(&key)),
             };
             let ended = self.plan.moment();
             self.record(key, input, began, ended, told);
@@ -105,20 +105,17 @@ impl<'a> Hand<'a> {
             .chain(input.words(key))
             .collect();
         loop {
-            let told = self.call(key, &words);
-            let is_answer = matches!(&told, Told::Reply(it) if input.answer(it).is_some());
-            if is_answer || matches!(&told, Told::Reply(it) if is_final(it)) {
-                return told;
-            }
+            let told = self.call(key, input, &words);
+            let why: &str = match &told {
+                Told::Refused(it) if !is_final(it) => it,
+                Told::NotSent => "nobody is there",
+                Told::Unknown => "no answer",
+                Told::Answer(_) | Told::Refused(_) | Told::Garbled(_) => return told,
+            };
             if Instant::now() > self.plan.end + GRACE {
                 return Told::Unknown;
             }
-            self.history.send_again(match &told {
-                Told::Reply(Reply::Error(it)) => it,
-                Told::Reply(_) => "garbled",
-                Told::NotSent => "nobody is there",
-                Told::Unknown => "no answer",
-            });
+            self.history.send_again(why);
             self.turn += 1;
             sleep(PAUSE);
         }
@@ -130,7 +127,7 @@ impl<'a> Hand<'a> {
     }
 
     /// Sends a command where its key is to be sent.
-    fn call(&mut self, key: &str, words: &[&str]) -> Told {
+    fn call(&mut self, key: &str, input: &Command, words: &[&str]) -> Told {
         let address = match self.way {
             Way::Routes => self.routes.address(self.plan, key, self.turn),
             _ => self.plan.address(self.turn).to_owned(),
@@ -141,20 +138,15 @@ impl<'a> Hand<'a> {
             self.pass_over();
             return Told::NotSent;
         };
-        match client.call(words) {
-            Ok(Reply::Error(it)) if it.starts_with("UNKNOWN") => {
-                self.client = Some((address, client));
-                Told::Unknown
-            }
-            Ok(reply) => {
-                self.client = Some((address, client));
-                Told::Reply(reply)
-            }
-            Err(_) => {
-                self.pass_over();
-                Told::Unknown
-            }
+        let reply = client.call(words);
+        let is_reply = reply.is_ok();
+        let told = Told::of(input, reply);
+        // Of what comes after a garbled reply nobody knows what it answers.
+        match is_reply && !matches!(told, Told::Garbled(_)) {
+            true => self.client = Some((address, client)),
+            false => self.pass_over(),
         }
+        told
     }
 
     /// Has the next call go to another server.
@@ -165,20 +157,21 @@ impl<'a> Hand<'a> {
     }
 
     fn record(&mut self, key: String, input: Command, began: u64, ended: u64, told: Told) {
-        let output = match &told {
+        if let Told::Garbled(came) = &told {
+            let asked = input.words(&key).join(" ");
+            self.history.garbled.note(&asked, came);
+        }
+        let output = match told {
             Told::NotSent => return,
-            Told::Unknown if input == Command::Get => return,
-            Told::Unknown => {
+            Told::Refused(why) => return self.history.refuse(&why),
+            Told::Answer(answer) => Some(answer),
+            Told::Garbled(_) | Told::Unknown if input == Command::Get => return,
+            Told::Garbled(_) | Told::Unknown => {
                 self.plan.note_open(&key);
                 None
             }
-            Told::Reply(reply) => match (input.answer(reply), reply) {
-                (Some(answer), _) => Some(answer),
-                (None, Reply::Error(told)) => return self.history.refuse(told),
-                (None, reply) => return self.history.refuse(&format!("{reply:?}")),
-            },
         };
-        let call: Call<Command, Answer> = Call {
+        let call = Call {
             input,
             output,
             began,
@@ -188,8 +181,7 @@ impl<'a> Hand<'a> {
     }
 }
 
-/// Whether a numbered request that was answered so may not be sent again.
-fn is_final(reply: &Reply) -> bool {
-    let is_known = |it: &String| it.starts_with("ERR") || it.starts_with("WRONGTYPE");
-    matches!(reply, Reply::Error(it) if is_known(it)) || !matches!(reply, Reply::Error(_))
+/// Whether a numbered request that was refused so may not be sent again.
+fn is_final(refusal: &str) -> bool {
+    refusal.starts_with("ERR") || refusal.starts_with("WRONGTYPE")
 }

@@ -1,7 +1,8 @@
-use crate::{Answer, Call, Command};
+use crate::{Answer, Call, Command, Garbled};
 use std::collections::BTreeMap;
+use std::thread;
 
-/// What clients recorded: the calls of each key, and what was refused.
+/// What clients recorded: the calls of each key, what was refused, and what came instead of answers.
 #[derive(Debug, Default)]
 pub struct History {
     /// The calls of each key.
@@ -12,11 +13,22 @@ pub struct History {
     pub last_refusal: Option<String>,
     /// Why numbered requests were sent again, and how often.
     pub again: BTreeMap<String, u64>,
+    /// The replies that answer nothing that was asked.
+    pub garbled: Garbled,
+    /// How many clients panicked, and what they recorded is lost.
+    pub lost: u64,
 }
 
 impl History {
-    /// Takes what another client recorded.
-    pub fn take(&mut self, other: History) {
+    /// Takes what the thread of another client recorded, or notes that it panicked.
+    pub fn join(&mut self, ended: thread::Result<History>) {
+        match ended {
+            Ok(other) => self.take(other),
+            Err(_) => self.lost += 1,
+        }
+    }
+
+    fn take(&mut self, other: History) {
         for (key, calls) in other.calls {
             self.calls.entry(key).or_default().extend(calls);
         }
@@ -27,6 +39,7 @@ impl History {
         for (name, count) in other.again {
             *self.again.entry(name).or_default() += count;
         }
+        self.garbled.take(other.garbled);
     }
 
     /// Records a call.

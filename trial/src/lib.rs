@@ -9,6 +9,7 @@ mod call;
 mod chance;
 mod client;
 mod events;
+mod garbled;
 mod hand;
 mod history;
 mod linearizable;
@@ -24,6 +25,7 @@ mod told;
 
 pub use call::Call;
 pub use client::{Client, Failure, Reply};
+pub use garbled::Garbled;
 pub use hand::{Hand, Way};
 pub use history::History;
 pub use linearizable::{is_linearizable, judge, judge_until, Verdict};

@@ -1,6 +1,8 @@
 //! Calls servers for a while beside moving shards and faults, and says whether their answers are those of one thread.
 use clap::Parser;
-use durkenzo_trial::{Answer, Call, Client, Command, Hand, History, Mover, Plan, Report, Way};
+use durkenzo_trial::{
+    Answer, Call, Client, Command, Hand, History, Mover, Plan, Report, Told, Way,
+};
 use std::collections::VecDeque;
 use std::path::{Path, PathBuf};
 use std::process::ExitCode;
@@ -162,10 +164,7 @@ fn recorded(options: &Options, plan: &Plan) -> (History, Option<Mover>) {
         if let Some(mover) = mover.as_mut().filter(|_| options.shards > 0) {
             mover.work(options.restart_every, plan.end);
         }
-        working
-            .into_iter()
-            .filter_map(|it| it.join().ok())
-            .for_each(|it| history.take(it));
+        working.into_iter().for_each(|it| history.join(it.join()));
         mover
     });
     (history, mover)
@@ -190,7 +189,7 @@ fn read_all(plan: &Plan, history: &mut History) -> Vec<String> {
         let Some(key) = left.pop_front() else {
             break;
         };
-        match read(plan, &mut client, turn, &key) {
+        match read(plan, &mut client, turn, &key, history) {
             Some(call) => history.calls.entry(key).or_default().push(call),
             None => {
                 left.push_back(key);
@@ -208,16 +207,23 @@ fn read(
     client: &mut Option<Client>,
     turn: u64,
     key: &str,
+    history: &mut History,
 ) -> Option<Call<Command, Answer>> {
     let began = plan.moment();
     let connect = || Client::connect(plan.address(turn), plan.patience).ok();
     let mut connected = client.take().or_else(connect)?;
-    let reply = connected.call(&["GET", key]).ok()?;
-    let output = Some(Command::Get.answer(&reply)?);
+    let answer = match Told::of(&Command::Get, connected.call(&["GET", key])) {
+        Told::Answer(it) => it,
+        Told::Garbled(came) => {
+            history.garbled.note(&format!("GET {key}"), &came);
+            return None;
+        }
+        Told::NotSent | Told::Refused(_) | Told::Unknown => return None,
+    };
     *client = Some(connected);
     Some(Call {
         input: Command::Get,
-        output,
+        output: Some(answer),
         began,
         ended: plan.moment(),
     })

@@ -32,7 +32,7 @@ impl Command {
         matches!(self, Command::Set(_) | Command::Incr | Command::Del)
     }
 
-    /// What a reply says of it; none where it refuses it, so that it did nothing.
+    /// What a reply answers to it; a refusal answers nothing, nor does a reply of another kind.
     pub fn answer(&self, reply: &Reply) -> Option<Answer> {
         match (self, reply) {
             (Command::Set(_), Reply::Line(it)) if it == "OK" => Some(Answer::Done),

@@ -1,5 +1,5 @@
 use crate::plan::COUNT;
-use crate::{judge_until, Answer, Call, Command, History, Register, Verdict};
+use crate::{judge_until, Answer, Call, Command, Garbled, History, Register, Verdict};
 use std::collections::BTreeMap;
 use std::fmt;
 use std::sync::atomic::{AtomicUsize, Ordering};
@@ -33,6 +33,10 @@ pub struct Report {
     pub undecided: Vec<Unexplained>,
     /// What counts fewer numbered requests than were answered, or more than were sent.
     pub miscounted: Vec<String>,
+    /// The replies that answer nothing that was asked.
+    pub garbled: Garbled,
+    /// How many clients panicked, and what they recorded is lost.
+    pub lost: u64,
     /// The longest time in which calls of a key were not answered, in nanoseconds, the key's number, and when it began.
     pub longest: (u64, String, u64),
 }
@@ -48,6 +52,8 @@ impl Report {
             wrong: Vec::new(),
             undecided: Vec::new(),
             miscounted: Vec::new(),
+            garbled: history.garbled.clone(),
+            lost: history.lost,
             longest: longest(history),
         };
         let mut of: Vec<Of> = history.calls.iter().collect();
@@ -73,7 +79,8 @@ impl Report {
 
     /// Whether nothing wrong was found.
     pub fn is_right(&self) -> bool {
-        self.wrong.is_empty() && self.miscounted.is_empty() && self.keys > 0
+        let is_wrong = !self.wrong.is_empty() || !self.miscounted.is_empty();
+        self.keys > 0 && !is_wrong && self.garbled.count + self.lost == 0
     }
 
     /// Sees that each numbered increment was made at most once, and once where it was answered.
@@ -117,9 +124,17 @@ impl fmt::Display for Report {
         for told in &self.miscounted {
             writeln!(f, "{told}")?;
         }
+        if self.lost > 0 {
+            writeln!(
+                f,
+                "{} clients panicked: what they recorded is lost",
+                self.lost
+            )?;
+        }
         write!(
             f,
-            "{} keys, {} wrong, {} undecided",
+            "{}{} keys, {} wrong, {} undecided",
+            self.garbled,
             self.keys,
             self.wrong.len(),
             self.undecided.len()

@@ -71,6 +71,22 @@ fn tells_the_longest_time_without_an_answer() {
 }
 
 #[test]
+fn is_not_right_where_a_client_panicked() {
+    let mut history = History::default();
+    let calls = [("trial:0".to_owned(), vec![incr(0, Some(1))])];
+    history.join(Ok(History {
+        calls: calls.into(),
+        ..History::default()
+    }));
+    assert!(Report::of(&history, in_time()).is_right());
+    history.join(std::thread::spawn(|| panic!("as this test wants")).join());
+    let report = Report::of(&history, in_time());
+    assert!(!report.is_right());
+    let told = report.to_string();
+    assert!(told.starts_with("1 clients panicked: "), "{told}");
+}
+
+#[test]
 fn is_not_right_without_calls() {
     assert!(!Report::of(&History::default(), in_time()).is_right());
 }
